@@ -1,0 +1,23 @@
+-- Languages of texts, and texts of two forms, one behind the other.
+use Rattle.std.specs.Prelude.{◌≡◌, ℕ, List, ◌++◌}
+
+-- which texts have a form
+abbrev pub Form : Type 1
+Form = List ℕ → Type 0
+
+-- a text of the one form, and behind it one of the other
+pub record Both (P Q : List ℕ → Type 0) (text : List ℕ) : Type 0 where
+  pub front : List ℕ
+  pub back : List ℕ
+  pub split : text ≡ front ++ back
+  pub first : P front
+  pub second : Q back
+
+-- P ▹ Q: concatenation, as in the grammar
+infixr 20 ◌▹◌
+abbrev pub ◌▹◌ : (List ℕ → Type 0) → (List ℕ → Type 0) → List ℕ → Type 0
+(P ▹ Q) text = Both P Q text
+
+-- these bytes and no others
+abbrev pub IsText : List ℕ → List ℕ → Type 0
+IsText bytes text = text ≡ bytes
