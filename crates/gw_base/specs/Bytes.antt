@@ -1,5 +1,5 @@
 -- Classes of bytes that names are made of (RFC 3525, Annex B.2).
-use Rattle.std.specs.Prelude.{ℕ, Bool, ◌||◌, ◌==◌, List, codes}
+use Rattle.std.specs.Prelude.{ℕ, ◌-◌, Bool, ◌||◌, ◌==◌, List, length, slice_index, codes}
 use Rattle.std.specs.List.{list_any}
 use Rattle.std.specs.Char.{is_ascii_alphabetic, is_ascii_digit, is_ascii_hexdigit}
 
@@ -26,3 +26,11 @@ is_name_mark b = is_one_of (codes "_/@.-") b
 -- a byte of a termination's name
 abbrev pub is_name_byte : ℕ → Bool
 is_name_byte b = is_letter b || is_digit b || is_name_mark b
+
+-- the byte of a text of one byte, as byte (codes "/")
+abbrev pub byte : List ℕ → ℕ
+byte text = slice_index text 0
+
+-- the last byte of a text
+abbrev pub last_byte : List ℕ → ℕ
+last_byte text = slice_index text (length text - 1)

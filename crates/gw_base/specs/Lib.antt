@@ -1,2 +1,11 @@
+pub mod Addresses
 pub mod Bytes
+pub mod Codes
 pub mod Lang
+pub mod Mids
+pub mod Names
+pub mod Padding
+pub mod PaddingLaw
+pub mod Reads
+pub mod TermRefs
+pub mod Wildcards

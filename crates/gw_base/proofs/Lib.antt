@@ -1,0 +1,5 @@
+pub mod Enclosures
+pub mod Paddings
+pub mod Ports
+pub mod TermNames
+pub mod Tests

@@ -1,0 +1,26 @@
+-- The number that digits write, one digit more.
+use Rattle.std.proofs.Common.{◌≡◌, ℕ, ◌+◌, ◌-◌, ◌*◌, ◌<◌, true, false, nat_le, List, length, get_or, take, sym, arith, rules}
+use Rattle.std.specs.List.{list_all}
+use Rattle.std.specs.Str.Parse.{digits_value}
+use Rattle.std.specs.Int.{IsInRange}
+use Rattle.std.proofs.lemmas.Int.Digits.{digits_value_more}
+use Rattle.std.proofs.lemmas.Str.{digit_value_digit}
+use Rattle.std.proofs.lemmas.Str.Parse.{digits_value-take-le}
+use Rattle.std.proofs.lemmas.Bool.{leb-true}
+use Rattle.gw_base.specs.Bytes.{is_digit}
+use Rattle.gw_base.proofs.Tests.{each_at, refuted}
+
+digit_range : (b : ℕ) → is_digit b ≡ true → IsInRange 48 57 b
+digit_range b e = search rules
+
+pub next_digit : (digits : List ℕ) (i number : ℕ) → number ≡ digits_value 10 (take i digits) → i < length digits → list_all is_digit digits ≡ true → number * 10 + (get_or digits i 0 - 48) ≡ digits_value 10 (take (i + 1) digits)
+next_digit digits i number e h all =
+    let digit = digit_value_digit (get_or digits i 0) (digit_range (get_or digits i 0) (each_at is_digit digits i h all)) in
+    omega (arith, digits_value_more 10 digits i h, e, digit)
+
+-- digits whose front writes a number above the highest port write one above it
+pub large : (digits : List ℕ) (i number : ℕ) → number ≡ digits_value 10 (take i digits) → i < length digits → list_all is_digit digits ≡ true → 65535 < number * 10 + (get_or digits i 0 - 48) → false ≡ nat_le (digits_value 10 digits) 65535
+large digits i number e h all more =
+    let front = next_digit digits i number e h all in
+    let le = digits_value-take-le 10 digits (i + 1) (omega arith) in
+    sym (refuted (nat_le (digits_value 10 digits) 65535) (λ t. let small = leb-true (digits_value 10 digits) 65535 t in omega arith))

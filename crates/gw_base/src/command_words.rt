@@ -1,0 +1,47 @@
+//! The words of actions and commands: which context, which command, which service state.
+
+use crate::ids::CtxNum;
+use crate::media::MediaAddr;
+
+/// A ContextID as an action has it (RFC 3525, section 6.1.1).
+#[derive(Clone, Copy, Debug, PartialEq, Eq, Hash)]
+pub enum CtxRef {
+    /// `-`: the null context.
+    Null,
+    /// `*`: every context.
+    All,
+    /// `$`: a context to be made.
+    Choose,
+    /// The context of this number.
+    Num(CtxNum),
+}
+
+/// A command (RFC 3525, section 7.2).
+#[derive(Clone, Copy, Debug, PartialEq, Eq, Hash)]
+pub enum Verb {
+    Add,
+    Modify,
+    Move,
+    Subtract,
+    AuditValue,
+    AuditCapability,
+    Notify,
+    ServiceChange,
+}
+
+/// The service state of a termination (RFC 3525, section 7.1.5).
+#[derive(Clone, Copy, Debug, PartialEq, Eq, Hash)]
+pub enum Service {
+    Test,
+    OutOfService,
+    InService,
+}
+
+/// What of its configuration a gateway needs to carry a command out.
+#[derive(Clone, Copy, Debug, PartialEq, Eq)]
+pub struct Rules {
+    /// The address that a `$` of an ephemeral termination's Local becomes.
+    pub media: MediaAddr,
+    /// How many members a context may have: 1 to 64.
+    pub members: u8,
+}

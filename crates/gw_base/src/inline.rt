@@ -1,0 +1,78 @@
+//! Short texts kept inline, at the front of an array, with zeros behind them.
+
+ghost use Rattle.std.specs.Prelude.{◌≡◌, ◌≤◌, ◌<◌, ◌^◌, ◌-◌, ◌++◌, length, replicate};
+
+use std::fmt;
+use std::fmt::Write;
+use std::marker::Model;
+
+/// At most `N` bytes. Contracts see the list of them.
+#[derive(Clone, Copy)]
+pub struct Inline<const N: usize> {
+    len: u8,
+    cells: [u8; N],
+}
+
+impl<const N: usize> Model for Inline<N> {
+    ghost use Rattle.std.specs.Prelude.{◌≡◌, ℕ, List, ◌-◌, ◌++◌, length, take, replicate};
+    ghost use Rattle.gw_base.specs.Padding.{IsPadded};
+    ghost use Rattle.gw_base.specs.PaddingLaw.{padded_back};
+
+    ghost Value = { List ℕ };
+
+    ghost view = { λ a. take a.len a.cells };
+
+    ghost invariant = { λ a. IsPadded N a.len a.cells };
+
+    ghost inverse = { λ text. record { len = length text; cells = text ++ replicate (N - length text) 0 } };
+
+    ghost inverse_ok = { λ a h. padded_back N a h };
+}
+
+/// The text, and zeros behind it.
+fn padded<const N: usize>(text: &[u8]) -> [u8; N]
+    requires { length text.now ≤ N }
+    ensures { result ≡ text.now ++ replicate (N - length text.now) 0 }
+{
+    let mut cells = [0; N];
+    for (i, b) in text.iter().enumerate() {
+        cells[i] = *b;
+    }
+    cells
+}
+
+impl<const N: usize> Inline<N> {
+    /// The text, which has room.
+    pub(crate) fn new(text: &[u8]) -> Self
+        requires room { length text.now ≤ N }
+        requires short { length text.now < 256 }
+        ensures { result ≡ text.now }
+    {
+        Inline {
+            len: text.len() as u8,
+            cells: padded(text),
+        }
+    }
+
+    /// The bytes of the text.
+    pub fn as_bytes(&self) -> &[u8]
+        ensures { result.now ≡ self.now }
+    {
+        &self.cells[..self.len as usize]
+    }
+}
+
+impl<const N: usize> fmt::Display for Inline<N> {
+    fn fmt<W: fmt::Write>(&self, f: &mut fmt::Formatter<W>) -> fmt::Result {
+        for b in self.as_bytes() {
+            f.write_char(char::from(*b))?;
+        }
+        Ok(())
+    }
+}
+
+impl<const N: usize> fmt::Debug for Inline<N> {
+    fn fmt<W: fmt::Write>(&self, f: &mut fmt::Formatter<W>) -> fmt::Result {
+        write!(f, "{self}")
+    }
+}
