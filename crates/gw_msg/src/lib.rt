@@ -1,13 +1,6 @@
-// A library with one function.
+//! Messages of H.248 version 1 in the text encoding, as they are read.
 #![tactic(auto)]
 
-ghost use Rattle.std.specs.Prelude.{◌≡◌};
-ghost use Rattle.gw_msg.specs.Echo.{echo_of};
+mod message;
 
-// The `ensures` clause is the contract: what `echo` returns is `echo_of` of its argument, a definition
-// in `specs/Echo.antt`, which a caller's clause can cite too.
-pub fn echo(x: usize) -> usize
-    ensures { result ≡ echo_of x }
-{
-    x
-}
+pub use message::{Action, Command, Item, Message, Request};

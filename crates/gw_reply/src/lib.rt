@@ -1,13 +1,6 @@
-// A library with one function.
+//! Replies, and their text in the H.248 text encoding.
 #![tactic(auto)]
 
-ghost use Rattle.std.specs.Prelude.{◌≡◌};
-ghost use Rattle.gw_reply.specs.Echo.{echo_of};
+mod reply;
 
-// The `ensures` clause is the contract: what `echo` returns is `echo_of` of its argument, a definition
-// in `specs/Echo.antt`, which a caller's clause can cite too.
-pub fn echo(x: usize) -> usize
-    ensures { result ≡ echo_of x }
-{
-    x
-}
+pub use reply::{ActionReply, CommandReply, TxReply};

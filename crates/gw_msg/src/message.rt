@@ -1,0 +1,52 @@
+//! The tree of a message (RFC 3525, section 8 and Annex B.2).
+
+use gw_base::{CtxRef, Items, Mid, TermRef, TxId, Verb};
+
+/// A message: who sent it, and what it holds in the order sent.
+#[derive(Debug, Drop)]
+pub struct Message {
+    /// The sender's mId, byte for byte.
+    pub mid: Mid,
+    /// What the body holds.
+    pub items: Items<Item>,
+}
+
+/// One part of a message's body.
+#[derive(Debug, Drop)]
+pub enum Item {
+    /// A transaction to be carried out.
+    Request(Request),
+}
+
+/// A transaction request (RFC 3525, section 8.2.1).
+#[derive(Debug, Drop)]
+pub struct Request {
+    /// The number that its reply repeats.
+    pub id: TxId,
+    /// The actions in the order sent, at least one.
+    pub actions: Items<Action>,
+}
+
+/// An action: what is asked of one context (RFC 3525, section 8.1).
+#[derive(Debug, Drop)]
+pub struct Action {
+    /// The context that the commands are for.
+    pub ctx: CtxRef,
+    /// Whether context properties or a ContextAudit stand in it.
+    pub props: bool,
+    /// The commands in the order sent.
+    pub commands: Items<Command>,
+}
+
+/// A command (RFC 3525, section 7.2).
+#[derive(Clone, Copy, Debug)]
+pub struct Command {
+    /// What is to be done.
+    pub verb: Verb,
+    /// What it is to be done to.
+    pub term: TermRef,
+    /// `O-`: its failure does not stop the transaction.
+    pub optional: bool,
+    /// `W-`: one reply for all that a wildcard matches.
+    pub wild: bool,
+}

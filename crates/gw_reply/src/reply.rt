@@ -1,0 +1,32 @@
+//! The tree of a transaction's reply (RFC 3525, section 8.2.2).
+
+use gw_base::{Code, CtxRef, Items, TermRef, TxId, Verb};
+
+/// The reply to one transaction.
+#[derive(Debug, Drop)]
+pub struct TxReply {
+    /// The number of the request.
+    pub id: TxId,
+    /// The action replies in order, or the error that stands for the whole transaction.
+    pub result: Result<Items<ActionReply>, Code>,
+}
+
+/// The reply to one action, in one context.
+#[derive(Debug, Drop)]
+pub struct ActionReply {
+    /// The context: its number once it was made, else as sent.
+    pub ctx: CtxRef,
+    /// The command replies in order, or the error that stands for the whole action.
+    pub result: Result<Items<CommandReply>, Code>,
+}
+
+/// The reply to one command on one termination, or on all that a wildcard matched.
+#[derive(Clone, Copy, Debug)]
+pub struct CommandReply {
+    /// The command.
+    pub verb: Verb,
+    /// The termination, or the TerminationID as sent where the command was refused before it had one.
+    pub term: TermRef,
+    /// Nothing but that it was carried out, or why it was not.
+    pub result: Result<(), Code>,
+}
