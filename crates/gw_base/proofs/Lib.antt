@@ -3,3 +3,4 @@ pub mod Paddings
 pub mod Ports
 pub mod TermNames
 pub mod Tests
+pub mod Views
