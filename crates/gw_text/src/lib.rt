@@ -1,13 +1,13 @@
-// A library with one function.
+//! The words of the text encoding: scans at a place in a text, and the tokens of the grammar.
 #![tactic(auto)]
 
-ghost use Rattle.std.specs.Prelude.{◌≡◌};
-ghost use Rattle.gw_text.specs.Echo.{echo_of};
+mod class;
+mod cursor;
+mod fault;
+mod lengths;
+mod number;
+mod token;
 
-// The `ensures` clause is the contract: what `echo` returns is `echo_of` of its argument, a definition
-// in `specs/Echo.antt`, which a caller's clause can cite too.
-pub fn echo(x: usize) -> usize
-    ensures { result ≡ echo_of x }
-{
-    x
-}
+pub use cursor::{Cursor, Uint32};
+pub use fault::ScanFault;
+pub use token::{Token, token_of};
