@@ -4,3 +4,9 @@ pub mod SpaceLemmas
 pub mod SpacePieces
 pub mod Scanned
 pub mod Skips
+pub mod Signs
+pub mod ReadsUp
+pub mod Leaves
+pub mod Links
+pub mod Lists
+pub mod Loops
