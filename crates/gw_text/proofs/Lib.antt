@@ -1,4 +1,5 @@
 pub mod TokenLemmas
+pub mod TokenTable
 pub mod RunLemmas
 pub mod SpaceLemmas
 pub mod SpacePieces
@@ -10,3 +11,4 @@ pub mod Leaves
 pub mod Links
 pub mod Lists
 pub mod Loops
+pub mod Items
