@@ -1,12 +1,12 @@
 //! A place in a text, and the scans of what stands there (RFC 3525, Annex B.2).
 
-ghost use Rattle.std.specs.Prelude.{◌≡◌, ◌≤◌, ◌<◌, ℕ, List, [], ◌++◌, true, false, length, take, drop, Some, None, MatchBool, IfOk, IfErr, IsTrue, ◌↔◌, OnErr};
-ghost use Rattle.std.specs.Bool.{OnTrue};
+ghost use Rattle.std.specs.Prelude.{◌≡◌, ◌≤◌, ◌<◌, ℕ, List, [], ◌∷◌, ◌++◌, true, false, length, take, drop, Some, None, MatchBool, IfOk, IfErr, IsTrue, ◌↔◌, OnErr};
+ghost use Rattle.std.specs.Bool.{OnTrue, OnFalse};
 ghost use Rattle.gw_base.specs.Bytes.{is_digit};
 ghost use Rattle.gw_text.specs.Lexical.{is_safe, is_solid};
 ghost use Rattle.gw_text.specs.Space.{IsSpace, IsSep};
 ghost use Rattle.gw_text.specs.Runs.{begins, is_byte};
-ghost use Rattle.gw_text.specs.Forms.{IsWord, IsSolid, IsSomeRun, IsUint32, HasNoUint32};
+ghost use Rattle.gw_text.specs.Forms.{IsWord, IsSolid, IsSomeRun, IsUint32, HasNoUint32, IsSign, IsInAnyCase};
 ghost use Rattle.gw_text.specs.Longest.{IsLongest};
 ghost use Rattle.gw_text.specs.Sign.{byte_at, sign_at, prefix_at};
 ghost use Rattle.gw_text.specs.Scans.{Gives, lwsp_at, sep_at, word_at, solid_at, uint32_at};
@@ -85,11 +85,11 @@ impl<'a> Cursor<'a> {
         ensures fault { IfErr result (λ e. (e ≡ ScanFault.Unexpected) × ((before after : List ℕ) → self.old ≡ before ++ after → ¬ IsSep before)) }
         ensures stays { OnErr result (self.new ≡ self.old) }
     {
-        let len = space_len(self.rest);
-        if len == 0 {
+        let space = space_len(self.rest);
+        if space == 0 {
             return Err(ScanFault::Unexpected);
         }
-        Ok(self.take(len))
+        Ok(self.take(space))
     }
 
     /// Takes a word: the longest run of safe bytes.
@@ -163,6 +163,7 @@ impl<'a> Cursor<'a> {
     #[tactic(auto, unfolding(crate::specs::Sign::byte_at))]
     pub fn byte(&mut self, b: u8) -> bool
         ensures exact { MatchBool result (byte_at b self.old ≡ Some self.new) ((byte_at b self.old ≡ None) × (self.new ≡ self.old)) }
+        ensures cases { MatchBool result (self.old ≡ b ∷ self.new) (begins (is_byte b) self.old ≡ false) }
         ensures shorter { OnTrue result (length self.new < length self.old) }
     {
         match self.rest {
@@ -174,9 +175,37 @@ impl<'a> Cursor<'a> {
         }
     }
 
-    /// Takes the sign, with the white space on both sides of it, if it comes next.
-    #[tactic(auto, unfolding(crate::specs::Sign::sign_at, crate::specs::SpaceScan::skip))]
+    /// Takes the sign, with the longest white space on both sides of it, if it comes next. A sign is no byte with
+    /// which white space begins.
     pub fn sign(&mut self, b: u8) -> bool
+        ensures exact { MatchBool result (sign_at b self.old ≡ Some self.new) ((sign_at b self.old ≡ None) × (self.new ≡ self.old)) }
+        ensures took { OnTrue result (is_solid b ≡ true → (span : List ℕ) × IsLongest (IsSign b) self.old span self.new) }
+        ensures missing { OnFalse result (is_solid b ≡ true → (before after : List ℕ) → self.old ≡ before ++ after → ¬ IsSign b before) }
+        ensures shorter { OnTrue result (length self.new < length self.old) }
+    {
+        self.take_sign(b)
+    }
+
+    /// Takes these bytes, in any case, if they come next.
+    #[tactic(auto, unfolding(crate::specs::Sign::prefix_at))]
+    pub fn prefix(&mut self, bytes: &[u8]) -> bool
+        ensures exact { MatchBool result (prefix_at bytes.now self.old ≡ Some self.new) ((prefix_at bytes.now self.old ≡ None) × (self.new ≡ self.old)) }
+        ensures took { OnTrue result ((span : List ℕ) × (self.old ≡ span ++ self.new) × IsInAnyCase bytes.now span) }
+        ensures missing { OnFalse result ((before after : List ℕ) → self.old ≡ before ++ after → ¬ IsInAnyCase bytes.now before) }
+    {
+        if self.rest.len() < bytes.len() {
+            return false;
+        }
+        let (front, rest) = self.rest.split_at(bytes.len());
+        if !front.eq_ignore_ascii_case(bytes) {
+            return false;
+        }
+        self.rest = rest;
+        true
+    }
+
+    #[tactic(auto, unfolding(crate::specs::Sign::sign_at, crate::specs::SpaceScan::skip))]
+    fn take_sign(&mut self, b: u8) -> bool
         ensures exact { MatchBool result (sign_at b self.old ≡ Some self.new) ((sign_at b self.old ≡ None) × (self.new ≡ self.old)) }
         ensures shorter { OnTrue result (length self.new < length self.old) }
     {
@@ -191,22 +220,6 @@ impl<'a> Cursor<'a> {
         }
     }
 
-    /// Takes these bytes, in any case, if they come next.
-    #[tactic(auto, unfolding(crate::specs::Sign::prefix_at))]
-    pub fn prefix(&mut self, bytes: &[u8]) -> bool
-        ensures exact { MatchBool result (prefix_at bytes.now self.old ≡ Some self.new) ((prefix_at bytes.now self.old ≡ None) × (self.new ≡ self.old)) }
-    {
-        if self.rest.len() < bytes.len() {
-            return false;
-        }
-        let (front, rest) = self.rest.split_at(bytes.len());
-        if !front.eq_ignore_ascii_case(bytes) {
-            return false;
-        }
-        self.rest = rest;
-        true
-    }
-
     fn take(&mut self, len: usize) -> &'a [u8]
         requires { len ≤ length self.old }
         ensures span { result.now ≡ take len self.old }
@@ -217,3 +230,6 @@ impl<'a> Cursor<'a> {
         span
     }
 }
+
+#[cfg(test)]
+mod tests;
