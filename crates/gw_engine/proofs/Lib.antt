@@ -3,6 +3,8 @@ pub mod Lookups
 pub mod Folds
 pub mod MemberLists
 pub mod Names
+pub mod Owned
+pub mod Provisioning
 pub mod Sound
 pub mod Steps
 pub mod Whole

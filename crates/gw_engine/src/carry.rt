@@ -261,7 +261,7 @@ fn next_owned(owned: &[Option<CtxNum>]) -> (Option<CtxNum>, &[Option<CtxNum>])
     }
 }
 
-fn is_choose(sent: CtxRef) -> bool
+pub(crate) fn is_choose(sent: CtxRef) -> bool
     ensures { result ≡ is_choose sent }
 {
     matches!(sent, CtxRef::Choose)

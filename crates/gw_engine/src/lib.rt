@@ -5,6 +5,12 @@ mod at;
 mod carry;
 mod change;
 mod context;
+mod fault;
+mod gateway;
 mod outcome;
+mod reserve;
 mod tables;
 mod termination;
+
+pub use fault::{ConfigFault, LimitName};
+pub use gateway::Gateway;

@@ -1,0 +1,62 @@
+-- Which configurations make a gateway, which fault another has, and the gateway that is made (limits and their order: own).
+use Rattle.std.specs.Prelude.{◌≡◌, ℕ, Bool, true, false, ◌||◌, ◌&&◌, bytes_eq, nat_eq, if◌then◌else◌, nat_le, List, [], length, map, Option, None, Some, codes}
+use Rattle.std.specs.List.{list_any, starts_with}
+use Rattle.std.specs.Char.{to_ascii_lowercase}
+use Rattle.std.specs.FinMap as finite
+use Rattle.gw_base.specs.declared.config.Config.{Config}
+use Rattle.gw_base.specs.declared.command_words.Service.TheVariants.{InService}
+use Rattle.gw_engine.specs.declared.fault.LimitName.{LimitName}
+use Rattle.gw_engine.specs.declared.fault.LimitName.TheVariants.{Contexts, Slots, Members, Keep, Terms}
+use Rattle.gw_engine.specs.declared.fault.ConfigFault.{ConfigFault}
+use Rattle.gw_engine.specs.declared.fault.ConfigFault.TheVariants.{LimitOutOfRange, ReservedName, DuplicateName, NoMemory}
+use Rattle.gw_engine.specs.declared.termination.Termination.{Termination}
+use Rattle.gw_engine.specs.Maps.{Maps}
+use Rattle.gw_engine.specs.Members.{NoDoubles}
+use Rattle.gw_engine.specs.State.{Settings, State, Whole}
+
+-- n is from low to high
+abbrev pub is_within : ℕ → ℕ → ℕ → Bool
+is_within low high n = nat_le low n && nat_le n high
+
+-- the first of the limits that is not kept
+abbrev pub first_limit : Config → Option LimitName
+first_limit c =
+    if is_within 1 65535 c.contexts then
+      (if is_within 0 4096 c.slots then
+        (if is_within 1 64 c.members then
+          (if is_within 1 4096 c.keep then (if is_within 0 65535 (length c.terms) then None else Some Terms) else Some Keep)
+        else Some Members)
+      else Some Slots)
+    else Some Contexts
+
+-- ROOT in any case, and what begins with RTP/
+abbrev pub is_reserved : List ℕ → Bool
+is_reserved name = bytes_eq (map to_ascii_lowercase name) (map to_ascii_lowercase (codes "ROOT")) || starts_with nat_eq name (codes "RTP/")
+
+-- a fault that is not another's to be told first
+abbrev pub IsFault : Config → ConfigFault → Type 0
+IsFault c (LimitOutOfRange limit) = first_limit c ≡ Some limit
+IsFault c ReservedName = (first_limit c ≡ None) × (list_any is_reserved c.terms ≡ true)
+IsFault c DuplicateName = (first_limit c ≡ None) × (list_any is_reserved c.terms ≡ false) × ¬ NoDoubles c.terms
+IsFault c NoMemory = Unit {0}
+
+-- no fault applies
+pub record IsAccepted (c : Config) : Type 0 where
+  pub limits : first_limit c ≡ None
+  pub names : list_any is_reserved c.terms ≡ false
+  pub once : NoDoubles c.terms
+
+-- a termination that was configured, in the null context
+abbrev pub provisioned : Termination
+provisioned = record { place = None; service = InService }
+
+-- the terminations of the configuration, and no contexts
+abbrev pub new_maps : List (List ℕ) → Maps
+new_maps names = record { terms = finite.from_entries (map (λ name. (name, provisioned)) names); contexts = finite.empty }
+
+-- the gateway of the configuration: both cursors are 0, and no reply is kept
+abbrev pub new_gateway : Config → Whole
+new_gateway c = record {
+  settings = record { mid = c.mid; rules = record { media = c.media; members = c.members }; contexts = c.contexts; slots = c.slots; keep = c.keep };
+  state = record { maps = new_maps c.terms; context_cursor = 0; slot_cursor = 0; kept = [] };
+}

@@ -1,0 +1,19 @@
+-- A gateway's fields, as contracts see them.
+use Rattle.std.specs.Prelude.{◌≡◌, ℕ, true, []}
+use Rattle.gw_engine.specs.declared.gateway.Gateway.TheInside.{Inside}
+use Rattle.gw_engine.specs.Configuration.{is_within}
+use Rattle.gw_engine.specs.State.{Whole, IsWellFormed}
+
+abbrev pub whole_of : Inside → Whole
+whole_of a = record {
+  settings = record { mid = a.mid; rules = a.rules; contexts = a.contexts; slots = a.slots; keep = a.keep };
+  state = record { maps = a.tables; context_cursor = a.cursors.context; slot_cursor = a.cursors.slot; kept = [] };
+}
+
+-- the limits are kept, and the state is well-formed
+pub record IsGateway (a : Inside) : Type 0 where
+  pub contexts : is_within 1 65535 a.contexts ≡ true
+  pub slots : is_within 0 4096 a.slots ≡ true
+  pub members : is_within 1 64 a.rules.members ≡ true
+  pub keep : is_within 1 4096 a.keep ≡ true
+  pub well_formed : IsWellFormed (whole_of a).settings (whole_of a).state
