@@ -1,2 +1,13 @@
-//! The words, numbers and signs of a text.
+//! The words of the text encoding: scans at a place in a text, and the tokens of the grammar.
 #![tactic(auto)]
+
+mod class;
+mod cursor;
+mod fault;
+mod lengths;
+mod number;
+mod token;
+
+pub use cursor::{Cursor, Uint32};
+pub use fault::ScanFault;
+pub use token::{Token, token_of};

@@ -1,0 +1,66 @@
+-- The lengths of runs, from one byte to the next.
+use Rattle.std.proofs.Common.{◌≡◌, ℕ, suc, ◌+◌, ◌<◌, Bool, true, false, cond, List, [], ◌∷◌, length, get_or, take, drop, ◌++◌, ◌≤◌, ◌*◌, ◌-◌, ◌&&◌, refl, ap, sym, ◌∙◌, arith, add-one, drop-cons}
+use Rattle.std.specs.List.{list_all}
+use Rattle.gw_text.specs.Lexical.{digit_zero}
+use Rattle.gw_text.specs.Runs.{run_len, begins}
+use Rattle.gw_text.specs.Scans.{number_from}
+
+-- the byte at i, and what is behind it
+pub at_byte : (text : List ℕ) (i : ℕ) → i < length text → drop i text ≡ get_or text i 0 ∷ drop (i + 1) text
+at_byte text i h = rw (add-one, drop-cons text i 0) refl
+
+pub and_true : (a b : Bool) → a && b ≡ true → (a ≡ true) × (b ≡ true)
+and_true true b h = (refl, h)
+and_true false b h = absurd cc
+
+pub run_goes_on : (p : ℕ → Bool) (text : List ℕ) (i total : ℕ) → i < length text → p (get_or text i 0) ≡ true → i + run_len p (drop i text) ≡ total → (i + 1) + run_len p (drop (i + 1) text) ≡ total
+run_goes_on p text i total h is so_far =
+    let one : run_len p (drop i text) ≡ suc (run_len p (drop (i + 1) text)) = rw (at_byte text i h, is) refl in
+    omega (arith, one)
+
+pub run_stops : (p : ℕ → Bool) (text : List ℕ) (i total : ℕ) → i < length text → p (get_or text i 0) ≡ false → i + run_len p (drop i text) ≡ total → i ≡ total
+run_stops p text i total h is so_far =
+    let one : run_len p (drop i text) ≡ 0 = rw (at_byte text i h, is) refl in
+    omega (arith, one)
+
+-- what a run is made of
+run_is_step : (p : ℕ → Bool) (b : ℕ) (bs : List ℕ) (t : Bool) → p b ≡ t → list_all p (take (run_len p bs) bs) ≡ true → list_all p (take (cond t (suc (run_len p bs)) 0) (b ∷ bs)) ≡ true
+run_is_step p b bs true is all = rw is all
+run_is_step p b bs false is all = refl
+
+pub run_is : (p : ℕ → Bool) (text : List ℕ) → list_all p (take (run_len p text) text) ≡ true
+run_is p [] = refl
+run_is p (b ∷ bs) = run_is_step p b bs (p b) refl (run_is p bs)
+
+-- a run that the next byte ends
+pub run_again : (p : ℕ → Bool) (front rest : List ℕ) → list_all p front ≡ true → begins p rest ≡ false → run_len p (front ++ rest) ≡ length front
+run_again p [] [] all ends = refl
+run_again p [] (b ∷ bs) all ends = rw ends refl
+run_again p (b ∷ bs) rest all ends =
+    let h = and_true (p b) (list_all p bs) all in
+    let e : run_len p (bs ++ rest) ≡ length bs = run_again p bs rest h.1 ends in
+    rw (h.0, e) refl
+
+-- no run is longer
+pub run_longest : (p : ℕ → Bool) (other left : List ℕ) → list_all p other ≡ true → length other ≤ run_len p (other ++ left)
+run_longest p [] left all = omega arith
+run_longest p (b ∷ bs) left all =
+    let h = and_true (p b) (list_all p bs) all in
+    let le = run_longest p bs left h.1 in
+    rw h.0 (omega arith)
+
+-- more digits write no smaller number
+pub number_grows : (n : ℕ) (digits : List ℕ) → n ≤ number_from n digits
+number_grows n [] = omega arith
+number_grows n (b ∷ bs) = omega (arith, number_grows (10 * n + (b - digit_zero)) bs)
+
+pub all_from : (p : ℕ → Bool) (text : List ℕ) (i : ℕ) → i < length text → list_all p (drop i text) ≡ true → (p (get_or text i 0) ≡ true) × (list_all p (drop (i + 1) text) ≡ true)
+all_from p text i h all = and_true (p (get_or text i 0)) (list_all p (drop (i + 1) text)) (rw at_byte at all)
+
+run_le_step : (t : Bool) (n m : ℕ) → n ≤ m → cond t (suc n) 0 ≤ suc m
+run_le_step true n m le = omega arith
+run_le_step false n m le = omega arith
+
+pub run_len-le : (p : ℕ → Bool) (text : List ℕ) → run_len p text ≤ length text
+run_len-le p [] = omega arith
+run_len-le p (b ∷ bs) = run_le_step (p b) _ _ (run_len-le p bs)

@@ -1,0 +1,110 @@
+-- White space as it is scanned is white space as the grammar has it.
+use Rattle.std.proofs.Common.{◌≡◌, ◌⊎◌, inl, inr, ℕ, Bool, true, false, cond, not, ◌&&◌, ◌||◌, ◌==◌, List, [], ◌∷◌, ◌++◌, refl, ap, sym, subst, ◌∙◌, append_assoc, arith}
+use Rattle.std.specs.List.{concat, list_all}
+use Rattle.std.proofs.lemmas.Bool.{eqb-true}
+use Rattle.gw_base.specs.Lang.{Both, ◌▹◌}
+use Rattle.gw_text.specs.Lexical.{nul, semicolon, is_blank, is_eol, is_comment_byte}
+use Rattle.gw_text.specs.Runs.{IsRun}
+use Rattle.gw_text.specs.Space.{IsByte, IsComment, IsSpacePiece, Each, IsSpace}
+use Rattle.gw_text.specs.SpaceScan.{is_space}
+use Rattle.gw_text.proofs.RunLemmas.{and_true}
+
+-- ---- pieces are scanned
+
+not_true : (b : Bool) → not b ≡ true → b ≡ false
+not_true false h = refl
+not_true true h = absurd cc
+
+solid_semicolon : is_blank semicolon ≡ false
+solid_semicolon = refl
+
+comment_scanned : (inner more : List ℕ) (e : ℕ) → IsRun is_comment_byte inner → is_eol e ≡ true → is_space true (inner ++ (e ∷ more)) ≡ is_space false more
+comment_scanned [] more e run ends = rw ends refl
+comment_scanned (b ∷ bs) more e run ends =
+    let h = and_true (is_comment_byte b) (list_all is_comment_byte bs) run in
+    let k = and_true (not (is_eol b)) (not (b == nul)) h.0 in
+    let goes_on : is_eol b ≡ false = not_true (is_eol b) k.0 in
+    let some : b == nul ≡ false = not_true (b == nul) k.1 in
+    rw (goes_on, some) (comment_scanned bs more e h.1 ends)
+
+piece_scanned : (piece more : List ℕ) → IsSpacePiece piece → is_space false (piece ++ more) ≡ is_space false more
+piece_scanned piece more (inl p) =
+    let blank = p.2 in
+    let one : is_space false ((p.0 ∷ []) ++ more) ≡ is_space false more = rw blank refl in
+    ap (λ (x : List ℕ). is_space false (x ++ more)) p.1 ∙ one
+piece_scanned piece more (inr c) =
+    let s = c.second in
+    let e = s.second in
+    let whole : piece ++ more ≡ semicolon ∷ (s.front ++ (e.0 ∷ more)) =
+    ap (λ (x : List ℕ). x ++ more) (c.split ∙ ap (λ (x : List ℕ). x ++ c.back) c.first)
+    ∙ ap (λ (x : List ℕ). semicolon ∷ (x ++ more)) (s.split ∙ ap (λ (x : List ℕ). s.front ++ x) e.1)
+    ∙ ap (λ (x : List ℕ). semicolon ∷ x) (append_assoc s.front (e.0 ∷ []) more) in
+    ap (is_space false) whole ∙ comment_scanned s.front more e.0 s.first e.2
+
+pieces_scanned : (pieces : List (List ℕ)) → Each IsSpacePiece pieces → is_space false (concat pieces) ≡ true
+pieces_scanned [] each = refl
+pieces_scanned (p ∷ ps) each = piece_scanned p (concat ps) each.0 ∙ pieces_scanned ps each.1
+
+pub space_scans : (text : List ℕ) → IsSpace text → is_space false text ≡ true
+space_scans text h = ap (is_space false) h.whole ∙ pieces_scanned h.pieces h.each
+
+-- ---- what is scanned is in pieces
+
+-- white space, or what is left of a comment and white space behind it
+abbrev LeftOf : Bool → List ℕ → Type 0
+LeftOf false text = IsSpace text
+LeftOf true text = ((IsRun is_comment_byte ▹ IsByte is_eol) ▹ IsSpace) text
+
+one_more : (piece text : List ℕ) → IsSpacePiece piece → IsSpace text → IsSpace (piece ++ text)
+one_more piece text p h = record { pieces = piece ∷ h.pieces; whole = ap (λ (x : List ℕ). piece ++ x) h.whole; each = (p, h.each) }
+
+comment_more : (text : List ℕ) → LeftOf true text → IsSpace (semicolon ∷ text)
+comment_more text h =
+    let piece : List ℕ = semicolon ∷ h.front in
+    let c : IsComment piece = record { front = semicolon ∷ []; back = h.front; split = refl; first = refl; second = h.first } in
+    subst IsSpace (ap (λ (x : List ℕ). semicolon ∷ x) (sym h.split)) (one_more piece h.back (inr c) h.second)
+
+eol_more : (b : ℕ) (bs : List ℕ) → is_eol b ≡ true → IsSpace bs → LeftOf true (b ∷ bs)
+eol_more b bs ends h = record {
+  front = b ∷ [];
+  back = bs;
+  split = refl;
+  first = record { front = []; back = b ∷ []; split = refl; first = refl; second = (b, refl, ends) };
+  second = h;
+}
+
+inner_more : (b : ℕ) (bs : List ℕ) → is_comment_byte b ≡ true → LeftOf true bs → LeftOf true (b ∷ bs)
+inner_more b bs is h =
+    let f = h.first in
+    record {
+      front = b ∷ h.front;
+      back = h.back;
+      split = ap (λ (x : List ℕ). b ∷ x) h.split;
+      first = record { front = b ∷ f.front; back = f.back; split = ap (λ (x : List ℕ). b ∷ x) f.split; first = (let run = f.first in rw (is, run) refl); second = f.second };
+      second = h.second;
+    }
+
+out_cases : (P : Type 0) (w c rb rc : Bool) → cond w rb (c && rc) ≡ true → (w ≡ true → rb ≡ true → P) → (c ≡ true → rc ≡ true → P) → P
+out_cases P true c rb rc h f g = f refl h
+out_cases P false true rb rc h f g = g refl h
+out_cases P false false rb rc h f g = absurd cc
+
+in_cases : (P : Type 0) (e z rb rc : Bool) → cond e rb (not z && rc) ≡ true → (e ≡ true → rb ≡ true → P) → (not e && not z ≡ true → rc ≡ true → P) → P
+in_cases P true z rb rc h f g = f refl h
+in_cases P false false rb rc h f g = g refl h
+in_cases P false true rb rc h f g = absurd cc
+
+left_of : (inside : Bool) (text : List ℕ) → is_space inside text ≡ true → LeftOf inside text
+left_of false [] h = record { pieces = []; whole = refl; each = tt }
+left_of true [] h = absurd cc
+left_of false (b ∷ bs) h =
+    out_cases (IsSpace (b ∷ bs)) (is_blank b) (b == semicolon) (is_space false bs) (is_space true bs) h
+    (λ w s. one_more (b ∷ []) bs (inl (b, refl, w)) (left_of false bs s))
+    (λ c s. subst (λ (x : ℕ). IsSpace (x ∷ bs)) (sym (eqb-true b semicolon c)) (comment_more bs (left_of true bs s)))
+left_of true (b ∷ bs) h =
+    in_cases (LeftOf true (b ∷ bs)) (is_eol b) (b == nul) (is_space false bs) (is_space true bs) h
+    (λ e s. eol_more b bs e (left_of false bs s))
+    (λ k s. inner_more b bs k (left_of true bs s))
+
+pub space_pieces : (text : List ℕ) → is_space false text ≡ true → IsSpace text
+space_pieces text h = left_of false text h

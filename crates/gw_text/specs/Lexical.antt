@@ -1,0 +1,90 @@
+-- The bytes that the text encoding gives a meaning, by name, and its classes of bytes (RFC 3525, Annex B.2).
+use Rattle.std.specs.Prelude.{ℕ, Bool, ◌||◌, ◌&&◌, ◌==◌, not, nat_le, List, [], ◌∷◌, codes}
+use Rattle.gw_base.specs.Bytes.{is_letter, is_digit, is_one_of}
+
+abbrev pub nul : ℕ
+nul = 0
+
+abbrev pub tab : ℕ
+tab = 9
+
+abbrev pub line_feed : ℕ
+line_feed = 10
+
+abbrev pub carriage_return : ℕ
+carriage_return = 13
+
+abbrev pub space : ℕ
+space = 32
+
+-- `"`
+abbrev pub quote_mark : ℕ
+quote_mark = 34
+
+-- `,`
+abbrev pub comma : ℕ
+comma = 44
+
+-- `-`
+abbrev pub dash : ℕ
+dash = 45
+
+-- `0`
+abbrev pub digit_zero : ℕ
+digit_zero = 48
+
+-- `:`
+abbrev pub colon : ℕ
+colon = 58
+
+-- `;`
+abbrev pub semicolon : ℕ
+semicolon = 59
+
+-- `=`
+abbrev pub equals_sign : ℕ
+equals_sign = 61
+
+-- `\`
+abbrev pub backslash : ℕ
+backslash = 92
+
+-- `{`
+abbrev pub left_brace : ℕ
+left_brace = 123
+
+-- `}`
+abbrev pub right_brace : ℕ
+right_brace = 125
+
+-- `~`, the last byte that is seen
+abbrev pub tilde : ℕ
+tilde = 126
+
+-- EOL: what ends a line
+abbrev pub is_eol : ℕ → Bool
+is_eol b = b == carriage_return || b == line_feed
+
+-- WSP or EOL: a space, a tab or the end of a line
+abbrev pub is_blank : ℕ → Bool
+is_blank b = b == space || b == tab || is_eol b
+
+-- what a comment has behind its `;` and before its end (own: all but byte 0)
+abbrev pub is_comment_byte : ℕ → Bool
+is_comment_byte b = not (is_eol b) && not (b == nul)
+
+-- what white space begins with
+abbrev pub is_space_start : ℕ → Bool
+is_space_start b = is_blank b || b == semicolon
+
+-- what white space does not begin with
+abbrev pub is_solid : ℕ → Bool
+is_solid b = not (is_space_start b)
+
+-- what a safe byte is beside letters and digits
+abbrev pub is_safe_mark : ℕ → Bool
+is_safe_mark b = is_one_of (codes "!$%&'()*+-./?@\\^_`|~") b
+
+-- SafeChar: what words are made of
+abbrev pub is_safe : ℕ → Bool
+is_safe b = is_letter b || is_digit b || is_safe_mark b

@@ -1,0 +1,59 @@
+-- What each scan takes from the front of a text, or why it takes nothing.
+use Rattle.std.specs.Prelude.{◌≡◌, ℕ, ◌+◌, ◌*◌, ◌-◌, ◌<◌, ◌^◌, Bool, ◌||◌, nat_lt, nat_le, ◌==◌, ◌&&◌, if◌then◌else◌, List, [], ◌∷◌, length, take, drop, Option, Some, None, Result, Ok, Err}
+use Rattle.gw_base.specs.Bytes.{is_digit}
+use Rattle.gw_text.specs.Lexical.{digit_zero, is_safe, is_solid}
+use Rattle.gw_text.specs.SpaceScan.{space_len}
+use Rattle.gw_text.specs.Runs.{run_len}
+use Rattle.gw_text.specs.declared.fault.ScanFault.{ScanFault}
+use Rattle.gw_text.specs.declared.fault.ScanFault.TheVariants.{Unexpected, Overflow}
+
+-- a value, and what is left of the text
+abbrev pub Scan : Type 0 → Type 0
+Scan V = List ℕ → Result (V × List ℕ) ScanFault
+
+-- the number that digits write behind those that wrote n
+abbrev pub number_from : ℕ → List ℕ → ℕ
+number_from n [] = n
+number_from n (b ∷ bs) = number_from (10 * n + (b - digit_zero)) bs
+
+-- the number that digits write
+abbrev pub number_of : List ℕ → ℕ
+number_of digits = number_from 0 digits
+
+-- the greatest UINT32
+abbrev pub uint32_max : ℕ
+uint32_max = 4294967295
+
+-- the most digits of a UINT32
+abbrev pub uint32_digits : ℕ
+uint32_digits = 10
+
+abbrev pub lwsp_at : List ℕ → List ℕ × List ℕ
+lwsp_at text = (take (space_len text) text, drop (space_len text) text)
+
+-- a span of len bytes, where there are any
+abbrev pub some_at : ℕ → Scan (List ℕ)
+some_at len text = if len == 0 then Err Unexpected else Ok (take len text, drop len text)
+
+unfoldable pub sep_at : Scan (List ℕ)
+sep_at text = some_at (space_len text) text
+
+unfoldable pub word_at : Scan (List ℕ)
+word_at text = some_at (run_len is_safe text) text
+
+unfoldable pub solid_at : Scan (List ℕ)
+solid_at text = some_at (run_len is_solid text) text
+
+abbrev pub digits_at : List ℕ → List ℕ
+digits_at text = take (run_len is_digit text) text
+
+unfoldable pub uint32_at : Scan ℕ
+uint32_at text =
+    if run_len is_digit text == 0 then Err Unexpected
+    else if nat_lt uint32_digits (run_len is_digit text) || nat_lt uint32_max (number_of (digits_at text)) then Err Overflow
+    else Ok (number_of (digits_at text), drop (run_len is_digit text) text)
+
+-- What a scan answered, seen by view, is what is at the cursor. A fault leaves the cursor where it was.
+abbrev pub Gives : {X V : Type 0} → (X → V) → List ℕ → Result X ScanFault → List ℕ → Result (V × List ℕ) ScanFault → Type 0
+Gives view old (Ok x) new at = at ≡ Ok (view x, new)
+Gives view old (Err e) new at = (at ≡ Err e) × (new ≡ old)

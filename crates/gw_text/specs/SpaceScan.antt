@@ -1,0 +1,28 @@
+-- White space as it is scanned, byte by byte, with one flag: whether a comment was begun. That this is LWSP is proved.
+use Rattle.std.specs.Prelude.{◌≡◌, ℕ, ◌+◌, Bool, true, false, ◌&&◌, ◌||◌, ◌==◌, not, if◌then◌else◌, List, [], ◌∷◌, drop}
+use Rattle.gw_text.specs.Lexical.{nul, semicolon, is_blank, is_eol}
+
+-- the text is white space; with inside, it begins within a comment
+abbrev pub is_space : (inside : Bool) → List ℕ → Bool
+is_space false [] = true
+is_space true [] = false
+is_space false (b ∷ bs) = if is_blank b then is_space false bs else (b == semicolon && is_space true bs)
+is_space true (b ∷ bs) = if is_eol b then is_space false bs else (not (b == nul) && is_space true bs)
+
+-- The length of the longest white space at the front of a text, of which passed bytes lie behind, and best is the
+-- length of the longest found there.
+abbrev pub space_len_from : (inside : Bool) (passed best : ℕ) → List ℕ → ℕ
+space_len_from inside passed best [] = best
+space_len_from false passed best (b ∷ bs) =
+    if is_blank b then space_len_from false (passed + 1) (passed + 1) bs
+    else if b == semicolon then space_len_from true (passed + 1) best bs else best
+space_len_from true passed best (b ∷ bs) =
+    if is_eol b then space_len_from false (passed + 1) (passed + 1) bs
+    else if b == nul then best else space_len_from true (passed + 1) best bs
+
+unfoldable pub space_len : List ℕ → ℕ
+space_len text = space_len_from false 0 0 text
+
+-- the text without the white space at its front
+unfoldable pub skip : List ℕ → List ℕ
+skip text = drop (space_len text) text

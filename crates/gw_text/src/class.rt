@@ -1,0 +1,40 @@
+//! Classes of bytes (RFC 3525, Annex B.2).
+
+ghost use Rattle.std.specs.Prelude.{◌≡◌};
+ghost use Rattle.gw_text.specs.Lexical.{is_eol, is_blank, is_safe, is_safe_mark, is_solid};
+
+use gw_base::{is_digit, is_letter};
+
+/// The end of a line: CR or LF.
+pub fn is_eol(b: u8) -> bool
+    ensures { result ≡ is_eol b }
+{
+    b == b'\r' || b == b'\n'
+}
+
+/// A space, a tab or the end of a line.
+pub fn is_blank(b: u8) -> bool
+    ensures { result ≡ is_blank b }
+{
+    b == b' ' || b == b'\t' || is_eol(b)
+}
+
+/// A byte with which no white space begins.
+pub fn is_solid(b: u8) -> bool
+    ensures { result ≡ is_solid b }
+{
+    !(is_blank(b) || b == b';')
+}
+
+fn is_safe_mark(b: u8) -> bool
+    ensures { result ≡ is_safe_mark b }
+{
+    b"!$%&'()*+-./?@\\^_`|~".contains(&b)
+}
+
+/// A byte of a word: a letter, a digit or one of ``! $ % & ' ( ) * + - . / ? @ \ ^ _ ` | ~``.
+pub fn is_safe(b: u8) -> bool
+    ensures { result ≡ is_safe b }
+{
+    is_letter(b) || is_digit(b) || is_safe_mark(b)
+}

@@ -1,0 +1,219 @@
+//! A place in a text, and the scans of what stands there (RFC 3525, Annex B.2).
+
+ghost use Rattle.std.specs.Prelude.{◌≡◌, ◌≤◌, ◌<◌, ℕ, List, [], ◌++◌, true, false, length, take, drop, Some, None, MatchBool, IfOk, IfErr, IsTrue, ◌↔◌, OnErr};
+ghost use Rattle.std.specs.Bool.{OnTrue};
+ghost use Rattle.gw_base.specs.Bytes.{is_digit};
+ghost use Rattle.gw_text.specs.Lexical.{is_safe, is_solid};
+ghost use Rattle.gw_text.specs.Space.{IsSpace, IsSep};
+ghost use Rattle.gw_text.specs.Runs.{begins, is_byte};
+ghost use Rattle.gw_text.specs.Forms.{IsWord, IsSolid, IsSomeRun, IsUint32, HasNoUint32};
+ghost use Rattle.gw_text.specs.Longest.{IsLongest};
+ghost use Rattle.gw_text.specs.Sign.{byte_at, sign_at, prefix_at};
+ghost use Rattle.gw_text.specs.Scans.{Gives, lwsp_at, sep_at, word_at, solid_at, uint32_at};
+
+use crate::fault::ScanFault;
+use crate::lengths::{digits_len, solid_len, space_len, word_len};
+use crate::number::number_of;
+use std::marker::Model;
+
+/// A 32-bit number in a text.
+#[derive(Clone, Copy, Debug)]
+pub struct Uint32<'a> {
+    /// Its digits.
+    pub span: &'a [u8],
+    /// What they write.
+    pub value: u32,
+}
+
+/// A place in a text. Contracts see it as the bytes that are left.
+#[derive(Drop)]
+pub struct Cursor<'a> {
+    rest: &'a [u8],
+}
+
+impl<'a> Model for Cursor<'a> {
+    ghost use Rattle.std.specs.Prelude.{ℕ, List};
+
+    ghost Value = { List ℕ };
+
+    ghost view = { λ a. a.rest.now };
+}
+
+impl<'a> Cursor<'a> {
+    /// The start of a text.
+    pub fn new(text: &'a [u8]) -> Cursor<'a>
+        ensures { result ≡ text.now }
+    {
+        Cursor { rest: text }
+    }
+
+    /// Whether nothing is left.
+    pub fn is_empty(&self) -> bool
+        ensures { IsTrue result ↔ (self.now ≡ []) }
+    {
+        self.rest.is_empty()
+    }
+
+    /// Whether the byte comes next. It is not taken.
+    pub fn is_at(&self, b: u8) -> bool
+        ensures { result ≡ begins (is_byte b) self.now }
+    {
+        match self.rest {
+            [c, ..] => *c == b,
+            [] => false,
+        }
+    }
+
+    /// Takes the longest white space, which may be empty.
+    pub fn lwsp(&mut self) -> &'a [u8]
+        ensures exact { (result.now, self.new) ≡ lwsp_at self.old }
+        ensures span { IsLongest IsSpace self.old result.now self.new }
+    {
+        let len = space_len(self.rest);
+        self.take(len)
+    }
+
+    /// Takes the longest white space of a byte at least.
+    ///
+    /// # Errors
+    ///
+    /// `Unexpected` where no white space comes next.
+    #[tactic(auto, unfolding(crate::specs::Scans::sep_at))]
+    pub fn sep(&mut self) -> Result<&'a [u8], ScanFault>
+        ensures exact { Gives (λ span. span.now) self.old result self.new (sep_at self.old) }
+        ensures span { IfOk result (λ span. IsLongest IsSep self.old span.now self.new) }
+        ensures fault { IfErr result (λ e. (e ≡ ScanFault.Unexpected) × ((before after : List ℕ) → self.old ≡ before ++ after → ¬ IsSep before)) }
+        ensures stays { OnErr result (self.new ≡ self.old) }
+    {
+        let len = space_len(self.rest);
+        if len == 0 {
+            return Err(ScanFault::Unexpected);
+        }
+        Ok(self.take(len))
+    }
+
+    /// Takes a word: the longest run of safe bytes.
+    ///
+    /// # Errors
+    ///
+    /// `Unexpected` where no safe byte comes next.
+    #[tactic(auto, unfolding(crate::specs::Scans::word_at))]
+    pub fn word(&mut self) -> Result<&'a [u8], ScanFault>
+        ensures exact { Gives (λ span. span.now) self.old result self.new (word_at self.old) }
+        ensures span { IfOk result (λ span. IsLongest IsWord self.old span.now self.new) }
+        ensures fault { IfErr result (λ e. (e ≡ ScanFault.Unexpected) × (begins is_safe self.old ≡ false)) }
+        ensures stays { OnErr result (self.new ≡ self.old) }
+    {
+        let len = word_len(self.rest);
+        if len == 0 {
+            return Err(ScanFault::Unexpected);
+        }
+        Ok(self.take(len))
+    }
+
+    /// Takes the bytes before the next white space.
+    ///
+    /// # Errors
+    ///
+    /// `Unexpected` where white space comes next, or nothing is left.
+    #[tactic(auto, unfolding(crate::specs::Scans::solid_at))]
+    pub fn solid(&mut self) -> Result<&'a [u8], ScanFault>
+        ensures exact { Gives (λ span. span.now) self.old result self.new (solid_at self.old) }
+        ensures span { IfOk result (λ span. IsLongest IsSolid self.old span.now self.new) }
+        ensures fault { IfErr result (λ e. (e ≡ ScanFault.Unexpected) × (begins is_solid self.old ≡ false)) }
+        ensures stays { OnErr result (self.new ≡ self.old) }
+    {
+        let len = solid_len(self.rest);
+        if len == 0 {
+            return Err(ScanFault::Unexpected);
+        }
+        Ok(self.take(len))
+    }
+
+    /// Takes a number: the longest run of digits.
+    ///
+    /// # Errors
+    ///
+    /// `Unexpected` where no digit comes next; `Overflow` where the digits are more than ten or write more than
+    /// 4,294,967,295.
+    #[tactic(auto, using(crate::proofs::RunLemmas::run_is), unfolding(crate::specs::Scans::uint32_at))]
+    pub fn uint32(&mut self) -> Result<Uint32<'a>, ScanFault>
+        ensures exact { Gives (λ n. n.value) self.old result self.new (uint32_at self.old) }
+        ensures span { IfOk result (λ n. IsLongest (IsSomeRun is_digit) self.old n.span.now self.new × IsUint32 n.value n.span.now) }
+        ensures fault { IfErr result (λ e. HasNoUint32 e self.old) }
+        ensures stays { OnErr result (self.new ≡ self.old) }
+    {
+        let len = digits_len(self.rest);
+        if len == 0 {
+            return Err(ScanFault::Unexpected);
+        }
+        if len > 10 {
+            return Err(ScanFault::Overflow);
+        }
+        let Some(value) = number_of(&self.rest[..len]) else {
+            return Err(ScanFault::Overflow);
+        };
+        Ok(Uint32 {
+            span: self.take(len),
+            value,
+        })
+    }
+
+    /// Takes the byte, if it comes next.
+    #[tactic(auto, unfolding(crate::specs::Sign::byte_at))]
+    pub fn byte(&mut self, b: u8) -> bool
+        ensures exact { MatchBool result (byte_at b self.old ≡ Some self.new) ((byte_at b self.old ≡ None) × (self.new ≡ self.old)) }
+        ensures shorter { OnTrue result (length self.new < length self.old) }
+    {
+        match self.rest {
+            [c, rest @ ..] if *c == b => {
+                self.rest = rest;
+                true
+            }
+            _ => false,
+        }
+    }
+
+    /// Takes the sign, with the white space on both sides of it, if it comes next.
+    #[tactic(auto, unfolding(crate::specs::Sign::sign_at, crate::specs::SpaceScan::skip))]
+    pub fn sign(&mut self, b: u8) -> bool
+        ensures exact { MatchBool result (sign_at b self.old ≡ Some self.new) ((sign_at b self.old ≡ None) × (self.new ≡ self.old)) }
+        ensures shorter { OnTrue result (length self.new < length self.old) }
+    {
+        let len = space_len(self.rest);
+        match &self.rest[len..] {
+            [c, rest @ ..] if *c == b => {
+                let after = space_len(rest);
+                self.rest = &rest[after..];
+                true
+            }
+            _ => false,
+        }
+    }
+
+    /// Takes these bytes, in any case, if they come next.
+    #[tactic(auto, unfolding(crate::specs::Sign::prefix_at))]
+    pub fn prefix(&mut self, bytes: &[u8]) -> bool
+        ensures exact { MatchBool result (prefix_at bytes.now self.old ≡ Some self.new) ((prefix_at bytes.now self.old ≡ None) × (self.new ≡ self.old)) }
+    {
+        if self.rest.len() < bytes.len() {
+            return false;
+        }
+        let (front, rest) = self.rest.split_at(bytes.len());
+        if !front.eq_ignore_ascii_case(bytes) {
+            return false;
+        }
+        self.rest = rest;
+        true
+    }
+
+    fn take(&mut self, len: usize) -> &'a [u8]
+        requires { len ≤ length self.old }
+        ensures span { result.now ≡ take len self.old }
+        ensures rest { self.new ≡ drop len self.old }
+    {
+        let (span, rest) = self.rest.split_at(len);
+        self.rest = rest;
+        span
+    }
+}
