@@ -1,6 +1,14 @@
 pub mod TokenLemmas
+pub mod TokenTable
 pub mod RunLemmas
 pub mod SpaceLemmas
 pub mod SpacePieces
 pub mod Scanned
 pub mod Skips
+pub mod Signs
+pub mod ReadsUp
+pub mod Leaves
+pub mod Links
+pub mod Lists
+pub mod Loops
+pub mod Items

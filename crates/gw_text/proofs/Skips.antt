@@ -100,3 +100,8 @@ start_of false false rb rc h = absurd cc
 -- what white space begins with
 pub space_first : (c : ℕ) (cs : List ℕ) → IsSpace (c ∷ cs) → is_space_start c ≡ true
 space_first c cs h = start_of (is_blank c) (c == semicolon) (is_space false cs) (is_space true cs) (space_scans (c ∷ cs) h)
+
+pub skip_len : (text : List ℕ) → length (skip text) ≤ length text
+skip_len text =
+    let h = skip_is text in
+    omega (arith, ap length h.split, length-append h.front h.back, ap length h.second)

@@ -1,5 +1,5 @@
 -- The words of the grammar, in their long and their short form, in any case (RFC 3525, Annex B.2).
-use Rattle.std.specs.Prelude.{ℕ, Bool, ◌||◌, bytes_eq, if◌then◌else◌, List, [], ◌∷◌, map, Option, Some, None, codes}
+use Rattle.std.specs.Prelude.{◌≡◌, ℕ, Bool, true, ◌||◌, bytes_eq, if◌then◌else◌, List, [], ◌∷◌, map, Option, Some, None, codes}
 use Rattle.std.specs.Char.{to_ascii_lowercase}
 use Rattle.gw_text.specs.declared.token.Token.{Token}
 use Rattle.gw_text.specs.declared.token.Token.TheVariants.{Add, Audit, AuditCapability, AuditValue, Bothway, Context, ContextAudit, Delay, DigitMap, Emergency, Error, EventBuffer, Events, Forced, Inactive, InService, Isolate, Local, LocalControl, Loopback, Media, Method, Mode, Modem, Modify, Move, Mux, Notify, ObservedEvents, Oneway, OutOfService, Packages, Pending, Priority, Reason, ReceiveOnly, Remote, Reply, Restart, SendOnly, SendReceive, ServiceChange, ServiceStates, Services, Signals, Statistics, Stream, Subtract, TerminationState, Test, Topology, Transaction, TransactionResponseAck}
@@ -86,3 +86,12 @@ find_token word (s ∷ rest) = if is_spelling s.long s.short word then Some s.to
 -- the token that a word is
 unfoldable pub token_of : List ℕ → Option Token
 token_of word = find_token word table
+
+-- both forms of an entry, in any case, are its token
+abbrev pub ReadsBack : Spelling → Type 0
+ReadsBack s = (word : List ℕ) → is_spelling s.long s.short word ≡ true → token_of word ≡ Some s.token
+
+-- each entry reads back: no two have a spelling in common
+abbrev pub AllReadBack : List Spelling → Type 0
+AllReadBack [] = Unit {0}
+AllReadBack (s ∷ rest) = ReadsBack s × AllReadBack rest

@@ -4,10 +4,12 @@
 mod class;
 mod cursor;
 mod fault;
+mod laws;
 mod lengths;
 mod number;
 mod token;
 
 pub use cursor::{Cursor, Uint32};
 pub use fault::ScanFault;
+pub use laws::{tokens_read_back, white_space_is_pieces};
 pub use token::{Token, token_of};

@@ -1,0 +1,142 @@
+-- Bytes, signs with white space on both sides, and bytes in any case: what is behind them.
+use Rattle.std.proofs.Common.{◌≡◌, ℕ, ◌+◌, ◌≤◌, ◌<◌, Bool, true, false, cond, not, ◌==◌, ◌||◌, ◌&&◌, List, [], ◌∷◌, ◌++◌, map, length, take, drop, Option, Some, None, refl, ap, sym, subst, ◌∙◌, append_assoc, length-append, arith}
+use Rattle.std.specs.Prelude.{bytes_eq}
+use Rattle.std.specs.Char.{to_ascii_lowercase}
+use Rattle.std.proofs.lemmas.List.{take-append-drop, take_at, drop_at, length-map}
+use Rattle.std.proofs.lemmas.Slice.Eq.{bytes_eq-Decides}
+use Rattle.std.proofs.lemmas.Bool.{eqb-true}
+use Rattle.gw_base.specs.Lang.{Both, ◌▹◌}
+use Rattle.gw_text.specs.Lexical.{is_space_start, is_solid}
+use Rattle.gw_text.specs.Space.{IsSpace}
+use Rattle.gw_text.specs.SpaceScan.{skip}
+use Rattle.gw_text.specs.Runs.{begins}
+use Rattle.gw_text.specs.Sign.{byte_at, behind, sign_at, prefix_at}
+use Rattle.gw_text.specs.Forms.{IsSign, IsInAnyCase}
+use Rattle.gw_text.proofs.Skips.{skip_space, skip_stays, skip_is, skip_skip, space_first}
+
+pub some_is : {A : Type 0} (x y : A) → Some x ≡ Some y → x ≡ y
+some_is x y e = cc
+
+pub same_byte : (b : ℕ) → b == b ≡ true
+same_byte b = grind arith
+
+-- ---- one byte
+
+byte_step : (t : Bool) (b c : ℕ) (cs rest : List ℕ) → (t ≡ true → c ≡ b) → cond t (Some cs) None ≡ Some rest → c ∷ cs ≡ b ∷ rest
+byte_step true b c cs rest h e = ap (λ (x : ℕ). x ∷ cs) (h refl) ∙ ap (λ (x : List ℕ). b ∷ x) (some_is cs rest e)
+byte_step false b c cs rest h e = absurd cc
+
+pub byte_sound : (b : ℕ) (text rest : List ℕ) → byte_at b text ≡ Some rest → text ≡ b ∷ rest
+unfolding byte_at
+byte_sound b [] rest e = absurd cc
+byte_sound b (c ∷ cs) rest e = byte_step (c == b) b c cs rest (λ h. eqb-true c b h) e
+
+pub byte_again : (b : ℕ) (rest : List ℕ) → byte_at b (b ∷ rest) ≡ Some rest
+unfolding byte_at
+byte_again b rest = rw (same_byte b) refl
+
+-- ---- a sign
+
+-- what is left behind a sign does not depend on the white space in front of it
+pub sign_from : (b : ℕ) (start text : List ℕ) → skip start ≡ skip text → sign_at b start ≡ sign_at b text
+unfolding sign_at
+sign_from b start text h = ap (behind b) h
+
+behind_step : (t : Bool) (b c : ℕ) (cs rest : List ℕ) → (t ≡ true → c ≡ b) → cond t (Some (skip cs)) None ≡ Some rest → (more : List ℕ) × (c ∷ cs ≡ b ∷ more) × (skip more ≡ rest)
+behind_step true b c cs rest h e = (cs, ap (λ (x : ℕ). x ∷ cs) (h refl), some_is (skip cs) rest e)
+behind_step false b c cs rest h e = absurd cc
+
+behind_sound : (b : ℕ) (text rest : List ℕ) → behind b text ≡ Some rest → (more : List ℕ) × (text ≡ b ∷ more) × (skip more ≡ rest)
+behind_sound b [] rest e = absurd cc
+behind_sound b (c ∷ cs) rest e = behind_step (c == b) b c cs rest (λ h. eqb-true c b h) e
+
+pub sign_sound : (b : ℕ) (text rest : List ℕ) → sign_at b text ≡ Some rest → (front : List ℕ) × (text ≡ front ++ rest) × IsSign b front
+unfolding sign_at
+sign_sound b text rest e =
+    let h = skip_is text in
+    let s = behind_sound b (skip text) rest e in
+    let t = skip_is s.0 in
+    let back-is : h.back ≡ b ∷ (t.front ++ rest) = h.second ∙ s.1 ∙ ap (λ (x : List ℕ). b ∷ x) (t.split ∙ ap (λ (x : List ℕ). t.front ++ x) (t.second ∙ s.2)) in (
+      h.front ++ (b ∷ t.front),
+      h.split ∙ ap (λ (x : List ℕ). h.front ++ x) back-is ∙ sym (append_assoc h.front (b ∷ t.front) rest),
+      record { front = h.front; back = b ∷ t.front; split = refl; first = h.first; second = record { front = b ∷ []; back = t.front; split = refl; first = refl; second = t.first } },
+    )
+
+-- what is left behind a sign has no white space at its front
+pub sign_skips : (b : ℕ) (text rest : List ℕ) → sign_at b text ≡ Some rest → skip rest ≡ rest
+unfolding sign_at
+sign_skips b text rest e =
+    let s = behind_sound b (skip text) rest e in
+    ap skip (sym s.2) ∙ skip_skip s.0 ∙ s.2
+
+-- the text of a sign, and what follows
+sign_split : (b : ℕ) (front rest : List ℕ) (h : IsSign b front) → front ++ rest ≡ h.front ++ (b ∷ (h.second.back ++ rest))
+sign_split b front rest h =
+    let inner : h.back ≡ b ∷ h.second.back = h.second.split ∙ ap (λ (x : List ℕ). x ++ h.second.back) h.second.first in
+    ap (λ (x : List ℕ). x ++ rest) (h.split ∙ ap (λ (x : List ℕ). h.front ++ x) inner) ∙ append_assoc h.front (b ∷ h.second.back) rest
+
+skip_sign : (b : ℕ) (front rest : List ℕ) (h : IsSign b front) → is_space_start b ≡ false → skip (front ++ rest) ≡ b ∷ (h.second.back ++ rest)
+skip_sign b front rest h solid = ap skip (sign_split b front rest h) ∙ skip_space h.front (b ∷ (h.second.back ++ rest)) h.first ∙ skip_stays (b ∷ (h.second.back ++ rest)) solid
+
+pub sign_again : (b : ℕ) (front rest : List ℕ) → is_space_start b ≡ false → IsSign b front → sign_at b (front ++ rest) ≡ Some (skip rest)
+unfolding sign_at
+sign_again b front rest solid h =
+    let same : b == b ≡ true = same_byte b in
+    ap (behind b) (skip_sign b front rest h solid) ∙ rw same (ap (λ (x : List ℕ). Some x) (skip_space h.second.back rest h.second.second))
+
+-- another sign is not there
+pub sign_other : (a b : ℕ) (front rest : List ℕ) → is_space_start a ≡ false → a == b ≡ false → IsSign a front → sign_at b (front ++ rest) ≡ None
+unfolding sign_at
+sign_other a b front rest solid other h = ap (behind b) (skip_sign a front rest h solid) ∙ rw other refl
+
+-- a text that begins with a byte which is neither white space nor the sign
+pub no_sign : (b c : ℕ) (cs : List ℕ) → is_space_start c ≡ false → c == b ≡ false → sign_at b (c ∷ cs) ≡ None
+unfolding sign_at
+no_sign b c cs solid other = ap (behind b) (skip_stays (c ∷ cs) solid) ∙ rw other refl
+
+-- the same behind white space
+pub sign_space : (b : ℕ) (front rest : List ℕ) → IsSpace front → sign_at b (front ++ rest) ≡ sign_at b rest
+sign_space b front rest h = sign_from b (front ++ rest) rest (skip_space front rest h)
+
+pub sign_end : (b : ℕ) → sign_at b [] ≡ None
+unfolding sign_at
+sign_end b = ap (behind b) (skip_stays [] refl)
+
+ends_at : (p : ℕ → Bool) (b : ℕ) (space more : List ℕ) → IsSpace space → ((c : ℕ) → is_space_start c ≡ true → p c ≡ false) → p b ≡ false → begins p (space ++ (b ∷ more)) ≡ false
+ends_at p b [] more h apart solid = solid
+ends_at p b (c ∷ cs) more h apart solid = apart c (space_first c cs h)
+
+-- a sign ends what white space and the sign's byte do not go on with
+pub sign_ends : (p : ℕ → Bool) (b : ℕ) (front rest : List ℕ) → ((c : ℕ) → is_space_start c ≡ true → p c ≡ false) → p b ≡ false → IsSign b front → begins p (front ++ rest) ≡ false
+sign_ends p b front rest apart solid h = ap (begins p) (sign_split b front rest h) ∙ ends_at p b h.front (h.second.back ++ rest) h.first apart solid
+
+pub sign_len : (b : ℕ) (front : List ℕ) → IsSign b front → 0 < length front
+sign_len b front h = omega (arith, ap length h.split, length-append h.front h.back, ap length h.second.split, length-append h.second.front h.second.back, ap length h.second.first)
+
+pub sign_shrinks : (b : ℕ) (text rest : List ℕ) → sign_at b text ≡ Some rest → length rest < length text
+sign_shrinks b text rest e =
+    let s = sign_sound b text rest e in
+    omega (arith, ap length s.1, length-append s.0 rest, sign_len b s.0 s.2)
+
+-- ---- bytes in any case
+
+prefix_step : (t : Bool) (xs ys : List ℕ) → cond t (Some xs) None ≡ Some ys → (t ≡ true) × (xs ≡ ys)
+prefix_step true xs ys e = (refl, some_is xs ys e)
+prefix_step false xs ys e = absurd cc
+
+pub prefix_sound : (bytes text rest : List ℕ) → prefix_at bytes text ≡ Some rest → (front : List ℕ) × (text ≡ front ++ rest) × IsInAnyCase bytes front
+unfolding prefix_at
+prefix_sound bytes text rest e =
+    let n = length bytes in
+    let s = prefix_step (bytes_eq (map to_ascii_lowercase (take n text)) (map to_ascii_lowercase bytes)) (drop n text) rest e in
+    (take n text, sym (take-append-drop n text) ∙ ap (λ (x : List ℕ). take n text ++ x) s.1, (bytes_eq-Decides (map to_ascii_lowercase (take n text)) (map to_ascii_lowercase bytes)).0 s.0)
+
+case_len : (bytes front : List ℕ) → IsInAnyCase bytes front → length front ≡ length bytes
+case_len bytes front h = sym (length-map front to_ascii_lowercase) ∙ ap length h ∙ length-map bytes to_ascii_lowercase
+
+pub prefix_again : (bytes front rest : List ℕ) → IsInAnyCase bytes front → prefix_at bytes (front ++ rest) ≡ Some rest
+unfolding prefix_at
+prefix_again bytes front rest h =
+    let len = case_len bytes front h in
+    let same = (bytes_eq-Decides (map to_ascii_lowercase front) (map to_ascii_lowercase bytes)).1 h in
+    rw (← len, take_at front rest (length front) refl, drop_at front rest (length front) refl, same) refl
