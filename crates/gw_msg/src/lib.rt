@@ -1,6 +1,13 @@
 //! Messages of H.248 version 1 in the text encoding, as they are read.
 #![tactic(auto)]
 
+mod fault;
 mod message;
+mod part;
+mod parts;
+mod read;
+mod words;
 
+pub use fault::ReadFault;
 pub use message::{Action, Command, Item, Message, Request};
+pub use read::{one_message, read_message};

@@ -1,0 +1,123 @@
+-- A whole text: its message, a header of another version, or neither.
+use Rattle.std.proofs.Common.{◌≡◌, ◌≢◌, ℕ, Bool, true, false, cond, ◌==◌, List, [], ◌∷◌, Option, Some, None, Result, Ok, Err, refl, ap, sym, ◌∙◌}
+use Rattle.std.proofs.lemmas.Bool.{eqb-true, eqb-false, ne_eqb}
+use Rattle.gw_text.specs.Lexical.{is_solid}
+use Rattle.gw_text.specs.Space.{IsSpace}
+use Rattle.gw_text.specs.SpaceScan.{skip}
+use Rattle.gw_text.specs.Reader.{◌>>=◌, if_end, whole_at}
+use Rattle.gw_text.proofs.ReadsUp.{ReadsUp, Same, UpTo, Any, up_to, skipped_up, skip_solid}
+use Rattle.gw_text.proofs.Links.{both_begins}
+use Rattle.gw_text.proofs.Items.{whole_sound, whole_complete}
+use Rattle.gw_msg.specs.declared.message.Message.{Message}
+use Rattle.gw_msg.specs.declared.fault.ReadFault.{ReadFault}
+use Rattle.gw_msg.specs.declared.fault.ReadFault.TheVariants.{Version, Syntax, NoMemory}
+use Rattle.gw_msg.specs.Grammar.{spoken_version, SpellsContent, Spells, HasVersionFault, IsReadingOf}
+use Rattle.gw_msg.specs.Reading.{header_at, content_at, or_syntax, judged, message_of, IsAnswer}
+use Rattle.gw_msg.proofs.Laws.{content_reads, content_solid}
+use Rattle.gw_msg.proofs.HeaderLaws.{header_reads}
+
+abbrev Answer : Type 0
+Answer = Result Message ReadFault
+
+if_ok : (t : Bool) (r : Answer) (m : Message) → cond t r (Err Version) ≡ Ok m → (t ≡ true) × (r ≡ Ok m)
+if_ok true r m e = (refl, e)
+if_ok false r m e = absurd cc
+
+if_version : (t : Bool) (r : Answer) → cond t r (Err Version) ≡ Err Version → (r ≡ Err Version → ⊥) → t ≡ false
+if_version true r e h = absurd (h e)
+if_version false r e h = refl
+
+or_syntax_ok : (o : Option Message) (m : Message) → or_syntax o ≡ Ok m → o ≡ Some m
+or_syntax_ok None m e = absurd cc
+or_syntax_ok (Some n) m e = cc
+
+or_syntax_version : (o : Option Message) → or_syntax o ≡ Err Version → ⊥
+or_syntax_version None e = absurd cc
+or_syntax_version (Some n) e = absurd cc
+
+-- what was judged as a message, and as another version
+judged_ok : (o : Option (ℕ × List ℕ)) (m : Message) → judged o ≡ Ok m → (rest : List ℕ) × (o ≡ Some (spoken_version, rest)) × (whole_at content_at rest ≡ Some m)
+judged_ok None m e = absurd cc
+judged_ok (Some h) m e =
+    let j = if_ok (h.0 == spoken_version) (or_syntax (whole_at content_at h.1)) m e in
+    (h.1, ap (λ (k : ℕ). Some (k, h.1)) (eqb-true h.0 spoken_version j.0), or_syntax_ok (whole_at content_at h.1) m j.1)
+
+judged_version : (o : Option (ℕ × List ℕ)) → judged o ≡ Err Version → (n : ℕ) × (rest : List ℕ) × (o ≡ Some (n, rest)) × (n ≢ spoken_version)
+judged_version None e = absurd cc
+judged_version (Some h) e =
+    let other = if_version (h.0 == spoken_version) (or_syntax (whole_at content_at h.1)) e (or_syntax_version (whole_at content_at h.1)) in
+    (h.0, h.1, refl, λ same. eqb-false h.0 spoken_version other same)
+
+content_up : ReadsUp content_at SpellsContent Any Same UpTo
+content_up = up_to content_reads skipped_up
+
+-- ---- the answer is the grammar's
+
+message_sound : (text : List ℕ) (m : Message) → message_of text ≡ Ok m → Spells m text
+unfolding message_of
+message_sound text m e =
+    let j = judged_ok (header_at text) m e in
+    let s = header_reads.sound text spoken_version j.0 j.1 in
+    record { front = s.0; back = j.0; split = s.1; first = s.2; second = whole_sound content_at SpellsContent Any Same content_up j.0 m j.2 }
+
+message_complete : (text : List ℕ) (m : Message) → Spells m text → message_of text ≡ Ok m
+unfolding message_of
+message_complete text m h =
+    let one = header_reads.complete spoken_version h.front h.back text h.first tt (ap skip h.split) in
+    let solid : skip h.back ≡ h.back = skip_solid h.back (both_begins is_solid (SpellsContent m) IsSpace (content_solid m) h.back h.second) in
+    let whole : whole_at content_at one.0 ≡ Some m = ap (whole_at content_at) (one.2 ∙ solid) ∙ whole_complete content_at SpellsContent Any content_up (λ rest e. tt) h.back m h.second in
+    ap judged one.1 ∙ ap or_syntax whole
+
+version_sound : (text : List ℕ) → message_of text ≡ Err Version → HasVersionFault text
+unfolding message_of
+version_sound text e =
+    let j = judged_version (header_at text) e in
+    let s = header_reads.sound text j.0 j.1 j.2 in
+    record { version = j.0; other = j.3; header = record { front = s.0; back = j.1; split = s.1; first = s.2; second = tt } }
+
+version_complete : (text : List ℕ) → HasVersionFault text → message_of text ≡ Err Version
+unfolding message_of
+version_complete text h =
+    let b = h.header in
+    let one = header_reads.complete h.version b.front b.back text b.first tt (ap skip b.split) in
+    let other : h.version == spoken_version ≡ false = ne_eqb h.version spoken_version h.other in
+    ap judged one.1 ∙ ap (λ (t : Bool). cond t (or_syntax (whole_at content_at one.0)) (Err Version)) other
+
+pub reading : (text : List ℕ) (answer : Answer) → IsAnswer answer (message_of text) → IsReadingOf text answer
+reading text (Ok m) h = message_sound text m h
+reading text (Err Version) h = version_sound text h
+reading text (Err NoMemory) h = tt
+reading text (Err Syntax) h = (
+  λ v. let clash : Err Syntax ≡ Err Version = sym h ∙ version_complete text v in absurd cc,
+  λ m s. let clash : Err Syntax ≡ Ok m = sym h ∙ message_complete text m s in absurd cc,
+)
+
+abbrev done : Message → Answer
+done m = Ok m
+
+done_is : (m n : Message) → done m ≡ done n → m ≡ n
+done_is m n e = cc
+
+pub one : (text : List ℕ) (m n : Message) → Spells m text → Spells n text → m ≡ n
+one text m n p q = done_is m n (sym (message_complete text m p) ∙ message_complete text n q)
+
+pub no_version : (text : List ℕ) (m : Message) → Spells m text → HasVersionFault text → ⊥
+no_version text m p v = let clash : Ok m ≡ Err Version = sym (message_complete text m p) ∙ version_complete text v in absurd cc
+
+-- ---- the answer of the code
+
+ended : (rest : List ℕ) → ¬ (rest ≡ []) → (m : Message) → if_end m rest ≡ None
+ended [] h m = absurd (h refl)
+ended (b ∷ bs) h m = refl
+
+-- a header, what stands behind it, and the end of the text
+pub answer_whole : (text rest after : List ℕ) (m : Message) → header_at text ≡ Some (spoken_version, rest) → content_at rest ≡ Some (m, after) → skip after ≡ [] → message_of text ≡ Ok m
+unfolding message_of
+answer_whole text rest after m h c e =
+    ap judged h ∙ ap or_syntax (ap (λ (o : Option (Message × List ℕ)). o >>= λ x. if_end x.0 (skip x.1)) c ∙ ap (if_end m) e)
+
+-- the same, and more
+pub answer_more : (text rest after : List ℕ) (m : Message) → header_at text ≡ Some (spoken_version, rest) → content_at rest ≡ Some (m, after) → ¬ (skip after ≡ []) → message_of text ≡ Err Syntax
+unfolding message_of
+answer_more text rest after m h c e =
+    ap judged h ∙ ap or_syntax (ap (λ (o : Option (Message × List ℕ)). o >>= λ x. if_end x.0 (skip x.1)) c ∙ ended (skip after) e m)

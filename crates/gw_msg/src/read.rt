@@ -1,0 +1,75 @@
+//! Reading a whole message.
+
+ghost use Rattle.std.specs.Prelude.{◌≡◌, ℕ, List};
+ghost use Rattle.gw_msg.specs.Reading.{Gives, IsAnswer, version_at, header_at, message_of};
+ghost use Rattle.gw_msg.specs.Grammar.{IsReadingOf, Spells, HasVersionFault};
+ghost use Rattle.gw_msg.specs.declared.message.Message.{Message as SpelledMessage};
+
+use crate::fault::ReadFault;
+use crate::message::Message;
+use crate::parts::content;
+use crate::words::version;
+use gw_text::Cursor;
+use std::alloc::Global;
+
+/// The version that this gateway speaks.
+const SPOKEN_VERSION: u8 = 1;
+
+/// What follows the first token of a header.
+#[tactic(auto, unfolding(crate::specs::Reading::version_at))]
+fn header_end(cursor: &mut Cursor<'_>) -> Result<u8, ReadFault>
+    ensures { Gives result cursor.new (version_at cursor.old) }
+{
+    if !cursor.byte(b'/') {
+        return Err(ReadFault::Syntax);
+    }
+    let version = version(cursor)?;
+    cursor.sep()?;
+    Ok(version)
+}
+
+/// The header: its version.
+#[tactic(auto, unfolding(crate::specs::Reading::header_at, gw_text::specs::SpaceScan::skip))]
+fn header(cursor: &mut Cursor<'_>) -> Result<u8, ReadFault>
+    ensures { Gives result cursor.new (header_at cursor.old) }
+{
+    cursor.lwsp();
+    if !cursor.prefix(b"MEGACO") && !cursor.byte(b'!') {
+        return Err(ReadFault::Syntax);
+    }
+    header_end(cursor)
+}
+
+#[tactic(auto, unfolding(crate::specs::Reading::message_of))]
+fn answer(alloc: Global, text: &[u8]) -> Result<Message, ReadFault>
+    ensures { IsAnswer result (message_of text.now) }
+{
+    let mut cursor = Cursor::new(text);
+    if header(&mut cursor)? != SPOKEN_VERSION {
+        return Err(ReadFault::Version);
+    }
+    let message = content(alloc, &mut cursor)?;
+    cursor.lwsp();
+    if !cursor.is_empty() {
+        return Err(ReadFault::Syntax);
+    }
+    Ok(message)
+}
+
+/// The message that the text spells. The text is read once, from left to right.
+///
+/// # Errors
+///
+/// `Version` where the text begins as a message of another version than 1, whatever follows; `Syntax` where it does not
+/// and spells no message; `NoMemory` where a growth was refused.
+pub fn read_message(alloc: Global, text: &[u8]) -> Result<Message, ReadFault>
+    ensures { IsReadingOf text.now result }
+{
+    answer(alloc, text)
+}
+
+/// A text spells one message at most, and none where its header has another version.
+pub fn one_message()
+    ensures message { (text : List ℕ) (m n : SpelledMessage) → Spells m text → Spells n text → m ≡ n }
+    ensures version { (text : List ℕ) (m : SpelledMessage) → Spells m text → ¬ HasVersionFault text }
+{}
