@@ -4,6 +4,7 @@ pub mod Folds
 pub mod MemberLists
 pub mod Names
 pub mod Owned
+pub mod Prepared
 pub mod Provisioning
 pub mod Sound
 pub mod Steps

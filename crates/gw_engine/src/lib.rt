@@ -5,12 +5,15 @@ mod at;
 mod carry;
 mod change;
 mod context;
+mod datagram;
 mod fault;
 mod gateway;
 mod outcome;
 mod reserve;
+mod run;
 mod tables;
 mod termination;
 
+pub use datagram::Datagram;
 pub use fault::{ConfigFault, LimitName};
 pub use gateway::Gateway;

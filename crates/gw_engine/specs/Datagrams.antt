@@ -1,0 +1,113 @@
+-- What a gateway answers to a datagram, and the state that it leaves (RFC 3525, section 8; own where the standard leaves it
+-- open).
+use Rattle.std.specs.Prelude.{◌≡◌, ℕ, Bool, true, false, ◌&&◌, not, ◌||◌, is_some, List, [], ◌∷◌, Option, None, Some, Result, Ok, Err}
+use Rattle.std.specs.List.{list_all}
+use Rattle.gw_base.specs.declared.code.Code.{Code}
+use Rattle.gw_base.specs.declared.code.Code.TheVariants.{SyntaxError, VersionNotSupported, NotImplemented}
+use Rattle.gw_base.specs.declared.ids.Ids.{Ids}
+use Rattle.gw_base.specs.declared.command_words.CtxRef.{CtxRef}
+use Rattle.gw_base.specs.declared.command_words.CtxRef.TheVariants.{Null, All, Choose, Num}
+use Rattle.gw_msg.specs.declared.message.Command.{Command}
+use Rattle.gw_msg.specs.declared.message.Action.{Action}
+use Rattle.gw_msg.specs.declared.message.Request.{Request}
+use Rattle.gw_msg.specs.declared.message.Item.{Item}
+use Rattle.gw_msg.specs.declared.message.Item.TheVariants as item
+use Rattle.gw_msg.specs.declared.message.Message.{Message}
+use Rattle.gw_msg.specs.Grammar.{Spells, HasVersionFault}
+use Rattle.gw_reply.specs.declared.reply.TxReply.{TxReply}
+use Rattle.gw_reply.specs.Messages.{reply_text, fault_text}
+use Rattle.gw_engine.specs.declared.datagram.Datagram.{Datagram}
+use Rattle.gw_engine.specs.Changes.{change_of}
+use Rattle.gw_engine.specs.Commands.{Outcome}
+use Rattle.gw_engine.specs.Transactions.{transaction}
+use Rattle.gw_engine.specs.Owners.{owners, new_cursor}
+use Rattle.gw_engine.specs.State.{State, Whole}
+
+-- ---- the message of a datagram
+
+-- Version where the text has the version fault; otherwise the message that it spells; otherwise a syntax error.
+abbrev pub IsMessageOf : List ℕ → Result Message Code → Type 0
+IsMessageOf text (Ok m) = Spells m text
+IsMessageOf text (Err VersionNotSupported) = HasVersionFault text
+IsMessageOf text (Err SyntaxError) = (¬ HasVersionFault text) × ((m : Message) → ¬ Spells m text)
+IsMessageOf text (Err _) = ⊥
+
+-- ---- which messages are carried out
+
+-- Add or Subtract of a termination by its name, unmarked
+abbrev pub is_simple_command : Command → Bool
+is_simple_command c = is_some (change_of c) && not (c.optional || c.wild)
+
+-- a context by number or $
+abbrev pub is_simple_context : CtxRef → Bool
+is_simple_context (Num n) = true
+is_simple_context Choose = true
+is_simple_context Null = false
+is_simple_context All = false
+
+abbrev pub is_simple_action : Action → Bool
+is_simple_action a = not a.props && is_simple_context a.ctx && list_all is_simple_command a.commands
+
+abbrev pub is_simple_request : Request → Bool
+is_simple_request r = list_all is_simple_action r.actions
+
+abbrev pub if_simple : Bool → Request → Option Request
+if_simple true r = Some r
+if_simple false r = None
+
+-- the one request that a message holds, of these forms
+abbrev pub simple_request : List Item → Option Request
+simple_request [] = None
+simple_request (item.Request r ∷ []) = if_simple (is_simple_request r) r
+simple_request (i ∷ (j ∷ more)) = None
+
+-- ---- what is answered
+
+-- the bytes of the answer, and the state afterwards
+pub record Served : Type 0 where
+  pub bytes : List ℕ
+  pub state : State
+
+-- an error in place of an answer, which changes nothing
+abbrev pub refusal : Whole → Code → Served
+refusal g code = record { bytes = fault_text g.settings.mid code; state = g.state }
+
+-- what the $ places of the request own
+abbrev pub owned_by : Whole → Request → Ids
+owned_by g r = record { contexts = owners g.state.maps g.state.context_cursor g.settings.contexts r.actions; slots = [] }
+
+-- the transaction on the tables as they are, with the identifiers that it owns
+abbrev pub carried : Whole → Request → Outcome TxReply
+carried g r = transaction g.settings.rules r (owned_by g r) g.state.maps
+
+abbrev pub reply_to : Whole → Request → Served
+reply_to g r = record {
+  bytes = reply_text g.settings.mid (carried g r).answer;
+  state = record {
+    maps = (carried g r).maps;
+    context_cursor = new_cursor g.state.maps g.state.context_cursor g.settings.contexts r.actions;
+    slot_cursor = g.state.slot_cursor;
+    kept = g.state.kept;
+  };
+}
+
+abbrev pub served_request : Whole → Option Request → Served
+served_request g None = refusal g NotImplemented
+served_request g (Some r) = reply_to g r
+
+abbrev pub served : Whole → Result Message Code → Served
+served g (Ok m) = served_request g (simple_request m.items)
+served g (Err code) = refusal g code
+
+-- the datagram has one answer, for the peer that asked, and the state is the one afterwards
+pub record Answers (old : Whole) (asked : Datagram) (answers : List Datagram) (new : Whole) : Type 0 where
+  pub message : Result Message Code
+  pub read : IsMessageOf asked.bytes message
+  pub answer : answers ≡ (record { peer = asked.peer; bytes = (served old message).bytes }) ∷ []
+  pub state : new ≡ record { settings = old.settings; state = (served old message).state }
+
+-- a burst of one datagram at most
+abbrev pub AnswersBurst : Whole → List Datagram → List Datagram → Whole → Type 0
+AnswersBurst old [] answers new = (answers ≡ []) × (new ≡ old)
+AnswersBurst old (d ∷ []) answers new = Answers old d answers new
+AnswersBurst old (d ∷ (e ∷ more)) answers new = ⊥

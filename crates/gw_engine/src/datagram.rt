@@ -1,0 +1,12 @@
+//! What comes from a controller, and what goes back.
+
+use gw_base::Items;
+
+/// A datagram: bytes from, or to, a peer.
+#[derive(Debug, Drop)]
+pub struct Datagram {
+    /// Who it is from, or for: any number that the caller chose.
+    pub peer: u32,
+    /// At most 65,507 bytes where it comes in, at most 16,384 where it is an answer.
+    pub bytes: Items<u8>,
+}

@@ -1,0 +1,142 @@
+//! Answering bursts of datagrams.
+
+ghost use Rattle.std.specs.Prelude.{◌≡◌, ◌≤◌, length, IfOk, OnErr, MatchOption, None, Some};
+ghost use Rattle.std.specs.List.{list_all};
+ghost use Rattle.gw_engine.specs.Datagrams.{is_simple_command, is_simple_context, is_simple_action, is_simple_request, simple_request, refusal, reply_to, AnswersBurst};
+ghost use Rattle.gw_engine.specs.Serving.{Prepares, PreparesText};
+
+use crate::carry::transaction;
+use crate::change::Change;
+use crate::datagram::Datagram;
+use crate::gateway::{Cursors, Gateway};
+use crate::reserve::reserve;
+use crate::tables::Tables;
+use gw_base::{Code, CtxRef, Items, NoMemory};
+use gw_msg::{Action, Command, Item, ReadFault, Request, read_message};
+use gw_reply::{write_fault, write_reply};
+use std::alloc::Global;
+
+fn is_simple_command(command: &Command) -> bool
+    ensures { result ≡ is_simple_command command.now }
+{
+    Change::of(command).is_some() && !(command.optional || command.wild)
+}
+
+fn is_simple_context(sent: CtxRef) -> bool
+    ensures { result ≡ is_simple_context sent }
+{
+    matches!(sent, CtxRef::Num(_) | CtxRef::Choose)
+}
+
+fn are_simple_commands(commands: &[Command]) -> bool
+    ensures { result ≡ list_all is_simple_command commands.now }
+{
+    commands.iter().all(|command| is_simple_command(command))
+}
+
+fn is_simple_action(action: &Action) -> bool
+    ensures { result ≡ is_simple_action action.now }
+{
+    !action.props && is_simple_context(action.ctx) && are_simple_commands(action.commands.as_slice())
+}
+
+fn is_simple_request(request: &Request) -> bool
+    ensures { result ≡ is_simple_request request.now }
+{
+    request.actions.as_slice().iter().all(|action| is_simple_action(action))
+}
+
+/// The one request that a message holds, where this gateway carries all of it out.
+fn simple_request(items: &[Item]) -> Option<&Request>
+    ensures { MatchOption result (simple_request items.now ≡ None) (λ request. simple_request items.now ≡ Some request.now) }
+{
+    match items {
+        [Item::Request(request)] if is_simple_request(request) => Some(request),
+        _ => None,
+    }
+}
+
+/// An answer, and what the tables and cursors become with it, if they change.
+#[derive(Drop)]
+struct Prepared {
+    bytes: Vec<u8>,
+    change: Option<(Tables, Cursors)>,
+}
+
+impl Gateway {
+    /// An error in place of an answer, which changes nothing.
+    fn refuse(&self, alloc: Global, code: Code) -> Result<Prepared, NoMemory>
+        ensures { IfOk result (λ p. Prepares self.now (refusal self.now code) p.bytes.items p.change) }
+    {
+        let bytes = write_fault(alloc, code, &self.mid)?;
+        Ok(Prepared {
+            bytes,
+            change: None,
+        })
+    }
+
+    /// The reply to a request, which is carried out on a copy of the tables.
+    fn reply(&self, alloc: Global, request: &Request) -> Result<Prepared, NoMemory>
+        ensures { IfOk result (λ p. Prepares self.now (reply_to self.now request.now) p.bytes.items p.change) }
+    {
+        let asked = request.actions.as_slice();
+        let (ids, context) = reserve(alloc, &self.tables, self.contexts, self.cursors.context, asked)?;
+        let mut tables = self.tables.copy()?;
+        let reply = transaction(alloc, &self.rules, &mut tables, request, &ids)?;
+        let bytes = write_reply(alloc, &reply, &self.mid)?;
+        let cursors = Cursors {
+            context,
+            slot: self.cursors.slot,
+        };
+        Ok(Prepared {
+            bytes,
+            change: Some((tables, cursors)),
+        })
+    }
+
+    /// The answer to the text of a datagram. The gateway is not changed yet.
+    fn prepare(&self, alloc: Global, text: &[u8]) -> Result<Prepared, NoMemory>
+        ensures { IfOk result (λ p. PreparesText self.now text.now p.bytes.items p.change) }
+    {
+        let message = match read_message(alloc, text) {
+            Ok(message) => message,
+            Err(ReadFault::Version) => return self.refuse(alloc, Code::VersionNotSupported),
+            Err(ReadFault::Syntax) => return self.refuse(alloc, Code::SyntaxError),
+            Err(ReadFault::NoMemory) => return Err(NoMemory),
+        };
+        match simple_request(message.items.as_slice()) {
+            Some(request) => self.reply(alloc, request),
+            None => self.refuse(alloc, Code::NotImplemented),
+        }
+    }
+
+    /// Answers a burst, which has one datagram at most: the caller knows that, and that the datagram has at most 65,507
+    /// bytes. The answer is for the peer of the datagram.
+    ///
+    /// A message that is not one transaction of Add and Subtract by name, in contexts by number or `$`, is answered with
+    /// error 501 and changes nothing.
+    ///
+    /// # Errors
+    ///
+    /// Want of memory. The gateway is then as it was, cursors included.
+    pub fn run(&mut self, alloc: Global, burst: &[Datagram]) -> Result<Items<Datagram>, NoMemory>
+        requires { length burst.now ≤ 1 }
+        ensures ok { IfOk result (λ answers. AnswersBurst self.old burst.now answers self.new) }
+        ensures err { OnErr result (self.new ≡ self.old) }
+    {
+        let mut answers = Items::new(alloc);
+        let [datagram] = burst else {
+            return Ok(answers);
+        };
+        let prepared = self.prepare(alloc, datagram.bytes.as_slice())?;
+        answers.push(Datagram {
+            peer: datagram.peer,
+            bytes: Items::from(prepared.bytes),
+        })?;
+        if let Some((tables, cursors)) = prepared.change {
+            self.tables = tables;
+            self.cursors = cursors;
+        }
+        Ok(answers)
+    }
+}
