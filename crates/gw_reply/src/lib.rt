@@ -1,6 +1,14 @@
 //! Replies, and their text in the H.248 text encoding.
 #![tactic(auto)]
 
+mod error;
+mod identifiers;
+mod message;
 mod reply;
+#[cfg(test)]
+mod tests;
+mod tree_text;
+mod wire;
 
+pub use message::{write_fault, write_reply};
 pub use reply::{ActionReply, CommandReply, TxReply};

@@ -1,0 +1,16 @@
+-- Lists and groups in a text (RFC 3525, Annex B.2, COMMA, LBRKT and RBRKT, without white space).
+use Rattle.std.specs.Prelude.{ℕ, List, ◌++◌, codes}
+use Rattle.std.specs.List.{join_with_byte}
+use Rattle.gw_base.specs.Bytes.{byte}
+
+-- COMMA
+abbrev pub comma : ℕ
+comma = byte (codes ",")
+
+-- the texts in a row, with a comma between each two
+abbrev pub joined : List (List ℕ) → List ℕ
+joined texts = join_with_byte comma texts
+
+-- the text in braces
+abbrev pub in_braces : List ℕ → List ℕ
+in_braces text = codes "{" ++ text ++ codes "}"

@@ -1,0 +1,33 @@
+-- Replies (RFC 3525, section 8.2.2 and Annex B.2, transactionReply, actionReply, commandReply; without white space: own).
+use Rattle.std.specs.Prelude.{ℕ, List, [], ◌++◌, map, codes, decimal, Result, Ok, Err}
+use Rattle.gw_base.specs.declared.code.Code.{Code}
+use Rattle.gw_reply.specs.declared.reply.TxReply.{TxReply}
+use Rattle.gw_reply.specs.declared.reply.ActionReply.{ActionReply}
+use Rattle.gw_reply.specs.declared.reply.CommandReply.{CommandReply}
+use Rattle.gw_reply.specs.Lists.{joined, in_braces}
+use Rattle.gw_reply.specs.Terminations.{term_text}
+use Rattle.gw_reply.specs.Contexts.{context_text}
+use Rattle.gw_reply.specs.Commands.{command_word}
+use Rattle.gw_reply.specs.Errors.{error_text}
+
+-- the replies joined by commas, or the error that stands for all of them
+abbrev pub replies_text : {T : Type 0} → (T → List ℕ) → Result (List T) Code → List ℕ
+replies_text text (Ok replies) = joined (map text replies)
+replies_text text (Err code) = error_text code
+
+-- what follows the TerminationID in a command reply: nothing, or an error in braces
+abbrev pub body_text : Result (Unit {0}) Code → List ℕ
+body_text (Ok _) = []
+body_text (Err code) = in_braces (error_text code)
+
+-- <Command>=<TerminationID>, and the body where there is one
+abbrev pub command_reply_text : CommandReply → List ℕ
+command_reply_text reply = command_word reply.verb ++ codes "=" ++ term_text reply.term ++ body_text reply.result
+
+-- Context=<ContextID>{..}
+abbrev pub action_reply_text : ActionReply → List ℕ
+action_reply_text reply = codes "Context=" ++ context_text reply.ctx ++ in_braces (replies_text command_reply_text reply.result)
+
+-- Reply=<TransactionID>{..}
+abbrev pub transaction_reply_text : TxReply → List ℕ
+transaction_reply_text reply = codes "Reply=" ++ decimal reply.id.0 ++ in_braces (replies_text action_reply_text reply.result)

@@ -1,0 +1,59 @@
+//! Whole messages: the header and a reply or an error (RFC 3525, section 8.3).
+
+ghost use Rattle.std.specs.Prelude.{◌≡◌, ◌+◌, ◌≤◌, length, IfOk};
+ghost use Rattle.gw_reply.specs.Replies.{transaction_reply_text};
+ghost use Rattle.gw_reply.specs.Messages.{message_text, longest_header, longest_message, too_long, reply_text, fault_text};
+
+use crate::reply::TxReply;
+use crate::wire::WireText;
+use gw_base::{Code, Mid, NoMemory, TxId};
+use std::alloc::Global;
+
+/// How many bytes a message with a reply may have.
+const LONGEST_MESSAGE: usize = 16_384;
+
+/// The message that has this body.
+fn write_message<T: WireText>(alloc: Global, body: &T, mid: &Mid) -> Result<Vec<u8>, NoMemory>
+    ensures text { IfOk result (λ text. text.items ≡ message_text mid.now (T.text body.now)) }
+    ensures header { IfOk result (λ text. length text.items ≤ longest_header + length (T.text body.now)) }
+{
+    let mut out = Vec::from_slice(alloc, b"MEGACO/1 ")?;
+    out.extend_from_slice(mid.as_bytes())?;
+    out.push(b'\n')?;
+    body.write_to(&mut out)?;
+    Ok(out)
+}
+
+/// The reply to the transaction of this number, with error 533 in place of all that it held.
+fn too_long(id: TxId) -> TxReply
+    ensures value { result ≡ too_long id }
+    ensures short { length (transaction_reply_text result) ≤ 189 }
+{
+    TxReply {
+        id,
+        result: Err(Code::ReplyTooLong),
+    }
+}
+
+/// The message with the reply, from the gateway of this mId. One that would be longer than 16,384 bytes is replaced by the
+/// message with error 533 in the reply. The work is linear in the text of the whole reply.
+#[tactic(auto, unfolding(crate::specs::Messages::reply_text))]
+pub fn write_reply(alloc: Global, reply: &TxReply, mid: &Mid) -> Result<Vec<u8>, NoMemory>
+    ensures text { IfOk result (λ text. text.items ≡ reply_text mid.now reply.now) }
+    ensures within { IfOk result (λ text. length text.items ≤ longest_message) }
+{
+    let text = write_message(alloc, reply, mid)?;
+    if text.len() <= LONGEST_MESSAGE {
+        return Ok(text);
+    }
+    write_message(alloc, &too_long(reply.id), mid)
+}
+
+/// The message whose body is the error, from the gateway of this mId: the answer to a datagram that is no message.
+#[tactic(auto, using(crate::proofs::TextLengths::error_is_short), unfolding(crate::specs::Messages::fault_text))]
+pub fn write_fault(alloc: Global, code: Code, mid: &Mid) -> Result<Vec<u8>, NoMemory>
+    ensures text { IfOk result (λ text. text.items ≡ fault_text mid.now code) }
+    ensures within { IfOk result (λ text. length text.items ≤ longest_message) }
+{
+    write_message(alloc, &code, mid)
+}

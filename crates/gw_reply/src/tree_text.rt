@@ -1,0 +1,67 @@
+//! The text of replies to commands, actions and transactions (RFC 3525, section 8.2.2 and Annex B.2).
+
+ghost use Rattle.std.specs.Prelude.{◌≡◌, ◌++◌, OnOk};
+ghost use Rattle.gw_reply.specs.Replies.{body_text};
+
+use crate::reply::{ActionReply, CommandReply, TxReply};
+use crate::wire::{WireText, write_number, write_replies};
+use gw_base::Code;
+use std::alloc::AllocError;
+
+/// What follows the TerminationID: an error in braces, or nothing.
+fn write_body(outcome: &Result<(), Code>, out: &mut Vec<u8>) -> Result<(), AllocError>
+    ensures { OnOk result (out.new.items ≡ out.old.items ++ body_text outcome.now) }
+{
+    match outcome {
+        Ok(()) => Ok(()),
+        Err(code) => {
+            out.push(b'{')?;
+            code.write_to(out)?;
+            out.push(b'}')?;
+            Ok(())
+        }
+    }
+}
+
+impl WireText for CommandReply {
+    ghost use Rattle.gw_reply.specs.Replies.{command_reply_text};
+
+    ghost text = { command_reply_text };
+
+    fn write_to(&self, out: &mut Vec<u8>) -> Result<(), AllocError> {
+        self.verb.write_to(out)?;
+        out.push(b'=')?;
+        self.term.write_to(out)?;
+        write_body(&self.result, out)
+    }
+}
+
+impl WireText for ActionReply {
+    ghost use Rattle.gw_reply.specs.Replies.{action_reply_text};
+
+    ghost text = { action_reply_text };
+
+    fn write_to(&self, out: &mut Vec<u8>) -> Result<(), AllocError> {
+        out.extend_from_slice(b"Context=")?;
+        self.ctx.write_to(out)?;
+        out.push(b'{')?;
+        write_replies(&self.result, out)?;
+        out.push(b'}')?;
+        Ok(())
+    }
+}
+
+impl WireText for TxReply {
+    ghost use Rattle.gw_reply.specs.Replies.{transaction_reply_text};
+
+    ghost text = { transaction_reply_text };
+
+    fn write_to(&self, out: &mut Vec<u8>) -> Result<(), AllocError> {
+        out.extend_from_slice(b"Reply=")?;
+        write_number(self.id.0, out)?;
+        out.push(b'{')?;
+        write_replies(&self.result, out)?;
+        out.push(b'}')?;
+        Ok(())
+    }
+}

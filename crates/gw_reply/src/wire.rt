@@ -1,0 +1,53 @@
+//! How a text grows: the parts of a message, one behind the other in one buffer.
+
+ghost use Rattle.std.specs.Prelude.{◌≡◌, ◌++◌, ℕ, List, OnOk, map, decimal};
+ghost use Rattle.gw_reply.specs.Lists.{joined};
+ghost use Rattle.gw_reply.specs.Replies.{replies_text};
+
+use gw_base::{Code, Items};
+use itoa::Buffer;
+use std::alloc::AllocError;
+
+/// What has a text of its own in a message.
+pub(crate) trait WireText {
+    ghost text: { Self → List ℕ };
+
+    /// The text goes behind what was written. After a refused growth the buffer is of no use.
+    fn write_to(&self, out: &mut Vec<u8>) -> Result<(), AllocError>
+        ensures { OnOk result (out.new.items ≡ out.old.items ++ text self.now) };
+}
+
+/// A number in decimal, without leading zeros.
+pub(crate) fn write_number(number: u32, out: &mut Vec<u8>) -> Result<(), AllocError>
+    ensures { OnOk result (out.new.items ≡ out.old.items ++ decimal number) }
+{
+    out.extend_from_slice(Buffer::new().format(number).as_bytes())
+}
+
+/// The parts, with a comma between each two.
+fn write_joined<T: WireText>(parts: &[T], out: &mut Vec<u8>) -> Result<(), AllocError>
+    ensures { OnOk result (out.new.items ≡ out.old.items ++ joined (map T.text parts.now)) }
+{
+    let Some((first, rest)) = parts.split_first() else {
+        return Ok(());
+    };
+    first.write_to(out)?;
+    for part in rest {
+        out.push(b',')?;
+        part.write_to(out)?;
+    }
+    Ok(())
+}
+
+/// The replies with commas between them, or the error that stands for all of them.
+pub(crate) fn write_replies<T: WireText + Drop>(
+    replies: &Result<Items<T>, Code>,
+    out: &mut Vec<u8>,
+) -> Result<(), AllocError>
+    ensures { OnOk result (out.new.items ≡ out.old.items ++ replies_text T.text replies.now) }
+{
+    match replies {
+        Ok(parts) => write_joined(parts.as_slice(), out),
+        Err(code) => code.write_to(out),
+    }
+}
