@@ -2,6 +2,7 @@
 #![tactic(auto)]
 
 mod at;
+mod audit;
 mod carry;
 mod change;
 mod context;

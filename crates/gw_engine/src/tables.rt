@@ -14,8 +14,8 @@ use std::marker::Model;
 /// Terminations by name, and contexts by number.
 #[derive(Drop)]
 pub(crate) struct Tables {
-    terms: BTreeMap<TermName, Termination>,
-    contexts: BTreeMap<u32, Context>,
+    pub(crate) terms: BTreeMap<TermName, Termination>,
+    pub(crate) contexts: BTreeMap<u32, Context>,
 }
 
 impl Model for Tables {
