@@ -93,6 +93,7 @@ actions_end rules owned a left rest m later front new did all split answer maps 
     let none : Outcome (List ActionReply) = record { maps = now.maps; answer = [] } in
     let same : behind_actions longer none ≡ all =
     sym (one_action rules owned a rest m front true (ap (λ (d : ActionDone). d.stopped) (sym answer) ∙ goes))
-    ∙ ap (λ (l : List Action). behind_actions front (actions rules owned l m)) (sym split) ∙ told in
-    (maps ∙ ap (λ (o : Outcome (List ActionReply)). o.maps) same,
-     more ∙ ap (λ (d : ActionDone). front ++ d.reply ∷ []) answer ∙ sym (append-nil longer) ∙ ap (λ (o : Outcome (List ActionReply)). o.answer) same)
+    ∙ ap (λ (l : List Action). behind_actions front (actions rules owned l m)) (sym split) ∙ told in (
+      maps ∙ ap (λ (o : Outcome (List ActionReply)). o.maps) same,
+      more ∙ ap (λ (d : ActionDone). front ++ d.reply ∷ []) answer ∙ sym (append-nil longer) ∙ ap (λ (o : Outcome (List ActionReply)). o.answer) same,
+    )

@@ -128,6 +128,7 @@ new_maps_fit limit names = record {
   where
     no_context : (n : CtxNum) → ctx (new_maps names) n ≡ None
     no_context n = get-empty nat_cmp n.0
+
     nowhere : (b : Bool) (n : CtxNum) → place_of (if_in b) ≡ Some n → ⊥
     nowhere true n e = cc
     nowhere false n e = cc

@@ -25,16 +25,18 @@ free_left p t m s e n = ap (λ o. is_in t (members_of o)) (ctx-put_ctx m p list 
   where
     rest : List (List ℕ)
     rest = without t (members_of (ctx m p))
+
     list : Option (List (List ℕ))
     list = unless_empty rest
+
     at : (d : Bool) → nat_eq n.0 p.0 ≡ d → is_in t (members_of (cond d list (ctx m n))) ≡ false
     at true a = ap (is_in t) (members-unless_empty rest) ∙ gone t (members_of (ctx m p)) (s.once p)
     at false a = falsely (is_in t (members_of (ctx m n))) (λ h.
-      let k : Some p ≡ Some n = sym e ∙ s.recorded t n h in
-      let j : p ≡ n = cc in
-      let y : nat_eq n.0 p.0 ≡ true = number_itself n p (sym j) in
-      let clash : true ≡ false = sym y ∙ a in
-      cc)
+        let k : Some p ≡ Some n = sym e ∙ s.recorded t n h in
+        let j : p ≡ n = cc in
+        let y : nat_eq n.0 p.0 ≡ true = number_itself n p (sym j) in
+        let clash : true ≡ false = sym y ∙ a in
+        cc)
 
 pub sound_joined : (n : CtxNum) (t : List ℕ) (r : Termination) (m : Maps) → IsSound m → IsFree t m → IsSound (joined n t r m)
 sound_joined n t r m s free = record {
@@ -44,12 +46,16 @@ sound_joined n t r m s free = record {
   where
     new : Option Termination
     new = Some (record { place = Some n; service = r.service })
+
     list : Option (List (List ℕ))
     list = Some (members_of (ctx m n) ++ t ∷ [])
+
     at_term : (q : List ℕ) → term (joined n t r m) q ≡ cond (bytes_eq q t) new (term m q)
     at_term q = term-put_term (put_ctx m n list) t new q ∙ ap (cond (bytes_eq q t) new) (term-put_ctx m n list q)
+
     at_ctx : (c : CtxNum) → ctx (joined n t r m) c ≡ cond (nat_eq c.0 n.0) list (ctx m c)
     at_ctx c = ctx-put_term (put_ctx m n list) t new c ∙ ctx-put_ctx m n list c
+
     rec : (q : List ℕ) (c : CtxNum) (b d : Bool) → bytes_eq q t ≡ b → nat_eq c.0 n.0 ≡ d → is_in q (members_of (cond d list (ctx m c))) ≡ true → place_of (cond b new (term m q)) ≡ Some c
     rec q c true true a b h = ap (λ y. Some y) (sym (same_number c n b))
     rec q c true false a b h =
@@ -60,6 +66,7 @@ sound_joined n t r m s free = record {
         (λ i. s.recorded q n i ∙ ap (λ y. Some y) (sym (same_number c n b)))
         (λ i. absurd (let clash : true ≡ false = sym i ∙ a in cc))
     rec q c false false a b h = s.recorded q c h
+
     both : (c : CtxNum) (d : Bool) → NoDoubles (members_of (cond d list (ctx m c)))
     both c true = pushed t (members_of (ctx m n)) (s.once n) (free n)
     both c false = s.once c
@@ -72,11 +79,14 @@ sound_left n t m s = record {
   where
     rest : List (List ℕ)
     rest = without t (members_of (ctx m n))
+
     list : Option (List (List ℕ))
     list = unless_empty rest
+
     rec : (q : List ℕ) (c : CtxNum) (d : Bool) → nat_eq c.0 n.0 ≡ d → is_in q (members_of (cond d list (ctx m c))) ≡ true → place_of (term m q) ≡ Some c
     rec q c true a h = s.recorded q n (in_without t q (members_of (ctx m n)) (ap (is_in q) (sym (members-unless_empty rest)) ∙ h)) ∙ ap (λ y. Some y) (sym (same_number c n a))
     rec q c false a h = s.recorded q c h
+
     both : (c : CtxNum) (d : Bool) → NoDoubles (members_of (cond d list (ctx m c)))
     both c true = subst NoDoubles (sym (members-unless_empty rest)) (dropped t (members_of (ctx m n)) (s.once n))
     both c false = s.once c

@@ -27,12 +27,16 @@ whole_joined limit n t r m w nowhere room = record {
   where
     new : Option Termination
     new = Some (record { place = Some n; service = r.service })
+
     list : Option (List (List ℕ))
     list = Some (members_of (ctx m n) ++ t ∷ [])
+
     at_term : (q : List ℕ) → term (joined n t r m) q ≡ cond (bytes_eq q t) new (term m q)
     at_term q = term-put_term (put_ctx m n list) t new q ∙ ap (cond (bytes_eq q t) new) (term-put_ctx m n list q)
+
     at_ctx : (c : CtxNum) → ctx (joined n t r m) c ≡ cond (nat_eq c.0 n.0) list (ctx m c)
     at_ctx c = ctx-put_term (put_ctx m n list) t new c ∙ ctx-put_ctx m n list c
+
     listed : (q : List ℕ) (c : CtxNum) (b d : Bool) → bytes_eq q t ≡ b → nat_eq c.0 n.0 ≡ d → place_of (cond b new (term m q)) ≡ Some c → is_in q (members_of (cond d list (ctx m c))) ≡ true
     listed q c true true a b e = last_in_pushed q t (members_of (ctx m n)) a
     listed q c true false a b e =
@@ -41,9 +45,11 @@ whole_joined limit n t r m w nowhere room = record {
         absurd (let clash : true ≡ false = sym y ∙ b in cc)
     listed q c false true a b e = stays_in_pushed q t (members_of (ctx m n)) (ap (λ (k : CtxNum). is_in q (members_of (ctx m k))) (sym (same_number c n b)) ∙ w.listed q c e)
     listed q c false false a b e = w.listed q c e
+
     some : (c : CtxNum) (d : Bool) → cond d list (ctx m c) ≢ Some []
     some c true e = pushed_some (members_of (ctx m n)) t e
     some c false e = w.some c e
+
     few : (c : CtxNum) (d : Bool) → length (members_of (cond d list (ctx m c))) ≤ limit
     few c true = omega (arith, length-append (members_of (ctx m n)) (t ∷ []))
     few c false = w.few c
@@ -62,23 +68,30 @@ whole_subtracted limit n t r m w there = record {
   where
     new : Option Termination
     new = Some (record { place = None; service = r.service })
+
     rest : List (List ℕ)
     rest = without t (members_of (ctx m n))
+
     list : Option (List (List ℕ))
     list = unless_empty rest
+
     at_term : (q : List ℕ) → term (subtracted n t r m) q ≡ cond (bytes_eq q t) new (term m q)
     at_term q = term-put_term (left n t m) t new q ∙ ap (cond (bytes_eq q t) new) (term-put_ctx m n list q)
+
     at_ctx : (c : CtxNum) → ctx (subtracted n t r m) c ≡ cond (nat_eq c.0 n.0) list (ctx m c)
     at_ctx c = ctx-put_term (left n t m) t new c ∙ ctx-put_ctx m n list c
+
     listed : (q : List ℕ) (c : CtxNum) (b d : Bool) → bytes_eq q t ≡ b → nat_eq c.0 n.0 ≡ d → place_of (cond b new (term m q)) ≡ Some c → is_in q (members_of (cond d list (ctx m c))) ≡ true
     listed q c true d a b e = absurd cc
     listed q c false true a b e =
         ap (is_in q) (members-unless_empty rest)
         ∙ stays_without t q (members_of (ctx m n)) a (ap (λ (k : CtxNum). is_in q (members_of (ctx m k))) (sym (same_number c n b)) ∙ w.listed q c e)
     listed q c false false a b e = w.listed q c e
+
     some : (c : CtxNum) (d : Bool) → cond d list (ctx m c) ≢ Some []
     some c true e = unless_some rest e
     some c false e = w.some c e
+
     few : (c : CtxNum) (d : Bool) → length (members_of (cond d list (ctx m c))) ≤ limit
     few c true = omega (arith, ap length (members-unless_empty rest), length_without t (members_of (ctx m n)), w.few n)
     few c false = w.few c

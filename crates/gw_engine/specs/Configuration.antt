@@ -22,11 +22,11 @@ is_within low high n = nat_le low n && nat_le n high
 abbrev pub first_limit : Config → Option LimitName
 first_limit c =
     if is_within 1 65535 c.contexts then
-      (if is_within 0 4096 c.slots then
-        (if is_within 1 64 c.members then
-          (if is_within 1 4096 c.keep then (if is_within 0 65535 (length c.terms) then None else Some Terms) else Some Keep)
-        else Some Members)
-      else Some Slots)
+    (if is_within 0 4096 c.slots then
+    (if is_within 1 64 c.members then
+    (if is_within 1 4096 c.keep then (if is_within 0 65535 (length c.terms) then None else Some Terms) else Some Keep)
+    else Some Members)
+    else Some Slots)
     else Some Contexts
 
 -- ROOT in any case, and what begins with RTP/

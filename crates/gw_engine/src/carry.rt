@@ -20,7 +20,13 @@ use gw_reply::{ActionReply, CommandReply, TxReply};
 use std::alloc::Global;
 
 /// The termination joins the context as its last member. A context comes into being with its first.
-fn join(alloc: Global, tables: &mut Tables, number: CtxNum, name: TermName, termination: Termination) -> Result<(), NoMemory>
+fn join(
+    alloc: Global,
+    tables: &mut Tables,
+    number: CtxNum,
+    name: TermName,
+    termination: Termination,
+) -> Result<(), NoMemory>
     requires { is_in name (members_of (ctx tables.old number)) ≡ false }
     ensures { OnOk result (tables.new ≡ joined number name termination tables.old) }
 {
@@ -62,7 +68,13 @@ fn member_count(tables: &Tables, number: CtxNum) -> usize
 }
 
 /// Adds the termination to the context, or says why not.
-fn add(alloc: Global, rules: &Rules, tables: &mut Tables, number: CtxNum, name: TermName) -> Result<Result<(), Code>, NoMemory>
+fn add(
+    alloc: Global,
+    rules: &Rules,
+    tables: &mut Tables,
+    number: CtxNum,
+    name: TermName,
+) -> Result<Result<(), Code>, NoMemory>
     requires { IsSound tables.old }
     ensures maps { OnOk result (tables.new ≡ (add_to rules.now number name tables.old (term tables.old name)).maps) }
     ensures answer { IfOk result (λ answer. answer ≡ (add_to rules.now number name tables.old (term tables.old name)).answer) }
@@ -81,7 +93,11 @@ fn add(alloc: Global, rules: &Rules, tables: &mut Tables, number: CtxNum, name: 
 }
 
 /// Subtracts the termination from the context, or says why not.
-fn subtract(tables: &mut Tables, number: CtxNum, name: TermName) -> Result<Result<(), Code>, NoMemory>
+fn subtract(
+    tables: &mut Tables,
+    number: CtxNum,
+    name: TermName,
+) -> Result<Result<(), Code>, NoMemory>
     ensures maps { OnOk result (tables.new ≡ (subtract_from number name tables.old (term tables.old name)).maps) }
     ensures answer { IfOk result (λ answer. answer ≡ (subtract_from number name tables.old (term tables.old name)).answer) }
 {
@@ -104,7 +120,13 @@ fn subtract(tables: &mut Tables, number: CtxNum, name: TermName) -> Result<Resul
 }
 
 /// Changes one termination's place, or says why not. What a context cannot do before it is made is refused first.
-fn change(alloc: Global, rules: &Rules, tables: &mut Tables, at: At, change: Change) -> Result<Result<(), Code>, NoMemory>
+fn change(
+    alloc: Global,
+    rules: &Rules,
+    tables: &mut Tables,
+    at: At,
+    change: Change,
+) -> Result<Result<(), Code>, NoMemory>
     requires { IsSound tables.old }
     ensures maps { OnOk result (tables.new ≡ (changed rules.now at change tables.old).maps) }
     ensures answer { IfOk result (λ answer. answer ≡ (changed rules.now at change tables.old).answer) }
@@ -125,7 +147,13 @@ fn change(alloc: Global, rules: &Rules, tables: &mut Tables, at: At, change: Cha
 }
 
 /// Carries one command out.
-fn command(alloc: Global, rules: &Rules, tables: &mut Tables, at: At, command: &Command) -> Result<CommandDone, NoMemory>
+fn command(
+    alloc: Global,
+    rules: &Rules,
+    tables: &mut Tables,
+    at: At,
+    command: &Command,
+) -> Result<CommandDone, NoMemory>
     requires { IsSound tables.old }
     ensures maps { OnOk result (tables.new ≡ (command_done rules.now at command.now tables.old).maps) }
     ensures answer { IfOk result (λ done. done ≡ (command_done rules.now at command.now tables.old).answer) }
@@ -144,7 +172,13 @@ fn command(alloc: Global, rules: &Rules, tables: &mut Tables, at: At, command: &
 }
 
 /// Carries commands out in order, up to the first that fails and is not marked `O-`.
-fn walk(alloc: Global, rules: &Rules, tables: &mut Tables, at: At, commands: &[Command]) -> Result<Walk, NoMemory>
+fn walk(
+    alloc: Global,
+    rules: &Rules,
+    tables: &mut Tables,
+    at: At,
+    commands: &[Command],
+) -> Result<Walk, NoMemory>
     requires { IsSound tables.old }
     ensures maps { OnOk result (tables.new ≡ (commands_done rules.now at commands.now tables.old).maps) }
     ensures answer { IfOk result (λ walk. walk ≡ (commands_done rules.now at commands.now tables.old).answer) }
@@ -202,7 +236,13 @@ fn action_reply(walk: Walk) -> ActionDone
 }
 
 /// Carries one action out, with the number that it owns if it is one with `$`.
-fn action(alloc: Global, rules: &Rules, tables: &mut Tables, owned: Option<CtxNum>, action: &Action) -> Result<ActionDone, NoMemory>
+fn action(
+    alloc: Global,
+    rules: &Rules,
+    tables: &mut Tables,
+    owned: Option<CtxNum>,
+    action: &Action,
+) -> Result<ActionDone, NoMemory>
     requires { IsSound tables.old }
     ensures maps { OnOk result (tables.new ≡ (action_done rules.now owned action.now tables.old).maps) }
     ensures answer { IfOk result (λ done. done ≡ (action_done rules.now owned action.now tables.old).answer) }
@@ -228,7 +268,13 @@ fn action(alloc: Global, rules: &Rules, tables: &mut Tables, owned: Option<CtxNu
 }
 
 /// Carries actions out in order, up to the first that stops, with the numbers that those with `$` own.
-fn actions(alloc: Global, rules: &Rules, tables: &mut Tables, owned: &[Option<CtxNum>], asked: &[Action]) -> Result<Items<ActionReply>, NoMemory>
+fn actions(
+    alloc: Global,
+    rules: &Rules,
+    tables: &mut Tables,
+    owned: &[Option<CtxNum>],
+    asked: &[Action],
+) -> Result<Items<ActionReply>, NoMemory>
     requires { IsSound tables.old }
     ensures maps { OnOk result (tables.new ≡ (actions_done rules.now owned.now asked.now tables.old).maps) }
     ensures answer { IfOk result (λ replies. replies ≡ (actions_done rules.now owned.now asked.now tables.old).answer) }
@@ -268,12 +314,24 @@ pub(crate) fn is_choose(sent: CtxRef) -> bool
 }
 
 /// Carries a request out, with what its `$` places own.
-pub(crate) fn transaction(alloc: Global, rules: &Rules, tables: &mut Tables, request: &Request, ids: &Ids) -> Result<TxReply, NoMemory>
+pub(crate) fn transaction(
+    alloc: Global,
+    rules: &Rules,
+    tables: &mut Tables,
+    request: &Request,
+    ids: &Ids,
+) -> Result<TxReply, NoMemory>
     requires { IsSound tables.old }
     ensures maps { OnOk result (tables.new ≡ (transaction_done rules.now request.now ids.now tables.old).maps) }
     ensures answer { IfOk result (λ reply. reply ≡ (transaction_done rules.now request.now ids.now tables.old).answer) }
 {
-    let replies = actions(alloc, rules, tables, ids.contexts.as_slice(), request.actions.as_slice())?;
+    let replies = actions(
+        alloc,
+        rules,
+        tables,
+        ids.contexts.as_slice(),
+        request.actions.as_slice(),
+    )?;
     Ok(TxReply {
         id: request.id,
         result: Ok(replies),

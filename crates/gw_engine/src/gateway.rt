@@ -127,7 +127,10 @@ impl Gateway {
             contexts: config.contexts,
             slots: config.slots,
             keep: config.keep,
-            cursors: Cursors { context: 0, slot: 0 },
+            cursors: Cursors {
+                context: 0,
+                slot: 0,
+            },
             tables,
         })
     }

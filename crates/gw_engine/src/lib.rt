@@ -18,3 +18,6 @@ mod termination;
 pub use datagram::Datagram;
 pub use fault::{ConfigFault, LimitName};
 pub use gateway::Gateway;
+
+#[cfg(test)]
+mod tests;

@@ -64,7 +64,13 @@ fn count_choose(asked: &[Action]) -> usize
 
 /// What the `$` places of a request's actions own, and the new cursor. Takes as many steps as there are numbers between the
 /// cursor and the last one owned.
-pub(crate) fn reserve(alloc: Global, tables: &Tables, contexts: u32, cursor: u32, asked: &[Action]) -> Result<(Ids, u32), NoMemory>
+pub(crate) fn reserve(
+    alloc: Global,
+    tables: &Tables,
+    contexts: u32,
+    cursor: u32,
+    asked: &[Action],
+) -> Result<(Ids, u32), NoMemory>
     requires cursor { cursor ≤ contexts }
     requires contexts { contexts < 2 ^ 16 }
     ensures ids { IfOk result (λ r. r.0 ≡ record { contexts = owners tables.now cursor contexts asked.now; slots = [] }) }

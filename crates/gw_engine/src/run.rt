@@ -37,13 +37,19 @@ fn are_simple_commands(commands: &[Command]) -> bool
 fn is_simple_action(action: &Action) -> bool
     ensures { result ≡ is_simple_action action.now }
 {
-    !action.props && is_simple_context(action.ctx) && are_simple_commands(action.commands.as_slice())
+    !action.props
+        && is_simple_context(action.ctx)
+        && are_simple_commands(action.commands.as_slice())
 }
 
 fn is_simple_request(request: &Request) -> bool
     ensures { result ≡ is_simple_request request.now }
 {
-    request.actions.as_slice().iter().all(|action| is_simple_action(action))
+    request
+        .actions
+        .as_slice()
+        .iter()
+        .all(|action| is_simple_action(action))
 }
 
 /// The one request that a message holds, where this gateway carries all of it out.
@@ -80,7 +86,13 @@ impl Gateway {
         ensures { IfOk result (λ p. Prepares self.now (reply_to self.now request.now) p.bytes.items p.change) }
     {
         let asked = request.actions.as_slice();
-        let (ids, context) = reserve(alloc, &self.tables, self.contexts, self.cursors.context, asked)?;
+        let (ids, context) = reserve(
+            alloc,
+            &self.tables,
+            self.contexts,
+            self.cursors.context,
+            asked,
+        )?;
         let mut tables = self.tables.copy()?;
         let reply = transaction(alloc, &self.rules, &mut tables, request, &ids)?;
         let bytes = write_reply(alloc, &reply, &self.mid)?;

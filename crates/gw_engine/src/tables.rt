@@ -65,7 +65,11 @@ impl Tables {
     }
 
     /// Sets the termination of a name, and hands back the one before. A refused growth changes nothing.
-    pub fn set_term(&mut self, name: TermName, entry: Option<Termination>) -> Result<Option<Termination>, AllocError>
+    pub fn set_term(
+        &mut self,
+        name: TermName,
+        entry: Option<Termination>,
+    ) -> Result<Option<Termination>, AllocError>
         ensures before { IfOk result (λ before. before ≡ term self.old name) }
         ensures ok { OnOk result (self.new ≡ put_term self.old name entry) }
         ensures err { OnErr result (self.new ≡ self.old) }
@@ -77,7 +81,11 @@ impl Tables {
     }
 
     /// Sets the context with a number, and hands back the one before. A refused growth changes nothing.
-    pub fn set_ctx(&mut self, number: CtxNum, entry: Option<Context>) -> Result<Option<Context>, AllocError>
+    pub fn set_ctx(
+        &mut self,
+        number: CtxNum,
+        entry: Option<Context>,
+    ) -> Result<Option<Context>, AllocError>
         ensures before { IfOk result (λ before. before ≡ ctx self.old number) }
         ensures ok { OnOk result (self.new ≡ put_ctx self.old number entry) }
         ensures err { OnErr result (self.new ≡ self.old) }

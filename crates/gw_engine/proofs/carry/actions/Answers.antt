@@ -25,8 +25,8 @@ loop-sent-preserved c =
     c.in_ok-done.ensures.maps ∙ ap (λ (o : Option CtxNum). (action c.args.rules.now o sent c.loop-sent.tables).maps) c.next_owned-own.ensures.own in
     record {
       told = actions_go_on c.args.rules.now left c.if-is_choose.left.now sent (drop i c.args.asked.now) rest c.loop-sent.tables c.action.new.tables c.loop-sent.replies c.push.new.self c.in_ok-done.done _
-        split
-        (c.in_ok-done.ensures.answer ∙ ap (λ (o : Option CtxNum). (action c.args.rules.now o sent c.loop-sent.tables).answer) c.next_owned-own.ensures.own)
-        later c.if-stopped.false place c.in_ok-push.ensures.ok c.loop-sent.invariant.told;
+          split
+          (c.in_ok-done.ensures.answer ∙ ap (λ (o : Option CtxNum). (action c.args.rules.now o sent c.loop-sent.tables).answer) c.next_owned-own.ensures.own)
+          later c.if-stopped.false place c.in_ok-push.ensures.ok c.loop-sent.invariant.told;
       sound = subst IsSound (sym later) (kept_action c.args.rules.now (sound_is_kept c.args.rules.now.members) (next_owned left) sent c.loop-sent.tables c.loop-sent.invariant.sound);
     }

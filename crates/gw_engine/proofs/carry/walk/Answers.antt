@@ -17,6 +17,6 @@ loop-asked-preserved c =
     let place : c.if-done.at ≡ next_at c.loop-asked.at c.in_ok-done.done.made = elim c.if-done.branch [ then-done w ↦ w.at-is ∙ w.made-at.ensures ∙ ap (λ (b : Bool). next_at c.loop-asked.at b) (sym w.if-done.true) | else-done w ↦ w.at-is ∙ ap (λ (b : Bool). next_at c.loop-asked.at b) (sym w.if-done.false) ] in
     record {
       told = walk_goes_on c.args.rules.now c.loop-asked.at c.if-done.at asked (drop i c.args.commands.now) rest c.loop-asked.tables c.command.new.tables c.loop-asked.replies c.push.new.self c.in_ok-done.done _
-        split c.in_ok-done.ensures.answer c.in_ok-done.ensures.maps (stops ∙ c.if-stops.false) place c.in_ok-push.ensures.ok c.loop-asked.invariant.told;
+          split c.in_ok-done.ensures.answer c.in_ok-done.ensures.maps (stops ∙ c.if-stops.false) place c.in_ok-push.ensures.ok c.loop-asked.invariant.told;
       sound = subst IsSound (sym c.in_ok-done.ensures.maps) (kept_command c.args.rules.now (sound_is_kept c.args.rules.now.members) c.loop-asked.at asked c.loop-asked.tables c.loop-asked.invariant.sound);
     }
