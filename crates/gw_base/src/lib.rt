@@ -2,6 +2,8 @@
 #![tactic(auto)]
 
 mod bytes;
+#[cfg(test)]
+mod cases;
 mod code;
 mod command_words;
 mod config;
