@@ -73,3 +73,6 @@ pub fn one_message()
     ensures message { (text : List ℕ) (m n : SpelledMessage) → Spells m text → Spells n text → m ≡ n }
     ensures version { (text : List ℕ) (m : SpelledMessage) → Spells m text → ¬ HasVersionFault text }
 {}
+
+#[cfg(test)]
+mod tests;
