@@ -10,4 +10,4 @@ mod words;
 
 pub use fault::ReadFault;
 pub use message::{Action, Command, Item, Message, Request};
-pub use read::{one_message, read_message};
+pub use read::{one_answer, one_message, read_message};

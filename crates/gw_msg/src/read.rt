@@ -1,9 +1,11 @@
 //! Reading a whole message.
 
-ghost use Rattle.std.specs.Prelude.{◌≡◌, ℕ, List};
+ghost use Rattle.std.specs.Prelude.{◌≡◌, ◌≢◌, ◌⊎◌, ℕ, List, Result, Err};
 ghost use Rattle.gw_msg.specs.Reading.{Gives, IsAnswer, version_at, header_at, message_of};
 ghost use Rattle.gw_msg.specs.Grammar.{IsReadingOf, Spells, HasVersionFault};
 ghost use Rattle.gw_msg.specs.declared.message.Message.{Message as SpelledMessage};
+ghost use Rattle.gw_msg.specs.declared.fault.ReadFault.{ReadFault as Fault};
+ghost use Rattle.gw_msg.specs.declared.fault.ReadFault.TheVariants.{NoMemory};
 
 use crate::fault::ReadFault;
 use crate::message::Message;
@@ -72,6 +74,13 @@ pub fn read_message(alloc: Global, text: &[u8]) -> Result<Message, ReadFault>
 pub fn one_message()
     ensures message { (text : List ℕ) (m n : SpelledMessage) → Spells m text → Spells n text → m ≡ n }
     ensures version { (text : List ℕ) (m : SpelledMessage) → Spells m text → ¬ HasVersionFault text }
+{}
+
+/// Each text has one answer but for want of memory, and `message_of` is that answer.
+pub fn one_answer()
+    ensures answer { (text : List ℕ) → IsReadingOf text (message_of text) }
+    ensures memory { (text : List ℕ) → message_of text ≢ Err NoMemory }
+    ensures only { (text : List ℕ) (answer : Result SpelledMessage Fault) → IsReadingOf text answer → (answer ≡ message_of text) ⊎ (answer ≡ Err NoMemory) }
 {}
 
 #[cfg(test)]
