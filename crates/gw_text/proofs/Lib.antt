@@ -1,5 +1,6 @@
 pub mod TokenLemmas
 pub mod TokenTable
+pub mod TokenWords
 pub mod RunLemmas
 pub mod SpaceLemmas
 pub mod SpacePieces

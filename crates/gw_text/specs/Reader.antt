@@ -1,10 +1,10 @@
 -- Readers: each takes a value from the front of a text, or there is none.
-use Rattle.std.specs.Prelude.{◌==◌, ℕ, Bool, zero, suc, if◌then◌else◌, List, [], ◌∷◌, length, Option, Some, None, Result, Ok, Err}
+use Rattle.std.specs.Prelude.{ℕ, Bool, zero, suc, if◌then◌else◌, List, [], ◌∷◌, length, Option, Some, None, Result, Ok, Err}
 use Rattle.gw_text.specs.Lexical.{comma, left_brace, right_brace}
 use Rattle.gw_text.specs.Runs.{begins}
 use Rattle.gw_text.specs.SpaceScan.{skip}
 use Rattle.gw_text.specs.Sign.{byte_at, sign_at, prefix_at}
-use Rattle.gw_text.specs.Scans.{word_at, solid_at, uint32_at}
+use Rattle.gw_text.specs.Scans.{word_at, solid_at, number_within, uint32_at}
 use Rattle.gw_text.specs.declared.fault.ScanFault.{ScanFault}
 
 -- a value, and what is left
@@ -39,6 +39,10 @@ solid_as of text = do
 
 abbrev pub number_at : Reader ℕ
 number_at text = found (uint32_at text)
+
+-- a number of at most so many digits, and at most max
+abbrev pub number_up_to : (most max : ℕ) → Reader ℕ
+number_up_to most max text = found (number_within most max text)
 
 -- ---- one of two
 

@@ -6,10 +6,10 @@ ghost use Rattle.gw_base.specs.Bytes.{is_digit};
 ghost use Rattle.gw_text.specs.Lexical.{is_safe, is_solid};
 ghost use Rattle.gw_text.specs.Space.{IsSpace, IsSep};
 ghost use Rattle.gw_text.specs.Runs.{begins, is_byte};
-ghost use Rattle.gw_text.specs.Forms.{IsWord, IsSolid, IsSomeRun, IsUint32, HasNoUint32, IsSign, IsInAnyCase};
+ghost use Rattle.gw_text.specs.Forms.{IsWord, IsSolid, IsSomeRun, IsNumber, IsUint32, HasNoNumber, IsSign, IsInAnyCase};
 ghost use Rattle.gw_text.specs.Longest.{IsLongest};
 ghost use Rattle.gw_text.specs.Sign.{byte_at, sign_at, prefix_at};
-ghost use Rattle.gw_text.specs.Scans.{Gives, lwsp_at, sep_at, word_at, solid_at, uint32_at};
+ghost use Rattle.gw_text.specs.Scans.{Gives, lwsp_at, sep_at, word_at, solid_at, number_within, uint32_at, uint32_digits, uint32_max};
 
 use crate::fault::ScanFault;
 use crate::lengths::{digits_len, solid_len, space_len, word_len};
@@ -130,29 +130,46 @@ impl<'a> Cursor<'a> {
         Ok(self.take(len))
     }
 
-    /// Takes a number: the longest run of digits.
+    /// Takes a 32-bit number: the longest run of digits.
     ///
     /// # Errors
     ///
     /// `Unexpected` where no digit comes next; `Overflow` where the digits are more than ten or write more than
     /// 4,294,967,295.
-    #[tactic(auto, using(crate::proofs::RunLemmas::run_is), unfolding(crate::specs::Scans::uint32_at))]
     pub fn uint32(&mut self) -> Result<Uint32<'a>, ScanFault>
         ensures exact { Gives (λ n. n.value) self.old result self.new (uint32_at self.old) }
         ensures span { IfOk result (λ n. IsLongest (IsSomeRun is_digit) self.old n.span.now self.new × IsUint32 n.value n.span.now) }
-        ensures fault { IfErr result (λ e. HasNoUint32 e self.old) }
+        ensures fault { IfErr result (λ e. HasNoNumber uint32_digits uint32_max e self.old) }
+        ensures stays { OnErr result (self.new ≡ self.old) }
+    {
+        self.number(10, u32::MAX)
+    }
+
+    /// Takes a number of at most so many digits, and at most `max`: the longest run of digits.
+    ///
+    /// # Errors
+    ///
+    /// `Unexpected` where no digit comes next; `Overflow` where the digits are more, or write more than `max`.
+    #[tactic(auto, using(crate::proofs::RunLemmas::run_is), unfolding(crate::specs::Scans::number_within))]
+    pub fn number(&mut self, digits: usize, max: u32) -> Result<Uint32<'a>, ScanFault>
+        ensures exact { Gives (λ n. n.value) self.old result self.new (number_within digits max self.old) }
+        ensures span { IfOk result (λ n. IsLongest (IsSomeRun is_digit) self.old n.span.now self.new × IsNumber digits max n.value n.span.now) }
+        ensures fault { IfErr result (λ e. HasNoNumber digits max e self.old) }
         ensures stays { OnErr result (self.new ≡ self.old) }
     {
         let len = digits_len(self.rest);
         if len == 0 {
             return Err(ScanFault::Unexpected);
         }
-        if len > 10 {
+        if len > digits {
             return Err(ScanFault::Overflow);
         }
         let Some(value) = number_of(&self.rest[..len]) else {
             return Err(ScanFault::Overflow);
         };
+        if value > max {
+            return Err(ScanFault::Overflow);
+        }
         Ok(Uint32 {
             span: self.take(len),
             value,
