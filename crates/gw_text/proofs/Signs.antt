@@ -172,6 +172,15 @@ not_there : (t : Bool) (xs : List ℕ) → cond t (Some xs) None ≡ None → t 
 not_there true xs e = absurd cc
 not_there false xs e = refl
 
+behind_none : (b : ℕ) (text : List ℕ) → behind b text ≡ None → begins (is_byte b) text ≡ false
+behind_none b [] e = refl
+behind_none b (c ∷ cs) e = not_there (c == b) (skip cs) e
+
+-- behind the white space the byte b does not come next, where there is no sign b
+pub sign_none : (b : ℕ) (text : List ℕ) → sign_at b text ≡ None → begins (is_byte b) (skip text) ≡ false
+unfolding sign_at
+sign_none b text e = behind_none b (skip text) e
+
 pub byte_missing : (b : ℕ) (text : List ℕ) → byte_at b text ≡ None → begins (is_byte b) text ≡ false
 unfolding byte_at
 byte_missing b [] e = refl

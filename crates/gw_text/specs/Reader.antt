@@ -1,7 +1,7 @@
 -- Readers: each takes a value from the front of a text, or there is none.
 use Rattle.std.specs.Prelude.{ℕ, Bool, zero, suc, if◌then◌else◌, List, [], ◌∷◌, length, Option, Some, None, Result, Ok, Err}
 use Rattle.gw_text.specs.Lexical.{comma, left_brace, right_brace}
-use Rattle.gw_text.specs.Runs.{begins}
+use Rattle.gw_text.specs.Runs.{begins, is_byte}
 use Rattle.gw_text.specs.SpaceScan.{skip}
 use Rattle.gw_text.specs.Sign.{byte_at, sign_at, prefix_at}
 use Rattle.gw_text.specs.Scans.{word_at, solid_at, number_within, uint32_at}
@@ -66,6 +66,10 @@ if_prefix bytes on other text = or_else (prefix_at bytes text) on (other text)
 -- on reads where a byte of the class comes next, and takes it too
 abbrev pub if_begins : {V : Type 0} → (ℕ → Bool) → Reader V → Reader V → Reader V
 if_begins p on other text = if begins p text then on text else other text
+
+-- on reads behind the white space where the byte b comes next there; where it does not, other reads, white space and all
+abbrev pub if_ahead : {V : Type 0} → ℕ → Reader V → Reader V → Reader V
+if_ahead b on other text = if begins (is_byte b) (skip text) then on (skip text) else other text
 
 -- ---- lists
 

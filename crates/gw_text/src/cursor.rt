@@ -5,6 +5,7 @@ ghost use Rattle.std.specs.Bool.{OnTrue, OnFalse};
 ghost use Rattle.gw_base.specs.Bytes.{is_digit};
 ghost use Rattle.gw_text.specs.Lexical.{is_safe, is_solid};
 ghost use Rattle.gw_text.specs.Space.{IsSpace, IsSep};
+ghost use Rattle.gw_text.specs.SpaceScan.{skip};
 ghost use Rattle.gw_text.specs.Runs.{begins, is_byte};
 ghost use Rattle.gw_text.specs.Forms.{IsWord, IsSolid, IsSomeRun, IsNumber, IsUint32, HasNoNumber, IsSign, IsInAnyCase};
 ghost use Rattle.gw_text.specs.Longest.{IsLongest};
@@ -59,6 +60,18 @@ impl<'a> Cursor<'a> {
         ensures { result ≡ begins (is_byte b) self.now }
     {
         match self.rest {
+            [c, ..] => *c == b,
+            [] => false,
+        }
+    }
+
+    /// Whether the byte comes next behind the white space. Nothing is taken.
+    #[tactic(auto, unfolding(crate::specs::SpaceScan::skip))]
+    pub fn is_ahead(&self, b: u8) -> bool
+        ensures { result ≡ begins (is_byte b) (skip self.now) }
+    {
+        let len = space_len(self.rest);
+        match &self.rest[len..] {
             [c, ..] => *c == b,
             [] => false,
         }
