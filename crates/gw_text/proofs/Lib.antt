@@ -13,3 +13,6 @@ pub mod Links
 pub mod Lists
 pub mod Loops
 pub mod Items
+pub mod OctetsLemmas
+pub mod TrimLemmas
+pub mod OctetsScans

@@ -5,6 +5,8 @@ use Rattle.gw_text.specs.Runs.{begins, is_byte}
 use Rattle.gw_text.specs.SpaceScan.{skip}
 use Rattle.gw_text.specs.Sign.{byte_at, sign_at, prefix_at}
 use Rattle.gw_text.specs.Scans.{word_at, solid_at, number_within, uint32_at}
+use Rattle.gw_text.specs.Octets.{octets_at}
+use Rattle.gw_text.specs.Quoted.{quoted_at}
 use Rattle.gw_text.specs.declared.fault.ScanFault.{ScanFault}
 
 -- a value, and what is left
@@ -43,6 +45,14 @@ number_at text = found (uint32_at text)
 -- a number of at most so many digits, and at most max
 abbrev pub number_up_to : (most max : ℕ) → Reader ℕ
 number_up_to most max text = found (number_within most max text)
+
+-- what is kept of octets, up to their closing brace
+abbrev pub octets_read : Reader (List ℕ)
+octets_read text = found (octets_at text)
+
+-- a quoted text, quotes and all
+abbrev pub quoted_read : Reader (List ℕ)
+quoted_read text = found (quoted_at text)
 
 -- ---- one of two
 

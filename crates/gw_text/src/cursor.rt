@@ -3,11 +3,13 @@
 ghost use Rattle.std.specs.Prelude.{◌≡◌, ◌≤◌, ◌<◌, ℕ, List, [], ◌∷◌, ◌++◌, true, false, length, take, drop, Some, None, MatchBool, IfOk, IfErr, IsTrue, ◌↔◌, OnErr};
 ghost use Rattle.std.specs.Bool.{OnTrue, OnFalse};
 ghost use Rattle.gw_base.specs.Bytes.{is_digit};
-ghost use Rattle.gw_text.specs.Lexical.{is_safe, is_solid};
+ghost use Rattle.gw_text.specs.Lexical.{is_safe, is_solid, right_brace};
 ghost use Rattle.gw_text.specs.Space.{IsSpace, IsSep};
 ghost use Rattle.gw_text.specs.SpaceScan.{skip};
 ghost use Rattle.gw_text.specs.Runs.{begins, is_byte};
 ghost use Rattle.gw_text.specs.Forms.{IsWord, IsSolid, IsSomeRun, IsNumber, IsUint32, HasNoNumber, IsSign, IsInAnyCase};
+ghost use Rattle.gw_text.specs.Octets.{IsOctets, IsOctetsOf, octets_at};
+ghost use Rattle.gw_text.specs.Quoted.{IsQuoted, quoted_at};
 ghost use Rattle.gw_text.specs.Longest.{IsLongest};
 ghost use Rattle.gw_text.specs.Sign.{byte_at, sign_at, prefix_at};
 ghost use Rattle.gw_text.specs.Scans.{Gives, lwsp_at, sep_at, word_at, solid_at, number_within, uint32_at, uint32_digits, uint32_max};
@@ -15,6 +17,7 @@ ghost use Rattle.gw_text.specs.Scans.{Gives, lwsp_at, sep_at, word_at, solid_at,
 use crate::fault::ScanFault;
 use crate::lengths::{digits_len, solid_len, space_len, word_len};
 use crate::number::number_of;
+use crate::octets::{octets_ends, quoted_len, trimmed};
 use std::marker::Model;
 
 /// A 32-bit number in a text.
@@ -187,6 +190,44 @@ impl<'a> Cursor<'a> {
             span: self.take(len),
             value,
         })
+    }
+
+    /// Takes octets, from behind the brace that begins them up to the one that closes them, which is left. The span
+    /// is the text without the white space at its ends (spaces, tabs, CR and LF, no comments); where a `\` stands
+    /// before that at the end, its first byte is kept.
+    ///
+    /// # Errors
+    ///
+    /// `Unexpected` where no closing brace comes, or a byte 0 before it.
+    #[tactic(auto, unfolding(crate::specs::Octets::octets_at))]
+    pub fn octets(&mut self) -> Result<&'a [u8], ScanFault>
+        ensures exact { Gives (λ span. span.now) self.old result self.new (octets_at self.old) }
+        ensures span { IfOk result (λ span. (body : List ℕ) × (self.old ≡ body ++ self.new) × (begins (is_byte right_brace) self.new ≡ true) × IsOctetsOf span.now body) }
+        ensures fault { IfErr result (λ e. (e ≡ ScanFault.Unexpected) × ((body rest : List ℕ) → self.old ≡ body ++ right_brace ∷ rest → ¬ IsOctets body)) }
+        ensures stays { OnErr result (self.new ≡ self.old) }
+    {
+        let Some((len, keep)) = octets_ends(self.rest) else {
+            return Err(ScanFault::Unexpected);
+        };
+        Ok(trimmed(&self.take(len)[..keep]))
+    }
+
+    /// Takes a quoted text, its quotes among it.
+    ///
+    /// # Errors
+    ///
+    /// `Unexpected` where no quoted text comes next.
+    #[tactic(auto, unfolding(crate::specs::Quoted::quoted_at))]
+    pub fn quoted(&mut self) -> Result<&'a [u8], ScanFault>
+        ensures exact { Gives (λ span. span.now) self.old result self.new (quoted_at self.old) }
+        ensures span { IfOk result (λ span. (self.old ≡ span.now ++ self.new) × IsQuoted span.now) }
+        ensures fault { IfErr result (λ e. (e ≡ ScanFault.Unexpected) × ((before after : List ℕ) → self.old ≡ before ++ after → ¬ IsQuoted before)) }
+        ensures stays { OnErr result (self.new ≡ self.old) }
+    {
+        let Some(len) = quoted_len(self.rest) else {
+            return Err(ScanFault::Unexpected);
+        };
+        Ok(self.take(len))
     }
 
     /// Takes the byte, if it comes next.
