@@ -1,18 +1,19 @@
 -- Bytes, signs with white space on both sides, and bytes in any case: what is behind them.
-use Rattle.std.proofs.Common.{◌≡◌, ℕ, ◌+◌, ◌≤◌, ◌<◌, Bool, true, false, cond, not, ◌==◌, ◌||◌, ◌&&◌, List, [], ◌∷◌, ◌++◌, map, length, take, drop, Option, Some, None, refl, ap, sym, subst, ◌∙◌, append_assoc, length-append, arith}
-use Rattle.std.specs.Prelude.{bytes_eq}
+use Rattle.std.proofs.Common.{◌≡◌, ℕ, ◌<◌, Bool, true, false, cond, not, ◌==◌, List, [], ◌∷◌, ◌++◌, map, length, take, drop, Some, None, refl, ap, sym, ◌∙◌, append_assoc, length-append, arith}
+use Rattle.std.specs.Prelude.{bytes_eq, MatchBool}
+use Rattle.std.specs.Bool.{OnTrue, OnFalse}
 use Rattle.std.specs.Char.{to_ascii_lowercase}
 use Rattle.std.proofs.lemmas.List.{take-append-drop, take_at, drop_at, length-map}
 use Rattle.std.proofs.lemmas.Slice.Eq.{bytes_eq-Decides}
 use Rattle.std.proofs.lemmas.Bool.{eqb-true}
-use Rattle.gw_base.specs.Lang.{Both, ◌▹◌}
 use Rattle.gw_text.specs.Lexical.{is_space_start, is_solid}
 use Rattle.gw_text.specs.Space.{IsSpace}
 use Rattle.gw_text.specs.SpaceScan.{skip}
-use Rattle.gw_text.specs.Runs.{begins}
+use Rattle.gw_text.specs.Runs.{begins, is_byte}
+use Rattle.gw_text.specs.Longest.{IsLongest}
 use Rattle.gw_text.specs.Sign.{byte_at, behind, sign_at, prefix_at}
 use Rattle.gw_text.specs.Forms.{IsSign, IsInAnyCase}
-use Rattle.gw_text.proofs.Skips.{skip_space, skip_stays, skip_is, skip_skip, space_first}
+use Rattle.gw_text.proofs.Skips.{skip_space, skip_stays, skip_is, skip_skip, skip_len, space_first}
 
 pub some_is : {A : Type 0} (x y : A) → Some x ≡ Some y → x ≡ y
 some_is x y e = cc
@@ -140,3 +141,62 @@ prefix_again bytes front rest h =
     let len = case_len bytes front h in
     let same = (bytes_eq-Decides (map to_ascii_lowercase front) (map to_ascii_lowercase bytes)).1 h in
     rw (← len, take_at front rest (length front) refl, drop_at front rest (length front) refl, same) refl
+
+-- ---- what is there, and what is not
+
+solid_not : (t : Bool) → not t ≡ true → t ≡ false
+solid_not true h = absurd cc
+solid_not false h = refl
+
+-- the sign that is taken is the longest
+pub sign_longest : (b : ℕ) (text rest : List ℕ) → sign_at b text ≡ Some rest → is_solid b ≡ true → (span : List ℕ) × IsLongest (IsSign b) text span rest
+sign_longest b text rest e solid =
+    let s = sign_sound b text rest e in (
+      s.0,
+      record {
+        split = s.1;
+        inside = s.2;
+        longest = λ other left split sign.
+            let again : sign_at b text ≡ Some (skip left) = ap (sign_at b) split ∙ sign_again b other left (solid_not (is_space_start b) solid) sign in
+            let same : rest ≡ skip left = some_is rest (skip left) (sym e ∙ again) in
+            omega (arith, ap length s.1, length-append s.0 rest, ap length split, length-append other left, ap length same, skip_len left);
+      },
+    )
+
+pub sign_missing : (b : ℕ) (text : List ℕ) → sign_at b text ≡ None → is_solid b ≡ true → (before after : List ℕ) → text ≡ before ++ after → ¬ IsSign b before
+sign_missing b text e solid before after split sign =
+    let again : None ≡ Some (skip after) = sym e ∙ ap (sign_at b) split ∙ sign_again b before after (solid_not (is_space_start b) solid) sign in
+    absurd cc
+
+not_there : (t : Bool) (xs : List ℕ) → cond t (Some xs) None ≡ None → t ≡ false
+not_there true xs e = absurd cc
+not_there false xs e = refl
+
+behind_none : (b : ℕ) (text : List ℕ) → behind b text ≡ None → begins (is_byte b) text ≡ false
+behind_none b [] e = refl
+behind_none b (c ∷ cs) e = not_there (c == b) (skip cs) e
+
+-- behind the white space the byte b does not come next, where there is no sign b
+pub sign_none : (b : ℕ) (text : List ℕ) → sign_at b text ≡ None → begins (is_byte b) (skip text) ≡ false
+unfolding sign_at
+sign_none b text e = behind_none b (skip text) e
+
+pub byte_missing : (b : ℕ) (text : List ℕ) → byte_at b text ≡ None → begins (is_byte b) text ≡ false
+unfolding byte_at
+byte_missing b [] e = refl
+byte_missing b (c ∷ cs) e = not_there (c == b) cs e
+
+pub prefix_missing : (bytes text : List ℕ) → prefix_at bytes text ≡ None → (before after : List ℕ) → text ≡ before ++ after → ¬ IsInAnyCase bytes before
+prefix_missing bytes text e before after split same =
+    let again : None ≡ Some after = sym e ∙ ap (prefix_at bytes) split ∙ prefix_again bytes before after same in
+    absurd cc
+
+-- ---- as a scan answers
+
+pub sign_took : (r : Bool) (b : ℕ) (old new : List ℕ) → MatchBool r (sign_at b old ≡ Some new) ((sign_at b old ≡ None) × (new ≡ old)) → OnTrue r (is_solid b ≡ true → (span : List ℕ) × IsLongest (IsSign b) old span new)
+sign_took true b old new e = sign_longest b old new e
+sign_took false b old new e = tt
+
+pub sign_missed : (r : Bool) (b : ℕ) (old new : List ℕ) → MatchBool r (sign_at b old ≡ Some new) ((sign_at b old ≡ None) × (new ≡ old)) → OnFalse r (is_solid b ≡ true → (before after : List ℕ) → old ≡ before ++ after → ¬ IsSign b before)
+sign_missed true b old new e = tt
+sign_missed false b old new e = sign_missing b old e.0

@@ -5,4 +5,4 @@ use Rattle.gw_text.specs.declared.token.Spelling as code
 
 abbrev pub entries : List code.Spelling → List Spelling
 entries [] = []
-entries (s ∷ rest) = (record { long = s.long.now; short = s.short.now; token = s.token }) ∷ entries rest
+entries (s ∷ rest) = (record { long = s.0.now; short = s.1.now; token = s.2 }) ∷ entries rest

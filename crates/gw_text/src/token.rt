@@ -62,287 +62,75 @@ pub enum Token {
     TransactionResponseAck,
 }
 
-/// The two forms of a token.
+/// The long form of a token, its short form, and the token.
 #[derive(Clone, Copy)]
-struct Spelling {
-    long: &'static [u8],
-    short: &'static [u8],
-    token: Token,
-}
+struct Spelling(&'static [u8], &'static [u8], Token);
 
 static TABLE: [Spelling; 53] = [
-    Spelling {
-        long: b"Add",
-        short: b"A",
-        token: Token::Add,
-    },
-    Spelling {
-        long: b"Audit",
-        short: b"AT",
-        token: Token::Audit,
-    },
-    Spelling {
-        long: b"AuditCapability",
-        short: b"AC",
-        token: Token::AuditCapability,
-    },
-    Spelling {
-        long: b"AuditValue",
-        short: b"AV",
-        token: Token::AuditValue,
-    },
-    Spelling {
-        long: b"Bothway",
-        short: b"BW",
-        token: Token::Bothway,
-    },
-    Spelling {
-        long: b"Context",
-        short: b"C",
-        token: Token::Context,
-    },
-    Spelling {
-        long: b"ContextAudit",
-        short: b"CA",
-        token: Token::ContextAudit,
-    },
-    Spelling {
-        long: b"Delay",
-        short: b"DL",
-        token: Token::Delay,
-    },
-    Spelling {
-        long: b"DigitMap",
-        short: b"DM",
-        token: Token::DigitMap,
-    },
-    Spelling {
-        long: b"Emergency",
-        short: b"EG",
-        token: Token::Emergency,
-    },
-    Spelling {
-        long: b"Error",
-        short: b"ER",
-        token: Token::Error,
-    },
-    Spelling {
-        long: b"EventBuffer",
-        short: b"EB",
-        token: Token::EventBuffer,
-    },
-    Spelling {
-        long: b"Events",
-        short: b"E",
-        token: Token::Events,
-    },
-    Spelling {
-        long: b"Forced",
-        short: b"FO",
-        token: Token::Forced,
-    },
-    Spelling {
-        long: b"Inactive",
-        short: b"IN",
-        token: Token::Inactive,
-    },
-    Spelling {
-        long: b"InService",
-        short: b"IV",
-        token: Token::InService,
-    },
-    Spelling {
-        long: b"Isolate",
-        short: b"IS",
-        token: Token::Isolate,
-    },
-    Spelling {
-        long: b"Local",
-        short: b"L",
-        token: Token::Local,
-    },
-    Spelling {
-        long: b"LocalControl",
-        short: b"O",
-        token: Token::LocalControl,
-    },
-    Spelling {
-        long: b"Loopback",
-        short: b"LB",
-        token: Token::Loopback,
-    },
-    Spelling {
-        long: b"Media",
-        short: b"M",
-        token: Token::Media,
-    },
-    Spelling {
-        long: b"Method",
-        short: b"MT",
-        token: Token::Method,
-    },
-    Spelling {
-        long: b"Mode",
-        short: b"MO",
-        token: Token::Mode,
-    },
-    Spelling {
-        long: b"Modem",
-        short: b"MD",
-        token: Token::Modem,
-    },
-    Spelling {
-        long: b"Modify",
-        short: b"MF",
-        token: Token::Modify,
-    },
-    Spelling {
-        long: b"Move",
-        short: b"MV",
-        token: Token::Move,
-    },
-    Spelling {
-        long: b"Mux",
-        short: b"MX",
-        token: Token::Mux,
-    },
-    Spelling {
-        long: b"Notify",
-        short: b"N",
-        token: Token::Notify,
-    },
-    Spelling {
-        long: b"ObservedEvents",
-        short: b"OE",
-        token: Token::ObservedEvents,
-    },
-    Spelling {
-        long: b"Oneway",
-        short: b"OW",
-        token: Token::Oneway,
-    },
-    Spelling {
-        long: b"OutOfService",
-        short: b"OS",
-        token: Token::OutOfService,
-    },
-    Spelling {
-        long: b"Packages",
-        short: b"PG",
-        token: Token::Packages,
-    },
-    Spelling {
-        long: b"Pending",
-        short: b"PN",
-        token: Token::Pending,
-    },
-    Spelling {
-        long: b"Priority",
-        short: b"PR",
-        token: Token::Priority,
-    },
-    Spelling {
-        long: b"Reason",
-        short: b"RE",
-        token: Token::Reason,
-    },
-    Spelling {
-        long: b"ReceiveOnly",
-        short: b"RC",
-        token: Token::ReceiveOnly,
-    },
-    Spelling {
-        long: b"Remote",
-        short: b"R",
-        token: Token::Remote,
-    },
-    Spelling {
-        long: b"Reply",
-        short: b"P",
-        token: Token::Reply,
-    },
-    Spelling {
-        long: b"Restart",
-        short: b"RS",
-        token: Token::Restart,
-    },
-    Spelling {
-        long: b"SendOnly",
-        short: b"SO",
-        token: Token::SendOnly,
-    },
-    Spelling {
-        long: b"SendReceive",
-        short: b"SR",
-        token: Token::SendReceive,
-    },
-    Spelling {
-        long: b"ServiceChange",
-        short: b"SC",
-        token: Token::ServiceChange,
-    },
-    Spelling {
-        long: b"ServiceStates",
-        short: b"SI",
-        token: Token::ServiceStates,
-    },
-    Spelling {
-        long: b"Services",
-        short: b"SV",
-        token: Token::Services,
-    },
-    Spelling {
-        long: b"Signals",
-        short: b"SG",
-        token: Token::Signals,
-    },
-    Spelling {
-        long: b"Statistics",
-        short: b"SA",
-        token: Token::Statistics,
-    },
-    Spelling {
-        long: b"Stream",
-        short: b"ST",
-        token: Token::Stream,
-    },
-    Spelling {
-        long: b"Subtract",
-        short: b"S",
-        token: Token::Subtract,
-    },
-    Spelling {
-        long: b"TerminationState",
-        short: b"TS",
-        token: Token::TerminationState,
-    },
-    Spelling {
-        long: b"Test",
-        short: b"TE",
-        token: Token::Test,
-    },
-    Spelling {
-        long: b"Topology",
-        short: b"TP",
-        token: Token::Topology,
-    },
-    Spelling {
-        long: b"Transaction",
-        short: b"T",
-        token: Token::Transaction,
-    },
-    Spelling {
-        long: b"TransactionResponseAck",
-        short: b"K",
-        token: Token::TransactionResponseAck,
-    },
+    Spelling(b"Add", b"A", Token::Add),
+    Spelling(b"Audit", b"AT", Token::Audit),
+    Spelling(b"AuditCapability", b"AC", Token::AuditCapability),
+    Spelling(b"AuditValue", b"AV", Token::AuditValue),
+    Spelling(b"Bothway", b"BW", Token::Bothway),
+    Spelling(b"Context", b"C", Token::Context),
+    Spelling(b"ContextAudit", b"CA", Token::ContextAudit),
+    Spelling(b"Delay", b"DL", Token::Delay),
+    Spelling(b"DigitMap", b"DM", Token::DigitMap),
+    Spelling(b"Emergency", b"EG", Token::Emergency),
+    Spelling(b"Error", b"ER", Token::Error),
+    Spelling(b"EventBuffer", b"EB", Token::EventBuffer),
+    Spelling(b"Events", b"E", Token::Events),
+    Spelling(b"Forced", b"FO", Token::Forced),
+    Spelling(b"Inactive", b"IN", Token::Inactive),
+    Spelling(b"InService", b"IV", Token::InService),
+    Spelling(b"Isolate", b"IS", Token::Isolate),
+    Spelling(b"Local", b"L", Token::Local),
+    Spelling(b"LocalControl", b"O", Token::LocalControl),
+    Spelling(b"Loopback", b"LB", Token::Loopback),
+    Spelling(b"Media", b"M", Token::Media),
+    Spelling(b"Method", b"MT", Token::Method),
+    Spelling(b"Mode", b"MO", Token::Mode),
+    Spelling(b"Modem", b"MD", Token::Modem),
+    Spelling(b"Modify", b"MF", Token::Modify),
+    Spelling(b"Move", b"MV", Token::Move),
+    Spelling(b"Mux", b"MX", Token::Mux),
+    Spelling(b"Notify", b"N", Token::Notify),
+    Spelling(b"ObservedEvents", b"OE", Token::ObservedEvents),
+    Spelling(b"Oneway", b"OW", Token::Oneway),
+    Spelling(b"OutOfService", b"OS", Token::OutOfService),
+    Spelling(b"Packages", b"PG", Token::Packages),
+    Spelling(b"Pending", b"PN", Token::Pending),
+    Spelling(b"Priority", b"PR", Token::Priority),
+    Spelling(b"Reason", b"RE", Token::Reason),
+    Spelling(b"ReceiveOnly", b"RC", Token::ReceiveOnly),
+    Spelling(b"Remote", b"R", Token::Remote),
+    Spelling(b"Reply", b"P", Token::Reply),
+    Spelling(b"Restart", b"RS", Token::Restart),
+    Spelling(b"SendOnly", b"SO", Token::SendOnly),
+    Spelling(b"SendReceive", b"SR", Token::SendReceive),
+    Spelling(b"ServiceChange", b"SC", Token::ServiceChange),
+    Spelling(b"ServiceStates", b"SI", Token::ServiceStates),
+    Spelling(b"Services", b"SV", Token::Services),
+    Spelling(b"Signals", b"SG", Token::Signals),
+    Spelling(b"Statistics", b"SA", Token::Statistics),
+    Spelling(b"Stream", b"ST", Token::Stream),
+    Spelling(b"Subtract", b"S", Token::Subtract),
+    Spelling(b"TerminationState", b"TS", Token::TerminationState),
+    Spelling(b"Test", b"TE", Token::Test),
+    Spelling(b"Topology", b"TP", Token::Topology),
+    Spelling(b"Transaction", b"T", Token::Transaction),
+    Spelling(
+        b"TransactionResponseAck",
+        b"K",
+        Token::TransactionResponseAck,
+    ),
 ];
 
 #[tactic(auto, unfolding(crate::specs::Tokens::is_spelling))]
 fn is_spelling(spelling: &Spelling, word: &[u8]) -> bool
-    ensures { result ≡ is_spelling spelling.now.long.now spelling.now.short.now word.now }
+    ensures { result ≡ is_spelling spelling.now.0.now spelling.now.1.now word.now }
 {
-    word.eq_ignore_ascii_case(spelling.long) || word.eq_ignore_ascii_case(spelling.short)
+    word.eq_ignore_ascii_case(spelling.0) || word.eq_ignore_ascii_case(spelling.1)
 }
 
 #[tactic(auto, using(crate::proofs::TokenLemmas::found_here, crate::proofs::TokenLemmas::not_here))]
@@ -351,7 +139,7 @@ fn find(table: &[Spelling], word: &[u8]) -> Option<Token>
 {
     for spelling in table {
         if is_spelling(spelling, word) {
-            return Some(spelling.token);
+            return Some(spelling.2);
         }
     }
     None
@@ -364,3 +152,6 @@ pub fn token_of(word: &[u8]) -> Option<Token>
 {
     find(&TABLE, word)
 }
+
+#[cfg(test)]
+mod tests;
