@@ -2,8 +2,8 @@
 #![tactic(auto)]
 
 mod fault;
+mod lists;
 mod message;
-mod part;
 mod parts;
 mod read;
 mod words;

@@ -10,29 +10,34 @@ ghost use Rattle.gw_msg.specs.declared.fault.ReadFault.TheVariants.{NoMemory};
 use crate::fault::ReadFault;
 use crate::message::Message;
 use crate::parts::content;
-use crate::words::version;
 use gw_text::Cursor;
 use std::alloc::Global;
 
 /// The version that this gateway speaks.
-const SPOKEN_VERSION: u8 = 1;
+const SPOKEN_VERSION: u32 = 1;
 
-/// What follows the first token of a header.
+/// The most digits of a version.
+const VERSION_DIGITS: usize = 2;
+
+/// The greatest number that they write.
+const VERSION_MAX: u32 = 99;
+
+/// What follows the first token of a header: the version, which is answered.
 #[tactic(auto, unfolding(crate::specs::Reading::version_at))]
-fn header_end(cursor: &mut Cursor<'_>) -> Result<u8, ReadFault>
+fn header_end(cursor: &mut Cursor<'_>) -> Result<u32, ReadFault>
     ensures { Gives result cursor.new (version_at cursor.old) }
 {
     if !cursor.byte(b'/') {
         return Err(ReadFault::Syntax);
     }
-    let version = version(cursor)?;
+    let version = cursor.number(VERSION_DIGITS, VERSION_MAX)?;
     cursor.sep()?;
-    Ok(version)
+    Ok(version.value)
 }
 
 /// The header: its version.
 #[tactic(auto, unfolding(crate::specs::Reading::header_at, gw_text::specs::SpaceScan::skip))]
-fn header(cursor: &mut Cursor<'_>) -> Result<u8, ReadFault>
+fn header(cursor: &mut Cursor<'_>) -> Result<u32, ReadFault>
     ensures { Gives result cursor.new (header_at cursor.old) }
 {
     cursor.lwsp();
