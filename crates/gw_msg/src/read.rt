@@ -63,7 +63,8 @@ fn answer(alloc: Global, text: &[u8]) -> Result<Message, ReadFault>
     Ok(message)
 }
 
-/// The message that the text spells. The text is read once, from left to right.
+/// The message that the text spells. The text is read once, from left to right, so the cost grows with its length: each
+/// word is scanned once, white space at most twice.
 ///
 /// # Errors
 ///
