@@ -5,34 +5,33 @@ use Rattle.std.specs.Char.{to_ascii_lowercase}
 use Rattle.std.proofs.lemmas.Bool.{eq-eqb}
 use Rattle.gw_base.specs.Bytes.{byte}
 use Rattle.gw_base.specs.Lang.{◌▹◌, IsText}
-use Rattle.gw_text.specs.Lexical.{is_safe, is_solid}
+use Rattle.gw_base.specs.Bytes.{is_digit}
+use Rattle.gw_text.specs.Lexical.{is_solid}
 use Rattle.gw_text.specs.Space.{IsSep}
 use Rattle.gw_text.specs.Runs.{begins, NoMore}
 use Rattle.gw_text.specs.Sign.{byte_at, prefix_at}
 use Rattle.gw_text.specs.Scans.{sep_at}
 use Rattle.gw_text.specs.Forms.{IsInAnyCase}
-use Rattle.gw_text.specs.Reader.{Reader, ◌>>=◌, found, word_as, if_prefix}
+use Rattle.gw_text.specs.Reader.{Reader, ◌>>=◌, found, number_up_to, if_prefix}
 use Rattle.gw_text.proofs.ReadsUp.{ReadsUp, Same, Skipped, UpTo, Any, BeginsWith, up_as, up_skipped, up_then, up_byte, up_space, up_if_prefix, both_split}
-use Rattle.gw_text.proofs.Leaves.{up_sep_last}
-use Rattle.gw_text.proofs.Links.{space_bytes, is_solid_by, safe_apart, both_begins, sep_ends, with_second}
-use Rattle.gw_msg.specs.Grammar.{IsVersion, IsMegacop, IsHeader}
-use Rattle.gw_msg.specs.Words.{version_of}
+use Rattle.gw_text.proofs.Leaves.{up_number_up_to, up_sep_last}
+use Rattle.gw_text.proofs.Links.{space_bytes, is_solid_by, digit_apart, both_begins, sep_ends, with_second}
+use Rattle.gw_msg.specs.Grammar.{version_digits, version_max, IsVersion, IsMegacop, IsHeader}
 use Rattle.gw_msg.specs.Reading.{version_at, header_at}
-use Rattle.gw_msg.proofs.WordLaws.{version_reads}
 
 -- ---- behind the first token
 
 abbrev number_sep : Reader ℕ
-number_sep text = word_as version_of text >>= λ n. found (sep_at n.1) >>= λ s. Some (n.0, s.1)
+number_sep text = number_up_to version_digits version_max text >>= λ n. found (sep_at n.1) >>= λ s. Some (n.0, s.1)
 
 abbrev NumberSep : ℕ → List ℕ → Type 0
 NumberSep n = IsVersion n ▹ IsSep
 
 number_sep_reads : ReadsUp number_sep NumberSep Any Same Skipped
 number_sep_reads =
-    up_as (up_then (word_as version_of) (λ n text. found (sep_at text) >>= λ s. Some (n, s.1)) IsVersion (λ n m text. (n ≡ m) × IsSep text) (NoMore is_safe) Any Same Same Skipped
-    version_reads (λ n. up_sep_last n)
-    (λ n m front rest q a. sep_ends is_safe safe_apart front rest q.1))
+    up_as (up_then (number_up_to version_digits version_max) (λ n text. found (sep_at text) >>= λ s. Some (n, s.1)) IsVersion (λ n m text. (n ≡ m) × IsSep text) (NoMore is_digit) Any Same Same Skipped
+    (up_number_up_to version_digits version_max) (λ n. up_sep_last n)
+    (λ n m front rest q a. sep_ends is_digit digit_apart front rest q.1))
     (λ m text h. let b = h.1 in subst (λ (k : ℕ). NumberSep k text) b.second.0 (with_second b b.second.1))
     (λ m text b. (m, with_second b (refl, b.second)))
 

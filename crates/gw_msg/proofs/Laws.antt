@@ -158,7 +158,7 @@ request_id_reads =
     (λ id r front rest q n. both_ends is_digit left_brace _ front rest digit_apart refl q.2)
 
 request_id_solid : BeginsWith is_solid RequestId
-request_id_solid r text h = both_begins is_solid (IsUint32 h.0) (RequestActions h.0 r) (number_solid h.0) text h.1
+request_id_solid r text h = both_begins is_solid (IsUint32 h.0) (RequestActions h.0 r) (number_solid _ _ h.0) text h.1
 
 pub request_reads : ReadsUp request_at SpellsRequest Any Same Skipped
 unfolding request_at

@@ -1,5 +1,5 @@
 -- A whole text: its message, a header of another version, or neither.
-use Rattle.std.proofs.Common.{◌≡◌, ◌≢◌, ℕ, Bool, true, false, cond, ◌==◌, List, [], ◌∷◌, Option, Some, None, Result, Ok, Err, refl, ap, sym, ◌∙◌}
+use Rattle.std.proofs.Common.{◌≡◌, ◌≢◌, ◌⊎◌, inl, inr, ℕ, Bool, true, false, cond, ◌==◌, List, [], ◌∷◌, Option, Some, None, Result, Ok, Err, refl, ap, sym, ◌∙◌}
 use Rattle.std.proofs.lemmas.Bool.{eqb-true, eqb-false, ne_eqb}
 use Rattle.gw_text.specs.Lexical.{is_solid}
 use Rattle.gw_text.specs.Space.{IsSpace}
@@ -103,6 +103,45 @@ one text m n p q = done_is m n (sym (message_complete text m p) ∙ message_comp
 
 pub no_version : (text : List ℕ) (m : Message) → Spells m text → HasVersionFault text → ⊥
 no_version text m p v = let clash : Ok m ≡ Err Version = sym (message_complete text m p) ∙ version_complete text v in absurd cc
+
+-- ---- each text has one answer
+
+answers_itself : (answer : Answer) → IsAnswer answer answer
+answers_itself (Ok m) = refl
+answers_itself (Err Version) = refl
+answers_itself (Err Syntax) = refl
+answers_itself (Err NoMemory) = tt
+
+pub its_answer : (text : List ℕ) → IsReadingOf text (message_of text)
+its_answer text = reading text (message_of text) (answers_itself (message_of text))
+
+or_syntax_memory : (o : Option Message) → or_syntax o ≢ Err NoMemory
+or_syntax_memory None e = absurd cc
+or_syntax_memory (Some m) e = absurd cc
+
+judged_memory_at : (t : Bool) (o : Option Message) → cond t (or_syntax o) (Err Version) ≢ Err NoMemory
+judged_memory_at true o e = or_syntax_memory o e
+judged_memory_at false o e = absurd cc
+
+judged_memory : (o : Option (ℕ × List ℕ)) → judged o ≢ Err NoMemory
+judged_memory None e = absurd cc
+judged_memory (Some h) e = judged_memory_at (h.0 == spoken_version) (whole_at content_at h.1) e
+
+pub no_memory : (text : List ℕ) → message_of text ≢ Err NoMemory
+unfolding message_of
+no_memory text e = judged_memory (header_at text) e
+
+syntax_at : (text : List ℕ) (answer : Answer) → message_of text ≡ answer → ¬ HasVersionFault text → ((m : Message) → ¬ Spells m text) → Err Syntax ≡ answer
+syntax_at text (Ok m) e v s = absurd (s m (message_sound text m e))
+syntax_at text (Err Version) e v s = absurd (v (version_sound text e))
+syntax_at text (Err Syntax) e v s = refl
+syntax_at text (Err NoMemory) e v s = absurd (no_memory text e)
+
+pub only : (text : List ℕ) (answer : Answer) → IsReadingOf text answer → (answer ≡ message_of text) ⊎ (answer ≡ Err NoMemory)
+only text (Ok m) h = inl (sym (message_complete text m h))
+only text (Err Version) h = inl (sym (version_complete text h))
+only text (Err Syntax) h = inl (syntax_at text (message_of text) refl h.0 h.1)
+only text (Err NoMemory) h = inr refl
 
 -- ---- the answer of the code
 

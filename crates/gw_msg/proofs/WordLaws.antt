@@ -18,7 +18,6 @@ use Rattle.gw_base.specs.declared.command_words.Verb.{Verb}
 use Rattle.gw_base.specs.declared.command_words.Verb.TheVariants as verb
 use Rattle.gw_text.specs.Lexical.{is_safe, is_safe_mark, is_solid, is_space_start}
 use Rattle.gw_text.specs.Runs.{begins, NoMore, is_byte}
-use Rattle.gw_text.specs.Scans.{number_of}
 use Rattle.gw_text.specs.Forms.{IsSomeRun, IsWord, IsUint32, IsWordFor}
 use Rattle.gw_text.specs.Reader.{◌>>=◌, word_as, solid_as, number_at}
 use Rattle.gw_text.specs.Tokens.{token_of}
@@ -27,11 +26,11 @@ use Rattle.gw_text.specs.declared.token.Token.TheVariants as token
 use Rattle.gw_text.proofs.Signs.{some_is}
 use Rattle.gw_text.proofs.ReadsUp.{ReadsUp, Same, BeginsWith, up_as, up_last, up_done, up_if_byte}
 use Rattle.gw_text.proofs.Leaves.{up_word, up_solid, up_number}
-use Rattle.gw_text.proofs.Links.{space_bytes, is_solid_by, digit_apart, digit_is_safe, run_begins, word_solid, number_begins, number_solid, begins_ends, no_byte}
-use Rattle.gw_msg.specs.Grammar.{IsToken, SpellsVerb, SpellsTerm, SpellsContextId, SpellsMid, IsVersion, version_digits}
-use Rattle.gw_msg.specs.Words.{verb_for, verb_of, context_for, context_of, transaction_for, transaction_of, is_named, term_of, is_mid, mid_of, is_run_within, version_of}
+use Rattle.gw_text.proofs.Links.{space_bytes, is_solid_by, digit_apart, run_begins, word_solid, number_begins, number_solid, begins_ends, no_byte}
+use Rattle.gw_msg.specs.Grammar.{IsToken, SpellsVerb, SpellsTerm, SpellsContextId, SpellsMid}
+use Rattle.gw_msg.specs.Words.{verb_for, verb_of, context_for, context_of, transaction_for, transaction_of, is_named, term_of, is_mid, mid_of}
 use Rattle.gw_msg.specs.Reading.{context_id_at}
-use Rattle.gw_msg.proofs.FormTests.{tests_named, tests_mid, within_is, within_from}
+use Rattle.gw_msg.proofs.FormTests.{tests_named, tests_mid}
 use Rattle.gw_msg.proofs.WordLemmas.{is_a_mid, some_mid}
 
 -- ---- tokens
@@ -179,12 +178,12 @@ context_id_reads =
     up_as (up_if_byte (byte (codes "$")) (λ rest. Some (ctx.Choose, rest)) (λ text. number_at text >>= λ n. Some (of_number n.0, n.1)) Dollar OfNumber (NoMore is_digit) Same
     (up_done ctx.Choose (NoMore is_digit) Same)
     (up_last number_at of_number IsUint32 (NoMore is_digit) Same Same up_number)
-    (λ c front rest q n. no_byte (byte (codes "$")) (front ++ rest) (begins_ends is_digit (is_byte (byte (codes "$"))) no_dollar front rest (number_begins q.0 front q.2))))
+    (λ c front rest q n. no_byte (byte (codes "$")) (front ++ rest) (begins_ends is_digit (is_byte (byte (codes "$"))) no_dollar front rest (number_begins _ _ q.0 front q.2))))
     context_id_to context_id_from
 
 pub context_id_solid : BeginsWith is_solid SpellsContextId
 context_id_solid ctx.Choose text h = ap (begins is_solid) h
-context_id_solid (ctx.Num n) text h = number_solid n.0 text h
+context_id_solid (ctx.Num n) text h = number_solid _ _ n.0 text h
 context_id_solid _ text h = absurd h
 
 -- ---- mIds
@@ -240,20 +239,3 @@ mid_reads = up_as (up_solid mid_of) (λ mid text h. mid_to mid text h.1) (λ mid
 
 pub mid_begins : BeginsWith is_solid SpellsMid
 mid_begins mid text h = let r = mid_run text h.1 in run_begins is_solid is_solid (λ c e. e) text r.run r.some
-
--- ---- versions
-
-version_to : (n : ℕ) (text : List ℕ) → version_of text ≡ Some n → IsVersion n text
-version_to n text e =
-    let s = where_some (is_run_within version_digits is_digit text) (number_of text) n e in
-    let w = within_is version_digits is_digit text s.0 in
-    record { some = w.0; short = w.1; digits = w.2; value = s.1 }
-
-version_from : (n : ℕ) (text : List ℕ) → IsVersion n text → IsWordFor version_of n text
-version_from n text h = record {
-  word = record { run = wider is_digit is_safe digit_is_safe text h.digits; some = h.some };
-  stands = ap (where_true (number_of text)) (within_from version_digits is_digit text h.some h.short h.digits) ∙ ap (λ (k : ℕ). Some k) h.value;
-}
-
-pub version_reads : ReadsUp (word_as version_of) IsVersion (NoMore is_safe) Same Same
-version_reads = up_as (up_word version_of) (λ n text h. version_to n text h.stands) version_from

@@ -1,8 +1,7 @@
 -- Which texts spell a message (RFC 3525, Annex B.2). EQUAL, LBRKT, RBRKT and COMMA are signs, with LWSP on both sides.
 -- Of the standard's messages those are read that hold one transaction, whose actions name a context by `$` or its number,
 -- and whose commands are Add and Subtract of one termination by its name (own).
-use Rattle.std.specs.Prelude.{◌≡◌, ◌≢◌, ◌⊎◌, ℕ, ◌<◌, ◌≤◌, false, List, [], ◌∷◌, length, Result, Ok, Err, codes}
-use Rattle.gw_base.specs.Bytes.{is_digit}
+use Rattle.std.specs.Prelude.{◌≡◌, ◌≢◌, ◌⊎◌, ℕ, false, List, [], ◌∷◌, Result, Ok, Err, codes}
 use Rattle.gw_base.specs.Lang.{◌▹◌, IsText}
 use Rattle.gw_base.specs.Mids.{IsMid}
 use Rattle.gw_base.specs.Wildcards.{IsTermText}
@@ -15,9 +14,7 @@ use Rattle.gw_base.specs.declared.command_words.Verb.{Verb}
 use Rattle.gw_base.specs.declared.command_words.Verb.TheVariants as verb
 use Rattle.gw_text.specs.Lexical.{equals_sign}
 use Rattle.gw_text.specs.Space.{IsSpace, IsSep}
-use Rattle.gw_text.specs.Runs.{IsRun}
-use Rattle.gw_text.specs.Scans.{number_of}
-use Rattle.gw_text.specs.Forms.{IsSign, IsInAnyCase, IsWordFor, IsUint32, Braced}
+use Rattle.gw_text.specs.Forms.{IsSign, IsInAnyCase, IsWordFor, IsNumber, IsUint32, Braced}
 use Rattle.gw_text.specs.Tokens.{token_of}
 use Rattle.gw_text.specs.declared.token.Token.{Token}
 use Rattle.gw_text.specs.declared.token.Token.TheVariants as token
@@ -89,16 +86,16 @@ SpellsMid mid text = (mid ≡ text) × IsMid text
 abbrev pub spoken_version : ℕ
 spoken_version = 1
 
--- the most digits of a version
+-- the most digits of a version, and the greatest number that they write
 abbrev pub version_digits : ℕ
 version_digits = 2
 
+abbrev pub version_max : ℕ
+version_max = 99
+
 -- Version: 1*2(DIGIT)
-pub record IsVersion (n : ℕ) (text : List ℕ) : Type 0 where
-  pub some : 0 < length text
-  pub short : length text ≤ version_digits
-  pub digits : IsRun is_digit text
-  pub value : number_of text ≡ n
+abbrev pub IsVersion : ℕ → List ℕ → Type 0
+IsVersion = IsNumber version_digits version_max
 
 -- MegacopToken
 abbrev pub IsMegacop : List ℕ → Type 0

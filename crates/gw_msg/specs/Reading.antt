@@ -7,7 +7,7 @@ use Rattle.gw_text.specs.Lexical.{equals_sign}
 use Rattle.gw_text.specs.SpaceScan.{skip}
 use Rattle.gw_text.specs.Sign.{byte_at, sign_at}
 use Rattle.gw_text.specs.Scans.{sep_at}
-use Rattle.gw_text.specs.Reader.{Reader, ◌>>=◌, found, word_as, solid_as, number_at, if_byte, if_prefix, braced_at, whole_at}
+use Rattle.gw_text.specs.Reader.{Reader, ◌>>=◌, found, word_as, solid_as, number_at, number_up_to, if_byte, if_prefix, braced_at, whole_at}
 use Rattle.gw_msg.specs.declared.message.Command.{Command}
 use Rattle.gw_msg.specs.declared.message.Action.{Action}
 use Rattle.gw_msg.specs.declared.message.Request.{Request}
@@ -16,8 +16,8 @@ use Rattle.gw_msg.specs.declared.message.Item.TheVariants as item
 use Rattle.gw_msg.specs.declared.message.Message.{Message}
 use Rattle.gw_msg.specs.declared.fault.ReadFault.{ReadFault}
 use Rattle.gw_msg.specs.declared.fault.ReadFault.TheVariants.{Version, Syntax, NoMemory}
-use Rattle.gw_msg.specs.Grammar.{spoken_version}
-use Rattle.gw_msg.specs.Words.{verb_of, context_of, transaction_of, term_of, mid_of, version_of}
+use Rattle.gw_msg.specs.Grammar.{spoken_version, version_digits, version_max}
+use Rattle.gw_msg.specs.Words.{verb_of, context_of, transaction_of, term_of, mid_of}
 
 -- What a function returned, and where it left its cursor, is what reading gives, unless memory ran out.
 abbrev pub Gives : {V : Type 0} → Result V ReadFault → List ℕ → Option (V × List ℕ) → Type 0
@@ -79,7 +79,7 @@ content_at text = do
 unfoldable pub version_at : Reader ℕ
 version_at text = do
   slash ← byte_at (byte (codes "/")) text
-  version ← word_as version_of slash
+  version ← number_up_to version_digits version_max slash
   space ← found (sep_at version.1)
   Some (version.0, space.1)
 

@@ -10,11 +10,9 @@ use Rattle.gw_base.specs.declared.term_ref.TermRef.{TermRef}
 use Rattle.gw_base.specs.declared.term_ref.TermRef.TheVariants.{Name}
 use Rattle.gw_base.specs.declared.command_words.Verb.{Verb}
 use Rattle.gw_base.specs.declared.command_words.Verb.TheVariants as verb
-use Rattle.gw_text.specs.Scans.{number_of}
 use Rattle.gw_text.specs.Tokens.{token_of, is_same_word}
 use Rattle.gw_text.specs.declared.token.Token.{Token}
 use Rattle.gw_text.specs.declared.token.Token.TheVariants as token
-use Rattle.gw_msg.specs.Grammar.{version_digits}
 
 -- ---- tokens
 
@@ -89,8 +87,3 @@ is_mid text =
 
 abbrev pub mid_of : List ℕ → Option (List ℕ)
 mid_of word = if is_mid word then Some word else None
-
--- ---- versions
-
-abbrev pub version_of : List ℕ → Option ℕ
-version_of word = if is_run_within version_digits is_digit word then Some (number_of word) else None

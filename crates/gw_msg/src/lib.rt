@@ -2,12 +2,12 @@
 #![tactic(auto)]
 
 mod fault;
+mod lists;
 mod message;
-mod part;
 mod parts;
 mod read;
 mod words;
 
 pub use fault::ReadFault;
 pub use message::{Action, Command, Item, Message, Request};
-pub use read::{one_message, read_message};
+pub use read::{one_answer, one_message, read_message};

@@ -4,8 +4,8 @@ ghost use Rattle.std.specs.Prelude.{◌≡◌};
 ghost use Rattle.gw_msg.specs.Reading.{Gives, command_at, action_at, request_at, item_at, content_at};
 
 use crate::fault::ReadFault;
+use crate::lists::{Part, braced, sign};
 use crate::message::{Action, Command, Item, Message, Request};
-use crate::part::{Part, braced, sign};
 use crate::words::{context_id, context_word, mid, term, transaction_word, verb};
 use gw_base::{Items, TxId};
 use gw_text::Cursor;

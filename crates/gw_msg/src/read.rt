@@ -1,36 +1,43 @@
 //! Reading a whole message.
 
-ghost use Rattle.std.specs.Prelude.{◌≡◌, ℕ, List};
+ghost use Rattle.std.specs.Prelude.{◌≡◌, ◌≢◌, ◌⊎◌, ℕ, List, Result, Err};
 ghost use Rattle.gw_msg.specs.Reading.{Gives, IsAnswer, version_at, header_at, message_of};
 ghost use Rattle.gw_msg.specs.Grammar.{IsReadingOf, Spells, HasVersionFault};
 ghost use Rattle.gw_msg.specs.declared.message.Message.{Message as SpelledMessage};
+ghost use Rattle.gw_msg.specs.declared.fault.ReadFault.{ReadFault as Fault};
+ghost use Rattle.gw_msg.specs.declared.fault.ReadFault.TheVariants.{NoMemory};
 
 use crate::fault::ReadFault;
 use crate::message::Message;
 use crate::parts::content;
-use crate::words::version;
 use gw_text::Cursor;
 use std::alloc::Global;
 
 /// The version that this gateway speaks.
-const SPOKEN_VERSION: u8 = 1;
+const SPOKEN_VERSION: u32 = 1;
 
-/// What follows the first token of a header.
+/// The most digits of a version.
+const VERSION_DIGITS: usize = 2;
+
+/// The greatest number that they write.
+const VERSION_MAX: u32 = 99;
+
+/// What follows the first token of a header: the version, which is answered.
 #[tactic(auto, unfolding(crate::specs::Reading::version_at))]
-fn header_end(cursor: &mut Cursor<'_>) -> Result<u8, ReadFault>
+fn header_end(cursor: &mut Cursor<'_>) -> Result<u32, ReadFault>
     ensures { Gives result cursor.new (version_at cursor.old) }
 {
     if !cursor.byte(b'/') {
         return Err(ReadFault::Syntax);
     }
-    let version = version(cursor)?;
+    let version = cursor.number(VERSION_DIGITS, VERSION_MAX)?;
     cursor.sep()?;
-    Ok(version)
+    Ok(version.value)
 }
 
 /// The header: its version.
 #[tactic(auto, unfolding(crate::specs::Reading::header_at, gw_text::specs::SpaceScan::skip))]
-fn header(cursor: &mut Cursor<'_>) -> Result<u8, ReadFault>
+fn header(cursor: &mut Cursor<'_>) -> Result<u32, ReadFault>
     ensures { Gives result cursor.new (header_at cursor.old) }
 {
     cursor.lwsp();
@@ -56,7 +63,8 @@ fn answer(alloc: Global, text: &[u8]) -> Result<Message, ReadFault>
     Ok(message)
 }
 
-/// The message that the text spells. The text is read once, from left to right.
+/// The message that the text spells. The text is read once, from left to right, so the cost grows with its length: each
+/// word is scanned once, white space at most twice.
 ///
 /// # Errors
 ///
@@ -73,3 +81,13 @@ pub fn one_message()
     ensures message { (text : List ℕ) (m n : SpelledMessage) → Spells m text → Spells n text → m ≡ n }
     ensures version { (text : List ℕ) (m : SpelledMessage) → Spells m text → ¬ HasVersionFault text }
 {}
+
+/// Each text has one answer but for want of memory, and `message_of` is that answer.
+pub fn one_answer()
+    ensures answer { (text : List ℕ) → IsReadingOf text (message_of text) }
+    ensures memory { (text : List ℕ) → message_of text ≢ Err NoMemory }
+    ensures only { (text : List ℕ) (answer : Result SpelledMessage Fault) → IsReadingOf text answer → (answer ≡ message_of text) ⊎ (answer ≡ Err NoMemory) }
+{}
+
+#[cfg(test)]
+mod tests;

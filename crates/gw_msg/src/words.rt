@@ -2,11 +2,11 @@
 
 ghost use Rattle.std.specs.Prelude.{◌≡◌};
 ghost use Rattle.gw_text.specs.Reader.{word_as, solid_as};
-ghost use Rattle.gw_msg.specs.Words.{verb_of, context_of, transaction_of, term_of, mid_of, version_of};
+ghost use Rattle.gw_msg.specs.Words.{verb_of, context_of, transaction_of, term_of, mid_of};
 ghost use Rattle.gw_msg.specs.Reading.{Gives, context_id_at};
 
 use crate::fault::ReadFault;
-use gw_base::{CtxNum, CtxRef, Mid, TermRef, Verb, is_digit};
+use gw_base::{CtxNum, CtxRef, Mid, TermRef, Verb};
 use gw_text::{Cursor, Token, token_of};
 
 /// The command that a token names.
@@ -69,15 +69,4 @@ pub fn mid(cursor: &mut Cursor<'_>) -> Result<Mid, ReadFault>
     ensures { Gives result cursor.new (solid_as mid_of cursor.old) }
 {
     Ok(Mid::read(cursor.solid()?)?)
-}
-
-/// The number of a version.
-pub fn version(cursor: &mut Cursor<'_>) -> Result<u8, ReadFault>
-    ensures { Gives result cursor.new (word_as version_of cursor.old) }
-{
-    match cursor.word()? {
-        [a] if is_digit(*a) => Ok(*a - b'0'),
-        [a, b] if is_digit(*a) && is_digit(*b) => Ok((*a - b'0') * 10 + (*b - b'0')),
-        _ => Err(ReadFault::Syntax),
-    }
 }

@@ -1,7 +1,7 @@
 -- Readers of items with white space between them, to the end of the text, and of a whole text.
-use Rattle.std.proofs.Common.{◌≡◌, ℕ, zero, suc, ◌+◌, ◌≤◌, ◌<◌, Bool, true, List, [], ◌∷◌, ◌++◌, length, Option, Some, None, refl, ap, sym, subst, ◌∙◌, append_assoc, length-append, arith}
+use Rattle.std.proofs.Common.{◌≡◌, ℕ, zero, suc, ◌≤◌, Bool, true, List, [], ◌∷◌, ◌++◌, length, Option, Some, None, refl, ap, sym, subst, ◌∙◌, append_assoc, length-append, arith}
 use Rattle.std.proofs.lemmas.List.{append-nil}
-use Rattle.gw_base.specs.Lang.{Both, ◌▹◌}
+use Rattle.gw_base.specs.Lang.{◌▹◌}
 use Rattle.gw_text.specs.Lexical.{is_solid}
 use Rattle.gw_text.specs.Space.{IsSpace}
 use Rattle.gw_text.specs.SpaceScan.{skip}
@@ -11,7 +11,7 @@ use Rattle.gw_text.specs.Reader.{Reader, ◌>>=◌, with_first, if_more, items_f
 use Rattle.gw_text.proofs.Skips.{skip_space, skip_is, skip_stays}
 use Rattle.gw_text.proofs.Signs.{some_is}
 use Rattle.gw_text.proofs.Links.{both_begins}
-use Rattle.gw_text.proofs.ReadsUp.{ReadsUp, Same, Skipped, UpTo, BeginsWith, bind_some, begins_append, begins_some, skip_solid}
+use Rattle.gw_text.proofs.ReadsUp.{ReadsUp, Same, UpTo, BeginsWith, bind_some, begins_append, begins_some, skip_solid}
 
 -- ---- items
 

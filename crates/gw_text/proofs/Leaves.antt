@@ -1,25 +1,24 @@
 -- Readers of words, of numbers, of bytes before white space, and of white space.
-use Rattle.std.proofs.Common.{◌≡◌, ℕ, ◌+◌, ◌≤◌, ◌<◌, Bool, true, false, cond, ◌==◌, ◌||◌, List, [], ◌∷◌, ◌++◌, length, take, drop, Option, Some, None, Result, Ok, Err, refl, ap, sym, subst, ◌∙◌, append_assoc, length-append, arith}
+use Rattle.std.proofs.Common.{◌≡◌, ℕ, ◌+◌, ◌<◌, Bool, false, ◌==◌, List, ◌++◌, length, take, drop, Option, Some, Result, Ok, Err, refl, ap, sym, ◌∙◌, append_assoc, arith}
 use Rattle.std.specs.Prelude.{nat_lt}
-use Rattle.std.specs.List.{list_all}
 use Rattle.std.proofs.lemmas.List.{take_at, drop_at}
 use Rattle.std.proofs.lemmas.Bool.{le-ltb}
 use Rattle.gw_base.specs.Bytes.{is_digit}
-use Rattle.gw_base.specs.Lang.{Both, ◌▹◌}
-use Rattle.gw_text.specs.Lexical.{is_safe, is_solid, is_space_start}
-use Rattle.gw_text.specs.Space.{IsSpace, IsSep}
+use Rattle.gw_base.specs.Lang.{◌▹◌}
+use Rattle.gw_text.specs.Lexical.{is_safe, is_solid}
+use Rattle.gw_text.specs.Space.{IsSep}
 use Rattle.gw_text.specs.SpaceScan.{space_len, skip}
-use Rattle.gw_text.specs.Runs.{run_len, begins, IsRun, NoMore}
+use Rattle.gw_text.specs.Runs.{run_len, NoMore}
 use Rattle.gw_text.specs.Longest.{IsLongest}
-use Rattle.gw_text.specs.Scans.{some_at, sep_at, word_at, solid_at, uint32_at, number_of, uint32_max, uint32_digits}
-use Rattle.gw_text.specs.Forms.{IsSomeRun, IsWord, IsUint32, IsWordFor}
-use Rattle.gw_text.specs.Reader.{Reader, ◌>>=◌, found, word_as, solid_as, number_at}
+use Rattle.gw_text.specs.Scans.{some_at, sep_at, word_at, solid_at, number_within, uint32_max, uint32_digits}
+use Rattle.gw_text.specs.Forms.{IsSomeRun, IsWord, IsNumber, IsUint32, IsWordFor}
+use Rattle.gw_text.specs.Reader.{Reader, ◌>>=◌, found, word_as, solid_as, number_at, number_up_to}
 use Rattle.gw_text.specs.declared.fault.ScanFault.{ScanFault}
-use Rattle.gw_text.proofs.RunLemmas.{run_again, and_true}
-use Rattle.gw_text.proofs.Scanned.{word_found, solid_found, uint32_takes, sep_found}
-use Rattle.gw_text.proofs.Skips.{skip_space, space_len-append, space_first}
+use Rattle.gw_text.proofs.RunLemmas.{run_again}
+use Rattle.gw_text.proofs.Scanned.{word_found, solid_found, number_takes, sep_found}
+use Rattle.gw_text.proofs.Skips.{skip_space, space_len-append}
 use Rattle.gw_text.proofs.Signs.{some_is}
-use Rattle.gw_text.proofs.ReadsUp.{ReadsUp, Same, Skipped, UpTo, Any, BeginsWith, bind_some, both_split}
+use Rattle.gw_text.proofs.ReadsUp.{ReadsUp, Same, Skipped, Any, bind_some, both_split}
 
 pub found_ok : {A : Type 0} (r : Result A ScanFault) (x : A) → found r ≡ Some x → r ≡ Ok x
 found_ok {A} (Ok y) x e = ap (λ (z : A). Ok z) (some_is y x e)
@@ -80,21 +79,25 @@ up_solid of = span_reads is_solid solid_at of solid_found solid_again
 
 -- ---- numbers
 
-uint32_again : (n : ℕ) (front rest : List ℕ) → IsUint32 n front → NoMore is_digit rest → uint32_at (front ++ rest) ≡ Ok (n, rest)
-unfolding uint32_at
-uint32_again n front rest h ends =
+number_again : (most max n : ℕ) (front rest : List ℕ) → IsNumber most max n front → NoMore is_digit rest → number_within most max (front ++ rest) ≡ Ok (n, rest)
+unfolding number_within
+number_again most max n front rest h ends =
     let len : run_len is_digit (front ++ rest) ≡ length front = run_again is_digit front rest h.digits ends in
-    let short : nat_lt uint32_digits (length front) ≡ false = le-ltb _ _ h.short in
-    let small : nat_lt uint32_max n ≡ false = le-ltb _ _ h.small in
+    let short : nat_lt most (length front) ≡ false = le-ltb _ _ h.short in
+    let small : nat_lt max n ≡ false = le-ltb _ _ h.small in
     rw (len, eq_zero (length front) h.some, take_at front rest (length front) refl, drop_at front rest (length front) refl, h.value, short, small) refl
 
-pub up_number : ReadsUp number_at IsUint32 (NoMore is_digit) Same Same
-up_number = record {
+-- a number of at most so many digits, and at most max
+pub up_number_up_to : (most max : ℕ) → ReadsUp (number_up_to most max) (IsNumber most max) (NoMore is_digit) Same Same
+up_number_up_to most max = record {
   sound = λ text n rest e.
-      let h = uint32_takes text n rest (found_ok (uint32_at text) (n, rest) e) in
+      let h = number_takes most max text n rest (found_ok (number_within most max text) (n, rest) e) in
       (_, h.digits.split, h.number);
-  complete = λ n front rest start q ends e. (rest, ap number_at e ∙ ap found (uint32_again n front rest q ends), refl);
+  complete = λ n front rest start q ends e. (rest, ap (number_up_to most max) e ∙ ap found (number_again most max n front rest q ends), refl);
 }
+
+pub up_number : ReadsUp number_at IsUint32 (NoMore is_digit) Same Same
+up_number = up_number_up_to uint32_digits uint32_max
 
 -- ---- white space that must be there
 

@@ -1,5 +1,6 @@
 pub mod TokenLemmas
 pub mod TokenTable
+pub mod TokenWords
 pub mod RunLemmas
 pub mod SpaceLemmas
 pub mod SpacePieces
@@ -12,3 +13,6 @@ pub mod Links
 pub mod Lists
 pub mod Loops
 pub mod Items
+pub mod OctetsLemmas
+pub mod TrimLemmas
+pub mod OctetsScans

@@ -1,18 +1,17 @@
 -- What forms begin with, and so what may stand behind what.
-use Rattle.std.proofs.Common.{◌≡◌, ℕ, ◌+◌, ◌≤◌, ◌<◌, Bool, true, false, cond, not, ◌==◌, ◌||◌, ◌&&◌, List, [], ◌∷◌, ◌++◌, length, Option, Some, None, refl, ap, sym, subst, ◌∙◌, append_assoc, length-append, arith}
+use Rattle.std.proofs.Common.{◌≡◌, ℕ, ◌<◌, Bool, true, false, not, ◌==◌, ◌||◌, List, [], ◌∷◌, ◌++◌, length, None, refl, ap, sym, subst, ◌∙◌, arith}
 use Rattle.std.specs.List.{list_all}
 use Rattle.std.proofs.lemmas.Bool.{eqb-true}
 use Rattle.gw_base.specs.Bytes.{is_digit, is_letter}
-use Rattle.gw_base.specs.Lang.{Both, ◌▹◌, IsText}
-use Rattle.gw_text.specs.Lexical.{tab, space, line_feed, carriage_return, semicolon, is_blank, is_eol, is_space_start, is_solid, is_safe, is_safe_mark}
+use Rattle.gw_base.specs.Lang.{Both}
+use Rattle.gw_text.specs.Lexical.{tab, space, line_feed, carriage_return, semicolon, is_blank, is_space_start, is_solid, is_safe, is_safe_mark}
 use Rattle.gw_text.specs.Space.{IsSpace, IsSep}
-use Rattle.gw_text.specs.SpaceScan.{skip}
 use Rattle.gw_text.specs.Runs.{begins, IsRun, is_byte, NoMore}
 use Rattle.gw_text.specs.Sign.{byte_at, sign_at}
-use Rattle.gw_text.specs.Forms.{IsSomeRun, IsWord, IsUint32, IsWordFor, IsSign}
+use Rattle.gw_text.specs.Forms.{IsWord, IsNumber, IsSign}
 use Rattle.gw_text.proofs.RunLemmas.{and_true}
-use Rattle.gw_text.proofs.Skips.{space_first, skip_space}
-use Rattle.gw_text.proofs.Signs.{sign_ends, sign_other, sign_space, no_sign}
+use Rattle.gw_text.proofs.Skips.{space_first}
+use Rattle.gw_text.proofs.Signs.{sign_ends, sign_other, no_sign}
 use Rattle.gw_text.proofs.ReadsUp.{both_split, begins_append, begins_apart}
 
 -- ---- classes
@@ -79,11 +78,11 @@ word_begins text h = run_begins is_safe is_safe (λ c e. e) text h.run h.some
 pub word_solid : (text : List ℕ) → IsWord text → begins is_solid text ≡ true
 word_solid text h = run_begins is_safe is_solid safe_is_solid text h.run h.some
 
-pub number_begins : (n : ℕ) (text : List ℕ) → IsUint32 n text → begins is_digit text ≡ true
-number_begins n text h = run_begins is_digit is_digit (λ c e. e) text h.digits h.some
+pub number_begins : (most max n : ℕ) (text : List ℕ) → IsNumber most max n text → begins is_digit text ≡ true
+number_begins most max n text h = run_begins is_digit is_digit (λ c e. e) text h.digits h.some
 
-pub number_solid : (n : ℕ) (text : List ℕ) → IsUint32 n text → begins is_solid text ≡ true
-number_solid n text h = run_begins is_digit is_solid digit_is_solid text h.digits h.some
+pub number_solid : (most max n : ℕ) (text : List ℕ) → IsNumber most max n text → begins is_solid text ≡ true
+number_solid most max n text h = run_begins is_digit is_solid digit_is_solid text h.digits h.some
 
 -- a text of two forms begins as its first part
 pub both_begins : (p : ℕ → Bool) (P Q : List ℕ → Type 0) → ((text : List ℕ) → P text → begins p text ≡ true) → (text : List ℕ) → Both P Q text → begins p text ≡ true
@@ -143,3 +142,9 @@ begins_no_sign p b solid other (c ∷ cs) h = no_sign b c cs (solid_start (is_sp
 -- the same text, where its second part has another form too
 pub with_second : {P Q R : List ℕ → Type 0} {text : List ℕ} (b : Both P Q text) → R b.back → Both P R text
 with_second b y = record { front = b.front; back = b.back; split = b.split; first = b.first; second = y }
+
+-- ---- one byte, and white space
+
+-- a solid byte does not begin white space
+pub byte_apart_space : (b : ℕ) → is_solid b ≡ true → (c : ℕ) → is_space_start c ≡ true → is_byte b c ≡ false
+byte_apart_space b solid c start = not_false (c == b) (λ e. let same : true ≡ false = sym start ∙ ap is_space_start (eqb-true c b e) ∙ solid_start (is_space_start b) solid in absurd cc)

@@ -1,15 +1,13 @@
 -- Readers of lists with signs between their parts, in braces or not.
-use Rattle.std.proofs.Common.{◌≡◌, ◌⊎◌, inl, inr, ℕ, zero, suc, ◌+◌, ◌≤◌, ◌<◌, Bool, true, false, List, [], ◌∷◌, ◌++◌, length, Option, Some, None, refl, ap, sym, subst, ◌∙◌, append_assoc, length-append, arith}
+use Rattle.std.proofs.Common.{◌≡◌, ◌⊎◌, inl, inr, ℕ, zero, suc, ◌≤◌, Bool, true, false, List, [], ◌∷◌, ◌++◌, length, Option, Some, None, refl, ap, sym, subst, ◌∙◌, append_assoc, length-append, arith}
 use Rattle.std.proofs.lemmas.List.{append-nil}
 use Rattle.gw_base.specs.Lang.{Both, ◌▹◌}
 use Rattle.gw_text.specs.Lexical.{is_solid, comma, left_brace, right_brace}
-use Rattle.gw_text.specs.SpaceScan.{skip}
 use Rattle.gw_text.specs.Runs.{begins}
 use Rattle.gw_text.specs.Sign.{sign_at}
 use Rattle.gw_text.specs.Forms.{IsSign, Separated, Braced, OptionalBraced, BracedOrEmpty}
-use Rattle.gw_text.specs.Reader.{Reader, ◌>>=◌, or_else, with_first, if_comma, list_from, list_at, closed_list_at, braced_at, optional_at, braced_or_empty_at, if_sign}
-use Rattle.gw_text.proofs.Skips.{skip_skip}
-use Rattle.gw_text.proofs.Signs.{some_is, sign_from, sign_sound, sign_again, sign_other, sign_len, sign_shrinks}
+use Rattle.gw_text.specs.Reader.{Reader, ◌>>=◌, with_first, if_comma, list_from, list_at, closed_list_at, braced_at, optional_at, braced_or_empty_at, if_sign}
+use Rattle.gw_text.proofs.Signs.{some_is, sign_from, sign_sound, sign_again, sign_other, sign_len}
 use Rattle.gw_text.proofs.Links.{both_begins, begins_no_sign}
 use Rattle.gw_text.proofs.ReadsUp.{ReadsUp, Same, Skipped, UpTo, Any, BeginsWith, bind_some, begins_append, skip_solid, up_as, up_next, up_to, up_skipped, up_then, up_sign, up_close, up_if_sign, up_done, up_up, skipped_up}
 

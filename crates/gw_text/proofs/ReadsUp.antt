@@ -2,16 +2,17 @@
 -- follows it that does not go on with it, from where the reader before it stopped. Readers are put together as their
 -- forms are.
 use Rattle.std.proofs.Common.{◌≡◌, ◌⊎◌, inl, inr, ℕ, ◌≤◌, Bool, true, false, cond, not, List, [], ◌∷◌, ◌++◌, length, Option, Some, None, refl, ap, sym, subst, ◌∙◌, append_assoc, length-append, arith}
+use Rattle.std.proofs.lemmas.Bool.{eqb-true}
 use Rattle.gw_base.specs.Lang.{Both, ◌▹◌, IsText}
 use Rattle.gw_text.specs.Lexical.{is_space_start, is_solid}
-use Rattle.gw_text.specs.Space.{IsSpace, IsSep}
+use Rattle.gw_text.specs.Space.{IsSpace}
 use Rattle.gw_text.specs.SpaceScan.{skip}
-use Rattle.gw_text.specs.Runs.{begins}
+use Rattle.gw_text.specs.Runs.{begins, is_byte}
 use Rattle.gw_text.specs.Sign.{byte_at, sign_at, prefix_at}
 use Rattle.gw_text.specs.Forms.{IsSign, IsInAnyCase}
-use Rattle.gw_text.specs.Reader.{Reader, ◌>>=◌, or_else, if_byte, if_sign, if_prefix, if_begins}
+use Rattle.gw_text.specs.Reader.{Reader, ◌>>=◌, or_else, if_byte, if_sign, if_prefix, if_begins, if_ahead}
 use Rattle.gw_text.proofs.Skips.{skip_space, skip_is, skip_skip, skip_stays}
-use Rattle.gw_text.proofs.Signs.{some_is, byte_sound, byte_again, sign_from, sign_sound, sign_again, prefix_sound, prefix_again}
+use Rattle.gw_text.proofs.Signs.{some_is, byte_sound, byte_again, sign_from, sign_sound, sign_again, sign_none, prefix_sound, prefix_again}
 
 -- ---- where a reader starts and stops, measured by the text that it should stand at
 
@@ -81,6 +82,10 @@ solid_start c h = not_start (is_space_start c) h
 
 pub skip_solid : (text : List ℕ) → begins is_solid text ≡ true → skip text ≡ text
 skip_solid text h = skip_stays text (begins_apart is_solid is_space_start solid_start text h)
+
+-- a byte that is solid
+pub byte_is_solid : (b : ℕ) → is_solid b ≡ true → (c : ℕ) → is_byte b c ≡ true → is_solid c ≡ true
+byte_is_solid b solid c e = ap is_solid (eqb-true c b e) ∙ solid
 
 -- ---- the same reader, said in other words
 
@@ -344,5 +349,54 @@ up_if_begins {V} p on other P Q Next To h g first bare = record {
             let one : begins p start ≡ false = ap (begins p) e ∙ bare v front rest a n in
             let two = g.complete v front rest start a n e in
             (two.0, ap (λ (t : Bool). cond t (on start) (other start)) one ∙ two.1, two.2)
+      ];
+}
+
+-- the same from anywhere, where the two forms tell what they begin with there
+pub up_if_begins_from : {V : Type 0} (p : ℕ → Bool) (on other : Reader V) (P Q : V → List ℕ → Type 0) (Next : List ℕ → Type 0) (From To : List ℕ → List ℕ → Type 0)
+    → ReadsUp on P Next From To → ReadsUp other Q Next From To
+    → ((v : V) (front rest start : List ℕ) → P v front → Next rest → From start (front ++ rest) → begins p start ≡ true)
+    → ((v : V) (front rest start : List ℕ) → Q v front → Next rest → From start (front ++ rest) → begins p start ≡ false)
+    → ReadsUp (if_begins p on other) (λ v text. P v text ⊎ Q v text) Next From To
+up_if_begins_from {V} p on other P Q Next From To h g first bare = record {
+  sound = λ text v rest e. choice_sound P Q v text rest (begins p text) (on text) (other text) e (λ i. h.sound text v rest i) (λ i. g.sound text v rest i);
+  complete = λ v front rest start q n e.
+      elim q [
+        | inl a ↦
+            let two = h.complete v front rest start a n e in
+            (two.0, ap (λ (t : Bool). cond t (on start) (other start)) (first v front rest start a n e) ∙ two.1, two.2)
+        | inr a ↦
+            let two = g.complete v front rest start a n e in
+            (two.0, ap (λ (t : Bool). cond t (on start) (other start)) (bare v front rest start a n e) ∙ two.1, two.2)
+      ];
+}
+
+ahead_sound : {V : Type 0} (P Q : V → List ℕ → Type 0) (v : V) (text rest : List ℕ) (t : Bool) (a d : Option (V × List ℕ)) → cond t a d ≡ Some (v, rest)
+    → (a ≡ Some (v, rest) → (front : List ℕ) × (skip text ≡ front ++ rest) × P v front) → (d ≡ Some (v, rest) → (front : List ℕ) × (text ≡ front ++ rest) × Q v front)
+    → (front : List ℕ) × (text ≡ front ++ rest) × (Both IsSpace (P v) front ⊎ Q v front)
+ahead_sound P Q v text rest true a d e f g =
+    let s = skip_is text in
+    let b = behind_sound IsSpace P v text (skip text) rest (s.front, s.split ∙ ap (λ (x : List ℕ). s.front ++ x) s.second, s.first) (f e) in
+    (b.0, b.1, inl b.2)
+ahead_sound P Q v text rest false a d e f g = let s = g e in (s.0, s.1, inr s.2)
+
+-- on behind white space where the byte b comes next there, which on takes too; else other
+pub up_if_ahead : {V : Type 0} (b : ℕ) (on other : Reader V) (P Q : V → List ℕ → Type 0) (Next : List ℕ → Type 0) (From To : List ℕ → List ℕ → Type 0) → is_solid b ≡ true → ((start text : List ℕ) → From start text → UpTo start text)
+    → ReadsUp on P Next Same To → ReadsUp other Q Next From To → BeginsWith (is_byte b) P → ((v : V) (front rest : List ℕ) → Q v front → Next rest → sign_at b (front ++ rest) ≡ None)
+    → ReadsUp (if_ahead b on other) (λ v text. Both IsSpace (P v) text ⊎ Q v text) Next From To
+up_if_ahead {V} b on other P Q Next From To solid up h g first bare = record {
+  sound = λ text v rest e. ahead_sound P Q v text rest (begins (is_byte b) (skip text)) (on (skip text)) (other text) e (λ i. h.sound (skip text) v rest i) (λ i. g.sound text v rest i);
+  complete = λ v front rest start q n e.
+      elim q [
+        | inl p ↦
+            let begins-b : begins (is_byte b) (p.back ++ rest) ≡ true = begins_append (is_byte b) p.back rest (first v p.back p.second) in
+            let at : skip start ≡ p.back ++ rest = up start (front ++ rest) e ∙ ap skip (both_split IsSpace (P v) front rest p) ∙ skip_space p.front (p.back ++ rest) p.first
+            ∙ skip_solid (p.back ++ rest) (begins_wider (is_byte b) is_solid (byte_is_solid b solid) (p.back ++ rest) begins-b) in
+            let two = h.complete v p.back rest (skip start) p.second n at in
+            (two.0, ap (λ (t : Bool). cond t (on (skip start)) (other start)) (ap (begins (is_byte b)) at ∙ begins-b) ∙ two.1, two.2)
+        | inr p ↦
+            let two = g.complete v front rest start p n e in
+            let one : begins (is_byte b) (skip start) ≡ false = sign_none b start (sign_from b start (front ++ rest) (up start (front ++ rest) e) ∙ bare v front rest p n) in
+            (two.0, ap (λ (t : Bool). cond t (on (skip start)) (other start)) one ∙ two.1, two.2)
       ];
 }

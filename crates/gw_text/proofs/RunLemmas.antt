@@ -1,5 +1,5 @@
 -- The lengths of runs, from one byte to the next.
-use Rattle.std.proofs.Common.{◌≡◌, ℕ, suc, ◌+◌, ◌<◌, Bool, true, false, cond, List, [], ◌∷◌, length, get_or, take, drop, ◌++◌, ◌≤◌, ◌*◌, ◌-◌, ◌&&◌, refl, ap, sym, ◌∙◌, arith, add-one, drop-cons}
+use Rattle.std.proofs.Common.{◌≡◌, ℕ, suc, ◌+◌, ◌<◌, Bool, true, false, cond, List, [], ◌∷◌, length, get_or, take, drop, ◌++◌, ◌≤◌, ◌*◌, ◌-◌, ◌&&◌, refl, arith, add-one, drop-cons}
 use Rattle.std.specs.List.{list_all}
 use Rattle.gw_text.specs.Lexical.{digit_zero}
 use Rattle.gw_text.specs.Runs.{run_len, begins}

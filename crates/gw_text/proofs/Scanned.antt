@@ -1,18 +1,17 @@
 -- The spans that the lengths give are the longest of their form.
-use Rattle.std.proofs.Common.{◌≡◌, ℕ, suc, ◌≤◌, ◌+◌, Bool, true, false, List, [], ◌∷◌, ◌++◌, length, take, drop, refl, ap, sym, subst, ◌∙◌, arith, ◌==◌, ◌||◌, ◌<◌, cond, Result, Ok, Err}
+use Rattle.std.proofs.Common.{◌≡◌, ℕ, suc, ◌≤◌, Bool, true, false, List, [], ◌∷◌, ◌++◌, length, take, drop, refl, ap, sym, subst, ◌∙◌, arith, ◌==◌, ◌||◌, ◌<◌, cond, Ok, Err}
 use Rattle.std.specs.Prelude.{nat_lt}
-use Rattle.std.specs.List.{list_all}
-use Rattle.std.proofs.lemmas.List.{take-append-drop, nil_from_length, length-take, take_at, drop_at}
-use Rattle.std.proofs.lemmas.Bool.{eqb-false, eqb-true, ltb-false, ltb-true, le-ltb}
+use Rattle.std.proofs.lemmas.List.{take-append-drop, length-take}
+use Rattle.std.proofs.lemmas.Bool.{eqb-false, eqb-true, ltb-false, ltb-true}
 use Rattle.gw_base.specs.Bytes.{is_digit}
 use Rattle.gw_text.specs.Lexical.{is_safe, is_solid}
 use Rattle.gw_text.specs.Space.{IsSpace, IsSep}
 use Rattle.gw_text.specs.SpaceScan.{space_len}
 use Rattle.gw_text.specs.Runs.{run_len, IsRun, begins}
-use Rattle.gw_text.specs.Forms.{IsSomeRun, IsUint32, HasNoUint32}
+use Rattle.gw_text.specs.Forms.{IsSomeRun, IsNumber, HasNoNumber}
 use Rattle.gw_text.specs.declared.fault.ScanFault.{ScanFault}
 use Rattle.gw_text.specs.declared.fault.ScanFault.TheVariants.{Unexpected, Overflow}
-use Rattle.gw_text.specs.Scans.{Scan, some_at, lwsp_at, sep_at, word_at, solid_at, uint32_at, digits_at, number_of, uint32_max, uint32_digits}
+use Rattle.gw_text.specs.Scans.{some_at, lwsp_at, sep_at, word_at, solid_at, number_within, digits_at, number_of}
 use Rattle.gw_text.specs.Longest.{IsLongest}
 use Rattle.gw_text.proofs.RunLemmas.{run_is, run_longest, run_len-le}
 use Rattle.gw_text.proofs.SpaceLemmas.{space_is, space_longest, space_len-le}
@@ -139,21 +138,21 @@ guard2_ok false true d f x y e = absurd cc
 guard2_ok false false d f x y e = (refl, refl, cc)
 
 -- what was read as a number: the digits, and what is behind them
-pub record IsNumber (text : List ℕ) (n : ℕ) (rest : List ℕ) : Type 0 where
+pub record IsReadNumber (most max : ℕ) (text : List ℕ) (n : ℕ) (rest : List ℕ) : Type 0 where
   pub digits : IsLongest (IsSomeRun is_digit) text (digits_at text) rest
-  pub number : IsUint32 n (digits_at text)
+  pub number : IsNumber most max n (digits_at text)
 
-pub uint32_takes : (text : List ℕ) (n : ℕ) (rest : List ℕ) → uint32_at text ≡ Ok (n, rest) → IsNumber text n rest
-unfolding uint32_at
-uint32_takes text n rest e =
+pub number_takes : (most max : ℕ) (text : List ℕ) (n : ℕ) (rest : List ℕ) → number_within most max text ≡ Ok (n, rest) → IsReadNumber most max text n rest
+unfolding number_within
+number_takes most max text n rest e =
     let len = run_len is_digit text in
     let span = take len text in
-    let a = guard2_ok (len == 0) (nat_lt uint32_digits len || nat_lt uint32_max (number_of span)) Unexpected Overflow (number_of span, drop len text) (n, rest) e in
-    let o = or_false (nat_lt uint32_digits len) (nat_lt uint32_max (number_of span)) a.1 in
+    let a = guard2_ok (len == 0) (nat_lt most len || nat_lt max (number_of span)) Unexpected Overflow (number_of span, drop len text) (n, rest) e in
+    let o = or_false (nat_lt most len) (nat_lt max (number_of span)) a.1 in
     let n-is : number_of span ≡ n = ap (λ (p : ℕ × List ℕ). p.0) a.2 in
     let rest-is : drop len text ≡ rest = ap (λ (p : ℕ × List ℕ). p.1) a.2 in
-    let short : len ≤ uint32_digits = ltb-false _ _ o.0 in
-    let small : number_of span ≤ uint32_max = ltb-false _ _ o.1 in
+    let short : len ≤ most = ltb-false _ _ o.0 in
+    let small : number_of span ≤ max = ltb-false _ _ o.1 in
     let some : 0 < len = omega (arith, eqb-false len 0 a.0) in
     let s = run_scanned is_digit text span rest refl rest-is in
     let some-span : 0 < length span = omega (arith, length-take len text, run_len-le is_digit text) in
@@ -177,12 +176,12 @@ too_much : (a b : Bool) → a || b ≡ true → (P : Type 0) → (a ≡ true →
 too_much true b h P f g = f refl
 too_much false b h P f g = g h
 
-pub no_uint32 : (text : List ℕ) (f : ScanFault) → uint32_at text ≡ Err f → HasNoUint32 f text
-unfolding uint32_at
-no_uint32 text f e =
+pub no_number : (most max : ℕ) (text : List ℕ) (f : ScanFault) → number_within most max text ≡ Err f → HasNoNumber most max f text
+unfolding number_within
+no_number most max text f e =
     let len = run_len is_digit text in
     let span = take len text in
-    fault_cases (λ f. HasNoUint32 f text) (len == 0) (nat_lt uint32_digits len || nat_lt uint32_max (number_of span)) (number_of span, drop len text) f e
+    fault_cases (λ f. HasNoNumber most max f text) (len == 0) (nat_lt most len || nat_lt max (number_of span)) (number_of span, drop len text) f e
     (λ none. run_none is_digit text (eqb-true len 0 none))
     (λ some-is over.
     let some : 0 < len = omega (arith, eqb-false len 0 some-is) in
@@ -193,12 +192,12 @@ no_uint32 text f e =
       record { split = s.split; inside = record { run = s.inside; some = some-span }; longest = λ other left e run. s.longest other left e run.run },
       λ n h.
           let short = h.short in let small = h.small in let value = h.value in
-          too_much (nat_lt uint32_digits len) (nat_lt uint32_max (number_of span)) over ⊥
-          (λ t. let lt : uint32_digits < len = ltb-true _ _ t in omega (arith, lt, short, length-take len text, run_len-le is_digit text))
-          (λ t. let lt : uint32_max < number_of span = ltb-true _ _ t in omega (arith, lt, small, value)),
+          too_much (nat_lt most len) (nat_lt max (number_of span)) over ⊥
+          (λ t. let lt : most < len = ltb-true _ _ t in omega (arith, lt, short, length-take len text, run_len-le is_digit text))
+          (λ t. let lt : max < number_of span = ltb-true _ _ t in omega (arith, lt, small, value)),
     ))
 
-pub uint32_found : (text span rest : List ℕ) (n : ℕ) → digits_at text ≡ span → uint32_at text ≡ Ok (n, rest) → IsLongest (IsSomeRun is_digit) text span rest × IsUint32 n span
-uint32_found text span rest n is e =
-    let h = uint32_takes text n rest e in
-    (subst (λ (s : List ℕ). IsLongest (IsSomeRun is_digit) text s rest) is h.digits, subst (IsUint32 n) is h.number)
+pub number_found : (most max : ℕ) (text span rest : List ℕ) (n : ℕ) → digits_at text ≡ span → number_within most max text ≡ Ok (n, rest) → IsLongest (IsSomeRun is_digit) text span rest × IsNumber most max n span
+number_found most max text span rest n is e =
+    let h = number_takes most max text n rest e in
+    (subst (λ (s : List ℕ). IsLongest (IsSomeRun is_digit) text s rest) is h.digits, subst (IsNumber most max n) is h.number)

@@ -1,12 +1,11 @@
 -- Bytes, signs with white space on both sides, and bytes in any case: what is behind them.
-use Rattle.std.proofs.Common.{◌≡◌, ℕ, ◌+◌, ◌≤◌, ◌<◌, Bool, true, false, cond, not, ◌==◌, ◌||◌, ◌&&◌, List, [], ◌∷◌, ◌++◌, map, length, take, drop, Option, Some, None, refl, ap, sym, subst, ◌∙◌, append_assoc, length-append, arith}
+use Rattle.std.proofs.Common.{◌≡◌, ℕ, ◌<◌, Bool, true, false, cond, not, ◌==◌, List, [], ◌∷◌, ◌++◌, map, length, take, drop, Some, None, refl, ap, sym, ◌∙◌, append_assoc, length-append, arith}
 use Rattle.std.specs.Prelude.{bytes_eq, MatchBool}
 use Rattle.std.specs.Bool.{OnTrue, OnFalse}
 use Rattle.std.specs.Char.{to_ascii_lowercase}
 use Rattle.std.proofs.lemmas.List.{take-append-drop, take_at, drop_at, length-map}
 use Rattle.std.proofs.lemmas.Slice.Eq.{bytes_eq-Decides}
 use Rattle.std.proofs.lemmas.Bool.{eqb-true}
-use Rattle.gw_base.specs.Lang.{Both, ◌▹◌}
 use Rattle.gw_text.specs.Lexical.{is_space_start, is_solid}
 use Rattle.gw_text.specs.Space.{IsSpace}
 use Rattle.gw_text.specs.SpaceScan.{skip}
@@ -172,6 +171,15 @@ sign_missing b text e solid before after split sign =
 not_there : (t : Bool) (xs : List ℕ) → cond t (Some xs) None ≡ None → t ≡ false
 not_there true xs e = absurd cc
 not_there false xs e = refl
+
+behind_none : (b : ℕ) (text : List ℕ) → behind b text ≡ None → begins (is_byte b) text ≡ false
+behind_none b [] e = refl
+behind_none b (c ∷ cs) e = not_there (c == b) (skip cs) e
+
+-- behind the white space the byte b does not come next, where there is no sign b
+pub sign_none : (b : ℕ) (text : List ℕ) → sign_at b text ≡ None → begins (is_byte b) (skip text) ≡ false
+unfolding sign_at
+sign_none b text e = behind_none b (skip text) e
 
 pub byte_missing : (b : ℕ) (text : List ℕ) → byte_at b text ≡ None → begins (is_byte b) text ≡ false
 unfolding byte_at

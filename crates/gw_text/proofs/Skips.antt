@@ -1,10 +1,10 @@
 -- What is behind white space.
-use Rattle.std.proofs.Common.{◌≡◌, ℕ, suc, ◌+◌, ◌≤◌, ◌<◌, Bool, true, false, cond, not, ◌==◌, ◌||◌, ◌&&◌, List, [], ◌∷◌, ◌++◌, length, take, drop, refl, ap, sym, ◌∙◌, append_assoc, length-append, arith}
+use Rattle.std.proofs.Common.{◌≡◌, ℕ, suc, ◌+◌, ◌≤◌, Bool, true, false, cond, not, ◌==◌, ◌||◌, ◌&&◌, List, [], ◌∷◌, ◌++◌, length, take, drop, refl, ap, sym, ◌∙◌, length-append, arith}
 use Rattle.std.proofs.lemmas.List.{take-append-drop}
 use Rattle.std.proofs.Math.Seq.{drop-append-add}
-use Rattle.gw_base.specs.Lang.{Both, ◌▹◌}
-use Rattle.gw_text.specs.Lexical.{nul, semicolon, is_blank, is_eol, is_space_start, is_solid}
-use Rattle.gw_text.specs.Space.{IsSpace, IsSep}
+use Rattle.gw_base.specs.Lang.{Both}
+use Rattle.gw_text.specs.Lexical.{nul, semicolon, is_blank, is_eol, is_space_start}
+use Rattle.gw_text.specs.Space.{IsSpace}
 use Rattle.gw_text.specs.SpaceScan.{is_space, space_len_from, space_len, skip}
 use Rattle.gw_text.specs.Runs.{begins}
 use Rattle.gw_text.proofs.SpaceLemmas.{space_again, space_is}

@@ -1,10 +1,9 @@
 -- The white space at the front of a text is the longest that there is.
-use Rattle.std.proofs.Common.{◌≡◌, ℕ, suc, ◌+◌, ◌≤◌, Bool, true, false, cond, not, ◌&&◌, ◌||◌, ◌==◌, List, [], ◌∷◌, ◌++◌, length, take, drop, refl, ap, sym, subst, ◌∙◌, append_assoc, length-append, arith, zero-add, add-one}
+use Rattle.std.proofs.Common.{◌≡◌, ℕ, ◌+◌, ◌≤◌, Bool, true, false, cond, not, ◌&&◌, ◌||◌, ◌==◌, List, [], ◌∷◌, ◌++◌, length, take, refl, ap, sym, ◌∙◌, append_assoc, length-append, arith}
 use Rattle.std.proofs.lemmas.List.{append-nil, take_at}
 use Rattle.gw_text.specs.Lexical.{nul, semicolon, is_blank, is_eol, is_space_start}
 use Rattle.gw_text.specs.SpaceScan.{is_space, space_len_from, space_len}
 use Rattle.gw_text.specs.Runs.{begins}
-use Rattle.gw_text.proofs.RunLemmas.{and_true}
 
 or_false : (a b : Bool) → a || b ≡ false → (a ≡ false) × (b ≡ false)
 or_false false b h = (refl, h)

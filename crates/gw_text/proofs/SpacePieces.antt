@@ -1,8 +1,8 @@
 -- White space as it is scanned is white space as the grammar has it.
-use Rattle.std.proofs.Common.{◌≡◌, ◌⊎◌, inl, inr, ℕ, Bool, true, false, cond, not, ◌&&◌, ◌||◌, ◌==◌, List, [], ◌∷◌, ◌++◌, refl, ap, sym, subst, ◌∙◌, append_assoc, arith}
+use Rattle.std.proofs.Common.{◌≡◌, inl, inr, ℕ, Bool, true, false, cond, not, ◌&&◌, ◌==◌, List, [], ◌∷◌, ◌++◌, refl, ap, sym, subst, ◌∙◌, append_assoc}
 use Rattle.std.specs.List.{concat, list_all}
 use Rattle.std.proofs.lemmas.Bool.{eqb-true}
-use Rattle.gw_base.specs.Lang.{Both, ◌▹◌}
+use Rattle.gw_base.specs.Lang.{◌▹◌}
 use Rattle.gw_text.specs.Lexical.{nul, semicolon, is_blank, is_eol, is_comment_byte}
 use Rattle.gw_text.specs.Runs.{IsRun}
 use Rattle.gw_text.specs.Space.{IsByte, IsComment, IsSpacePiece, Each, IsSpace}

@@ -1,5 +1,5 @@
 -- The forms of words and numbers, of signs, and of lists (RFC 3525, Annex B.2).
-use Rattle.std.specs.Prelude.{◌≡◌, ◌⊎◌, ℕ, ◌<◌, ◌≤◌, false, Bool, List, [], ◌∷◌, map, length, Option, Some}
+use Rattle.std.specs.Prelude.{◌≡◌, ℕ, ◌<◌, ◌≤◌, false, Bool, List, [], ◌∷◌, map, length, Option, Some}
 use Rattle.std.specs.Char.{to_ascii_lowercase}
 use Rattle.gw_base.specs.Bytes.{is_digit}
 use Rattle.gw_base.specs.Lang.{◌▹◌, IsText}
@@ -24,19 +24,23 @@ IsWord = IsSomeRun is_safe
 abbrev pub IsSolid : List ℕ → Type 0
 IsSolid = IsSomeRun is_solid
 
--- UINT32: 1 to 10 digits, of a number that fits
-pub record IsUint32 (n : ℕ) (text : List ℕ) : Type 0 where
+-- a number: one digit at least and at most so many, that write n, which is at most max
+pub record IsNumber (most max n : ℕ) (text : List ℕ) : Type 0 where
   pub digits : IsRun is_digit text
   pub some : 0 < length text
-  pub short : length text ≤ uint32_digits
+  pub short : length text ≤ most
   pub value : number_of text ≡ n
-  pub small : n ≤ uint32_max
+  pub small : n ≤ max
 
--- Why there is no UINT32: no digit comes next, or the digits that come next are none.
-abbrev pub HasNoUint32 : ScanFault → List ℕ → Type 0
-HasNoUint32 Unexpected text = begins is_digit text ≡ false
-HasNoUint32 Overflow text = (span rest : List ℕ) × IsLongest (IsSomeRun is_digit) text span rest × ((n : ℕ) → ¬ IsUint32 n span)
-HasNoUint32 TooDeep text = ⊥
+-- UINT32: 1 to 10 digits, of a number of 32 bits
+abbrev pub IsUint32 : ℕ → List ℕ → Type 0
+IsUint32 = IsNumber uint32_digits uint32_max
+
+-- Why there is no such number: no digit comes next, or the digits that come next write none.
+abbrev pub HasNoNumber : (most max : ℕ) → ScanFault → List ℕ → Type 0
+HasNoNumber most max Unexpected text = begins is_digit text ≡ false
+HasNoNumber most max Overflow text = (span rest : List ℕ) × IsLongest (IsSomeRun is_digit) text span rest × ((n : ℕ) → ¬ IsNumber most max n span)
+HasNoNumber most max TooDeep text = ⊥
 
 -- the sign b, with LWSP on both sides: EQUAL, LBRKT, RBRKT, COMMA
 abbrev pub IsSign : ℕ → List ℕ → Type 0

@@ -1,5 +1,5 @@
 -- The bytes that the text encoding gives a meaning, by name, and its classes of bytes (RFC 3525, Annex B.2).
-use Rattle.std.specs.Prelude.{ℕ, Bool, ◌||◌, ◌&&◌, ◌==◌, not, nat_le, List, [], ◌∷◌, codes}
+use Rattle.std.specs.Prelude.{ℕ, Bool, ◌||◌, ◌&&◌, ◌==◌, not, codes}
 use Rattle.gw_base.specs.Bytes.{is_letter, is_digit, is_one_of}
 
 abbrev pub nul : ℕ

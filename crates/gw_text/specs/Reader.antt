@@ -1,10 +1,12 @@
 -- Readers: each takes a value from the front of a text, or there is none.
-use Rattle.std.specs.Prelude.{◌==◌, ℕ, Bool, zero, suc, if◌then◌else◌, List, [], ◌∷◌, length, Option, Some, None, Result, Ok, Err}
+use Rattle.std.specs.Prelude.{ℕ, Bool, zero, suc, if◌then◌else◌, List, [], ◌∷◌, length, Option, Some, None, Result, Ok, Err}
 use Rattle.gw_text.specs.Lexical.{comma, left_brace, right_brace}
-use Rattle.gw_text.specs.Runs.{begins}
+use Rattle.gw_text.specs.Runs.{begins, is_byte}
 use Rattle.gw_text.specs.SpaceScan.{skip}
 use Rattle.gw_text.specs.Sign.{byte_at, sign_at, prefix_at}
-use Rattle.gw_text.specs.Scans.{word_at, solid_at, uint32_at}
+use Rattle.gw_text.specs.Scans.{word_at, solid_at, number_within, uint32_at}
+use Rattle.gw_text.specs.Octets.{octets_at}
+use Rattle.gw_text.specs.Quoted.{quoted_at}
 use Rattle.gw_text.specs.declared.fault.ScanFault.{ScanFault}
 
 -- a value, and what is left
@@ -40,6 +42,18 @@ solid_as of text = do
 abbrev pub number_at : Reader ℕ
 number_at text = found (uint32_at text)
 
+-- a number of at most so many digits, and at most max
+abbrev pub number_up_to : (most max : ℕ) → Reader ℕ
+number_up_to most max text = found (number_within most max text)
+
+-- what is kept of octets, up to their closing brace
+abbrev pub octets_read : Reader (List ℕ)
+octets_read text = found (octets_at text)
+
+-- a quoted text, quotes and all
+abbrev pub quoted_read : Reader (List ℕ)
+quoted_read text = found (quoted_at text)
+
 -- ---- one of two
 
 -- the first where there was something, from what is behind it; else the second
@@ -62,6 +76,10 @@ if_prefix bytes on other text = or_else (prefix_at bytes text) on (other text)
 -- on reads where a byte of the class comes next, and takes it too
 abbrev pub if_begins : {V : Type 0} → (ℕ → Bool) → Reader V → Reader V → Reader V
 if_begins p on other text = if begins p text then on text else other text
+
+-- on reads behind the white space where the byte b comes next there; where it does not, other reads, white space and all
+abbrev pub if_ahead : {V : Type 0} → ℕ → Reader V → Reader V → Reader V
+if_ahead b on other text = if begins (is_byte b) (skip text) then on (skip text) else other text
 
 -- ---- lists
 

@@ -1,5 +1,5 @@
 -- Runs of bytes of a class, and what a text begins with.
-use Rattle.std.specs.Prelude.{◌≡◌, ◌==◌, true, ℕ, zero, suc, Bool, false, if◌then◌else◌, List, [], ◌∷◌}
+use Rattle.std.specs.Prelude.{◌≡◌, ◌==◌, true, ℕ, suc, Bool, false, if◌then◌else◌, List, [], ◌∷◌}
 use Rattle.std.specs.List.{list_all}
 
 -- how many bytes at the front are of the class

@@ -1,5 +1,5 @@
 -- What each scan takes from the front of a text, or why it takes nothing.
-use Rattle.std.specs.Prelude.{◌≡◌, ℕ, ◌+◌, ◌*◌, ◌-◌, ◌<◌, ◌^◌, Bool, ◌||◌, nat_lt, nat_le, ◌==◌, ◌&&◌, if◌then◌else◌, List, [], ◌∷◌, length, take, drop, Option, Some, None, Result, Ok, Err}
+use Rattle.std.specs.Prelude.{◌≡◌, ℕ, ◌+◌, ◌*◌, ◌-◌, ◌||◌, nat_lt, ◌==◌, if◌then◌else◌, List, [], ◌∷◌, take, drop, Result, Ok, Err}
 use Rattle.gw_base.specs.Bytes.{is_digit}
 use Rattle.gw_text.specs.Lexical.{digit_zero, is_safe, is_solid}
 use Rattle.gw_text.specs.SpaceScan.{space_len}
@@ -47,11 +47,15 @@ solid_at text = some_at (run_len is_solid text) text
 abbrev pub digits_at : List ℕ → List ℕ
 digits_at text = take (run_len is_digit text) text
 
-unfoldable pub uint32_at : Scan ℕ
-uint32_at text =
+-- a number of at most so many digits, and at most max
+unfoldable pub number_within : (most max : ℕ) → Scan ℕ
+number_within most max text =
     if run_len is_digit text == 0 then Err Unexpected
-    else if nat_lt uint32_digits (run_len is_digit text) || nat_lt uint32_max (number_of (digits_at text)) then Err Overflow
+    else if nat_lt most (run_len is_digit text) || nat_lt max (number_of (digits_at text)) then Err Overflow
     else Ok (number_of (digits_at text), drop (run_len is_digit text) text)
+
+abbrev pub uint32_at : Scan ℕ
+uint32_at = number_within uint32_digits uint32_max
 
 -- What a scan answered, seen by view, is what is at the cursor. A fault leaves the cursor where it was.
 abbrev pub Gives : {X V : Type 0} → (X → V) → List ℕ → Result X ScanFault → List ℕ → Result (V × List ℕ) ScanFault → Type 0

@@ -1,5 +1,5 @@
 -- LWSP and SEP (RFC 3525, Annex B.2; own: byte 0 ends no comment and stands in none).
-use Rattle.std.specs.Prelude.{◌≡◌, ◌⊎◌, ◌<◌, true, ℕ, Bool, List, [], ◌∷◌, length, codes}
+use Rattle.std.specs.Prelude.{◌≡◌, ◌⊎◌, ◌<◌, true, ℕ, Bool, List, [], ◌∷◌, length}
 use Rattle.std.specs.List.{concat}
 use Rattle.gw_base.specs.Lang.{◌▹◌, IsText}
 use Rattle.gw_text.specs.Lexical.{semicolon, is_blank, is_eol, is_comment_byte}

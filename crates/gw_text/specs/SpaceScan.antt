@@ -1,5 +1,5 @@
 -- White space as it is scanned, byte by byte, with one flag: whether a comment was begun. That this is LWSP is proved.
-use Rattle.std.specs.Prelude.{◌≡◌, ℕ, ◌+◌, Bool, true, false, ◌&&◌, ◌||◌, ◌==◌, not, if◌then◌else◌, List, [], ◌∷◌, drop}
+use Rattle.std.specs.Prelude.{ℕ, ◌+◌, Bool, true, false, ◌&&◌, ◌==◌, not, if◌then◌else◌, List, [], ◌∷◌, drop}
 use Rattle.gw_text.specs.Lexical.{nul, semicolon, is_blank, is_eol}
 
 -- the text is white space; with inside, it begins within a comment

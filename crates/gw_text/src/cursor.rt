@@ -3,17 +3,21 @@
 ghost use Rattle.std.specs.Prelude.{◌≡◌, ◌≤◌, ◌<◌, ℕ, List, [], ◌∷◌, ◌++◌, true, false, length, take, drop, Some, None, MatchBool, IfOk, IfErr, IsTrue, ◌↔◌, OnErr};
 ghost use Rattle.std.specs.Bool.{OnTrue, OnFalse};
 ghost use Rattle.gw_base.specs.Bytes.{is_digit};
-ghost use Rattle.gw_text.specs.Lexical.{is_safe, is_solid};
+ghost use Rattle.gw_text.specs.Lexical.{is_safe, is_solid, right_brace};
 ghost use Rattle.gw_text.specs.Space.{IsSpace, IsSep};
+ghost use Rattle.gw_text.specs.SpaceScan.{skip};
 ghost use Rattle.gw_text.specs.Runs.{begins, is_byte};
-ghost use Rattle.gw_text.specs.Forms.{IsWord, IsSolid, IsSomeRun, IsUint32, HasNoUint32, IsSign, IsInAnyCase};
+ghost use Rattle.gw_text.specs.Forms.{IsWord, IsSolid, IsSomeRun, IsNumber, IsUint32, HasNoNumber, IsSign, IsInAnyCase};
+ghost use Rattle.gw_text.specs.Octets.{IsOctets, IsOctetsOf, octets_at};
+ghost use Rattle.gw_text.specs.Quoted.{IsQuoted, quoted_at};
 ghost use Rattle.gw_text.specs.Longest.{IsLongest};
 ghost use Rattle.gw_text.specs.Sign.{byte_at, sign_at, prefix_at};
-ghost use Rattle.gw_text.specs.Scans.{Gives, lwsp_at, sep_at, word_at, solid_at, uint32_at};
+ghost use Rattle.gw_text.specs.Scans.{Gives, lwsp_at, sep_at, word_at, solid_at, number_within, uint32_at, uint32_digits, uint32_max};
 
 use crate::fault::ScanFault;
 use crate::lengths::{digits_len, solid_len, space_len, word_len};
 use crate::number::number_of;
+use crate::octets::{octets_ends, quoted_len, trimmed};
 use std::marker::Model;
 
 /// A 32-bit number in a text.
@@ -59,6 +63,18 @@ impl<'a> Cursor<'a> {
         ensures { result ≡ begins (is_byte b) self.now }
     {
         match self.rest {
+            [c, ..] => *c == b,
+            [] => false,
+        }
+    }
+
+    /// Whether the byte comes next behind the white space. Nothing is taken.
+    #[tactic(auto, unfolding(crate::specs::SpaceScan::skip))]
+    pub fn is_ahead(&self, b: u8) -> bool
+        ensures { result ≡ begins (is_byte b) (skip self.now) }
+    {
+        let len = space_len(self.rest);
+        match &self.rest[len..] {
             [c, ..] => *c == b,
             [] => false,
         }
@@ -130,33 +146,88 @@ impl<'a> Cursor<'a> {
         Ok(self.take(len))
     }
 
-    /// Takes a number: the longest run of digits.
+    /// Takes a 32-bit number: the longest run of digits.
     ///
     /// # Errors
     ///
     /// `Unexpected` where no digit comes next; `Overflow` where the digits are more than ten or write more than
     /// 4,294,967,295.
-    #[tactic(auto, using(crate::proofs::RunLemmas::run_is), unfolding(crate::specs::Scans::uint32_at))]
     pub fn uint32(&mut self) -> Result<Uint32<'a>, ScanFault>
         ensures exact { Gives (λ n. n.value) self.old result self.new (uint32_at self.old) }
         ensures span { IfOk result (λ n. IsLongest (IsSomeRun is_digit) self.old n.span.now self.new × IsUint32 n.value n.span.now) }
-        ensures fault { IfErr result (λ e. HasNoUint32 e self.old) }
+        ensures fault { IfErr result (λ e. HasNoNumber uint32_digits uint32_max e self.old) }
+        ensures stays { OnErr result (self.new ≡ self.old) }
+    {
+        self.number(10, u32::MAX)
+    }
+
+    /// Takes a number of at most so many digits, and at most `max`: the longest run of digits.
+    ///
+    /// # Errors
+    ///
+    /// `Unexpected` where no digit comes next; `Overflow` where the digits are more, or write more than `max`.
+    #[tactic(auto, using(crate::proofs::RunLemmas::run_is), unfolding(crate::specs::Scans::number_within))]
+    pub fn number(&mut self, digits: usize, max: u32) -> Result<Uint32<'a>, ScanFault>
+        ensures exact { Gives (λ n. n.value) self.old result self.new (number_within digits max self.old) }
+        ensures span { IfOk result (λ n. IsLongest (IsSomeRun is_digit) self.old n.span.now self.new × IsNumber digits max n.value n.span.now) }
+        ensures fault { IfErr result (λ e. HasNoNumber digits max e self.old) }
         ensures stays { OnErr result (self.new ≡ self.old) }
     {
         let len = digits_len(self.rest);
         if len == 0 {
             return Err(ScanFault::Unexpected);
         }
-        if len > 10 {
+        if len > digits {
             return Err(ScanFault::Overflow);
         }
         let Some(value) = number_of(&self.rest[..len]) else {
             return Err(ScanFault::Overflow);
         };
+        if value > max {
+            return Err(ScanFault::Overflow);
+        }
         Ok(Uint32 {
             span: self.take(len),
             value,
         })
+    }
+
+    /// Takes octets, from behind the brace that begins them up to the one that closes them, which is left. The span
+    /// is the text without the white space at its ends (spaces, tabs, CR and LF, no comments); where a `\` stands
+    /// before that at the end, its first byte is kept.
+    ///
+    /// # Errors
+    ///
+    /// `Unexpected` where no closing brace comes, or a byte 0 before it.
+    #[tactic(auto, unfolding(crate::specs::Octets::octets_at))]
+    pub fn octets(&mut self) -> Result<&'a [u8], ScanFault>
+        ensures exact { Gives (λ span. span.now) self.old result self.new (octets_at self.old) }
+        ensures span { IfOk result (λ span. (body : List ℕ) × (self.old ≡ body ++ self.new) × (begins (is_byte right_brace) self.new ≡ true) × IsOctetsOf span.now body) }
+        ensures fault { IfErr result (λ e. (e ≡ ScanFault.Unexpected) × ((body rest : List ℕ) → self.old ≡ body ++ right_brace ∷ rest → ¬ IsOctets body)) }
+        ensures stays { OnErr result (self.new ≡ self.old) }
+    {
+        let Some((len, keep)) = octets_ends(self.rest) else {
+            return Err(ScanFault::Unexpected);
+        };
+        Ok(trimmed(&self.take(len)[..keep]))
+    }
+
+    /// Takes a quoted text, its quotes among it.
+    ///
+    /// # Errors
+    ///
+    /// `Unexpected` where no quoted text comes next.
+    #[tactic(auto, unfolding(crate::specs::Quoted::quoted_at))]
+    pub fn quoted(&mut self) -> Result<&'a [u8], ScanFault>
+        ensures exact { Gives (λ span. span.now) self.old result self.new (quoted_at self.old) }
+        ensures span { IfOk result (λ span. (self.old ≡ span.now ++ self.new) × IsQuoted span.now) }
+        ensures fault { IfErr result (λ e. (e ≡ ScanFault.Unexpected) × ((before after : List ℕ) → self.old ≡ before ++ after → ¬ IsQuoted before)) }
+        ensures stays { OnErr result (self.new ≡ self.old) }
+    {
+        let Some(len) = quoted_len(self.rest) else {
+            return Err(ScanFault::Unexpected);
+        };
+        Ok(self.take(len))
     }
 
     /// Takes the byte, if it comes next.

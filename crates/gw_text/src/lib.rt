@@ -7,6 +7,7 @@ mod fault;
 mod laws;
 mod lengths;
 mod number;
+mod octets;
 mod token;
 
 pub use cursor::{Cursor, Uint32};

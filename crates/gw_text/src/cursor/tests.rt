@@ -150,3 +150,49 @@ fn signs_bytes_and_prefixes(rt: HostRuntime) {
     assert!(rt; !cursor.sign(b'='));
     assert!(rt; cursor.prefix(b""));
 }
+
+#[test]
+fn octets(rt: HostRuntime) {
+    let table: [(&[u8], Option<&[u8]>, &[u8]); 16] = [
+        (b"}", Some(b""), b"}"),
+        (b" \r\n\t} =", Some(b""), b"} ="),
+        (b"\nv=0\nc=IN IP4 $\n}}", Some(b"v=0\nc=IN IP4 $"), b"}}"),
+        (b" a ;b\n }", Some(b"a ;b"), b"}"),
+        (b";\n}", Some(b";"), b"}"),
+        (b" a\\ }", Some(b"a\\ "), b"}"),
+        (b"a\\\t \n}", Some(b"a\\\t"), b"}"),
+        (b"a\\ b }", Some(b"a\\ b"), b"}"),
+        (b" \\\n }", Some(b"\\\n"), b"}"),
+        (b"a\\}b}", Some(b"a\\}b"), b"}"),
+        (b"a\\\\}b}", Some(b"a\\\\}b"), b"}"),
+        (b"{\"\xff}}", Some(b"{\"\xff"), b"}}"),
+        (b"a\0}", None, b"a\0}"),
+        (b"a\\}", None, b"a\\}"),
+        (b"a", None, b"a"),
+        (b"", None, b""),
+    ];
+    for (text, span, left) in table {
+        let mut cursor = Cursor::new(text);
+        let got = cursor.octets();
+        expect_span(&rt, text, got, cursor.rest, span, left);
+    }
+}
+
+#[test]
+fn quoted_texts(rt: HostRuntime) {
+    let table: [(&[u8], Option<&[u8]>, &[u8]); 8] = [
+        (b"\"\"}", Some(b"\"\""), b"}"),
+        (b"\"a {;}\t~\" \"", Some(b"\"a {;}\t~\""), b" \""),
+        (b"\"a\\\"b\"", Some(b"\"a\\\""), b"b\""),
+        (b"\"a\nb\"", None, b"\"a\nb\""),
+        (b"\"\x7f\"", None, b"\"\x7f\""),
+        (b"\"a", None, b"\"a"),
+        (b"a\"\"", None, b"a\"\""),
+        (b"", None, b""),
+    ];
+    for (text, span, left) in table {
+        let mut cursor = Cursor::new(text);
+        let got = cursor.quoted();
+        expect_span(&rt, text, got, cursor.rest, span, left);
+    }
+}

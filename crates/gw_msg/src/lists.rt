@@ -12,6 +12,7 @@ use std::alloc::Global;
 
 /// A part of a message.
 pub trait Part: Drop {
+    // what reading gives at the front of a text
     ghost read_at: { List ℕ → Option (Self × List ℕ) };
 
     /// Reads the part that stands at the cursor.

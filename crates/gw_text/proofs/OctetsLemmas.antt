@@ -1,0 +1,202 @@
+-- Octets as they are scanned are octets as they are defined, and what is kept of them is what is to be kept.
+use Rattle.std.proofs.Common.{◌≡◌, ◌⊎◌, inl, inr, ℕ, suc, ◌+◌, ◌≤◌, ◌<◌, Bool, true, false, cond, not, ◌==◌, ◌||◌, ◌&&◌, List, [], ◌∷◌, ◌++◌, length, take, drop, Option, Some, None, refl, ap, sym, subst, ◌∙◌, append_assoc, length-append, arith}
+use Rattle.std.specs.List.{list_all}
+use Rattle.std.proofs.lemmas.List.{append-nil, take-append-drop, take_at, drop_at, length-take}
+use Rattle.std.proofs.lemmas.Bool.{eqb-true, eqb-false}
+use Rattle.gw_text.specs.Lexical.{nul, backslash, right_brace, is_blank}
+use Rattle.gw_text.specs.Runs.{IsRun, begins, run_len}
+use Rattle.gw_text.specs.Octets.{is_octet, EndsIn, IsOctets, EndsKept, IsTrimmed, octets_from, trimmed}
+use Rattle.gw_text.proofs.RunLemmas.{and_true, run_again, run_is, run_len-le}
+use Rattle.gw_text.proofs.Signs.{some_is, same_byte}
+
+-- ---- octets, with a flag: whether a `\` stands in front of them
+
+abbrev pub are_octets : (escaped : Bool) → List ℕ → Bool
+are_octets escaped [] = not escaped
+are_octets escaped (b ∷ bs) = not (b == nul) && ((escaped || not (b == right_brace)) && are_octets (b == backslash) bs)
+
+-- where what is kept ends
+abbrev pub keep_end : (escaped : Bool) (passed keep : ℕ) → List ℕ → ℕ
+keep_end escaped passed keep [] = keep
+keep_end escaped passed keep (b ∷ bs) = keep_end (b == backslash) (passed + 1) (cond (escaped || not (is_blank b)) (passed + 1) keep) bs
+
+not_true : (b : Bool) → not b ≡ true → b ≡ false
+not_true false h = refl
+not_true true h = absurd cc
+
+-- ---- the scan
+
+-- what the scan found
+pub record IsFound (escaped : Bool) (passed keep : ℕ) (text : List ℕ) (ends kept : ℕ) : Type 0 where
+  pub body : List ℕ
+  pub rest : List ℕ
+  pub split : text ≡ body ++ right_brace ∷ rest
+  pub octets : are_octets escaped body ≡ true
+  pub ends_is : ends ≡ passed + length body
+  pub kept_is : kept ≡ keep_end escaped passed keep body
+
+found_step : (z c : Bool) (here there : Option (ℕ × ℕ)) (x : ℕ × ℕ) (P : Type 0) → cond z None (cond c here there) ≡ Some x → (z ≡ false → c ≡ true → here ≡ Some x → P) → (z ≡ false → c ≡ false → there ≡ Some x → P) → P
+found_step true c here there x P e f g = absurd cc
+found_step false true here there x P e f g = f refl refl e
+found_step false false here there x P e f g = g refl refl e
+
+escaped_or : (e r : Bool) → not e && r ≡ false → e || not r ≡ true
+escaped_or true r h = refl
+escaped_or false false h = refl
+escaped_or false true h = absurd cc
+
+pub octets_sound : (escaped : Bool) (passed keep : ℕ) (text : List ℕ) (ends kept : ℕ) → octets_from escaped passed keep text ≡ Some (ends, kept) → IsFound escaped passed keep text ends kept
+octets_sound escaped passed keep [] ends kept e = absurd cc
+octets_sound escaped passed keep (b ∷ bs) ends kept e =
+    let here : ℕ × ℕ = (passed, keep) in
+    let x : ℕ × ℕ = (ends, kept) in
+    found_step (b == nul) (not escaped && b == right_brace) (Some here) (octets_from (b == backslash) (passed + 1) (cond (escaped || not (is_blank b)) (passed + 1) keep) bs) x (IsFound escaped passed keep (b ∷ bs) ends kept) e
+    (λ z c s.
+    let h = and_true (not escaped) (b == right_brace) c in
+    let same = some_is here x s in
+    let ends-is : passed ≡ ends = ap (λ (p : ℕ × ℕ). p.0) same in
+    let kept-is : keep ≡ kept = ap (λ (p : ℕ × ℕ). p.1) same in
+    record { body = []; rest = bs; split = ap (λ (c : ℕ). c ∷ bs) (eqb-true b right_brace h.1); octets = h.0; ends_is = omega (arith, ends-is); kept_is = sym kept-is })
+    (λ z c s.
+    let f = octets_sound (b == backslash) (passed + 1) (cond (escaped || not (is_blank b)) (passed + 1) keep) bs ends kept s in
+    let ok = escaped_or escaped (b == right_brace) c in
+    let o = f.octets in
+    record { body = b ∷ f.body; rest = f.rest; split = ap (λ (x : List ℕ). b ∷ x) f.split; octets = rw (z, ok, o) refl; ends_is = omega (arith, f.ends_is); kept_is = f.kept_is })
+
+not_close : (e r : Bool) → e || not r ≡ true → not e && r ≡ false
+not_close true r h = refl
+not_close false false h = refl
+not_close false true h = absurd cc
+
+pub octets_again : (escaped : Bool) (passed keep : ℕ) (body rest : List ℕ) → are_octets escaped body ≡ true → octets_from escaped passed keep (body ++ right_brace ∷ rest) ≡ Some (passed + length body, keep_end escaped passed keep body)
+octets_again escaped passed keep [] rest h =
+    let e : passed + 0 ≡ passed = omega arith in
+    let n : escaped ≡ false = not_true escaped h in
+    rw (n, e) refl
+octets_again escaped passed keep (b ∷ bs) rest h =
+    let a = and_true (not (b == nul)) ((escaped || not (b == right_brace)) && are_octets (b == backslash) bs) h in
+    let c = and_true (escaped || not (b == right_brace)) (are_octets (b == backslash) bs) a.1 in
+    let z : b == nul ≡ false = not_true (b == nul) a.0 in
+    let r : not escaped && b == right_brace ≡ false = not_close escaped (b == right_brace) c.0 in
+    let e : passed + suc (length bs) ≡ passed + 1 + length bs = omega arith in
+    rw (z, r, e) (octets_again (b == backslash) (passed + 1) (cond (escaped || not (is_blank b)) (passed + 1) keep) bs rest c.1)
+
+-- ---- octets are what the definition says
+
+-- the same with a `\` in front, where escaped
+pub record AreOctets (escaped : Bool) (body : List ℕ) : Type 0 where
+  octets : IsRun is_octet body
+  braces : (before after : List ℕ) → body ≡ before ++ right_brace ∷ after → ((before ≡ []) × (escaped ≡ true)) ⊎ EndsIn backslash before
+  open_end : body ≡ [] → escaped ≡ false
+  closed : ¬ EndsIn backslash body
+
+nil_not_cons : (front : List ℕ) (b : ℕ) (after : List ℕ) → [] ≡ front ++ b ∷ after → ⊥
+nil_not_cons [] b after e = absurd cc
+nil_not_cons (c ∷ cs) b after e = absurd cc
+
+either_true : (P : Type 0) (a b : Bool) → a || b ≡ true → (a ≡ true → P) → (b ≡ true → P) → P
+either_true P true b h f g = f refl
+either_true P false b h f g = g h
+
+ends_more : (b : ℕ) (front : List ℕ) → EndsIn backslash front → EndsIn backslash (b ∷ front)
+ends_more b front h = (b ∷ h.0, ap (λ (x : List ℕ). b ∷ x) h.1)
+
+braces_more : (escaped : Bool) (b : ℕ) (bs : List ℕ) → escaped || not (b == right_brace) ≡ true → AreOctets (b == backslash) bs
+    → (before after : List ℕ) → b ∷ bs ≡ before ++ right_brace ∷ after → ((before ≡ []) × (escaped ≡ true)) ⊎ EndsIn backslash before
+braces_more escaped b bs ok h [] after e =
+    let same : b ≡ right_brace = cc in
+    either_true (([] ≡ []) × (escaped ≡ true) ⊎ EndsIn backslash []) escaped (not (b == right_brace)) ok
+    (λ i. inl (refl, i))
+    (λ i. let t : b == right_brace ≡ true = ap (λ (c : ℕ). c == right_brace) same in let f : b == right_brace ≡ false = not_true (b == right_brace) i in let clash : true ≡ false = sym t ∙ f in absurd cc)
+braces_more escaped b bs ok h (c ∷ cs) after e =
+    let same : b ≡ c = cc in
+    let rest : bs ≡ cs ++ right_brace ∷ after = cc in
+    inr (elim (h.braces cs after rest) [
+      | inl i ↦ ([], ap (λ (x : List ℕ). c ∷ x) i.0 ∙ ap (λ (x : ℕ). x ∷ []) (sym same ∙ eqb-true b backslash i.1))
+      | inr i ↦ ends_more c cs i
+    ])
+
+closed_by : (b : ℕ) (bs : List ℕ) → AreOctets (b == backslash) bs → (front : List ℕ) → b ∷ bs ≡ front ++ backslash ∷ [] → ⊥
+closed_by b bs h [] e =
+    let same : b ≡ backslash = cc in
+    let none : bs ≡ [] = cc in
+    let t : b == backslash ≡ true = ap (λ (c : ℕ). c == backslash) same in
+    let clash : true ≡ false = sym t ∙ h.open_end none in absurd cc
+closed_by b bs h (c ∷ cs) e =
+    let rest : bs ≡ cs ++ backslash ∷ [] = cc in
+    h.closed (cs, rest)
+
+closed_more : (b : ℕ) (bs : List ℕ) → AreOctets (b == backslash) bs → ¬ EndsIn backslash (b ∷ bs)
+closed_more b bs h x = closed_by b bs h x.0 x.1
+
+are_sound : (escaped : Bool) (body : List ℕ) → are_octets escaped body ≡ true → AreOctets escaped body
+are_sound escaped [] h = record {
+  octets = refl;
+  braces = λ before after e. absurd (nil_not_cons before right_brace after e);
+  open_end = λ _. not_true escaped h;
+  closed = λ x. nil_not_cons x.0 backslash [] x.1;
+}
+are_sound escaped (b ∷ bs) h =
+    let a = and_true (not (b == nul)) ((escaped || not (b == right_brace)) && are_octets (b == backslash) bs) h in
+    let c = and_true (escaped || not (b == right_brace)) (are_octets (b == backslash) bs) a.1 in
+    let k = are_sound (b == backslash) bs c.1 in
+    let some = a.0 in let run = k.octets in
+    record {
+      octets = rw (some, run) refl;
+      braces = braces_more escaped b bs c.0 k;
+      open_end = λ e. absurd cc;
+      closed = closed_more b bs k;
+    }
+
+or_true : (a : Bool) → a || true ≡ true
+or_true true = refl
+or_true false = refl
+
+brace_ok : (escaped : Bool) (b : ℕ) (bs : List ℕ) → AreOctets escaped (b ∷ bs) → (t : Bool) → b == right_brace ≡ t → escaped || not t ≡ true
+brace_ok escaped b bs h false is = or_true escaped
+brace_ok escaped b bs h true is =
+    let first : b ∷ bs ≡ [] ++ right_brace ∷ bs = ap (λ (c : ℕ). c ∷ bs) (eqb-true b right_brace is) in
+    elim (h.braces [] bs first) [ inl i ↦ ap (λ (e : Bool). e || false) i.1 | inr i ↦ absurd (nil_not_cons i.0 backslash [] i.1) ]
+
+not_is : (t : Bool) → (t ≡ true → ⊥) → t ≡ false
+not_is true h = absurd (h refl)
+not_is false h = refl
+
+not_same : (b c : ℕ) → (b ≡ c → ⊥) → b == c ≡ false
+not_same b c h = not_is (b == c) (λ e. h (eqb-true b c e))
+
+last_of : (b : ℕ) (before front : List ℕ) → b ∷ before ≡ front ++ backslash ∷ [] → ((before ≡ []) × (b == backslash ≡ true)) ⊎ EndsIn backslash before
+last_of b before [] e =
+    let same : b ≡ backslash = cc in
+    inl (cc, ap (λ (c : ℕ). c == backslash) same)
+last_of b before (c ∷ cs) e = inr (cs, cc)
+
+after_byte : (escaped : Bool) (b : ℕ) (bs : List ℕ) → AreOctets escaped (b ∷ bs) → (before after : List ℕ) → bs ≡ before ++ right_brace ∷ after → ((before ≡ []) × (b == backslash ≡ true)) ⊎ EndsIn backslash before
+after_byte escaped b bs h before after e =
+    elim (h.braces (b ∷ before) after (ap (λ (x : List ℕ). b ∷ x) e)) [
+      | inl i ↦ absurd cc
+      | inr i ↦ last_of b before i.0 i.1
+    ]
+
+are_complete : (escaped : Bool) (body : List ℕ) → AreOctets escaped body → are_octets escaped body ≡ true
+are_complete escaped [] h = let e = h.open_end refl in rw e refl
+are_complete escaped (b ∷ bs) h =
+    let run = and_true (is_octet b) (list_all is_octet bs) h.octets in
+    let more : AreOctets (b == backslash) bs = record {
+      octets = run.1;
+      braces = λ before after e. after_byte escaped b bs h before after e;
+      open_end = λ e. not_same b backslash (λ same. h.closed ([], ap (λ (c : ℕ). c ∷ bs) same ∙ ap (λ (x : List ℕ). backslash ∷ x) e));
+      closed = λ x. h.closed (ends_more b bs x);
+    } in
+    let ok : escaped || not (b == right_brace) ≡ true = brace_ok escaped b bs h (b == right_brace) refl in
+    let some = run.0 in
+    let rest = are_complete (b == backslash) bs more in
+    rw (some, ok, rest) refl
+
+pub octets_are : (body : List ℕ) → IsOctets body → are_octets false body ≡ true
+octets_are body h = are_complete false body (record { octets = h.octets; braces = λ before after e. inr (h.escaped before after e); open_end = λ _. refl; closed = h.closed })
+
+pub are_are : (body : List ℕ) → are_octets false body ≡ true → IsOctets body
+are_are body h =
+    let k = are_sound false body h in
+    record { octets = k.octets; escaped = λ before after e. elim (k.braces before after e) [ inl i ↦ absurd cc | inr i ↦ i ]; closed = k.closed }
