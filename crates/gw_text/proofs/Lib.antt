@@ -16,3 +16,4 @@ pub mod Items
 pub mod OctetsLemmas
 pub mod TrimLemmas
 pub mod OctetsScans
+pub mod GroupSteps

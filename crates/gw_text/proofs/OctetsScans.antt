@@ -139,7 +139,7 @@ quoted_first b bs len true is e =
       record { front = quote_mark ∷ []; back = inner ++ quote_mark ∷ []; split = refl; first = refl; second = record { front = inner; back = quote_mark ∷ []; split = refl; first = run_is is_quotable bs; second = refl } },
     ))
 
-quoted_sound : (text : List ℕ) (len : ℕ) → quoted_from text ≡ Some len → (front rest : List ℕ) × (text ≡ front ++ rest) × (len ≡ length front) × IsQuoted front
+pub quoted_sound : (text : List ℕ) (len : ℕ) → quoted_from text ≡ Some len → (front rest : List ℕ) × (text ≡ front ++ rest) × (len ≡ length front) × IsQuoted front
 quoted_sound [] len e = absurd cc
 quoted_sound (b ∷ bs) len e = quoted_first b bs len (b == quote_mark) refl e
 

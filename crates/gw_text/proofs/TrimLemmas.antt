@@ -217,7 +217,7 @@ drop_cases : (p : ℕ → Bool) (b : ℕ) (bs : List ℕ) (t : Bool) → p b ≡
 drop_cases p b bs true is more = more
 drop_cases p b bs false is more = is
 
-begins_drop : (p : ℕ → Bool) (text : List ℕ) → begins p (drop (run_len p text) text) ≡ false
+pub begins_drop : (p : ℕ → Bool) (text : List ℕ) → begins p (drop (run_len p text) text) ≡ false
 begins_drop p [] = refl
 begins_drop p (b ∷ bs) = drop_cases p b bs (p b) refl (begins_drop p bs)
 

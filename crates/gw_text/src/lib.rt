@@ -4,6 +4,7 @@
 mod class;
 mod cursor;
 mod fault;
+mod group;
 mod laws;
 mod lengths;
 mod number;
