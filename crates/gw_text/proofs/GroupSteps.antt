@@ -1,17 +1,17 @@
 -- What a step over a piece of a group passes.
-use Rattle.std.proofs.Common.{◌≡◌, ℕ, zero, suc, ◌+◌, ◌-◌, ◌≤◌, ◌<◌, Bool, true, false, cond, not, ◌==◌, ◌||◌, ◌&&◌, List, [], ◌∷◌, ◌++◌, length, take, drop, Option, Some, None, Result, Ok, Err, refl, ap, sym, subst, ◌∙◌, append_assoc, length-append, arith}
+use Rattle.std.proofs.Common.{◌≡◌, ℕ, zero, suc, ◌+◌, ◌-◌, ◌<◌, Bool, true, false, cond, not, ◌==◌, ◌&&◌, List, [], ◌∷◌, ◌++◌, length, take, drop, Option, Some, None, Result, Ok, Err, refl, ap, sym, subst, ◌∙◌, append_assoc, length-append, arith}
 use Rattle.std.specs.Prelude.{nat_le}
-use Rattle.std.proofs.lemmas.List.{append-nil, take-append-drop, take_at, drop_at, length-take}
-use Rattle.std.proofs.lemmas.Bool.{eqb-true, eqb-false, leb-false, leb-true}
+use Rattle.std.proofs.lemmas.List.{take-append-drop, drop_at, length-take}
+use Rattle.std.proofs.lemmas.Bool.{eqb-true, eqb-false, leb-false}
 use Rattle.gw_text.specs.Lexical.{nul, quote_mark, left_brace, right_brace, is_safe, is_solid}
-use Rattle.gw_text.specs.Runs.{begins, run_len, NoMore}
-use Rattle.gw_text.specs.Space.{IsSpace, IsSep}
+use Rattle.gw_text.specs.Runs.{run_len, NoMore}
+use Rattle.gw_text.specs.Space.{IsSep}
 use Rattle.gw_text.specs.SpaceScan.{space_len}
 use Rattle.gw_text.specs.Forms.{IsWord}
 use Rattle.gw_text.specs.Quoted.{IsQuoted, quoted_len}
 use Rattle.gw_text.specs.Octets.{IsOctets, octets_ends}
 use Rattle.gw_text.specs.Group.{is_mark, after_word, after_mark, begins_octets}
-use Rattle.gw_text.specs.GroupScan.{Step, place, passed, octets_passed, brace_at, opened, marked, spaced, piece_at, step_at, go_on, group_from, group_rest}
+use Rattle.gw_text.specs.GroupScan.{Step, place, passed, octets_passed, brace_at, opened, marked, spaced, step_at, go_on, group_from, group_rest}
 use Rattle.gw_text.specs.declared.group.Before.{Before}
 use Rattle.gw_text.specs.declared.group.Before.TheVariants.{Equals, OctetsWord, Other}
 use Rattle.gw_text.specs.declared.group.Place.{Place}
@@ -36,7 +36,7 @@ pub data Taken (limit depth : ℕ) (before : Before) (text left : List ℕ) (nex
 
 -- ---- one of six
 
-piece_cases : (P : Type 0) (a b c d e : Bool) (x1 x2 x3 x4 x5 x6 y : Step) → cond a x1 (cond b x2 (cond c x3 (cond d x4 (cond e x5 x6)))) ≡ y → (a ≡ true → x1 ≡ y → P) → (b ≡ true → x2 ≡ y → P) → (c ≡ true → x3 ≡ y → P) → (d ≡ true → x4 ≡ y → P)
+pub piece_cases : (P : Type 0) (a b c d e : Bool) (x1 x2 x3 x4 x5 x6 y : Step) → cond a x1 (cond b x2 (cond c x3 (cond d x4 (cond e x5 x6)))) ≡ y → (a ≡ true → x1 ≡ y → P) → (b ≡ true → x2 ≡ y → P) → (c ≡ true → x3 ≡ y → P) → (d ≡ true → x4 ≡ y → P)
     → (a ≡ false → b ≡ false → c ≡ false → d ≡ false → e ≡ true → x5 ≡ y → P) → (x6 ≡ y → P) → P
 piece_cases P true b c d e x1 x2 x3 x4 x5 x6 y is f1 f2 f3 f4 f5 f6 = f1 refl is
 piece_cases P false true c d e x1 x2 x3 x4 x5 x6 y is f1 f2 f3 f4 f5 f6 = f2 refl is

@@ -17,3 +17,6 @@ pub mod OctetsLemmas
 pub mod TrimLemmas
 pub mod OctetsScans
 pub mod GroupSteps
+pub mod GroupPasses
+pub mod GroupSound
+pub mod Spans

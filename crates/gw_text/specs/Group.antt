@@ -8,6 +8,8 @@ use Rattle.gw_text.specs.Forms.{IsWord}
 use Rattle.gw_text.specs.Quoted.{IsQuoted}
 use Rattle.gw_text.specs.Octets.{IsOctets}
 use Rattle.gw_text.specs.Tokens.{is_spelling}
+use Rattle.gw_text.specs.declared.fault.ScanFault.{ScanFault}
+use Rattle.gw_text.specs.declared.fault.ScanFault.TheVariants.{Unexpected, TooDeep, Overflow}
 use Rattle.gw_text.specs.declared.group.Before.{Before}
 use Rattle.gw_text.specs.declared.group.Before.TheVariants.{Equals, OctetsWord, Other}
 
@@ -101,14 +103,14 @@ abbrev pub open_text : List Pieces → List ℕ
 open_text [] = []
 open_text (p ∷ ps) = left_brace ∷ (text_of p ++ open_text ps)
 
--- the next brace does not begin octets
-abbrev pub GoesDeeper : Pieces → List Pieces → Type 0
-GoesDeeper p [] = Unit {0}
-GoesDeeper p (q ∷ qs) = begins_octets (after Other p) ≡ false
+-- where a group is open behind p, its brace does not begin octets
+abbrev pub GoesDeeper : Before → Pieces → List Pieces → Type 0
+GoesDeeper before p [] = Unit {0}
+GoesDeeper before p (q ∷ qs) = begins_octets (after before p) ≡ false
 
 abbrev pub AreOpen : (levels : ℕ) → List Pieces → Type 0
 AreOpen levels [] = Unit {0}
-AreOpen levels (p ∷ ps) = AreValid (levels - 1) Other p × GoesDeeper p ps × AreOpen (levels - 1) ps
+AreOpen levels (p ∷ ps) = AreValid (levels - 1) Other p × GoesDeeper Other p ps × AreOpen (levels - 1) ps
 
 -- as many groups as may lie within one another are open, and another `{` comes, whatever follows it
 pub record IsTooDeep (depth : ℕ) (text : List ℕ) : Type 0 where
@@ -117,3 +119,9 @@ pub record IsTooDeep (depth : ℕ) (text : List ℕ) : Type 0 where
   pub split : text ≡ open_text groups ++ left_brace ∷ rest
   pub full : length groups ≡ depth
   pub valid : AreOpen depth groups
+
+-- Why there is no group at the front of a text: a brace lies too deep, or anything else.
+abbrev pub HasNoGroup : ℕ → ScanFault → List ℕ → Type 0
+HasNoGroup depth Unexpected text = (¬ IsTooDeep depth text) × ((before behind : List ℕ) → text ≡ before ++ behind → ¬ IsGroup depth before)
+HasNoGroup depth TooDeep text = IsTooDeep depth text × ((before behind : List ℕ) → text ≡ before ++ behind → ¬ IsGroup depth before)
+HasNoGroup depth Overflow text = ⊥

@@ -1,5 +1,5 @@
 -- Groups as they are scanned, piece by piece.
-use Rattle.std.specs.Prelude.{◌==◌, nat_le, ◌+◌, ◌-◌, ℕ, zero, suc, Bool, if◌then◌else◌, ◌≡◌, List, [], ◌∷◌, length, take, drop, Option, Some, None, Result, Ok, Err}
+use Rattle.std.specs.Prelude.{◌==◌, ◌≤◌, nat_le, ◌+◌, ◌-◌, ℕ, zero, suc, if◌then◌else◌, ◌≡◌, List, [], ◌∷◌, length, take, drop, Option, Some, None, Result, Ok, Err}
 use Rattle.gw_text.specs.Lexical.{nul, quote_mark, left_brace, right_brace, is_safe, is_solid}
 use Rattle.gw_text.specs.Runs.{run_len}
 use Rattle.gw_text.specs.SpaceScan.{space_len}
@@ -89,3 +89,8 @@ balanced_at depth (b ∷ bs) = group_at depth b bs
 abbrev pub IsRest : {X : Type 0} → (X → List ℕ) → Result X ScanFault → Result (List ℕ) ScanFault → Type 0
 IsRest view (Ok rest) left = left ≡ Ok (view rest)
 IsRest view (Err e) left = left ≡ Err e
+
+-- what a function answered is the length of what is at the front
+abbrev pub IsLen : List ℕ → Result ℕ ScanFault → Result (List ℕ × List ℕ) ScanFault → Type 0
+IsLen text (Ok len) at = (at ≡ Ok (take len text, drop len text)) × (len ≤ length text)
+IsLen text (Err e) at = at ≡ Err e

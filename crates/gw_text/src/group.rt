@@ -2,7 +2,7 @@
 
 ghost use Rattle.std.specs.Prelude.{◌≡◌, ◌≤◌, ◌+◌, ◌<◌, ◌^◌, length, IfOk};
 ghost use Rattle.gw_text.specs.Group.{after_word, after_mark, is_octets_word};
-ghost use Rattle.gw_text.specs.GroupScan.{opened, step_at, group_rest, place, IsRest};
+ghost use Rattle.gw_text.specs.GroupScan.{opened, step_at, group_rest, balanced_at, place, IsRest, IsLen};
 ghost use Rattle.gw_text.specs.declared.group.Before.TheVariants as before;
 
 use crate::class::{is_safe, is_solid};
@@ -145,9 +145,10 @@ fn step(limit: u32, at: Place, text: &[u8]) -> Result<(Place, usize), ScanFault>
 }
 
 /// What is left behind a group, from behind its first brace.
-pub fn group_rest<'a>(limit: u32, text: &'a [u8]) -> Result<&'a [u8], ScanFault>
+fn group_rest<'a>(limit: u32, text: &'a [u8]) -> Result<&'a [u8], ScanFault>
     requires { 0 < limit }
-    ensures { IsRest (λ rest. rest.now) result (group_rest limit (place 1 before.Other) text.now) }
+    ensures value { IsRest (λ rest. rest.now) result (group_rest limit (place 1 before.Other) text.now) }
+    ensures within { IfOk result (λ rest. length rest.now ≤ length text.now) }
 {
     let mut at = Place {
         depth: 1,
@@ -163,4 +164,22 @@ pub fn group_rest<'a>(limit: u32, text: &'a [u8]) -> Result<&'a [u8], ScanFault>
         }
         at = next;
     }
+}
+
+/// The length of the group at the front, with braces at most `depth` deep.
+#[tactic(auto, unfolding(crate::specs::GroupScan::balanced_at))]
+pub fn group_len(depth: u32, text: &[u8]) -> Result<usize, ScanFault>
+    ensures { IsLen text.now result (balanced_at depth text.now) }
+{
+    let [b, inner @ ..] = text else {
+        return Err(ScanFault::Unexpected);
+    };
+    if *b != b'{' {
+        return Err(ScanFault::Unexpected);
+    }
+    if depth == 0 {
+        return Err(ScanFault::TooDeep);
+    }
+    let rest = group_rest(depth, inner)?;
+    Ok(text.len() - rest.len())
 }
