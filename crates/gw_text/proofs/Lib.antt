@@ -16,3 +16,7 @@ pub mod Items
 pub mod OctetsLemmas
 pub mod TrimLemmas
 pub mod OctetsScans
+pub mod GroupSteps
+pub mod GroupPasses
+pub mod GroupSound
+pub mod Spans

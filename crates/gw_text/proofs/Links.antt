@@ -125,7 +125,8 @@ byte_apart b (c ∷ cs) h = rw h refl
 pub no_byte : (b : ℕ) (text : List ℕ) → NoMore (is_byte b) text → byte_at b text ≡ None
 no_byte b text h = byte_apart b text h
 
-is_another : (c b : ℕ) (p : ℕ → Bool) → p b ≡ false → p c ≡ true → c == b ≡ false
+-- a byte of a class is another than one that is not
+pub is_another : (c b : ℕ) (p : ℕ → Bool) → p b ≡ false → p c ≡ true → c == b ≡ false
 is_another c b p other is = not_false (c == b) (λ e. let same : true ≡ false = sym is ∙ ap p (eqb-true c b e) ∙ other in absurd cc)
 
 solid_start : (t : Bool) → not t ≡ true → t ≡ false

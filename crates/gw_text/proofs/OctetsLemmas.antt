@@ -1,13 +1,12 @@
 -- Octets as they are scanned are octets as they are defined, and what is kept of them is what is to be kept.
-use Rattle.std.proofs.Common.{◌≡◌, ◌⊎◌, inl, inr, ℕ, suc, ◌+◌, ◌≤◌, ◌<◌, Bool, true, false, cond, not, ◌==◌, ◌||◌, ◌&&◌, List, [], ◌∷◌, ◌++◌, length, take, drop, Option, Some, None, refl, ap, sym, subst, ◌∙◌, append_assoc, length-append, arith}
+use Rattle.std.proofs.Common.{◌≡◌, ◌⊎◌, inl, inr, ℕ, suc, ◌+◌, Bool, true, false, cond, not, ◌==◌, ◌||◌, ◌&&◌, List, [], ◌∷◌, ◌++◌, length, Option, Some, None, refl, ap, sym, ◌∙◌, arith}
 use Rattle.std.specs.List.{list_all}
-use Rattle.std.proofs.lemmas.List.{append-nil, take-append-drop, take_at, drop_at, length-take}
-use Rattle.std.proofs.lemmas.Bool.{eqb-true, eqb-false}
+use Rattle.std.proofs.lemmas.Bool.{eqb-true}
 use Rattle.gw_text.specs.Lexical.{nul, backslash, right_brace, is_blank}
-use Rattle.gw_text.specs.Runs.{IsRun, begins, run_len}
-use Rattle.gw_text.specs.Octets.{is_octet, EndsIn, IsOctets, EndsKept, IsTrimmed, octets_from, trimmed}
-use Rattle.gw_text.proofs.RunLemmas.{and_true, run_again, run_is, run_len-le}
-use Rattle.gw_text.proofs.Signs.{some_is, same_byte}
+use Rattle.gw_text.specs.Runs.{IsRun}
+use Rattle.gw_text.specs.Octets.{is_octet, EndsIn, IsOctets, octets_from}
+use Rattle.gw_text.proofs.RunLemmas.{and_true}
+use Rattle.gw_text.proofs.Signs.{some_is}
 
 -- ---- octets, with a flag: whether a `\` stands in front of them
 

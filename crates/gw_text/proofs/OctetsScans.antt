@@ -1,13 +1,12 @@
 -- What the scans of octets and of quoted texts answer.
-use Rattle.std.proofs.Common.{◌≡◌, ℕ, suc, ◌+◌, ◌≤◌, ◌<◌, Bool, true, false, cond, not, ◌==◌, ◌||◌, ◌&&◌, List, [], ◌∷◌, ◌++◌, length, take, drop, Option, Some, None, Result, Ok, Err, refl, ap, sym, subst, ◌∙◌, append_assoc, length-append, arith}
-use Rattle.std.proofs.lemmas.List.{append-nil, take-append-drop, take-append-le, take_at, drop_at, length-take}
+use Rattle.std.proofs.Common.{◌≡◌, ℕ, ◌+◌, ◌≤◌, Bool, true, false, cond, not, ◌==◌, ◌||◌, List, [], ◌∷◌, ◌++◌, length, take, drop, Option, Some, None, Result, Ok, Err, refl, ap, sym, subst, ◌∙◌, append_assoc, length-append, arith}
+use Rattle.std.proofs.lemmas.List.{take-append-drop, take-append-le, take_at, drop_at, length-take}
 use Rattle.std.proofs.lemmas.Bool.{eqb-true}
-use Rattle.gw_base.specs.Lang.{Both, ◌▹◌, IsText}
 use Rattle.gw_text.specs.Lexical.{right_brace, quote_mark, backslash, is_blank}
-use Rattle.gw_text.specs.Runs.{begins, is_byte, IsRun, run_len}
+use Rattle.gw_text.specs.Runs.{begins, is_byte, run_len}
 use Rattle.gw_text.specs.Octets.{IsOctets, IsTrimmed, IsOctetsOf, octets_from, octets_ends, octets_found, octets_at, trimmed}
 use Rattle.gw_text.specs.Quoted.{is_quotable, IsQuoted, quoted_end, quoted_from, quoted_len, span_found, quoted_at}
-use Rattle.gw_text.specs.Reader.{Reader, ◌>>=◌, found, octets_read, quoted_read}
+use Rattle.gw_text.specs.Reader.{found, octets_read, quoted_read}
 use Rattle.gw_text.specs.declared.fault.ScanFault.{ScanFault}
 use Rattle.gw_text.specs.declared.fault.ScanFault.TheVariants.{Unexpected}
 use Rattle.gw_text.proofs.RunLemmas.{run_again, run_is, run_len-le}
@@ -139,7 +138,7 @@ quoted_first b bs len true is e =
       record { front = quote_mark ∷ []; back = inner ++ quote_mark ∷ []; split = refl; first = refl; second = record { front = inner; back = quote_mark ∷ []; split = refl; first = run_is is_quotable bs; second = refl } },
     ))
 
-quoted_sound : (text : List ℕ) (len : ℕ) → quoted_from text ≡ Some len → (front rest : List ℕ) × (text ≡ front ++ rest) × (len ≡ length front) × IsQuoted front
+pub quoted_sound : (text : List ℕ) (len : ℕ) → quoted_from text ≡ Some len → (front rest : List ℕ) × (text ≡ front ++ rest) × (len ≡ length front) × IsQuoted front
 quoted_sound [] len e = absurd cc
 quoted_sound (b ∷ bs) len e = quoted_first b bs len (b == quote_mark) refl e
 

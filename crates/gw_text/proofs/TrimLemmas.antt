@@ -1,8 +1,8 @@
 -- What is kept of octets is one text alone, and it is what the scan keeps.
-use Rattle.std.proofs.Common.{◌≡◌, ◌⊎◌, inl, inr, ℕ, suc, ◌+◌, ◌≤◌, ◌<◌, Bool, true, false, cond, not, ◌==◌, ◌||◌, ◌&&◌, List, [], ◌∷◌, ◌++◌, length, take, drop, refl, ap, sym, subst, ◌∙◌, append_assoc, length-append, arith}
+use Rattle.std.proofs.Common.{◌≡◌, ◌⊎◌, inl, inr, ℕ, suc, ◌+◌, Bool, true, false, cond, not, ◌==◌, ◌||◌, List, [], ◌∷◌, ◌++◌, length, take, drop, refl, ap, sym, subst, ◌∙◌, append_assoc, length-append, arith}
 use Rattle.std.specs.List.{list_all}
 use Rattle.std.proofs.lemmas.List.{append-nil, take-append-drop, take_at, drop_at}
-use Rattle.std.proofs.lemmas.Bool.{eqb-true, eqb-false}
+use Rattle.std.proofs.lemmas.Bool.{eqb-true}
 use Rattle.gw_text.specs.Lexical.{backslash, is_blank}
 use Rattle.gw_text.specs.Runs.{IsRun, begins, run_len}
 use Rattle.gw_text.specs.Octets.{EndsKept, IsTrimmed, trimmed}
@@ -217,7 +217,7 @@ drop_cases : (p : ℕ → Bool) (b : ℕ) (bs : List ℕ) (t : Bool) → p b ≡
 drop_cases p b bs true is more = more
 drop_cases p b bs false is more = is
 
-begins_drop : (p : ℕ → Bool) (text : List ℕ) → begins p (drop (run_len p text) text) ≡ false
+pub begins_drop : (p : ℕ → Bool) (text : List ℕ) → begins p (drop (run_len p text) text) ≡ false
 begins_drop p [] = refl
 begins_drop p (b ∷ bs) = drop_cases p b bs (p b) refl (begins_drop p bs)
 

@@ -7,6 +7,7 @@ use Rattle.gw_text.specs.Sign.{byte_at, sign_at, prefix_at}
 use Rattle.gw_text.specs.Scans.{word_at, solid_at, number_within, uint32_at}
 use Rattle.gw_text.specs.Octets.{octets_at}
 use Rattle.gw_text.specs.Quoted.{quoted_at}
+use Rattle.gw_text.specs.GroupScan.{balanced_at}
 use Rattle.gw_text.specs.declared.fault.ScanFault.{ScanFault}
 
 -- a value, and what is left
@@ -53,6 +54,10 @@ octets_read text = found (octets_at text)
 -- a quoted text, quotes and all
 abbrev pub quoted_read : Reader (List ℕ)
 quoted_read text = found (quoted_at text)
+
+-- a group at most so deep, braces and all
+abbrev pub group_read : ℕ → Reader (List ℕ)
+group_read depth text = found (balanced_at depth text)
 
 -- ---- one of two
 

@@ -10,11 +10,14 @@ ghost use Rattle.gw_text.specs.Runs.{begins, is_byte};
 ghost use Rattle.gw_text.specs.Forms.{IsWord, IsSolid, IsSomeRun, IsNumber, IsUint32, HasNoNumber, IsSign, IsInAnyCase};
 ghost use Rattle.gw_text.specs.Octets.{IsOctets, IsOctetsOf, octets_at};
 ghost use Rattle.gw_text.specs.Quoted.{IsQuoted, quoted_at};
+ghost use Rattle.gw_text.specs.Group.{IsGroup, HasNoGroup};
+ghost use Rattle.gw_text.specs.GroupScan.{balanced_at};
 ghost use Rattle.gw_text.specs.Longest.{IsLongest};
 ghost use Rattle.gw_text.specs.Sign.{byte_at, sign_at, prefix_at};
 ghost use Rattle.gw_text.specs.Scans.{Gives, lwsp_at, sep_at, word_at, solid_at, number_within, uint32_at, uint32_digits, uint32_max};
 
 use crate::fault::ScanFault;
+use crate::group::group_len;
 use crate::lengths::{digits_len, solid_len, space_len, word_len};
 use crate::number::number_of;
 use crate::octets::{octets_ends, quoted_len, trimmed};
@@ -227,6 +230,25 @@ impl<'a> Cursor<'a> {
         let Some(len) = quoted_len(self.rest) else {
             return Err(ScanFault::Unexpected);
         };
+        Ok(self.take(len))
+    }
+
+    /// Takes a group: from its `{` to the matching `}`, both among it, with braces at most `depth` deep, its own
+    /// counted. Quoted texts, comments and octets are passed whole.
+    ///
+    /// # Errors
+    ///
+    /// `TooDeep` at a brace that lies deeper, whatever follows it; `Unexpected` where there is no group for another
+    /// reason.
+    #[tactic(auto, unfolding(crate::specs::GroupScan::balanced_at))]
+    pub fn balanced(&mut self, depth: u32) -> Result<&'a [u8], ScanFault>
+        requires { depth ≤ 16 }
+        ensures exact { Gives (λ span. span.now) self.old result self.new (balanced_at depth self.old) }
+        ensures span { IfOk result (λ span. (self.old ≡ span.now ++ self.new) × IsGroup depth span.now) }
+        ensures fault { IfErr result (λ e. HasNoGroup depth e self.old) }
+        ensures stays { OnErr result (self.new ≡ self.old) }
+    {
+        let len = group_len(depth, self.rest)?;
         Ok(self.take(len))
     }
 

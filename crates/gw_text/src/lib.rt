@@ -4,6 +4,7 @@
 mod class;
 mod cursor;
 mod fault;
+mod group;
 mod laws;
 mod lengths;
 mod number;
@@ -12,5 +13,5 @@ mod token;
 
 pub use cursor::{Cursor, Uint32};
 pub use fault::ScanFault;
-pub use laws::{tokens_read_back, white_space_is_pieces};
+pub use laws::{spans_are_one, tokens_read_back, white_space_is_pieces};
 pub use token::{Token, token_of};

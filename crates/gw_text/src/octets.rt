@@ -1,6 +1,6 @@
 //! Octets: the text of a Local or a Remote, and quoted texts.
 
-ghost use Rattle.std.specs.Prelude.{◌≡◌, ◌≤◌, length, IfSome};
+ghost use Rattle.std.specs.Prelude.{◌≡◌, ◌≤◌, ◌<◌, length, IfSome};
 ghost use Rattle.gw_text.specs.Lexical.{is_blank};
 ghost use Rattle.gw_text.specs.Runs.{run_len};
 ghost use Rattle.gw_text.specs.Octets.{octets_ends, trimmed};
@@ -12,7 +12,7 @@ use crate::class::is_blank;
 #[tactic(auto, using(crate::proofs::RunLemmas::at_byte), unfolding(crate::specs::Octets::octets_ends))]
 pub fn octets_ends(text: &[u8]) -> Option<(usize, usize)>
     ensures value { result ≡ octets_ends text.now }
-    ensures within { IfSome result (λ ends. (ends.0 ≤ length text.now) × (ends.1 ≤ ends.0)) }
+    ensures within { IfSome result (λ ends. (ends.0 < length text.now) × (ends.1 ≤ ends.0)) }
 {
     let mut escaped = false;
     let mut keep = 0;

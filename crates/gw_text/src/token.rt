@@ -126,11 +126,12 @@ static TABLE: [Spelling; 53] = [
     ),
 ];
 
+/// Whether a word is one of the two, in any case.
 #[tactic(auto, unfolding(crate::specs::Tokens::is_spelling))]
-fn is_spelling(spelling: &Spelling, word: &[u8]) -> bool
-    ensures { result ≡ is_spelling spelling.now.0.now spelling.now.1.now word.now }
+pub fn is_either(long: &[u8], short: &[u8], word: &[u8]) -> bool
+    ensures { result ≡ is_spelling long.now short.now word.now }
 {
-    word.eq_ignore_ascii_case(spelling.0) || word.eq_ignore_ascii_case(spelling.1)
+    word.eq_ignore_ascii_case(long) || word.eq_ignore_ascii_case(short)
 }
 
 #[tactic(auto, using(crate::proofs::TokenLemmas::found_here, crate::proofs::TokenLemmas::not_here))]
@@ -138,7 +139,7 @@ fn find(table: &[Spelling], word: &[u8]) -> Option<Token>
     ensures { result ≡ find_token word.now (entries table.now) }
 {
     for spelling in table {
-        if is_spelling(spelling, word) {
+        if is_either(spelling.0, spelling.1, word) {
             return Some(spelling.2);
         }
     }

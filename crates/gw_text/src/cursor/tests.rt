@@ -1,5 +1,7 @@
 //! Tables of texts, what each scan takes of them, and what is left.
 
+ghost use Rattle.std.specs.Prelude.{◌≤◌};
+
 use super::{Cursor, Uint32};
 use crate::fault::ScanFault;
 use std::process::Abort;
@@ -194,5 +196,76 @@ fn quoted_texts(rt: HostRuntime) {
         let mut cursor = Cursor::new(text);
         let got = cursor.quoted();
         expect_span(&rt, text, got, cursor.rest, span, left);
+    }
+}
+
+/// The span of a group at most so deep, which is to be taken and leave the rest, or the fault.
+fn expect_group(rt: &impl Abort, depth: u32, text: &[u8], want: Result<usize, ScanFault>)
+    requires { depth ≤ 16 }
+{
+    let mut cursor = Cursor::new(text);
+    match (cursor.balanced(depth), want) {
+        (Ok(span), Ok(len)) => {
+            assert!(rt;
+                span.len() == len && cursor.rest.len() + len == text.len(),
+                "group of {text:?}"
+            );
+            assert!(rt;
+                text.starts_with(span) && text.ends_with(cursor.rest),
+                "span of {text:?}"
+            );
+        }
+        (Err(fault), Err(other)) => assert!(rt;
+            fault == other && cursor.rest == text,
+            "fault of {text:?}"
+        ),
+        _ => assert!(rt; false, "answer of {text:?}"),
+    }
+}
+
+#[test]
+fn groups(rt: HostRuntime) {
+    let deep = ScanFault::TooDeep;
+    let table: [(u32, &[u8], Result<usize, ScanFault>); 36] = [
+        (8, b"{}", Ok(2)),
+        (8, b"{ cg/dt }", Ok(9)),
+        (8, b"{a=b,c{d}}}", Ok(10)),
+        (8, b"{{{{{{{{}}}}}}}}", Ok(16)),
+        (8, b"{{{{{{{{{}}}}}}}}}", Err(deep)),
+        (8, b"{{{{{{{{{", Err(deep)),
+        (16, b"{{{{{{{{{{{{{{{{}}}}}}}}}}}}}}}}", Ok(32)),
+        (16, b"{{{{{{{{{{{{{{{{{}}}}}}}}}}}}}}}}}", Err(deep)),
+        (0, b"{}", Err(deep)),
+        (0, b"a", Err(UNEXPECTED)),
+        (1, b"{\"}\"}", Ok(5)),
+        (1, b"{;}\n}", Ok(5)),
+        (1, b"{;}", Err(UNEXPECTED)),
+        (1, b"{\"}", Err(UNEXPECTED)),
+        (1, b"{\"a\nb\"}", Err(UNEXPECTED)),
+        (1, b"{a;b}", Err(UNEXPECTED)),
+        (1, b"{\0}", Err(UNEXPECTED)),
+        (1, b"{;\0\n}", Err(UNEXPECTED)),
+        (1, b"{\x01\x7f\xff}", Ok(5)),
+        (1, b"{", Err(UNEXPECTED)),
+        (1, b"", Err(UNEXPECTED)),
+        (1, b" {}", Err(UNEXPECTED)),
+        (1, b"}", Err(UNEXPECTED)),
+        (2, b"{Local{ a\\ }}", Ok(13)),
+        (2, b"{Local{\";{}}", Ok(12)),
+        (2, b"{l ;\n{ {\\}; }}", Ok(14)),
+        (2, b"{REMOTE{\"}r{;}}", Ok(15)),
+        (2, b"{x,Local Local\n{\"}}", Ok(19)),
+        (2, b"{a=Local{\"}}", Err(UNEXPECTED)),
+        (2, b"{= ;\nLocal {\"}\"}}", Ok(17)),
+        (2, b"{x/Local{\"}}", Err(UNEXPECTED)),
+        (2, b"{Local,{\"}}", Err(UNEXPECTED)),
+        (1, b"{Local{}}", Err(deep)),
+        (1, b"{R{", Err(deep)),
+        (2, b"{R{\0}}", Err(UNEXPECTED)),
+        (2, b"{R{a\\}}", Err(UNEXPECTED)),
+    ];
+    for (depth, text, want) in table {
+        assert!(rt; depth <= 16);
+        expect_group(&rt, depth, text, want);
     }
 }
