@@ -1,5 +1,5 @@
 -- What each change of a termination's place keeps, whole transactions keep.
-use Rattle.std.proofs.Common.{nat_eq, nat_le, ◌≡◌, ℕ, Bool, true, false, cond, List, [], ◌∷◌, length, Option, None, Some, Result, Ok, Err, refl, sym, ap, ◌∙◌}
+use Rattle.std.proofs.Common.{nat_eq, nat_le, ◌≡◌, ℕ, Bool, true, false, List, [], ◌∷◌, length, Option, None, Some, Result, refl, ap, ◌∙◌}
 use Rattle.std.specs.Prelude.{◌&&◌, not, is_err, if◌then◌else◌}
 use Rattle.std.proofs.lemmas.Bool.{leb-false}
 use Rattle.gw_base.specs.declared.code.Code.{Code}
@@ -17,8 +17,6 @@ use Rattle.gw_engine.specs.declared.at.At.{At}
 use Rattle.gw_engine.specs.declared.at.At.TheVariants.{Live, Unmade}
 use Rattle.gw_engine.specs.declared.change.Change.{Change}
 use Rattle.gw_engine.specs.declared.change.Change.TheVariants.{Enter, Leave}
-use Rattle.gw_engine.specs.declared.outcome.Walk.{Walk}
-use Rattle.gw_engine.specs.declared.outcome.ActionDone.{ActionDone}
 use Rattle.gw_engine.specs.declared.termination.Termination.{Termination}
 use Rattle.gw_engine.specs.Maps.{Maps, term, ctx, members_of}
 use Rattle.gw_engine.specs.Places.{made, place_of}

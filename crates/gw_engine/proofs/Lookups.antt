@@ -1,13 +1,11 @@
 -- What is read after a write.
-use Rattle.std.proofs.Common.{nat_eq, ◌≡◌, ℕ, Bool, true, false, cond, List, bytes_eq, Option, None, Some, refl, sym, ap, subst, ◌∙◌}
-use Rattle.std.specs.Ordering.{nat_cmp}
+use Rattle.std.proofs.Common.{nat_eq, ◌≡◌, ℕ, Bool, true, false, cond, List, bytes_eq, Option, None, Some, refl, sym, ap, ◌∙◌}
 use Rattle.std.specs.Cmp.{nat_cmp_total}
 use Rattle.std.specs.Cmp.Lexicographic.{nat_list_cmp_total}
-use Rattle.std.specs.FinMap as map
 use Rattle.std.specs.FinMap.{get-insert, get-remove, same_map, nat_cmp-IsAntisymmetric}
 use Rattle.gw_base.specs.declared.ids.CtxNum.{CtxNum}
 use Rattle.gw_engine.specs.declared.termination.Termination.{Termination}
-use Rattle.gw_engine.specs.Maps.{Maps, name_cmp, term, ctx, put_term, put_ctx}
+use Rattle.gw_engine.specs.Maps.{Maps, term, ctx, put_term, put_ctx}
 use Rattle.gw_engine.proofs.Names.{name_test, number_test, names_same}
 
 pub term-put_term : (m : Maps) (t : List ℕ) (o : Option Termination) (q : List ℕ) → term (put_term m t o) q ≡ cond (bytes_eq q t) o (term m q)

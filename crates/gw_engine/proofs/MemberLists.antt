@@ -1,7 +1,6 @@
 -- Lists of members: who is in them after one joins or leaves.
-use Rattle.std.proofs.Common.{◌≡◌, ℕ, ◌+◌, ◌≤◌, Bool, true, false, cond, ◌⊎◌, inl, inr, List, [], ◌∷◌, ◌++◌, length, bytes_eq, refl, sym, ap, ◌∙◌, arith}
+use Rattle.std.proofs.Common.{◌≡◌, ℕ, ◌≤◌, Bool, true, false, cond, ◌⊎◌, inl, inr, List, [], ◌∷◌, ◌++◌, length, bytes_eq, refl, sym, ap, ◌∙◌, arith}
 use Rattle.std.specs.Prelude.{◌||◌}
-use Rattle.std.specs.List.{list_any}
 use Rattle.gw_engine.specs.Maps.{members_of}
 use Rattle.gw_engine.specs.Members.{is_in, without, unless_empty, NoDoubles}
 use Rattle.gw_engine.proofs.Names.{falsely, same_name, name_itself}

@@ -1,7 +1,7 @@
 -- The numbers in cyclic order, and taking them one by one.
-use Rattle.std.proofs.Common.{◌≡◌, ℕ, zero, suc, ◌+◌, ◌-◌, ◌<◌, ◌≤◌, Bool, true, false, cond, List, [], ◌∷◌, ◌++◌, map, length, get_or, take, drop, slice_get, Option, None, Some, refl, sym, ap, ◌∙◌, arith, add-one, option_copied, is_some, not, Bor}
+use Rattle.std.proofs.Common.{◌≡◌, ℕ, zero, suc, ◌+◌, ◌-◌, ◌<◌, ◌≤◌, Bool, cond, List, [], ◌∷◌, ◌++◌, map, length, get_or, take, drop, slice_get, Option, None, Some, refl, sym, ap, ◌∙◌, arith, add-one, option_copied, is_some, not, Bor}
 use Rattle.std.specs.Prelude.{is_none}
-use Rattle.std.specs.List.{range_with_len, filter}
+use Rattle.std.specs.List.{range_with_len}
 use Rattle.std.proofs.Math.ListN.{get_or-append, drop_of_length-le}
 use Rattle.std.proofs.lemmas.List.{get_or-append_right, length-append}
 use Rattle.std.proofs.lemmas.List.FromFn.{length-range_with_len, get_or-range_with_len, map-range_with_len_more}

@@ -1,5 +1,5 @@
 -- What was prepared for a message is prepared for its text.
-use Rattle.std.proofs.Common.{◌≡◌, ℕ, List, Option, None, Some, Result, Ok, Err, IfOk, sym, ap, subst, ◌∙◌}
+use Rattle.std.proofs.Common.{◌≡◌, ℕ, List, Option, Result, Ok, Err, IfOk, sym, ap, subst, ◌∙◌}
 use Rattle.gw_base.specs.declared.fault.NoMemory.{NoMemory}
 use Rattle.gw_base.specs.declared.code.Code.{Code}
 use Rattle.gw_msg.specs.declared.message.Message.{Message}

@@ -14,7 +14,7 @@ use Rattle.gw_base.specs.declared.config.Config.{Config}
 use Rattle.gw_engine.specs.declared.fault.LimitName.{LimitName}
 use Rattle.gw_engine.specs.declared.fault.LimitName.TheVariants.{Contexts, Slots, Members, Keep, Terms}
 use Rattle.gw_engine.specs.Places.{place_of}
-use Rattle.gw_engine.specs.WellFormed.{IsSound, AreWellFormed}
+use Rattle.gw_engine.specs.WellFormed.{AreWellFormed}
 use Rattle.gw_engine.specs.Configuration.{is_within, first_limit, provisioned, new_maps}
 use Rattle.gw_engine.proofs.Names.{name_test, same_name}
 use Rattle.gw_engine.proofs.Lookups.{term-put_term, same_maps}

@@ -1,5 +1,5 @@
 -- The commands keep the half of well-formedness that parts have.
-use Rattle.std.proofs.Common.{nat_eq, ◌≡◌, ℕ, Bool, true, false, cond, ◌⊎◌, inl, inr, List, [], ◌∷◌, ◌++◌, Option, None, Some, Result, bytes_eq, refl, sym, ap, subst, ◌∙◌, eq-eqb}
+use Rattle.std.proofs.Common.{nat_eq, ◌≡◌, ℕ, Bool, true, false, cond, List, [], ◌∷◌, ◌++◌, Option, None, Some, bytes_eq, refl, sym, ap, subst, ◌∙◌}
 use Rattle.gw_base.specs.declared.ids.CtxNum.{CtxNum}
 use Rattle.gw_engine.specs.declared.termination.Termination.{Termination}
 use Rattle.gw_engine.specs.Maps.{Maps, term, ctx, put_term, put_ctx, members_of}

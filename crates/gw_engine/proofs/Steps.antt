@@ -1,8 +1,8 @@
 -- What some writes in a row come to.
-use Rattle.std.proofs.Common.{◌≡◌, ℕ, Bool, true, false, cond, List, [], ◌∷◌, ◌++◌, Option, None, Some, refl, sym, ap, ◌∙◌, is_some}
+use Rattle.std.proofs.Common.{◌≡◌, ℕ, false, List, [], ◌∷◌, ◌++◌, Option, None, Some, refl, sym, ap, ◌∙◌, is_some}
 use Rattle.gw_base.specs.declared.ids.CtxNum.{CtxNum}
 use Rattle.gw_engine.specs.declared.termination.Termination.{Termination}
-use Rattle.gw_engine.specs.Maps.{Maps, term, ctx, put_term, put_ctx, members_of}
+use Rattle.gw_engine.specs.Maps.{Maps, ctx, put_term, put_ctx, members_of}
 use Rattle.gw_engine.specs.Members.{without, unless_empty}
 use Rattle.gw_engine.specs.Commands.{joined, left}
 use Rattle.gw_engine.proofs.Lookups.{put_ctx-put_ctx}

@@ -1,14 +1,14 @@
 -- The commands keep tables well-formed.
-use Rattle.std.proofs.Common.{nat_eq, ◌≡◌, ℕ, ◌+◌, ◌≤◌, ◌<◌, Bool, true, false, cond, List, [], ◌∷◌, ◌++◌, length, Option, None, Some, bytes_eq, refl, sym, ap, subst, ◌∙◌, arith, length-append}
+use Rattle.std.proofs.Common.{nat_eq, ◌≡◌, ℕ, ◌≤◌, ◌<◌, Bool, true, false, cond, List, [], ◌∷◌, ◌++◌, length, Option, None, Some, bytes_eq, refl, sym, ap, subst, ◌∙◌, arith, length-append}
 use Rattle.std.specs.Prelude.{◌≢◌}
 use Rattle.gw_base.specs.declared.ids.CtxNum.{CtxNum}
 use Rattle.gw_engine.specs.declared.termination.Termination.{Termination}
-use Rattle.gw_engine.specs.Maps.{Maps, term, ctx, put_term, put_ctx, members_of}
+use Rattle.gw_engine.specs.Maps.{Maps, term, ctx, put_ctx, members_of}
 use Rattle.gw_engine.specs.Members.{is_in, without, unless_empty}
 use Rattle.gw_engine.specs.Places.{place_of}
 use Rattle.gw_engine.specs.Commands.{joined, left, subtracted}
-use Rattle.gw_engine.specs.WellFormed.{IsSound, AreWellFormed}
-use Rattle.gw_engine.proofs.Names.{falsely, same_name, same_number, number_itself}
+use Rattle.gw_engine.specs.WellFormed.{AreWellFormed}
+use Rattle.gw_engine.proofs.Names.{same_number, number_itself}
 use Rattle.gw_engine.proofs.Lookups.{term-put_term, ctx-put_term, term-put_ctx, ctx-put_ctx}
 use Rattle.gw_engine.proofs.MemberLists.{last_in_pushed, stays_in_pushed, stays_without, length_without, members-unless_empty}
 use Rattle.gw_engine.proofs.Sound.{free_at_none, sound_joined, sound_subtracted}

@@ -1,6 +1,6 @@
 -- What a command does to the maps, and what is answered (RFC 3525, section 7.2; which case gets which code, and in which
 -- order, is own).
-use Rattle.std.specs.Prelude.{ℕ, Bool, true, false, ◌&&◌, if◌then◌else◌, nat_eq, nat_le, List, [], ◌∷◌, ◌++◌, length, Option, None, Some, Result, Ok, Err, is_ok}
+use Rattle.std.specs.Prelude.{ℕ, ◌&&◌, if◌then◌else◌, nat_eq, nat_le, List, [], ◌∷◌, ◌++◌, length, Option, None, Some, Result, Ok, Err, is_ok}
 use Rattle.gw_base.specs.declared.code.Code.{Code}
 use Rattle.gw_base.specs.declared.code.Code.TheVariants.{UnknownContext, IllegalCombination, UnknownTermination, AlreadyInContext, ContextFull, NotInContext, NotImplemented}
 use Rattle.gw_base.specs.declared.ids.CtxNum.{CtxNum}

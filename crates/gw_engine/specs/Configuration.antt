@@ -12,7 +12,7 @@ use Rattle.gw_engine.specs.declared.fault.ConfigFault.TheVariants.{LimitOutOfRan
 use Rattle.gw_engine.specs.declared.termination.Termination.{Termination}
 use Rattle.gw_engine.specs.Maps.{Maps}
 use Rattle.gw_engine.specs.Members.{NoDoubles}
-use Rattle.gw_engine.specs.State.{Settings, State, Whole}
+use Rattle.gw_engine.specs.State.{Whole}
 
 -- n is from low to high
 abbrev pub is_within : ℕ → ℕ → ℕ → Bool

@@ -1,5 +1,5 @@
 -- A gateway's fields, as contracts see them.
-use Rattle.std.specs.Prelude.{◌≡◌, ℕ, true, []}
+use Rattle.std.specs.Prelude.{◌≡◌, true, []}
 use Rattle.gw_engine.specs.declared.gateway.Gateway.TheInside.{Inside}
 use Rattle.gw_engine.specs.Configuration.{is_within}
 use Rattle.gw_engine.specs.State.{Whole, IsWellFormed}

@@ -1,6 +1,6 @@
 -- Who owns which context number (own): at the start of a burst the free numbers are listed in cyclic order from the cursor, and
 -- the j-th $ place owns the j-th of them, whether it is reached or not.
-use Rattle.std.specs.Prelude.{◌≡◌, ℕ, ◌+◌, ◌-◌, Bool, List, [], ◌∷◌, ◌++◌, map, length, take, drop, slice_get, Option, is_none}
+use Rattle.std.specs.Prelude.{ℕ, ◌+◌, ◌-◌, List, [], ◌∷◌, ◌++◌, map, length, take, slice_get, Option, is_none}
 use Rattle.std.specs.List.{range_with_len, filter}
 use Rattle.gw_base.specs.declared.ids.CtxNum.{CtxNum}
 use Rattle.gw_msg.specs.declared.message.Action.{Action}

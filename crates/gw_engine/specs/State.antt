@@ -1,5 +1,5 @@
 -- The state of a gateway, and what was configured (RFC 3525, section 6; the cursors and the kept replies are own).
-use Rattle.std.specs.Prelude.{◌≡◌, ℕ, ◌≤◌, List, [], Option, refl}
+use Rattle.std.specs.Prelude.{ℕ, ◌≤◌, List, refl}
 use Rattle.std.specs.Coded.{Coded, code_by, coded×, coded_list, coded_ℕ}
 use Rattle.gw_base.specs.declared.command_words.Rules.{Rules}
 use Rattle.gw_engine.specs.Maps.{Maps, coded_maps}

@@ -1,6 +1,6 @@
 -- What an action and a transaction do: left folds with the stop rule (RFC 3525, sections 8.1 and 8.2; the order of errors is
 -- own).
-use Rattle.std.specs.Prelude.{ℕ, Bool, true, false, ◌&&◌, not, if◌then◌else◌, List, [], ◌∷◌, ◌++◌, Option, None, Some, Result, Ok, Err, is_err}
+use Rattle.std.specs.Prelude.{ℕ, Bool, true, false, ◌&&◌, not, if◌then◌else◌, List, [], ◌∷◌, Option, None, Some, Ok, Err, is_err}
 use Rattle.gw_base.specs.declared.code.Code.{Code}
 use Rattle.gw_base.specs.declared.code.Code.TheVariants.{UnknownContext, NoContextLeft, NotImplemented}
 use Rattle.gw_base.specs.declared.ids.CtxNum.{CtxNum}

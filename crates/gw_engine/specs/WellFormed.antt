@@ -1,5 +1,5 @@
 -- Which tables fit together (RFC 3525, section 6).
-use Rattle.std.specs.Prelude.{◌≡◌, ◌≢◌, ℕ, true, ◌≤◌, List, [], length, Option, Some}
+use Rattle.std.specs.Prelude.{◌≡◌, ◌≢◌, ℕ, true, ◌≤◌, List, [], length, Some}
 use Rattle.gw_base.specs.declared.ids.CtxNum.{CtxNum}
 use Rattle.gw_engine.specs.Maps.{Maps, term, ctx, members_of}
 use Rattle.gw_engine.specs.Members.{is_in, NoDoubles}

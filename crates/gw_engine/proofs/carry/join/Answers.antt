@@ -1,5 +1,5 @@
-use Rattle.std.proofs.Common.{◌≡◌, List, ℕ, ap, sym, ◌∙◌, None, Some}
-use Rattle.gw_engine.specs.Maps.{ctx, put_ctx, members_of}
+use Rattle.std.proofs.Common.{◌≡◌, ap, sym, ◌∙◌, Some}
+use Rattle.gw_engine.specs.Maps.{put_ctx, members_of}
 use Rattle.gw_engine.proofs.Steps.{joined_by}
 use Rattle.gw_engine.proofs.carry.join.Goals as goal
 use Rattle.gw_engine.proofs.carry.join.Goals.{in-Some, in-None}

@@ -1,4 +1,4 @@
-use Rattle.std.proofs.Common.{◌≡◌, ◌==◌, List, ℕ, Bool, ap, sym, ◌∙◌, length, [], true, false}
+use Rattle.std.proofs.Common.{◌≡◌, ◌==◌, List, ℕ, ap, sym, ◌∙◌, length, true, false}
 use Rattle.gw_engine.proofs.Steps.{left_by}
 use Rattle.gw_engine.proofs.carry.leave.Goals as goal
 

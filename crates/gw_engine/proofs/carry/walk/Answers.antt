@@ -1,4 +1,4 @@
-use Rattle.std.proofs.Common.{◌≡◌, Bool, true, false, List, ◌∷◌, ◌+◌, drop, refl, sym, ap, subst, ◌∙◌}
+use Rattle.std.proofs.Common.{◌≡◌, Bool, List, ◌∷◌, ◌+◌, drop, sym, ap, subst, ◌∙◌}
 use Rattle.std.specs.Prelude.{◌&&◌, not, is_err}
 use Rattle.gw_msg.specs.declared.message.Command.{Command}
 use Rattle.gw_engine.specs.WellFormed.{IsSound}

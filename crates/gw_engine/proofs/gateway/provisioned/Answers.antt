@@ -1,4 +1,4 @@
-use Rattle.std.proofs.Common.{◌≡◌, ℕ, List, [], length, ◌≤◌, take, inl, refl, subst, sym}
+use Rattle.std.proofs.Common.{ℕ, List, [], inl, refl, subst, sym}
 use Rattle.std.proofs.lemmas.List.{take_all}
 use Rattle.gw_engine.specs.Maps.{Maps}
 use Rattle.gw_engine.proofs.Provisioning.{Holds, holds_nothing, holds_more, holds_it_already, holds_all}

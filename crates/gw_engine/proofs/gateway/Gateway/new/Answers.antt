@@ -1,4 +1,4 @@
-use Rattle.std.proofs.Common.{◌≡◌, None, sym, subst, ◌∙◌, arith}
+use Rattle.std.proofs.Common.{◌≡◌, None, sym, subst, arith}
 use Rattle.gw_engine.specs.Maps.{Maps}
 use Rattle.gw_engine.specs.WellFormed.{AreWellFormed}
 use Rattle.gw_engine.specs.Configuration.{first_limit}

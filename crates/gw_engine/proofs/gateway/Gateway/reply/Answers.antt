@@ -1,10 +1,10 @@
-use Rattle.std.proofs.Common.{◌≡◌, ℕ, ◌≤◌, List, [], Some, refl, sym, ap, subst, ◌∙◌}
+use Rattle.std.proofs.Common.{◌≡◌, ℕ, ◌≤◌, List, [], Some, ap, subst, ◌∙◌}
 use Rattle.gw_base.specs.declared.ids.Ids.{Ids}
 use Rattle.gw_msg.specs.declared.message.Action.{Action}
 use Rattle.gw_reply.specs.declared.reply.TxReply.{TxReply}
 use Rattle.gw_reply.specs.Messages.{reply_text}
 use Rattle.gw_engine.specs.Maps.{Maps}
-use Rattle.gw_engine.specs.State.{State, Whole, IsWellFormed}
+use Rattle.gw_engine.specs.State.{State, Whole}
 use Rattle.gw_engine.specs.Commands.{Outcome}
 use Rattle.gw_engine.specs.Transactions.{transaction}
 use Rattle.gw_engine.specs.Owners.{owners, new_cursor}

@@ -1,9 +1,9 @@
-use Rattle.std.proofs.Common.{◌≡◌, ◌∙◌, sym, ap, ℕ, List, Some, None}
+use Rattle.std.proofs.Common.{◌∙◌, sym, ap, ℕ, List, Some, None}
 use Rattle.std.specs.Ordering.{nat_cmp}
 use Rattle.std.specs.Cmp.{nat_cmp_total}
 use Rattle.std.specs.FinMap.{FinMap, from_entries, nat_cmp-IsAntisymmetric}
 use Rattle.gw_base.proofs.Views.{seen, seen_insert, seen_remove}
-use Rattle.gw_engine.specs.Maps.{Maps, ctx, put_ctx}
+use Rattle.gw_engine.specs.Maps.{ctx, put_ctx}
 use Rattle.gw_engine.proofs.tables.Tables.set_ctx.Goals as goal
 
 pub returns-in_ok-insert-in-Some-clause-before : goal.returns-in_ok-insert-in-Some-clause-before

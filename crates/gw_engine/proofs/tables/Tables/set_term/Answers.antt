@@ -1,9 +1,9 @@
-use Rattle.std.proofs.Common.{◌≡◌, ◌∙◌, sym, ap, ℕ, List, Some, None}
+use Rattle.std.proofs.Common.{◌∙◌, sym, ap, Some, None}
 use Rattle.std.specs.Cmp.Lexicographic.{nat_list_cmp_total}
 use Rattle.std.specs.FinMap.{FinMap, from_entries, nat_cmp-IsAntisymmetric, slice_cmp-IsAntisymmetric}
 use Rattle.gw_base.proofs.Views.{seen, seen_insert, seen_remove}
 use Rattle.gw_engine.specs.declared.termination.Termination.{Termination}
-use Rattle.gw_engine.specs.Maps.{Maps, name_cmp, term, put_term}
+use Rattle.gw_engine.specs.Maps.{name_cmp, term, put_term}
 use Rattle.gw_engine.proofs.tables.Tables.set_term.Goals as goal
 
 pub returns-in_ok-insert-in-Some-clause-before : goal.returns-in_ok-insert-in-Some-clause-before

@@ -7,8 +7,7 @@ use Rattle.std.proofs.lemmas.Map.Iter.{rest_all}
 use Rattle.std.specs.Cmp.{nat_cmp_total}
 use Rattle.std.specs.FinMap.{nat_cmp-IsAntisymmetric}
 use Rattle.gw_base.proofs.Views.{entries_seen}
-use Rattle.gw_engine.specs.declared.termination.Termination.{Termination}
-use Rattle.gw_engine.specs.Maps.{Maps, name_cmp}
+use Rattle.gw_engine.specs.Maps.{Maps}
 use Rattle.gw_engine.specs.AuditText.{context_line}
 use Rattle.gw_engine.proofs.tables.Tables.write_contexts.Goals as goal
 

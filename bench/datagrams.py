@@ -1,0 +1,86 @@
+#!/usr/bin/env python3
+"""Measures h248gw on datagrams of each kind: time of the largest, and how the work grows from 8 KB to 64 KB.
+
+Run it at the top of the repository, after `rt run` in crates/h248gw has built the program. Time is that of the whole
+process, the best of several runs; work is instructions by valgrind's callgrind, less those for the empty datagram.
+"""
+import re
+import subprocess
+import sys
+import time
+
+PROGRAM = "crates/h248gw/out/h248gw"
+LARGE, SMALL = 65_507, 8_192
+HEAD = b"MEGACO/1 [10.0.0.9]:2944 "
+
+
+def repeated(before, unit, after, size):
+    """As many units as fit, between the two."""
+    return before + unit * ((size - len(before) - len(after)) // len(unit)) + after
+
+
+def first_padded(size):
+    words = [b"MEGACO/1", b"[10.0.0.9]:2944", b"Transaction", b"=", b"1", b"{", b"Context", b"=", b"$", b"{", b"Add", b"=",
+             b"T/1", b",", b"Add", b"=", b"T/2", b"}", b"}"]
+    gap = (size - sum(map(len, words))) // (len(words) - 1)
+    return (b" ;" + b"c" * (gap - 3) + b"\n").join(words)
+
+
+def in_local(body):
+    return HEAD + b"Transaction=1{Context=-{Modify=T/1{Media{Local{" + body + b"}}}}}"
+
+
+def in_events(body):
+    return HEAD + b"Transaction=1{Context=-{Modify=T/1{Events=1{" + body + b"}}}}"
+
+
+KINDS = {
+    "white space alone": lambda n: b" " * n,
+    "one comment": lambda n: b";" + b"c" * (n - 2) + b"\n",
+    "commas": lambda n: b"," * n,
+    "opening braces": lambda n: b"{" * n,
+    "comments between all words": first_padded,
+    "one action of many commands": lambda n: repeated(HEAD + b"Transaction=1{Context=${Add=T/1", b",Add=T/1", b"}}", n),
+    "short transactions": lambda n: repeated(HEAD, b"Transaction=1{Context=-{AuditValue=T/1{Audit{}}}} ", b"", n),
+    "one Local full of escaped braces": lambda n: in_local(b"\\}" * ((n - 90) // 2)),
+    "groups 8 deep side by side": lambda n: in_events(b"{{{{{{{}}}}}}}" * ((n - 90) // 14)),
+    "a brace too deep at the end": lambda n: in_events(b"{{{{{{{}}}}}}}" * ((n - 110) // 14) + b"{{{{{{{{"),
+    "one quoted text": lambda n: in_events(b'"' + b"q" * (n - 100) + b'"'),
+    "a Reply with a long group": lambda n: HEAD + b"Reply=1{" + b"x" * (n - len(HEAD) - 9) + b"}",
+    "a word of many letters": lambda n: HEAD + b"w" * (n - len(HEAD)),
+}
+
+
+def seconds(datagram):
+    best = float("inf")
+    for _ in range(7):
+        start = time.perf_counter()
+        subprocess.run([PROGRAM], input=datagram, capture_output=True, check=False)
+        best = min(best, time.perf_counter() - start)
+    return best
+
+
+def instructions(datagram):
+    run = subprocess.run(["valgrind", "--tool=callgrind", "--callgrind-out-file=/dev/null", PROGRAM], input=datagram,
+                         capture_output=True, check=False)
+    return int(re.search(rb"Collected : (\d+)", run.stderr).group(1))
+
+
+def main():
+    nothing = instructions(b"")
+    late = False
+    print("| Datagram | ms at 65,507 bytes | instructions a byte | work at 64 KB / work at 8 KB |")
+    print("|---|---|---|---|")
+    for name, make in KINDS.items():
+        large, small = make(LARGE), make(SMALL)
+        assert len(large) <= LARGE and len(small) <= SMALL, name
+        took = seconds(large)
+        late = late or took > 0.1
+        work = instructions(large) - nothing
+        ratio = work / (instructions(small) - nothing)
+        print(f"| {name} | {took * 1000:.1f} | {work / len(large):.1f} | {ratio:.2f} (bytes: {len(large) / len(small):.2f}) |")
+    return 1 if late else 0
+
+
+if __name__ == "__main__":
+    sys.exit(main())
