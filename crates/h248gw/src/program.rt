@@ -53,7 +53,12 @@ fn answer(alloc: Global, reader: &mut impl Read, out: &mut impl Write) -> Result
 
 /// Runs the program and answers its exit status: 0, or 1 after a fault, whose line goes to `err`. The answer goes to `out` only
 /// when all of it stands.
-pub fn program(alloc: Global, reader: &mut impl Read, out: &mut impl Write, err: &mut impl Write) -> u8 {
+pub fn program(
+    alloc: Global,
+    reader: &mut impl Read,
+    out: &mut impl Write,
+    err: &mut impl Write,
+) -> u8 {
     match answer(alloc, reader, out) {
         Ok(()) => 0,
         Err(fault) => {
