@@ -1,3 +1,4 @@
+pub mod Accesses
 pub mod Kept
 pub mod Lookups
 pub mod Folds

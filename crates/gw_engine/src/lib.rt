@@ -9,6 +9,7 @@ mod context;
 mod datagram;
 mod fault;
 mod gateway;
+mod laws;
 mod outcome;
 mod reserve;
 mod run;
@@ -18,6 +19,7 @@ mod termination;
 pub use datagram::Datagram;
 pub use fault::{ConfigFault, LimitName};
 pub use gateway::Gateway;
+pub use laws::commands_keep_to_their_keys;
 
 #[cfg(test)]
 mod tests;
