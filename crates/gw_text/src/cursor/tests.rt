@@ -129,6 +129,9 @@ fn numbers(rt: HostRuntime) {
 fn signs_bytes_and_prefixes(rt: HostRuntime) {
     let mut cursor = Cursor::new(b" ;a\n= {;b\n} megaco/1 o-Add");
     assert!(rt; !cursor.sign(b'{'), "an = comes first");
+    assert!(rt; cursor.is_ahead(b'='));
+    assert!(rt; !cursor.is_ahead(b'{'));
+    assert!(rt; !cursor.is_at(b'='), "white space comes first");
     assert!(rt; cursor.sign(b'='));
     assert!(rt; cursor.is_at(b'{'));
     assert!(rt; !cursor.is_at(b'}'));
