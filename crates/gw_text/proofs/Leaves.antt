@@ -29,7 +29,7 @@ eq_zero n h = grind arith
 
 -- ---- runs of some bytes
 
-run_read : (p : ℕ → Bool) (front rest : List ℕ) → IsSomeRun p front → NoMore p rest → some_at (run_len p (front ++ rest)) (front ++ rest) ≡ Ok (front, rest)
+pub run_read : (p : ℕ → Bool) (front rest : List ℕ) → IsSomeRun p front → NoMore p rest → some_at (run_len p (front ++ rest)) (front ++ rest) ≡ Ok (front, rest)
 run_read p front rest h ends =
     let n : run_len p (front ++ rest) ≡ length front = run_again p front rest h.run ends in
     rw (n, eq_zero (length front) h.some, take_at front rest (length front) refl, drop_at front rest (length front) refl) refl
@@ -43,7 +43,7 @@ unfolding solid_at
 solid_again front rest h ends = run_read is_solid front rest h ends
 
 -- a span that stands for a value, where the spans of a scan are runs of a class
-span_reads : {V : Type 0} (p : ℕ → Bool) (scan : List ℕ → Result (List ℕ × List ℕ) ScanFault) (of : List ℕ → Option V)
+pub span_reads : {V : Type 0} (p : ℕ → Bool) (scan : List ℕ → Result (List ℕ × List ℕ) ScanFault) (of : List ℕ → Option V)
     → ((text span rest : List ℕ) → scan text ≡ Ok (span, rest) → IsLongest (IsSomeRun p) text span rest)
     → ((front rest : List ℕ) → IsSomeRun p front → NoMore p rest → scan (front ++ rest) ≡ Ok (front, rest))
     → ReadsUp (λ text. found (scan text) >>= λ w. of w.0 >>= λ v. Some (v, w.1)) (λ v text. IsSomeRun p text × (of text ≡ Some v)) (NoMore p) Same Same

@@ -20,3 +20,4 @@ pub mod GroupSteps
 pub mod GroupPasses
 pub mod GroupSound
 pub mod Spans
+pub mod BracketLaws

@@ -90,7 +90,7 @@ no_sep text f e =
 
 -- ---- runs of some bytes
 
-run_found : (p : ℕ → Bool) (text span rest : List ℕ) → some_at (run_len p text) text ≡ Ok (span, rest) → IsLongest (IsSomeRun p) text span rest
+pub run_found : (p : ℕ → Bool) (text span rest : List ℕ) → some_at (run_len p text) text ≡ Ok (span, rest) → IsLongest (IsSomeRun p) text span rest
 run_found p text span rest e =
     let t = taken (run_len p text) text span rest e in
     let s = run_scanned p text span rest t.span_is t.rest_is in
@@ -105,7 +105,7 @@ run_none : (p : ℕ → Bool) (text : List ℕ) → run_len p text ≡ 0 → beg
 run_none p [] e = refl
 run_none p (b ∷ bs) e = not_run (p b) (run_len p bs) e
 
-no_run : (p : ℕ → Bool) (text : List ℕ) (f : ScanFault) → some_at (run_len p text) text ≡ Err f → (f ≡ Unexpected) × (begins p text ≡ false)
+pub no_run : (p : ℕ → Bool) (text : List ℕ) (f : ScanFault) → some_at (run_len p text) text ≡ Err f → (f ≡ Unexpected) × (begins p text ≡ false)
 no_run p text f e =
     let n = not_taken (run_len p text) text f e in
     (n.1, run_none p text n.0)

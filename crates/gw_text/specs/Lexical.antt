@@ -45,9 +45,17 @@ semicolon = 59
 abbrev pub equals_sign : ℕ
 equals_sign = 61
 
+-- `[`
+abbrev pub left_bracket : ℕ
+left_bracket = 91
+
 -- `\`
 abbrev pub backslash : ℕ
 backslash = 92
+
+-- `]`
+abbrev pub right_bracket : ℕ
+right_bracket = 93
 
 -- `{`
 abbrev pub left_brace : ℕ

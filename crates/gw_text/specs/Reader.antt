@@ -8,6 +8,7 @@ use Rattle.gw_text.specs.Scans.{word_at, solid_at, number_within, uint32_at}
 use Rattle.gw_text.specs.Octets.{octets_at}
 use Rattle.gw_text.specs.Quoted.{quoted_at}
 use Rattle.gw_text.specs.GroupScan.{balanced_at}
+use Rattle.gw_text.specs.Bracket.{bracket_at, run_at}
 use Rattle.gw_text.specs.declared.fault.ScanFault.{ScanFault}
 
 -- a value, and what is left
@@ -58,6 +59,17 @@ quoted_read text = found (quoted_at text)
 -- a group at most so deep, braces and all
 abbrev pub group_read : ℕ → Reader (List ℕ)
 group_read depth text = found (balanced_at depth text)
+
+-- a bracket, as it is
+abbrev pub bracket_read : Reader (List ℕ)
+bracket_read text = found (bracket_at text)
+
+-- a run that stands for a value
+abbrev pub run_as : {V : Type 0} → (List ℕ → Option V) → Reader V
+run_as of text = do
+  r ← found (run_at text)
+  v ← of r.0
+  Some (v, r.1)
 
 -- ---- one of two
 

@@ -10,12 +10,14 @@ ghost use Rattle.gw_text.specs.Runs.{begins, is_byte};
 ghost use Rattle.gw_text.specs.Forms.{IsWord, IsSolid, IsSomeRun, IsNumber, IsUint32, HasNoNumber, IsSign, IsInAnyCase};
 ghost use Rattle.gw_text.specs.Octets.{IsOctets, IsOctetsOf, octets_at};
 ghost use Rattle.gw_text.specs.Quoted.{IsQuoted, quoted_at};
+ghost use Rattle.gw_text.specs.Bracket.{IsBracket, is_run_byte, run_at, bracket_at};
 ghost use Rattle.gw_text.specs.Group.{IsGroup, HasNoGroup};
 ghost use Rattle.gw_text.specs.GroupScan.{balanced_at};
 ghost use Rattle.gw_text.specs.Longest.{IsLongest};
 ghost use Rattle.gw_text.specs.Sign.{byte_at, sign_at, prefix_at};
 ghost use Rattle.gw_text.specs.Scans.{Gives, lwsp_at, sep_at, word_at, solid_at, number_within, uint32_at, uint32_digits, uint32_max};
 
+use crate::bracket::{bracket_len, run_len};
 use crate::fault::ScanFault;
 use crate::group::group_len;
 use crate::lengths::{digits_len, solid_len, space_len, word_len};
@@ -228,6 +230,42 @@ impl<'a> Cursor<'a> {
         ensures stays { OnErr result (self.new ≡ self.old) }
     {
         let Some(len) = quoted_len(self.rest) else {
+            return Err(ScanFault::Unexpected);
+        };
+        Ok(self.take(len))
+    }
+
+    /// Takes a run: safe bytes and `[ ] : < > #`.
+    ///
+    /// # Errors
+    ///
+    /// `Unexpected` where no such byte comes next.
+    #[tactic(auto, unfolding(crate::specs::Bracket::run_at))]
+    pub fn run(&mut self) -> Result<&'a [u8], ScanFault>
+        ensures exact { Gives (λ span. span.now) self.old result self.new (run_at self.old) }
+        ensures span { IfOk result (λ span. IsLongest (IsSomeRun is_run_byte) self.old span.now self.new) }
+        ensures fault { IfErr result (λ e. (e ≡ ScanFault.Unexpected) × (begins is_run_byte self.old ≡ false)) }
+        ensures stays { OnErr result (self.new ≡ self.old) }
+    {
+        let len = run_len(self.rest);
+        if len == 0 {
+            return Err(ScanFault::Unexpected);
+        }
+        Ok(self.take(len))
+    }
+
+    /// Takes a bracket: `[`, one or more of safe bytes, `,`, `:`, quoted texts and white space, and `]`.
+    ///
+    /// # Errors
+    ///
+    /// `Unexpected` where no bracket comes next.
+    pub fn bracket(&mut self) -> Result<&'a [u8], ScanFault>
+        ensures exact { Gives (λ span. span.now) self.old result self.new (bracket_at self.old) }
+        ensures span { IfOk result (λ span. (self.old ≡ span.now ++ self.new) × IsBracket span.now) }
+        ensures fault { IfErr result (λ e. (e ≡ ScanFault.Unexpected) × ((before after : List ℕ) → self.old ≡ before ++ after → ¬ IsBracket before)) }
+        ensures stays { OnErr result (self.new ≡ self.old) }
+    {
+        let Some(len) = bracket_len(self.rest) else {
             return Err(ScanFault::Unexpected);
         };
         Ok(self.take(len))

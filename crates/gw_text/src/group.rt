@@ -1,8 +1,9 @@
 //! Groups in braces, scanned piece by piece.
 
 ghost use Rattle.std.specs.Prelude.{◌≡◌, ◌≤◌, ◌+◌, ◌<◌, ◌^◌, length, IfOk};
+ghost use Rattle.gw_text.specs.SpaceScan.{space_len};
 ghost use Rattle.gw_text.specs.Group.{after_word, after_mark, is_octets_word};
-ghost use Rattle.gw_text.specs.GroupScan.{opened, step_at, group_rest, balanced_at, place, IsRest, IsLen};
+ghost use Rattle.gw_text.specs.GroupScan.{opened, marked, spaced, step_at, group_rest, balanced_at, place, IsRest, IsLen};
 ghost use Rattle.gw_text.specs.declared.group.Before.TheVariants as before;
 
 use crate::class::{is_safe, is_solid};
@@ -26,6 +27,14 @@ enum Before {
 struct Place {
     depth: u32,
     before: Before,
+}
+
+impl Place {
+    fn new(depth: u32, before: Before) -> Place
+        ensures { result ≡ place depth before }
+    {
+        Place { depth, before }
+    }
 }
 
 fn is_octets_word(word: &[u8]) -> bool
@@ -63,28 +72,38 @@ fn opened(limit: u32, at: Place, inner: &[u8]) -> Result<(Place, usize), ScanFau
     if at.depth >= limit {
         return Err(ScanFault::TooDeep);
     }
-    let depth = at.depth;
     match at.before {
         Before::OctetsWord => {
             let Some((len, _)) = octets_ends(inner) else {
                 return Err(ScanFault::Unexpected);
             };
-            Ok((
-                Place {
-                    depth,
-                    before: Before::Other,
-                },
-                len + 2,
-            ))
+            Ok((Place::new(at.depth, Before::Other), len + 2))
         }
-        _ => Ok((
-            Place {
-                depth: depth + 1,
-                before: Before::Other,
-            },
-            1,
-        )),
+        _ => Ok((Place::new(at.depth + 1, Before::Other), 1)),
     }
+}
+
+/// Over a byte that is a piece alone.
+fn marked(at: Place, b: u8) -> Result<(Place, usize), ScanFault>
+    ensures value { result ≡ marked at b }
+    ensures within { IfOk result (λ next. next.1 ≤ 1) }
+{
+    if b == 0 {
+        return Err(ScanFault::Unexpected);
+    }
+    Ok((Place::new(at.depth, after_mark(b)), 1))
+}
+
+/// Over white space.
+fn spaced(at: Place, text: &[u8]) -> Result<(Place, usize), ScanFault>
+    ensures value { result ≡ spaced at (space_len text.now) }
+    ensures within { IfOk result (λ next. next.1 ≤ length text.now) }
+{
+    let len = space_len(text);
+    if len == 0 {
+        return Err(ScanFault::Unexpected);
+    }
+    Ok((at, len))
 }
 
 /// Over the next piece: where the scan goes on, and how many bytes it passed.
@@ -97,51 +116,25 @@ fn step(limit: u32, at: Place, text: &[u8]) -> Result<(Place, usize), ScanFault>
     let [b, inner @ ..] = text else {
         return Err(ScanFault::Unexpected);
     };
-    let depth = at.depth;
     if *b == b'{' {
         return opened(limit, at, inner);
     }
     if *b == b'}' {
-        return Ok((
-            Place {
-                depth: depth - 1,
-                before: Before::Other,
-            },
-            1,
-        ));
+        return Ok((Place::new(at.depth - 1, Before::Other), 1));
     }
     if *b == b'"' {
         let len = quoted_len(text).ok_or(ScanFault::Unexpected)?;
-        return Ok((
-            Place {
-                depth,
-                before: Before::Other,
-            },
-            len,
-        ));
+        return Ok((Place::new(at.depth, Before::Other), len));
     }
     if is_safe(*b) {
         let len = word_len(text);
         let before = after_word(at.before, &text[..len]);
-        return Ok((Place { depth, before }, len));
+        return Ok((Place::new(at.depth, before), len));
     }
     if is_solid(*b) {
-        if *b == 0 {
-            return Err(ScanFault::Unexpected);
-        }
-        return Ok((
-            Place {
-                depth,
-                before: after_mark(*b),
-            },
-            1,
-        ));
+        return marked(at, *b);
     }
-    let len = space_len(text);
-    if len == 0 {
-        return Err(ScanFault::Unexpected);
-    }
-    Ok((at, len))
+    spaced(at, text)
 }
 
 /// What is left behind a group, from behind its first brace.
@@ -150,10 +143,7 @@ fn group_rest<'a>(limit: u32, text: &'a [u8]) -> Result<&'a [u8], ScanFault>
     ensures value { IsRest (λ rest. rest.now) result (group_rest limit (place 1 before.Other) text.now) }
     ensures within { IfOk result (λ rest. length rest.now ≤ length text.now) }
 {
-    let mut at = Place {
-        depth: 1,
-        before: Before::Other,
-    };
+    let mut at = Place::new(1, Before::Other);
     let mut rest = text;
     loop {
         let (next, len) = step(limit, at, rest)?;

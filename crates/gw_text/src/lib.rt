@@ -1,6 +1,7 @@
 //! The words of the text encoding: scans at a place in a text, and the tokens of the grammar.
 #![tactic(auto)]
 
+mod bracket;
 mod class;
 mod cursor;
 mod fault;

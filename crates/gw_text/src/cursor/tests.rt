@@ -129,6 +129,9 @@ fn numbers(rt: HostRuntime) {
 fn signs_bytes_and_prefixes(rt: HostRuntime) {
     let mut cursor = Cursor::new(b" ;a\n= {;b\n} megaco/1 o-Add");
     assert!(rt; !cursor.sign(b'{'), "an = comes first");
+    assert!(rt; cursor.is_ahead(b'='));
+    assert!(rt; !cursor.is_ahead(b'{'));
+    assert!(rt; !cursor.is_at(b'='), "white space comes first");
     assert!(rt; cursor.sign(b'='));
     assert!(rt; cursor.is_at(b'{'));
     assert!(rt; !cursor.is_at(b'}'));
@@ -267,5 +270,38 @@ fn groups(rt: HostRuntime) {
     for (depth, text, want) in table {
         assert!(rt; depth <= 16);
         expect_group(&rt, depth, text, want);
+    }
+}
+
+#[test]
+fn runs_and_brackets(rt: HostRuntime) {
+    let runs: [(&[u8], Option<&[u8]>, &[u8]); 4] = [
+        (b"10.0.0.9:2944}", Some(b"10.0.0.9:2944"), b"}"),
+        (b"[10.0.0.9]:2944,", Some(b"[10.0.0.9]:2944"), b","),
+        (b"<a.b>#1 ", Some(b"<a.b>#1"), b" "),
+        (b"\"a\"", None, b"\"a\""),
+    ];
+    for (text, span, left) in runs {
+        let mut cursor = Cursor::new(text);
+        let got = cursor.run();
+        expect_span(&rt, text, got, cursor.rest, span, left);
+    }
+    let brackets: [(&[u8], Option<&[u8]>, &[u8]); 11] = [
+        (b"[a,b]}", Some(b"[a,b]"), b"}"),
+        (b"[1:2] ]", Some(b"[1:2]"), b" ]"),
+        (b"[ ;]\n\"]\" , x ]", Some(b"[ ;]\n\"]\" , x ]"), b""),
+        (b"[ ]", Some(b"[ ]"), b""),
+        (b"[,:,]", Some(b"[,:,]"), b""),
+        (b"[]", None, b"[]"),
+        (b"[a=b]", None, b"[a=b]"),
+        (b"[a", None, b"[a"),
+        (b"[;a]", None, b"[;a]"),
+        (b"[\"a]", None, b"[\"a]"),
+        (b"a]", None, b"a]"),
+    ];
+    for (text, span, left) in brackets {
+        let mut cursor = Cursor::new(text);
+        let got = cursor.bracket();
+        expect_span(&rt, text, got, cursor.rest, span, left);
     }
 }
