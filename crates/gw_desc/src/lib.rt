@@ -4,9 +4,13 @@
 mod descriptor;
 mod fault;
 mod lists;
+mod spans;
+mod tails;
 
 pub use descriptor::{
     Descriptor, KeptKind, MediaPart, Property, ServiceParm, ServiceValue, Sign, StreamPart, Tail,
 };
 pub use fault::PartFault;
 pub use lists::{Part, braced, braced_or_empty, closed, list, optional_braced, sign};
+pub use spans::copied;
+pub use tails::tail;
