@@ -1,8 +1,16 @@
-//! Descriptors of H.248 version 1 in the text encoding, as they are read.
+//! Descriptors of H.248 version 1 in the text encoding, as they are read, and the lists that messages are made of.
 #![tactic(auto)]
 
 mod descriptor;
+mod fault;
+mod lists;
+mod spans;
+mod tails;
 
 pub use descriptor::{
     Descriptor, KeptKind, MediaPart, Property, ServiceParm, ServiceValue, Sign, StreamPart, Tail,
 };
+pub use fault::PartFault;
+pub use lists::{Part, braced, braced_or_empty, closed, list, optional_braced, sign};
+pub use spans::copied;
+pub use tails::tail;

@@ -1,17 +1,19 @@
--- The tests of names, mIds and versions decide their forms.
-use Rattle.std.proofs.Common.{◌≡◌, inl, inr, ℕ, ◌<◌, ◌≤◌, Bool, true, false, not, ◌&&◌, ◌||◌, List, [], ◌∷◌, ◌++◌, length, get_or, refl, ap, sym, ◌∙◌}
+-- The tests of names and mIds decide their forms.
+use Rattle.std.proofs.Common.{◌≡◌, inl, inr, ℕ, ◌<◌, ◌≤◌, Bool, true, false, ◌==◌, ◌&&◌, ◌||◌, List, [], ◌∷◌, ◌++◌, length, get_or, refl, ap, sym, ◌∙◌}
 use Rattle.std.specs.Prelude.{nat_lt, nat_le, codes}
 use Rattle.std.specs.Bool.{Decides}
-use Rattle.std.specs.List.{list_all, list_any}
-use Rattle.std.proofs.lemmas.Bool.{and_parts, and_from, or_cases, or_left, or_right, ltb-true, lt-ltb, leb-true, le-leb, not-true, not_from_false}
+use Rattle.std.specs.List.{list_all}
+use Rattle.std.proofs.lemmas.Bool.{and_parts, and_from, or_cases, or_left, or_right, ltb-true, lt-ltb, leb-true, le-leb, eqb-true, eq-eqb}
 use Rattle.std.proofs.lemmas.Bool.Decides.{Decides-or}
 use Rattle.std.proofs.lemmas.Slice.Eq.{bytes_eq-Decides}
-use Rattle.gw_base.specs.Bytes.{is_letter, is_digit}
+use Rattle.gw_base.specs.Bytes.{byte, last_byte, is_letter, is_digit, is_name_byte}
 use Rattle.gw_base.specs.Lang.{◌▹◌, IsText}
 use Rattle.gw_base.specs.Addresses.{is_address_byte, IsAddress}
 use Rattle.gw_base.specs.Mids.{is_domain_byte, is_device_byte, IsDomain, IsPort, IsOptionalPort, IsDevice, IsMid}
-use Rattle.gw_base.specs.Wildcards.{is_wildcard, is_term_byte, IsTermText, IsRoot}
-use Rattle.gw_msg.specs.Words.{is_run_within, is_both, is_same, is_address, is_domain, is_port, is_optional_port, is_device, is_mid, is_named}
+use Rattle.gw_base.specs.Names.{IsName}
+use Rattle.gw_base.specs.Wildcards.{is_wildcard, is_term_byte, IsTermText, IsRoot, IsUnder}
+use Rattle.gw_base.specs.TermRefs.{IsChoose}
+use Rattle.gw_msg.specs.Words.{is_run_within, is_both, is_same, is_address, is_domain, is_port, is_optional_port, is_device, is_mid, is_term_text, is_name, is_choose, front_of, is_under}
 use Rattle.gw_text.specs.Tokens.{is_same_word}
 
 -- a test of the form
@@ -96,34 +98,42 @@ tests_mid text =
 
 -- ---- names
 
--- one termination by its name
-pub record IsNamed (text : List ℕ) : Type 0 where
-  pub term : IsTermText text
-  pub plain : list_any is_wildcard text ≡ false
-  pub other : ¬ IsRoot text
-
-named_is : (text : List ℕ) → is_named text ≡ true → IsNamed text
-unfolding is_named
-named_is text e =
-    let a = and_parts (is_run_within 64 is_term_byte text && (is_letter (get_or text 0 0) || is_wildcard (get_or text 0 0))) (not (list_any is_wildcard text) && not (is_same_word text (codes "ROOT"))) e in
-    let b = and_parts (is_run_within 64 is_term_byte text) (is_letter (get_or text 0 0) || is_wildcard (get_or text 0 0)) a.0 in
-    let d = and_parts (not (list_any is_wildcard text)) (not (is_same_word text (codes "ROOT"))) a.1 in
-    let w = within_is 64 is_term_byte text b.0 in
-    record {
-      term = record { some = w.0; short = w.1; first = b.1; each = w.2 };
-      plain = not-true _ d.0;
-      other = λ root. let clash : true ≡ false = sym ((bytes_eq-Decides _ _).1 root) ∙ not-true _ d.1 in absurd cc;
-    }
-
 pub refuted : (t : Bool) → (t ≡ true → ⊥) → t ≡ false
 refuted true h = absurd (h refl)
 refuted false h = refl
 
-named_from : (text : List ℕ) → IsNamed text → is_named text ≡ true
-unfolding is_named
-named_from text h =
-    and_from _ _ (and_from _ _ (within_from 64 is_term_byte text h.term.some h.term.short h.term.each) h.term.first)
-    (and_from _ _ (not_from_false _ h.plain) (not_from_false _ (refuted (is_same_word text (codes "ROOT")) (λ e. h.other ((bytes_eq-Decides _ _).0 e)))))
+tests_first : (p q : ℕ → Bool) (text : List ℕ) → is_run_within 64 p text && q (get_or text 0 0) ≡ true → (0 < length text) × (length text ≤ 64) × (q (get_or text 0 0) ≡ true) × (list_all p text ≡ true)
+tests_first p q text e =
+    let a = and_parts (is_run_within 64 p text) (q (get_or text 0 0)) e in
+    let w = within_is 64 p text a.0 in
+    (w.0, w.1, a.1, w.2)
 
-pub tests_named : Tests is_named IsNamed
-tests_named text = (named_is text, named_from text)
+pub tests_term_text : Tests is_term_text IsTermText
+tests_term_text text = (
+  λ e. let t = tests_first is_term_byte (λ c. is_letter c || is_wildcard c) text e in record { some = t.0; short = t.1; first = t.2; each = t.3 },
+  λ h. and_from _ _ (within_from 64 is_term_byte text h.some h.short h.each) h.first,
+)
+
+pub tests_name : Tests is_name IsName
+tests_name text = (
+  λ e. let t = tests_first is_name_byte is_letter text e in record { some = t.0; short = t.1; first = t.2; each = t.3 },
+  λ h. and_from _ _ (within_from 64 is_name_byte text h.some h.short h.each) h.first,
+)
+
+pub tests_choose : Tests is_choose IsChoose
+tests_choose text = Decides-or _ _ (tests_same (codes "$") text) (tests_same (codes "RTP/$") text)
+
+pub tests_all : Tests (is_same (codes "*")) (IsText (codes "*"))
+tests_all = tests_same (codes "*")
+
+pub tests_root : Tests (λ text. is_same_word text (codes "ROOT")) IsRoot
+tests_root text = bytes_eq-Decides _ _
+
+pub tests_under : Tests is_under (λ text. IsUnder (front_of text) text)
+tests_under text = (
+  λ e.
+      let a = and_parts (is_same (front_of text ++ codes "*") text) (is_name (front_of text) && last_byte (front_of text) == byte (codes "/")) e in
+      let b = and_parts (is_name (front_of text)) (last_byte (front_of text) == byte (codes "/")) a.1 in
+      record { split = (tests_same (front_of text ++ codes "*") text).0 a.0; name = (tests_name (front_of text)).0 b.0; slash = eqb-true _ _ b.1 },
+  λ h. and_from _ _ ((tests_same (front_of text ++ codes "*") text).1 h.split) (and_from _ _ ((tests_name (front_of text)).1 h.name) (eq-eqb _ _ h.slash)),
+)

@@ -1,7 +1,11 @@
 pub mod FormTests
+pub mod TermLaws
 pub mod WordLemmas
+pub mod Starts
+pub mod Steps
 pub mod WordLaws
-pub mod Faults
 pub mod Laws
+pub mod ItemLaws
+pub mod ItemLoops
 pub mod HeaderLaws
 pub mod Whole

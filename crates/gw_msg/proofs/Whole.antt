@@ -1,19 +1,17 @@
 -- A whole text: its message, a header of another version, or neither.
-use Rattle.std.proofs.Common.{◌≡◌, ◌≢◌, ◌⊎◌, inl, inr, ℕ, Bool, true, false, cond, ◌==◌, List, [], ◌∷◌, Option, Some, None, Result, Ok, Err, refl, ap, sym, ◌∙◌}
+use Rattle.std.proofs.Common.{◌≡◌, ◌≢◌, ◌⊎◌, inl, inr, ℕ, Bool, true, false, cond, ◌==◌, List, [], ◌∷◌, ◌++◌, Option, Some, None, Result, Ok, Err, refl, ap, sym, subst, ◌∙◌}
+use Rattle.std.proofs.lemmas.List.{append-nil}
 use Rattle.std.proofs.lemmas.Bool.{eqb-true, eqb-false, ne_eqb}
 use Rattle.gw_text.specs.Lexical.{is_solid}
-use Rattle.gw_text.specs.Space.{IsSpace}
 use Rattle.gw_text.specs.SpaceScan.{skip}
-use Rattle.gw_text.specs.Reader.{◌>>=◌, if_end, whole_at}
-use Rattle.gw_text.proofs.ReadsUp.{ReadsUp, Same, UpTo, Any, up_to, skipped_up, skip_solid}
-use Rattle.gw_text.proofs.Links.{both_begins}
-use Rattle.gw_text.proofs.Items.{whole_sound, whole_complete}
+use Rattle.gw_text.specs.Reader.{◌>>=◌, if_end}
+use Rattle.gw_text.proofs.ReadsUp.{bind_some, skip_solid}
 use Rattle.gw_msg.specs.declared.message.Message.{Message}
 use Rattle.gw_msg.specs.declared.fault.ReadFault.{ReadFault}
 use Rattle.gw_msg.specs.declared.fault.ReadFault.TheVariants.{Version, Syntax, NoMemory}
 use Rattle.gw_msg.specs.Grammar.{spoken_version, SpellsContent, Spells, HasVersionFault, IsReadingOf}
-use Rattle.gw_msg.specs.Reading.{header_at, content_at, or_syntax, judged, message_of, IsAnswer}
-use Rattle.gw_msg.proofs.Laws.{content_reads, content_solid}
+use Rattle.gw_msg.specs.Reading.{header_at, content_at, all_at, or_syntax, judged, message_of, IsAnswer}
+use Rattle.gw_msg.proofs.ItemLaws.{content_reads, content_solid}
 use Rattle.gw_msg.proofs.HeaderLaws.{header_reads}
 
 abbrev Answer : Type 0
@@ -36,20 +34,35 @@ or_syntax_version None e = absurd cc
 or_syntax_version (Some n) e = absurd cc
 
 -- what was judged as a message, and as another version
-judged_ok : (o : Option (ℕ × List ℕ)) (m : Message) → judged o ≡ Ok m → (rest : List ℕ) × (o ≡ Some (spoken_version, rest)) × (whole_at content_at rest ≡ Some m)
+judged_ok : (o : Option (ℕ × List ℕ)) (m : Message) → judged o ≡ Ok m → (rest : List ℕ) × (o ≡ Some (spoken_version, rest)) × (all_at content_at rest ≡ Some m)
 judged_ok None m e = absurd cc
 judged_ok (Some h) m e =
-    let j = if_ok (h.0 == spoken_version) (or_syntax (whole_at content_at h.1)) m e in
-    (h.1, ap (λ (k : ℕ). Some (k, h.1)) (eqb-true h.0 spoken_version j.0), or_syntax_ok (whole_at content_at h.1) m j.1)
+    let j = if_ok (h.0 == spoken_version) (or_syntax (all_at content_at h.1)) m e in
+    (h.1, ap (λ (k : ℕ). Some (k, h.1)) (eqb-true h.0 spoken_version j.0), or_syntax_ok (all_at content_at h.1) m j.1)
 
 judged_version : (o : Option (ℕ × List ℕ)) → judged o ≡ Err Version → (n : ℕ) × (rest : List ℕ) × (o ≡ Some (n, rest)) × (n ≢ spoken_version)
 judged_version None e = absurd cc
 judged_version (Some h) e =
-    let other = if_version (h.0 == spoken_version) (or_syntax (whole_at content_at h.1)) e (or_syntax_version (whole_at content_at h.1)) in
+    let other = if_version (h.0 == spoken_version) (or_syntax (all_at content_at h.1)) e (or_syntax_version (all_at content_at h.1)) in
     (h.0, h.1, refl, λ same. eqb-false h.0 spoken_version other same)
 
-content_up : ReadsUp content_at SpellsContent Any Same UpTo
-content_up = up_to content_reads skipped_up
+end_is : (m n : Message) (rest : List ℕ) → if_end m rest ≡ Some n → (rest ≡ []) × (m ≡ n)
+end_is m n [] e = (refl, cc)
+end_is m n (b ∷ bs) e = absurd cc
+
+-- a whole text is read as what it spells
+content_sound : (text : List ℕ) (m : Message) → all_at content_at text ≡ Some m → SpellsContent m text
+content_sound text m e =
+    let b = bind_some (content_at text) (λ x. if_end x.0 x.1) m e in
+    let s = content_reads.sound text b.0.0 b.0.1 b.1 in
+    let n = end_is b.0.0 m b.0.1 b.2 in
+    subst (λ (k : Message). SpellsContent k text) n.1
+    (subst (SpellsContent b.0.0) (sym (s.1 ∙ ap (λ (x : List ℕ). s.0 ++ x) n.0 ∙ append-nil s.0)) s.2)
+
+content_complete : (text : List ℕ) (m : Message) → SpellsContent m text → all_at content_at text ≡ Some m
+content_complete text m h =
+    let one = content_reads.complete m text [] text h refl (sym (append-nil text)) in
+    ap (λ (o : Option (Message × List ℕ)). o >>= λ x. if_end x.0 x.1) one.1 ∙ ap (if_end m) one.2
 
 -- ---- the answer is the grammar's
 
@@ -58,14 +71,14 @@ unfolding message_of
 message_sound text m e =
     let j = judged_ok (header_at text) m e in
     let s = header_reads.sound text spoken_version j.0 j.1 in
-    record { front = s.0; back = j.0; split = s.1; first = s.2; second = whole_sound content_at SpellsContent Any Same content_up j.0 m j.2 }
+    record { front = s.0; back = j.0; split = s.1; first = s.2; second = content_sound j.0 m j.2 }
 
 message_complete : (text : List ℕ) (m : Message) → Spells m text → message_of text ≡ Ok m
 unfolding message_of
 message_complete text m h =
     let one = header_reads.complete spoken_version h.front h.back text h.first tt (ap skip h.split) in
-    let solid : skip h.back ≡ h.back = skip_solid h.back (both_begins is_solid (SpellsContent m) IsSpace (content_solid m) h.back h.second) in
-    let whole : whole_at content_at one.0 ≡ Some m = ap (whole_at content_at) (one.2 ∙ solid) ∙ whole_complete content_at SpellsContent Any content_up (λ rest e. tt) h.back m h.second in
+    let solid : skip h.back ≡ h.back = skip_solid h.back (content_solid m h.back h.second) in
+    let whole : all_at content_at one.0 ≡ Some m = ap (all_at content_at) (one.2 ∙ solid) ∙ content_complete h.back m h.second in
     ap judged one.1 ∙ ap or_syntax whole
 
 version_sound : (text : List ℕ) → message_of text ≡ Err Version → HasVersionFault text
@@ -81,7 +94,7 @@ version_complete text h =
     let b = h.header in
     let one = header_reads.complete h.version b.front b.back text b.first tt (ap skip b.split) in
     let other : h.version == spoken_version ≡ false = ne_eqb h.version spoken_version h.other in
-    ap judged one.1 ∙ ap (λ (t : Bool). cond t (or_syntax (whole_at content_at one.0)) (Err Version)) other
+    ap judged one.1 ∙ ap (λ (t : Bool). cond t (or_syntax (all_at content_at one.0)) (Err Version)) other
 
 pub reading : (text : List ℕ) (answer : Answer) → IsAnswer answer (message_of text) → IsReadingOf text answer
 reading text (Ok m) h = message_sound text m h
@@ -125,7 +138,7 @@ judged_memory_at false o e = absurd cc
 
 judged_memory : (o : Option (ℕ × List ℕ)) → judged o ≢ Err NoMemory
 judged_memory None e = absurd cc
-judged_memory (Some h) e = judged_memory_at (h.0 == spoken_version) (whole_at content_at h.1) e
+judged_memory (Some h) e = judged_memory_at (h.0 == spoken_version) (all_at content_at h.1) e
 
 pub no_memory : (text : List ℕ) → message_of text ≢ Err NoMemory
 unfolding message_of
@@ -150,13 +163,13 @@ ended [] h m = absurd (h refl)
 ended (b ∷ bs) h m = refl
 
 -- a header, what stands behind it, and the end of the text
-pub answer_whole : (text rest after : List ℕ) (m : Message) → header_at text ≡ Some (spoken_version, rest) → content_at rest ≡ Some (m, after) → skip after ≡ [] → message_of text ≡ Ok m
+pub answer_whole : (text rest after : List ℕ) (m : Message) → header_at text ≡ Some (spoken_version, rest) → content_at rest ≡ Some (m, after) → after ≡ [] → message_of text ≡ Ok m
 unfolding message_of
 answer_whole text rest after m h c e =
-    ap judged h ∙ ap or_syntax (ap (λ (o : Option (Message × List ℕ)). o >>= λ x. if_end x.0 (skip x.1)) c ∙ ap (if_end m) e)
+    ap judged h ∙ ap or_syntax (ap (λ (o : Option (Message × List ℕ)). o >>= λ x. if_end x.0 x.1) c ∙ ap (if_end m) e)
 
 -- the same, and more
-pub answer_more : (text rest after : List ℕ) (m : Message) → header_at text ≡ Some (spoken_version, rest) → content_at rest ≡ Some (m, after) → ¬ (skip after ≡ []) → message_of text ≡ Err Syntax
+pub answer_more : (text rest after : List ℕ) (m : Message) → header_at text ≡ Some (spoken_version, rest) → content_at rest ≡ Some (m, after) → ¬ (after ≡ []) → message_of text ≡ Err Syntax
 unfolding message_of
 answer_more text rest after m h c e =
-    ap judged h ∙ ap or_syntax (ap (λ (o : Option (Message × List ℕ)). o >>= λ x. if_end x.0 (skip x.1)) c ∙ ended (skip after) e m)
+    ap judged h ∙ ap or_syntax (ap (λ (o : Option (Message × List ℕ)). o >>= λ x. if_end x.0 x.1) c ∙ ended after e m)

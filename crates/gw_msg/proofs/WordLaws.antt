@@ -1,66 +1,69 @@
 -- The readers of single words, numbers and names read their forms.
-use Rattle.std.proofs.Common.{◌≡◌, ◌⊎◌, inl, inr, ℕ, ◌<◌, Bool, true, false, cond, ◌==◌, ◌||◌, List, [], ◌∷◌, ◌++◌, length, Option, Some, None, refl, ap, sym, subst, ◌∙◌, arith}
+use Rattle.std.proofs.Common.{◌≡◌, ◌⊎◌, inl, inr, ℕ, ◌<◌, Bool, true, false, cond, not, ◌||◌, List, [], ◌∷◌, ◌++◌, length, Option, Some, None, refl, ap, sym, subst, ◌∙◌, arith}
 use Rattle.std.specs.Prelude.{codes}
 use Rattle.std.specs.List.{list_all}
 use Rattle.std.proofs.lemmas.List.Folds.{list_all-append}
-use Rattle.std.proofs.lemmas.Bool.{and_parts, and_from, or_cases, or_left, eqb-true}
-use Rattle.gw_base.specs.Bytes.{byte, is_letter, is_digit, is_name_mark, is_name_byte, is_one_of}
+use Rattle.std.proofs.lemmas.Bool.{and_parts, and_from, or_cases, or_left}
+use Rattle.gw_base.specs.Bytes.{byte, is_letter, is_digit, is_name_mark, is_name_byte}
 use Rattle.gw_base.proofs.Tests.{other_byte}
 use Rattle.gw_base.specs.Lang.{Both, ◌▹◌, IsText}
 use Rattle.gw_base.specs.Addresses.{is_address_byte, IsAddress}
 use Rattle.gw_base.specs.Mids.{is_domain_byte, is_device_byte, IsDomain, IsPort, IsOptionalPort, IsMid}
 use Rattle.gw_base.specs.Wildcards.{is_wildcard, is_term_byte, IsTermText}
 use Rattle.gw_base.specs.declared.term_ref.TermRef.{TermRef}
-use Rattle.gw_base.specs.declared.term_ref.TermRef.TheVariants.{Name}
 use Rattle.gw_base.specs.declared.command_words.CtxRef.{CtxRef}
 use Rattle.gw_base.specs.declared.command_words.CtxRef.TheVariants as ctx
 use Rattle.gw_base.specs.declared.command_words.Verb.{Verb}
 use Rattle.gw_base.specs.declared.command_words.Verb.TheVariants as verb
 use Rattle.gw_text.specs.Lexical.{is_safe, is_safe_mark, is_solid, is_space_start}
-use Rattle.gw_text.specs.Runs.{begins, NoMore, is_byte}
-use Rattle.gw_text.specs.Forms.{IsSomeRun, IsWord, IsUint32, IsWordFor}
-use Rattle.gw_text.specs.Reader.{◌>>=◌, word_as, solid_as, number_at}
+use Rattle.gw_text.specs.Runs.{begins, NoMore}
+use Rattle.gw_text.specs.Forms.{IsSomeRun, IsWord, IsUint32}
+use Rattle.gw_text.specs.Reader.{word_as, solid_as, number_at}
 use Rattle.gw_text.specs.Tokens.{token_of}
 use Rattle.gw_text.specs.declared.token.Token.{Token}
 use Rattle.gw_text.specs.declared.token.Token.TheVariants as token
 use Rattle.gw_text.proofs.Signs.{some_is}
-use Rattle.gw_text.proofs.ReadsUp.{ReadsUp, Same, BeginsWith, up_as, up_last, up_done, up_if_byte}
+use Rattle.gw_text.proofs.ReadsUp.{ReadsUp, Same, BeginsWith, up_as, up_last, begins_wider}
 use Rattle.gw_text.proofs.Leaves.{up_word, up_solid, up_number}
-use Rattle.gw_text.proofs.Links.{space_bytes, is_solid_by, digit_apart, run_begins, word_solid, number_begins, number_solid, begins_ends, no_byte}
-use Rattle.gw_msg.specs.Grammar.{IsToken, SpellsVerb, SpellsTerm, SpellsContextId, SpellsMid}
-use Rattle.gw_msg.specs.Words.{verb_for, verb_of, context_for, context_of, transaction_for, transaction_of, is_named, term_of, is_mid, mid_of}
-use Rattle.gw_msg.specs.Reading.{context_id_at}
-use Rattle.gw_msg.proofs.FormTests.{tests_named, tests_mid}
+use Rattle.gw_text.proofs.Links.{space_bytes, is_solid_by, digit_apart, run_begins, word_solid, number_begins, number_solid, both_begins}
+use Rattle.gw_msg.specs.Grammar.{IsToken, command_token, SpellsVerb, SpellsTerm, SpellsContextId, SpellsMid}
+use Rattle.gw_msg.specs.Words.{verb_for, verb_of, context_for, context_of, error_for, error_of, class_of, term_of, is_mid, mid_of}
+use Rattle.gw_msg.specs.Reading.{if_mark, context_number_at, context_id_at}
+use Rattle.gw_msg.proofs.FormTests.{tests_term_text, tests_mid}
+use Rattle.gw_msg.proofs.TermLaws.{where_true, where_some, class_one, term_is}
+use Rattle.gw_msg.proofs.Starts.{one_of}
+use Rattle.gw_msg.proofs.Steps.{Done, nothing_behind, nothing_more, other_than, up_mark}
 use Rattle.gw_msg.proofs.WordLemmas.{is_a_mid, some_mid}
 
 -- ---- tokens
 
-abbrev Stands : Option Token → Verb → Type 0
-Stands o verb.Add = o ≡ Some token.Add
-Stands o verb.Subtract = o ≡ Some token.Subtract
-Stands o _ = ⊥
-
-verb_stands : (o : Option Token) (v : Verb) → verb_for o ≡ Some v → Stands o v
-verb_stands (Some token.Add) v e = subst (Stands (Some token.Add)) (some_is verb.Add v e) refl
-verb_stands (Some token.Subtract) v e = subst (Stands (Some token.Subtract)) (some_is verb.Subtract v e) refl
+verb_stands : (o : Option Token) (v : Verb) → verb_for o ≡ Some v → o ≡ Some (command_token v)
+verb_stands (Some token.Add) v e = ap (λ (w : Verb). Some (command_token w)) (some_is verb.Add v e)
+verb_stands (Some token.Modify) v e = ap (λ (w : Verb). Some (command_token w)) (some_is verb.Modify v e)
+verb_stands (Some token.Move) v e = ap (λ (w : Verb). Some (command_token w)) (some_is verb.Move v e)
+verb_stands (Some token.Subtract) v e = ap (λ (w : Verb). Some (command_token w)) (some_is verb.Subtract v e)
+verb_stands (Some token.AuditValue) v e = ap (λ (w : Verb). Some (command_token w)) (some_is verb.AuditValue v e)
+verb_stands (Some token.AuditCapability) v e = ap (λ (w : Verb). Some (command_token w)) (some_is verb.AuditCapability v e)
+verb_stands (Some token.Notify) v e = ap (λ (w : Verb). Some (command_token w)) (some_is verb.Notify v e)
+verb_stands (Some token.ServiceChange) v e = ap (λ (w : Verb). Some (command_token w)) (some_is verb.ServiceChange v e)
 verb_stands (Some _) v e = absurd cc
 verb_stands None v e = absurd cc
 
-verb_to : (v : Verb) (text : List ℕ) → IsWord text → Stands (token_of text) v → SpellsVerb v text
-verb_to verb.Add text w s = record { word = w; stands = s }
-verb_to verb.Subtract text w s = record { word = w; stands = s }
-verb_to _ text w s = absurd s
-
-verb_from : (v : Verb) (text : List ℕ) → SpellsVerb v text → IsWordFor verb_of v text
-verb_from verb.Add text h = record { word = h.word; stands = ap verb_for h.stands }
-verb_from verb.Subtract text h = record { word = h.word; stands = ap verb_for h.stands }
-verb_from _ text h = absurd h
+verb_again : (v : Verb) → verb_for (Some (command_token v)) ≡ Some v
+verb_again verb.Add = refl
+verb_again verb.Modify = refl
+verb_again verb.Move = refl
+verb_again verb.Subtract = refl
+verb_again verb.AuditValue = refl
+verb_again verb.AuditCapability = refl
+verb_again verb.Notify = refl
+verb_again verb.ServiceChange = refl
 
 pub verb_reads : ReadsUp (word_as verb_of) SpellsVerb (NoMore is_safe) Same Same
-verb_reads = up_as (up_word verb_of) (λ v text h. verb_to v text h.word (verb_stands (token_of text) v h.stands)) verb_from
-
-pub verb_solid : BeginsWith is_solid SpellsVerb
-verb_solid v text h = word_solid text (verb_from v text h).word
+verb_reads =
+    up_as (up_word verb_of)
+    (λ v text h. record { word = h.word; stands = verb_stands (token_of text) v h.stands })
+    (λ v text h. record { word = h.word; stands = ap verb_for h.stands ∙ verb_again v })
 
 context_stands : (o : Option Token) (u : Unit {0}) → context_for o ≡ Some u → o ≡ Some token.Context
 context_stands (Some token.Context) u e = refl
@@ -70,13 +73,16 @@ context_stands None u e = absurd cc
 pub context_reads : ReadsUp (word_as context_of) (λ u. IsToken token.Context) (NoMore is_safe) Same Same
 context_reads = up_as (up_word context_of) (λ u text h. record { word = h.word; stands = context_stands (token_of text) u h.stands }) (λ u text h. record { word = h.word; stands = ap context_for h.stands })
 
-transaction_stands : (o : Option Token) (u : Unit {0}) → transaction_for o ≡ Some u → o ≡ Some token.Transaction
-transaction_stands (Some token.Transaction) u e = refl
-transaction_stands (Some _) u e = absurd cc
-transaction_stands None u e = absurd cc
+error_stands : (o : Option Token) (u : Unit {0}) → error_for o ≡ Some u → o ≡ Some token.Error
+error_stands (Some token.Error) u e = refl
+error_stands (Some _) u e = absurd cc
+error_stands None u e = absurd cc
 
-pub transaction_reads : ReadsUp (word_as transaction_of) (λ u. IsToken token.Transaction) (NoMore is_safe) Same Same
-transaction_reads = up_as (up_word transaction_of) (λ u text h. record { word = h.word; stands = transaction_stands (token_of text) u h.stands }) (λ u text h. record { word = h.word; stands = ap transaction_for h.stands })
+pub error_word_reads : ReadsUp (word_as error_of) (λ u. IsToken token.Error) (NoMore is_safe) Same Same
+error_word_reads = up_as (up_word error_of) (λ u text h. record { word = h.word; stands = error_stands (token_of text) u h.stands }) (λ u text h. record { word = h.word; stands = ap error_for h.stands })
+
+pub any_token_reads : ReadsUp (word_as token_of) (λ t. IsToken t) (NoMore is_safe) Same Same
+any_token_reads = up_word token_of
 
 pub token_solid : (t : Token) (text : List ℕ) → IsToken t text → begins is_solid text ≡ true
 token_solid t text h = word_solid text h.word
@@ -89,24 +95,7 @@ wider p q h (c ∷ cs) all =
     let a = and_parts (p c) (list_all p cs) all in
     and_from (q c) (list_all q cs) (h c a.0) (wider p q h cs a.1)
 
-where_some : {A : Type 0} (t : Bool) (x y : A) → cond t (Some x) None ≡ Some y → (t ≡ true) × (x ≡ y)
-where_some true x y e = (refl, some_is x y e)
-where_some false x y e = absurd cc
-
-abbrev where_true : {A : Type 0} → A → Bool → Option A
-where_true x t = cond t (Some x) None
-
 -- ---- TerminationIDs
-
--- what a class has of each of some marks
-one_of : (p : ℕ → Bool) (marks : List ℕ) (c : ℕ) → list_all p marks ≡ true → is_one_of marks c ≡ true → p c ≡ true
-one_of p [] c all h = absurd cc
-one_of p (m ∷ marks) c all h =
-    let a = and_parts (p m) (list_all p marks) all in
-    elim (or_cases (m == c) (is_one_of marks c) h) [
-      | inl e ↦ ap p (sym (eqb-true m c e)) ∙ a.0
-      | inr e ↦ one_of p marks c a.1 e
-    ]
 
 name_byte_safe : (c : ℕ) → is_name_byte c ≡ true → is_safe c ≡ true
 name_byte_safe c h =
@@ -125,66 +114,91 @@ term_byte_safe c h =
 term_word : (text : List ℕ) → IsTermText text → IsWord text
 term_word text h = record { run = wider is_term_byte is_safe term_byte_safe text h.each; some = h.some }
 
-term_to : (t : TermRef) (text : List ℕ) → term_of text ≡ Some t → SpellsTerm t text
-term_to t text e =
-    let s = where_some (is_named text) (Name text) t e in
-    let n = (tests_named text).0 s.0 in
-    subst (λ (u : TermRef). SpellsTerm u text) s.1 (n.term, (refl, n.plain, n.other))
-
-term_from : (t : TermRef) (text : List ℕ) → SpellsTerm t text → IsWordFor term_of t text
-term_from (Name name) text h = record {
-  word = term_word text h.0;
-  stands = ap (where_true (Name text)) ((tests_named text).1 (record { term = h.0; plain = h.1.1; other = h.1.2 })) ∙ ap (λ (x : List ℕ). Some (Name x)) (sym h.1.0);
-}
-term_from _ text h = absurd h
-
 pub term_reads : ReadsUp (word_as term_of) SpellsTerm (NoMore is_safe) Same Same
-term_reads = up_as (up_word term_of) (λ t text h. term_to t text h.stands) term_from
+term_reads =
+    up_as (up_word term_of) (λ t text h. term_is t text h.stands)
+    (λ t text h. record { word = term_word text h.0; stands = ap (where_true (class_of text)) ((tests_term_text text).1 h.0) ∙ ap (λ (u : TermRef). Some u) (class_one t text h.1) })
 
 pub term_solid : BeginsWith is_solid SpellsTerm
-term_solid t text h = word_solid text (term_from t text h).word
+term_solid t text h = word_solid text (term_word text h.0)
 
 -- ---- ContextIDs
-
-no_dollar : (c : ℕ) → is_digit c ≡ true → is_byte (byte (codes "$")) c ≡ false
-no_dollar c h = other_byte is_digit c (byte (codes "$")) h refl
 
 abbrev of_number : ℕ → CtxRef
 of_number n = ctx.Num (record { 0 = n })
 
-abbrev Dollar : CtxRef → List ℕ → Type 0
-Dollar c text = (ctx.Choose ≡ c) × (text ≡ [])
-
 abbrev OfNumber : CtxRef → List ℕ → Type 0
 OfNumber c text = (n : ℕ) × (of_number n ≡ c) × IsUint32 n text
 
-context_id_to : (c : CtxRef) (text : List ℕ) → (Both (IsText (codes "$")) (Dollar c) text ⊎ OfNumber c text) → SpellsContextId c text
-context_id_to c text h =
+abbrev Mark : List ℕ → CtxRef → CtxRef → List ℕ → Type 0
+Mark mark v c text = Both (IsText mark) (Done v c) text
+
+abbrev NullOn : CtxRef → List ℕ → Type 0
+NullOn c text = Mark (codes "-") ctx.Null c text ⊎ OfNumber c text
+
+abbrev AllOn : CtxRef → List ℕ → Type 0
+AllOn c text = Mark (codes "*") ctx.All c text ⊎ NullOn c text
+
+abbrev ChooseOn : CtxRef → List ℕ → Type 0
+ChooseOn c text = Mark (codes "$") ctx.Choose c text ⊎ AllOn c text
+
+mark_first : (p : ℕ → Bool) (mark : List ℕ) (v c : CtxRef) (text : List ℕ) → begins p mark ≡ true → Mark mark v c text → begins p text ≡ true
+mark_first p mark v c text is b = both_begins p (IsText mark) (Done v c) (λ t e. ap (begins p) e ∙ is) text b
+
+digit_but : (b : ℕ) → is_digit b ≡ false → (c : ℕ) → is_digit c ≡ true → other_than b c ≡ true
+digit_but b out c is = ap not (other_byte is_digit c b is out)
+
+number_first : (b : ℕ) → is_digit b ≡ false → BeginsWith (other_than b) OfNumber
+number_first b out c text h = begins_wider is_digit (other_than b) (digit_but b out) text (number_begins _ _ h.0 text h.2)
+
+null_first : (b : ℕ) → is_digit b ≡ false → other_than b (byte (codes "-")) ≡ true → BeginsWith (other_than b) NullOn
+null_first b out other c text h =
     elim h [
-      | inl b ↦
-          let whole : text ≡ codes "$" = b.split ∙ ap (λ (x : List ℕ). x ++ b.back) b.first ∙ ap (λ (x : List ℕ). codes "$" ++ x) b.second.1 in
-          subst (λ (d : CtxRef). SpellsContextId d text) b.second.0 whole
-      | inr n ↦ subst (λ (d : CtxRef). SpellsContextId d text) n.1 n.2
+      | inl m ↦ mark_first (other_than b) (codes "-") ctx.Null c text other m
+      | inr n ↦ number_first b out c text n
     ]
 
-context_id_from : (c : CtxRef) (text : List ℕ) → SpellsContextId c text → (Both (IsText (codes "$")) (Dollar c) text ⊎ OfNumber c text)
-context_id_from ctx.Choose text h = inl (record { front = codes "$"; back = []; split = h; first = refl; second = (refl, refl) })
-context_id_from (ctx.Num n) text h = inr (n.0, refl, h)
-context_id_from _ text h = absurd h
+all_first : (b : ℕ) → is_digit b ≡ false → other_than b (byte (codes "-")) ≡ true → other_than b (byte (codes "*")) ≡ true → BeginsWith (other_than b) AllOn
+all_first b out other second c text h =
+    elim h [
+      | inl m ↦ mark_first (other_than b) (codes "*") ctx.All c text second m
+      | inr n ↦ null_first b out other c text n
+    ]
+
+mark_is : (mark : List ℕ) (v c : CtxRef) (text : List ℕ) → SpellsContextId v mark → Mark mark v c text → SpellsContextId c text
+mark_is mark v c text is b =
+    let whole : text ≡ mark = nothing_behind (IsText mark) (Done v c) text b b.second.1 in
+    subst (λ (d : CtxRef). SpellsContextId d text) b.second.0 (subst (SpellsContextId v) (sym whole) is)
+
+context_id_to : (c : CtxRef) (text : List ℕ) → ChooseOn c text → SpellsContextId c text
+context_id_to c text (inl m) = mark_is (codes "$") ctx.Choose c text refl m
+context_id_to c text (inr (inl m)) = mark_is (codes "*") ctx.All c text refl m
+context_id_to c text (inr (inr (inl m))) = mark_is (codes "-") ctx.Null c text refl m
+context_id_to c text (inr (inr (inr n))) = subst (λ (d : CtxRef). SpellsContextId d text) n.1 n.2
+
+context_id_from : (c : CtxRef) (text : List ℕ) → SpellsContextId c text → ChooseOn c text
+context_id_from ctx.Choose text h = inl (nothing_more text h (refl, refl))
+context_id_from ctx.All text h = inr (inl (nothing_more text h (refl, refl)))
+context_id_from ctx.Null text h = inr (inr (inl (nothing_more text h (refl, refl))))
+context_id_from (ctx.Num n) text h = inr (inr (inr (n.0, refl, h)))
 
 pub context_id_reads : ReadsUp context_id_at SpellsContextId (NoMore is_digit) Same Same
 unfolding context_id_at
 context_id_reads =
-    up_as (up_if_byte (byte (codes "$")) (λ rest. Some (ctx.Choose, rest)) (λ text. number_at text >>= λ n. Some (of_number n.0, n.1)) Dollar OfNumber (NoMore is_digit) Same
-    (up_done ctx.Choose (NoMore is_digit) Same)
+    up_as (up_mark (byte (codes "$")) ctx.Choose (if_mark (codes "*") ctx.All (if_mark (codes "-") ctx.Null context_number_at)) AllOn (NoMore is_digit)
+    (up_mark (byte (codes "*")) ctx.All (if_mark (codes "-") ctx.Null context_number_at) NullOn (NoMore is_digit)
+    (up_mark (byte (codes "-")) ctx.Null context_number_at OfNumber (NoMore is_digit)
     (up_last number_at of_number IsUint32 (NoMore is_digit) Same Same up_number)
-    (λ c front rest q n. no_byte (byte (codes "$")) (front ++ rest) (begins_ends is_digit (is_byte (byte (codes "$"))) no_dollar front rest (number_begins _ _ q.0 front q.2))))
+    (number_first (byte (codes "-")) refl))
+    (null_first (byte (codes "*")) refl refl))
+    (all_first (byte (codes "$")) refl refl refl))
     context_id_to context_id_from
 
 pub context_id_solid : BeginsWith is_solid SpellsContextId
 context_id_solid ctx.Choose text h = ap (begins is_solid) h
+context_id_solid ctx.All text h = ap (begins is_solid) h
+context_id_solid ctx.Null text h = ap (begins is_solid) h
 context_id_solid (ctx.Num n) text h = number_solid _ _ n.0 text h
-context_id_solid _ text h = absurd h
 
 -- ---- mIds
 

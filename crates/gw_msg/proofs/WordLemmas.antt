@@ -1,59 +1,16 @@
--- What the words of a message stand for is what gw_base reads them as, and what the grammar says of them.
+-- What a word stands for as an mId is what gw_base reads it as, and what the grammar says of it.
 use Rattle.std.proofs.Common.{◌≡◌, inl, inr, ℕ, ◌≤◌, length, length-append, Bool, true, false, cond, List, [], ◌∷◌, ◌++◌, get_or, Option, Some, None, Ok, Err, refl, ap, sym, subst, ◌∙◌, arith}
 use Rattle.std.specs.Prelude.{codes}
-use Rattle.std.specs.List.{list_any}
-use Rattle.std.proofs.lemmas.List.Folds.{list_any-append}
-use Rattle.std.proofs.lemmas.Bool.{or_right}
 use Rattle.gw_base.specs.Bytes.{byte, is_one_of}
 use Rattle.gw_base.specs.Lang.{◌▹◌, IsText}
 use Rattle.gw_base.specs.Addresses.{IsAddress}
 use Rattle.gw_base.specs.Mids.{IsMid, IsDomain, IsOptionalPort, longest_mid}
 use Rattle.gw_base.specs.Reads.{ReadsAs}
-use Rattle.gw_base.specs.Wildcards.{is_wildcard}
-use Rattle.gw_base.specs.TermRefs.{ReadsTerm}
 use Rattle.gw_base.specs.declared.fault.NameFault.{NameFault}
 use Rattle.gw_base.specs.declared.fault.NameFault.TheVariants.{Empty, TooLong, BadByte}
-use Rattle.gw_base.specs.declared.term_ref.TermRef.{TermRef}
-use Rattle.gw_base.specs.declared.term_ref.TermRef.TheVariants.{Root, All, Choose, Under, Name, Other}
-use Rattle.gw_msg.specs.Words.{is_mid, is_named, term_of, mid_of}
-use Rattle.gw_msg.proofs.FormTests.{IsNamed, tests_named, tests_mid, refuted}
-
--- a value where its test passes
-abbrev where_true : {A : Type 0} → A → Bool → Option A
-where_true x t = cond t (Some x) None
-
--- ---- TerminationIDs
-
-named : (w : List ℕ) → IsNamed w → term_of w ≡ Some (Name w)
-named w h = ap (where_true (Name w)) ((tests_named w).1 h)
-
-not_named : (w : List ℕ) → ¬ IsNamed w → term_of w ≡ None
-not_named w h = ap (where_true (Name w)) (refuted (is_named w) (λ e. h ((tests_named w).0 e)))
-
--- a text with a wildcard is no name
-wild : (w : List ℕ) → list_any is_wildcard w ≡ true → term_of w ≡ None
-wild w h = not_named w (λ n. let clash : true ≡ false = sym h ∙ n.plain in absurd cc)
-
-abbrev pub single : TermRef → Option TermRef
-single (Name name) = Some (Name name)
-single _ = None
-
-pub term_read : (w : List ℕ) (t : TermRef) → ReadsTerm w (Ok t) → term_of w ≡ single t
-term_read w (Name name) h = named w (record { term = h.0; plain = h.1.1; other = h.1.2 }) ∙ ap (λ (x : List ℕ). Some (Name x)) (sym h.1.0)
-term_read w Root h = not_named w (λ n. n.other h.1)
-term_read w All h = wild w (ap (list_any is_wildcard) h.1)
-term_read w Choose h =
-    elim h.1 [
-      | inl e ↦ wild w (ap (list_any is_wildcard) e)
-      | inr e ↦ wild w (ap (list_any is_wildcard) e)
-    ]
-term_read w (Under prefix) h = wild w (ap (list_any is_wildcard) h.1.split ∙ list_any-append is_wildcard prefix (codes "*") ∙ or_right (list_any is_wildcard prefix) true refl)
-term_read w (Other pattern) h = wild w h.1.1
-
-pub term_not_read : (w : List ℕ) (e : NameFault) → ReadsTerm w (Err e) → term_of w ≡ None
-term_not_read w Empty h = not_named w (λ n. absurd (let some = n.term.some in omega (arith, ap length h)))
-term_not_read w TooLong h = not_named w (λ n. absurd (let short = n.term.short in omega (arith, h)))
-term_not_read w BadByte h = not_named w (λ n. h.2 n.term)
+use Rattle.gw_msg.specs.Words.{is_mid, mid_of}
+use Rattle.gw_msg.proofs.FormTests.{tests_mid, refuted}
+use Rattle.gw_msg.proofs.TermLaws.{where_true}
 
 -- ---- mIds
 

@@ -1,26 +1,27 @@
 -- Which texts spell a message (RFC 3525, Annex B.2). EQUAL, LBRKT, RBRKT and COMMA are signs, with LWSP on both sides.
--- Of the standard's messages those are read that hold one transaction, whose actions name a context by `$` or its number,
--- and whose commands are Add and Subtract of one termination by its name (own).
-use Rattle.std.specs.Prelude.{◌≡◌, ◌≢◌, ◌⊎◌, ℕ, false, List, [], ◌∷◌, Result, Ok, Err, codes}
+use Rattle.std.specs.Prelude.{◌≡◌, ◌≢◌, ◌⊎◌, ℕ, true, false, Bool, List, [], ◌∷◌, Result, Ok, Err, codes}
 use Rattle.gw_base.specs.Lang.{◌▹◌, IsText}
 use Rattle.gw_base.specs.Mids.{IsMid}
 use Rattle.gw_base.specs.Wildcards.{IsTermText}
 use Rattle.gw_base.specs.TermRefs.{IsClass}
 use Rattle.gw_base.specs.declared.term_ref.TermRef.{TermRef}
-use Rattle.gw_base.specs.declared.term_ref.TermRef.TheVariants.{Name}
 use Rattle.gw_base.specs.declared.command_words.CtxRef.{CtxRef}
-use Rattle.gw_base.specs.declared.command_words.CtxRef.TheVariants.{Choose, Num}
+use Rattle.gw_base.specs.declared.command_words.CtxRef.TheVariants.{Null, All, Choose, Num}
 use Rattle.gw_base.specs.declared.command_words.Verb.{Verb}
 use Rattle.gw_base.specs.declared.command_words.Verb.TheVariants as verb
-use Rattle.gw_text.specs.Lexical.{equals_sign}
+use Rattle.gw_text.specs.Lexical.{equals_sign, left_brace, right_brace}
 use Rattle.gw_text.specs.Space.{IsSpace, IsSep}
-use Rattle.gw_text.specs.Forms.{IsSign, IsInAnyCase, IsWordFor, IsNumber, IsUint32, Braced}
+use Rattle.gw_text.specs.Forms.{IsSign, IsInAnyCase, IsWordFor, IsNumber, IsUint32, Spaced, Braced}
+use Rattle.gw_text.specs.Quoted.{IsQuoted}
+use Rattle.gw_text.specs.Group.{IsGroup}
 use Rattle.gw_text.specs.Tokens.{token_of}
 use Rattle.gw_text.specs.declared.token.Token.{Token}
 use Rattle.gw_text.specs.declared.token.Token.TheVariants as token
+use Rattle.gw_desc.specs.Grammar.{request_depth}
 use Rattle.gw_msg.specs.declared.message.Command.{Command}
 use Rattle.gw_msg.specs.declared.message.Action.{Action}
 use Rattle.gw_msg.specs.declared.message.Request.{Request}
+use Rattle.gw_msg.specs.declared.message.AckRange.{AckRange}
 use Rattle.gw_msg.specs.declared.message.Item.{Item}
 use Rattle.gw_msg.specs.declared.message.Item.TheVariants as item
 use Rattle.gw_msg.specs.declared.message.Message.{Message}
@@ -33,30 +34,72 @@ IsToken t = IsWordFor token_of t
 
 -- ---- commands
 
--- AddToken, SubtractToken
+-- the token of each command
+abbrev pub command_token : Verb → Token
+command_token verb.Add = token.Add
+command_token verb.Modify = token.Modify
+command_token verb.Move = token.Move
+command_token verb.Subtract = token.Subtract
+command_token verb.AuditValue = token.AuditValue
+command_token verb.AuditCapability = token.AuditCapability
+command_token verb.Notify = token.Notify
+command_token verb.ServiceChange = token.ServiceChange
+
+-- AddToken, SubtractToken and so on
 abbrev pub SpellsVerb : Verb → List ℕ → Type 0
-SpellsVerb verb.Add text = IsToken token.Add text
-SpellsVerb verb.Subtract text = IsToken token.Subtract text
-SpellsVerb _ text = ⊥
+SpellsVerb v = IsToken (command_token v)
 
--- TerminationID, of one termination
+-- TerminationID: its form, and its class
 abbrev pub SpellsTerm : TermRef → List ℕ → Type 0
-SpellsTerm (Name name) text = IsTermText text × IsClass (Name name) text
-SpellsTerm _ text = ⊥
+SpellsTerm t text = IsTermText text × IsClass t text
 
--- commandRequest, without `O-`, `W-` and descriptors
+-- `O-` or `W-` in front of a command, in any case, or nothing
+abbrev pub SpellsMark : List ℕ → Bool → List ℕ → Type 0
+SpellsMark mark true text = IsInAnyCase mark text
+SpellsMark mark false text = text ≡ []
+
+-- the commands that `W-` may stand in front of: subtractRequest and auditRequest
+abbrev pub may_be_wild : Verb → Bool
+may_be_wild verb.Subtract = true
+may_be_wild verb.AuditValue = true
+may_be_wild verb.AuditCapability = true
+may_be_wild _ = false
+
+-- the commands that are not carried out, of which what stands in braces is read as a group (own)
+abbrev pub has_group : Verb → Bool
+has_group verb.AuditCapability = true
+has_group verb.Notify = true
+has_group _ = false
+
+-- how deep groups may lie in a reply (own)
+abbrev pub reply_depth : ℕ
+reply_depth = 16
+
+-- a group with LWSP in front of it, or nothing
+abbrev pub IsOptionalGroup : ℕ → List ℕ → Type 0
+IsOptionalGroup depth text = (IsSpace ▹ IsGroup depth) text ⊎ (text ≡ [])
+
+-- what stands behind the TerminationID
+abbrev pub SpellsDetailsOf : Bool → List ℕ → Type 0
+SpellsDetailsOf true text = IsOptionalGroup request_depth text
+SpellsDetailsOf false text = text ≡ []
+
+abbrev pub SpellsDetails : Verb → List ℕ → Type 0
+SpellsDetails v = SpellsDetailsOf (has_group v)
+
+-- commandRequest, without descriptors
 pub record SpellsCommand (c : Command) (text : List ℕ) : Type 0 where
-  pub words : (SpellsVerb c.verb ▹ IsSign equals_sign ▹ SpellsTerm c.term) text
-  pub optional : c.optional ≡ false
-  pub wild : c.wild ≡ false
+  pub words : (SpellsMark (codes "O-") c.optional ▹ SpellsMark (codes "W-") c.wild ▹ SpellsVerb c.verb ▹ IsSign equals_sign ▹ SpellsTerm c.term ▹ SpellsDetails c.verb) text
+  pub wild : c.wild ≡ true → may_be_wild c.verb ≡ true
 
 -- ---- actions
 
 -- ContextID
 abbrev pub SpellsContextId : CtxRef → List ℕ → Type 0
 SpellsContextId Choose text = IsText (codes "$") text
+SpellsContextId All text = IsText (codes "*") text
+SpellsContextId Null text = IsText (codes "-") text
 SpellsContextId (Num n) text = IsUint32 n.0 text
-SpellsContextId _ text = ⊥
 
 -- actionRequest, without context properties: CtxToken EQUAL ContextID LBRKT commandRequestList RBRKT
 pub record SpellsAction (a : Action) (text : List ℕ) : Type 0 where
@@ -69,14 +112,54 @@ pub record SpellsAction (a : Action) (text : List ℕ) : Type 0 where
 abbrev pub SpellsRequest : Request → List ℕ → Type 0
 SpellsRequest r = IsToken token.Transaction ▹ IsSign equals_sign ▹ IsUint32 r.id.0 ▹ Braced SpellsAction r.actions
 
+-- a number that is read and dropped
+abbrev pub IsSomeUint32 : List ℕ → Type 0
+IsSomeUint32 text = (n : ℕ) × IsUint32 n text
+
+-- transactionReply, whose body is read as a group (own)
+abbrev pub SpellsReply : List ℕ → Type 0
+SpellsReply = IsToken token.Reply ▹ IsSign equals_sign ▹ IsSomeUint32 ▹ IsSpace ▹ IsGroup reply_depth
+
+-- transactionPending
+abbrev pub SpellsPending : List ℕ → Type 0
+SpellsPending = IsToken token.Pending ▹ IsSign equals_sign ▹ IsSomeUint32 ▹ IsSign left_brace ▹ IsSign right_brace
+
+-- transactionAck: one number, or the first and the last of a range. The first may be above the last (own).
+abbrev pub SpellsRange : AckRange → List ℕ → Type 0
+SpellsRange r text = (IsUint32 r.first text × (r.first ≡ r.last)) ⊎ (IsUint32 r.first ▹ IsText (codes "-") ▹ IsUint32 r.last) text
+
+-- transactionResponseAck
+abbrev pub SpellsAck : List AckRange → List ℕ → Type 0
+SpellsAck ranges = IsToken token.TransactionResponseAck ▹ Braced SpellsRange ranges
+
 -- a part of a transactionList
 abbrev pub SpellsItem : Item → List ℕ → Type 0
-SpellsItem (item.Request r) = SpellsRequest r
+SpellsItem (item.Request r) text = SpellsRequest r text
+SpellsItem (item.Ack ranges) text = SpellsAck ranges text
+SpellsItem item.Ignored text = SpellsReply text ⊎ SpellsPending text
 
--- messageBody: a transactionList of one part
+-- the most digits of an error code, and the greatest number that they write
+abbrev pub code_digits : ℕ
+code_digits = 4
+
+abbrev pub code_max : ℕ
+code_max = 9999
+
+abbrev pub IsCode : List ℕ → Type 0
+IsCode text = (n : ℕ) × IsNumber code_digits code_max n text
+
+-- a quoted text, or nothing
+abbrev pub IsOptionalQuoted : List ℕ → Type 0
+IsOptionalQuoted text = IsQuoted text ⊎ (text ≡ [])
+
+-- errorDescriptor, which is read and dropped
+abbrev pub SpellsError : List ℕ → Type 0
+SpellsError = IsToken token.Error ▹ IsSign equals_sign ▹ IsCode ▹ IsSign left_brace ▹ IsOptionalQuoted ▹ IsSign right_brace
+
+-- messageBody: an errorDescriptor, or a transactionList
 abbrev pub SpellsBody : List Item → List ℕ → Type 0
-SpellsBody (i ∷ []) text = SpellsItem i text
-SpellsBody _ text = ⊥
+SpellsBody [] text = SpellsError text
+SpellsBody (i ∷ others) text = Spaced SpellsItem (i ∷ others) text
 
 -- mId, byte for byte
 abbrev pub SpellsMid : List ℕ → List ℕ → Type 0
@@ -105,13 +188,13 @@ IsMegacop text = IsInAnyCase (codes "MEGACO") text ⊎ IsText (codes "!") text
 abbrev pub IsHeader : ℕ → List ℕ → Type 0
 IsHeader version = IsSpace ▹ IsMegacop ▹ IsText (codes "/") ▹ IsVersion version ▹ IsSep
 
--- what stands behind it: mId SEP messageBody
+-- what stands behind it: mId SEP messageBody, and LWSP at the end
 abbrev pub SpellsContent : Message → List ℕ → Type 0
-SpellsContent m = SpellsMid m.mid ▹ IsSep ▹ SpellsBody m.items
+SpellsContent m = SpellsMid m.mid ▹ IsSep ▹ SpellsBody m.items ▹ IsSpace
 
--- megacoMessage, without authentication header; LWSP may stand at its end
+-- megacoMessage, without authentication header
 abbrev pub Spells : Message → List ℕ → Type 0
-Spells m = IsHeader spoken_version ▹ SpellsContent m ▹ IsSpace
+Spells m = IsHeader spoken_version ▹ SpellsContent m
 
 -- ---- what is answered
 

@@ -1,48 +1,85 @@
 -- Messages as they are read, from left to right. That this is the grammar is proved.
-use Rattle.std.specs.Prelude.{◌≡◌, ◌==◌, ◌≤◌, length, ℕ, false, List, [], ◌∷◌, if◌then◌else◌, Option, Some, None, Result, Ok, Err, codes}
+use Rattle.std.specs.Prelude.{◌≡◌, ◌==◌, ◌||◌, not, ℕ, true, false, Bool, List, [], ◌∷◌, if◌then◌else◌, Option, Some, None, Result, Ok, Err, codes}
 use Rattle.gw_base.specs.Bytes.{byte}
 use Rattle.gw_base.specs.declared.command_words.CtxRef.{CtxRef}
-use Rattle.gw_base.specs.declared.command_words.CtxRef.TheVariants.{Choose, Num}
-use Rattle.gw_text.specs.Lexical.{equals_sign}
+use Rattle.gw_base.specs.declared.command_words.CtxRef.TheVariants.{Null, All, Choose, Num}
+use Rattle.gw_base.specs.declared.command_words.Verb.{Verb}
+use Rattle.gw_text.specs.Lexical.{equals_sign, left_brace, right_brace, dash, quote_mark}
+use Rattle.gw_text.specs.Runs.{is_byte}
+use Rattle.gw_text.specs.Tokens.{token_of}
+use Rattle.gw_text.specs.declared.token.Token.{Token}
+use Rattle.gw_text.specs.declared.token.Token.TheVariants as token
 use Rattle.gw_text.specs.SpaceScan.{skip}
 use Rattle.gw_text.specs.Sign.{byte_at, sign_at}
 use Rattle.gw_text.specs.Scans.{sep_at}
-use Rattle.gw_text.specs.Reader.{Reader, ◌>>=◌, found, word_as, solid_as, number_at, number_up_to, if_byte, if_prefix, braced_at, whole_at}
+use Rattle.gw_text.specs.Reader.{Reader, ◌>>=◌, found, word_as, solid_as, number_at, number_up_to, group_read, quoted_read, if_byte, if_prefix, if_begins, if_ahead, braced_at, items_at, if_end}
 use Rattle.gw_msg.specs.declared.message.Command.{Command}
 use Rattle.gw_msg.specs.declared.message.Action.{Action}
-use Rattle.gw_msg.specs.declared.message.Request.{Request}
+use Rattle.gw_msg.specs.declared.message.AckRange.{AckRange}
 use Rattle.gw_msg.specs.declared.message.Item.{Item}
 use Rattle.gw_msg.specs.declared.message.Item.TheVariants as item
 use Rattle.gw_msg.specs.declared.message.Message.{Message}
 use Rattle.gw_msg.specs.declared.fault.ReadFault.{ReadFault}
 use Rattle.gw_msg.specs.declared.fault.ReadFault.TheVariants.{Version, Syntax, NoMemory}
-use Rattle.gw_msg.specs.Grammar.{spoken_version, version_digits, version_max}
-use Rattle.gw_msg.specs.Words.{verb_of, context_of, transaction_of, term_of, mid_of}
+use Rattle.gw_desc.specs.Grammar.{request_depth}
+use Rattle.gw_desc.specs.declared.fault.PartFault.{PartFault}
+use Rattle.gw_desc.specs.declared.fault.PartFault.TheVariants as part
+use Rattle.gw_msg.specs.Grammar.{may_be_wild, has_group, reply_depth, code_digits, code_max, spoken_version, version_digits, version_max}
+use Rattle.gw_msg.specs.Words.{verb_of, context_of, error_of, is_error_start, term_of, mid_of}
 
--- What a function returned, and where it left its cursor, is what reading gives, unless memory ran out.
-abbrev pub Gives : {V : Type 0} → Result V ReadFault → List ℕ → Option (V × List ℕ) → Type 0
-Gives (Ok x) new at = at ≡ Some (x, new)
-Gives (Err Syntax) new at = at ≡ None
-Gives (Err NoMemory) new at = Unit {0}
-Gives (Err Version) new at = ⊥
+-- ---- steps
 
--- what is left is no longer than what there was
-abbrev pub Shrinks : {V : Type 0} → Reader V → Type 0
-Shrinks {V} read = (text : List ℕ) (v : V) (rest : List ℕ) → read text ≡ Some (v, rest) → length rest ≤ length text
+-- whether these bytes come next, in any case; they are taken
+unfoldable pub mark_at : List ℕ → Reader Bool
+mark_at mark = if_prefix mark (λ rest. Some (true, rest)) (λ text. Some (false, text))
+
+-- nothing is read, and all depends on a test
+abbrev pub only_if : Bool → Option (Unit {0})
+only_if true = Some tt
+only_if false = None
+
+-- nothing is read, and nothing is kept
+abbrev pub nothing_at : Reader (Unit {0})
+nothing_at text = Some (tt, text)
+
+-- a group behind white space, read and dropped
+abbrev pub group_at : ℕ → Reader (Unit {0})
+group_at depth text = do
+  group ← group_read depth text
+  Some (tt, group.1)
 
 -- ---- commands and actions
 
+-- `W-` in front of a command that may have it
+abbrev pub is_allowed : Bool → Verb → Bool
+is_allowed wild v = not wild || may_be_wild v
+
+unfoldable pub details_of : Bool → Reader (Unit {0})
+details_of true = if_ahead left_brace (group_at request_depth) nothing_at
+details_of false = nothing_at
+
 unfoldable pub command_at : Reader Command
 command_at text = do
-  verb ← word_as verb_of text
+  optional ← mark_at (codes "O-") text
+  wild ← mark_at (codes "W-") optional.1
+  verb ← word_as verb_of wild.1
+  allowed ← only_if (is_allowed wild.0 verb.0)
   equals ← sign_at equals_sign verb.1
   term ← word_as term_of equals
-  Some (record { verb = verb.0; term = term.0; optional = false; wild = false }, term.1)
+  details ← details_of (has_group verb.0) term.1
+  Some (record { verb = verb.0; term = term.0; optional = optional.0; wild = wild.0 }, details.1)
+
+-- the context that the byte stands for, or what more reads
+abbrev pub if_mark : List ℕ → CtxRef → Reader CtxRef → Reader CtxRef
+if_mark mark ctx more = if_byte (byte mark) (λ rest. Some (ctx, rest)) more
+
+abbrev pub context_number_at : Reader CtxRef
+context_number_at text = do
+  number ← number_at text
+  Some (Num (record { 0 = number.0 }), number.1)
 
 unfoldable pub context_id_at : Reader CtxRef
-context_id_at = if_byte (byte (codes "$")) (λ rest. Some (Choose, rest)) (λ text. do
-  number ← number_at text
-  Some (Num (record { 0 = number.0 }), number.1))
+context_id_at = if_mark (codes "$") Choose (if_mark (codes "*") All (if_mark (codes "-") Null context_number_at))
 
 unfoldable pub action_at : Reader Action
 action_at text = do
@@ -54,26 +91,95 @@ action_at text = do
 
 -- ---- messages
 
-unfoldable pub request_at : Reader Request
+unfoldable pub request_at : Reader Item
 request_at text = do
-  word ← word_as transaction_of text
-  equals ← sign_at equals_sign word.1
+  equals ← sign_at equals_sign text
   id ← number_at equals
   actions ← braced_at action_at id.1
-  Some (record { id = record { 0 = id.0 }; actions = actions.0 }, actions.1)
+  Some (item.Request (record { id = record { 0 = id.0 }; actions = actions.0 }), actions.1)
+
+unfoldable pub reply_at : Reader Item
+reply_at text = do
+  equals ← sign_at equals_sign text
+  id ← number_at equals
+  group ← group_read reply_depth (skip id.1)
+  Some (item.Ignored, group.1)
+
+unfoldable pub pending_at : Reader Item
+pending_at text = do
+  equals ← sign_at equals_sign text
+  id ← number_at equals
+  left ← sign_at left_brace id.1
+  right ← sign_at right_brace left
+  Some (item.Ignored, right)
+
+-- behind the first number of a range
+abbrev pub last_at : ℕ → Reader AckRange
+last_at first = if_byte dash (λ text. do
+  last ← number_at text
+  Some (record { first = first; last = last.0 }, last.1)) (λ text. Some (record { first = first; last = first }, text))
+
+unfoldable pub range_at : Reader AckRange
+range_at text = do
+  first ← number_at text
+  last_at first.0 first.1
+
+unfoldable pub ack_at : Reader Item
+ack_at text = do
+  ranges ← braced_at range_at text
+  Some (item.Ack ranges.0, ranges.1)
+
+-- behind the token of a part
+abbrev pub part_at : Token → Reader Item
+part_at token.Transaction text = request_at text
+part_at token.Reply text = reply_at text
+part_at token.Pending text = pending_at text
+part_at token.TransactionResponseAck text = ack_at text
+part_at _ text = None
 
 unfoldable pub item_at : Reader Item
 item_at text = do
-  request ← request_at text
-  Some (item.Request request.0, request.1)
+  word ← word_as token_of text
+  part_at word.0 word.1
+
+-- a quoted text, or nothing
+unfoldable pub quoted_or_nothing : Reader (Unit {0})
+quoted_or_nothing = if_begins (is_byte quote_mark) (λ text. do
+  quoted ← quoted_read text
+  Some (tt, quoted.1)) nothing_at
+
+unfoldable pub error_at : Reader (Unit {0})
+error_at text = do
+  word ← word_as error_of text
+  equals ← sign_at equals_sign word.1
+  code ← number_up_to code_digits code_max equals
+  left ← sign_at left_brace code.1
+  quoted ← quoted_or_nothing left
+  right ← sign_at right_brace quoted.1
+  Some (tt, right)
+
+-- nothing is left
+abbrev pub at_end : List ℕ → Option (List ℕ)
+at_end text = if_end text text
+
+-- an errorDescriptor, to the end of the text
+unfoldable pub error_body_at : Reader (List Item)
+error_body_at text = do
+  error ← error_at text
+  rest ← at_end (skip error.1)
+  Some ([], rest)
+
+-- the body, to the end of the text
+unfoldable pub body_at : Reader (List Item)
+body_at = if_begins is_error_start error_body_at (items_at item_at)
 
 -- what stands behind the header
 unfoldable pub content_at : Reader Message
 content_at text = do
   mid ← solid_as mid_of text
   space ← found (sep_at mid.1)
-  part ← item_at space.1
-  Some (record { mid = mid.0; items = part.0 ∷ [] }, part.1)
+  items ← body_at space.1
+  Some (record { mid = mid.0; items = items.0 }, items.1)
 
 -- what follows MegacopToken in a header
 unfoldable pub version_at : Reader ℕ
@@ -89,6 +195,10 @@ header_at text = if_prefix (codes "MEGACO") version_at (λ rest. byte_at (byte (
 
 -- ---- whole texts
 
+-- the value of which the whole text is the form
+abbrev pub all_at : {V : Type 0} → Reader V → List ℕ → Option V
+all_at read text = read text >>= λ x. if_end x.0 x.1
+
 abbrev pub or_syntax : Option Message → Result Message ReadFault
 or_syntax (Some m) = Ok m
 or_syntax None = Err Syntax
@@ -96,11 +206,16 @@ or_syntax None = Err Syntax
 -- the version counts before anything behind it is looked at
 abbrev pub judged : Option (ℕ × List ℕ) → Result Message ReadFault
 judged None = Err Syntax
-judged (Some header) = if header.0 == spoken_version then or_syntax (whole_at content_at header.1) else Err Version
+judged (Some header) = if header.0 == spoken_version then or_syntax (all_at content_at header.1) else Err Version
 
 -- the one answer to a text
 unfoldable pub message_of : List ℕ → Result Message ReadFault
 message_of text = judged (header_at text)
+
+-- a part that was not read
+abbrev pub fault_of : PartFault → ReadFault
+fault_of part.Syntax = Syntax
+fault_of part.NoMemory = NoMemory
 
 -- What a function returned is the answer, unless memory ran out.
 abbrev pub IsAnswer : Result Message ReadFault → Result Message ReadFault → Type 0

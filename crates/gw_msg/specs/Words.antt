@@ -1,13 +1,13 @@
 -- What the words of a message stand for, as they are read one by one.
-use Rattle.std.specs.Prelude.{ℕ, Bool, ◌&&◌, ◌||◌, not, nat_lt, nat_le, bytes_eq, if◌then◌else◌, List, [], ◌∷◌, length, slice_index, Option, Some, None, codes}
+use Rattle.std.specs.Prelude.{◌==◌, ◌-◌, ℕ, true, false, Bool, ◌&&◌, ◌||◌, not, nat_lt, nat_le, bytes_eq, if◌then◌else◌, List, [], ◌∷◌, ◌++◌, length, take, slice_index, Option, Some, None, codes}
 use Rattle.std.specs.List.{list_all, list_any}
 use Rattle.std.specs.Str.Parse.{digits_value}
-use Rattle.gw_base.specs.Bytes.{is_letter, is_digit, is_one_of}
+use Rattle.gw_base.specs.Bytes.{byte, last_byte, is_letter, is_digit, is_name_byte, is_one_of}
 use Rattle.gw_base.specs.Addresses.{is_address_byte}
 use Rattle.gw_base.specs.Mids.{is_domain_byte, is_device_byte}
 use Rattle.gw_base.specs.Wildcards.{is_wildcard, is_term_byte}
 use Rattle.gw_base.specs.declared.term_ref.TermRef.{TermRef}
-use Rattle.gw_base.specs.declared.term_ref.TermRef.TheVariants.{Name}
+use Rattle.gw_base.specs.declared.term_ref.TermRef.TheVariants.{Root, All, Choose, Under, Name, Other}
 use Rattle.gw_base.specs.declared.command_words.Verb.{Verb}
 use Rattle.gw_base.specs.declared.command_words.Verb.TheVariants as verb
 use Rattle.gw_text.specs.Tokens.{token_of, is_same_word}
@@ -18,16 +18,22 @@ use Rattle.gw_text.specs.declared.token.Token.TheVariants as token
 
 abbrev pub verb_for : Option Token → Option Verb
 verb_for (Some token.Add) = Some verb.Add
+verb_for (Some token.Modify) = Some verb.Modify
+verb_for (Some token.Move) = Some verb.Move
 verb_for (Some token.Subtract) = Some verb.Subtract
+verb_for (Some token.AuditValue) = Some verb.AuditValue
+verb_for (Some token.AuditCapability) = Some verb.AuditCapability
+verb_for (Some token.Notify) = Some verb.Notify
+verb_for (Some token.ServiceChange) = Some verb.ServiceChange
 verb_for _ = None
 
 abbrev pub context_for : Option Token → Option (Unit {0})
 context_for (Some token.Context) = Some tt
 context_for _ = None
 
-abbrev pub transaction_for : Option Token → Option (Unit {0})
-transaction_for (Some token.Transaction) = Some tt
-transaction_for _ = None
+abbrev pub error_for : Option Token → Option (Unit {0})
+error_for (Some token.Error) = Some tt
+error_for _ = None
 
 abbrev pub verb_of : List ℕ → Option Verb
 verb_of word = verb_for (token_of word)
@@ -35,8 +41,12 @@ verb_of word = verb_for (token_of word)
 abbrev pub context_of : List ℕ → Option (Unit {0})
 context_of word = context_for (token_of word)
 
-abbrev pub transaction_of : List ℕ → Option (Unit {0})
-transaction_of word = transaction_for (token_of word)
+abbrev pub error_of : List ℕ → Option (Unit {0})
+error_of word = error_for (token_of word)
+
+-- of the tokens that may begin a body, Error alone begins with an E
+abbrev pub is_error_start : ℕ → Bool
+is_error_start b = is_one_of (codes "Ee") b
 
 -- ---- names
 
@@ -44,14 +54,36 @@ transaction_of word = transaction_for (token_of word)
 abbrev pub is_run_within : ℕ → (ℕ → Bool) → List ℕ → Bool
 is_run_within limit p text = nat_lt 0 (length text) && (nat_le (length text) limit && list_all p text)
 
--- one termination by its name
-unfoldable pub is_named : List ℕ → Bool
-is_named text =
-    is_run_within 64 is_term_byte text && (is_letter (slice_index text 0) || is_wildcard (slice_index text 0))
-    && (not (list_any is_wildcard text) && not (is_same_word text (codes "ROOT")))
+-- these bytes and no others
+abbrev pub is_same : List ℕ → List ℕ → Bool
+is_same bytes text = bytes_eq text bytes
+
+abbrev pub is_term_text : List ℕ → Bool
+is_term_text text = is_run_within 64 is_term_byte text && (is_letter (slice_index text 0) || is_wildcard (slice_index text 0))
+
+abbrev pub is_name : List ℕ → Bool
+is_name text = is_run_within 64 is_name_byte text && is_letter (slice_index text 0)
+
+abbrev pub is_choose : List ℕ → Bool
+is_choose text = is_same (codes "$") text || is_same (codes "RTP/$") text
+
+-- what stands in front of the last byte
+abbrev pub front_of : List ℕ → List ℕ
+front_of text = take (length text - 1) text
+
+abbrev pub is_under : List ℕ → Bool
+is_under text = is_same (front_of text ++ codes "*") text && (is_name (front_of text) && last_byte (front_of text) == byte (codes "/"))
+
+-- the class of a text, by the tests that it passes
+abbrev pub class_by : (text : List ℕ) → (root all choose under wild : Bool) → TermRef
+class_by text root all choose under wild =
+    if root then Root else if all then All else if choose then Choose else if under then Under (front_of text) else if wild then Other text else Name text
+
+unfoldable pub class_of : List ℕ → TermRef
+class_of text = class_by text (is_same_word text (codes "ROOT")) (is_same (codes "*") text) (is_choose text) (is_under text) (list_any is_wildcard text)
 
 abbrev pub term_of : List ℕ → Option TermRef
-term_of word = if is_named word then Some (Name word) else None
+term_of word = if is_term_text word then Some (class_of word) else None
 
 -- ---- mIds
 
@@ -59,10 +91,6 @@ term_of word = if is_named word then Some (Name word) else None
 abbrev pub is_both : (List ℕ → Bool) → (List ℕ → Bool) → List ℕ → Bool
 is_both p q [] = p [] && q []
 is_both p q (b ∷ bs) = (p [] && q (b ∷ bs)) || is_both (λ x. p (b ∷ x)) q bs
-
--- these bytes and no others
-abbrev pub is_same : List ℕ → List ℕ → Bool
-is_same bytes text = bytes_eq text bytes
 
 abbrev pub is_address : List ℕ → Bool
 is_address text = is_run_within 45 is_address_byte text

@@ -1,11 +1,9 @@
 //! Why a text gives no message.
 
 ghost use Rattle.std.specs.Prelude.{◌≡◌};
-ghost use Rattle.gw_msg.specs.declared.fault.ReadFault.TheVariants.{NoMemory, Syntax};
+ghost use Rattle.gw_msg.specs.Reading.{fault_of};
 
-use gw_base::NameFault;
-use gw_text::ScanFault;
-use std::alloc::AllocError;
+use gw_desc::PartFault;
 use thiserror::Error;
 
 /// Why a text gives no message.
@@ -14,7 +12,7 @@ pub enum ReadFault {
     /// The text begins as a message of another version than 1, whatever follows.
     #[error("version not supported")]
     Version,
-    /// The text does not begin so, and is no message that is read.
+    /// The text does not begin so, and is no message.
     #[error("syntax error in message")]
     Syntax,
     /// A growth was refused.
@@ -22,26 +20,13 @@ pub enum ReadFault {
     NoMemory,
 }
 
-impl From<AllocError> for ReadFault {
-    ghost from_gives = { λ _ e. e ≡ NoMemory };
+impl From<PartFault> for ReadFault {
+    ghost from_gives = { λ part e. e ≡ fault_of part };
 
-    fn from(_e: AllocError) -> ReadFault {
-        ReadFault::NoMemory
-    }
-}
-
-impl From<ScanFault> for ReadFault {
-    ghost from_gives = { λ _ e. e ≡ Syntax };
-
-    fn from(_e: ScanFault) -> ReadFault {
-        ReadFault::Syntax
-    }
-}
-
-impl From<NameFault> for ReadFault {
-    ghost from_gives = { λ _ e. e ≡ Syntax };
-
-    fn from(_e: NameFault) -> ReadFault {
-        ReadFault::Syntax
+    fn from(part: PartFault) -> ReadFault {
+        match part {
+            PartFault::Syntax => ReadFault::Syntax,
+            PartFault::NoMemory => ReadFault::NoMemory,
+        }
     }
 }

@@ -1,13 +1,13 @@
 //! Messages of H.248 version 1 in the text encoding, as they are read.
 #![tactic(auto)]
 
+mod actions;
 mod fault;
-mod lists;
+mod items;
 mod message;
-mod parts;
 mod read;
 mod words;
 
 pub use fault::ReadFault;
-pub use message::{Action, Command, Item, Message, Request};
+pub use message::{AckRange, Action, Command, Item, Message, Request};
 pub use read::{one_answer, one_message, read_message};

@@ -7,7 +7,7 @@ use gw_base::{CtxRef, Items, Mid, TermRef, TxId, Verb};
 pub struct Message {
     /// The sender's mId, byte for byte.
     pub mid: Mid,
-    /// What the body holds.
+    /// What the body holds; nothing where it is an error.
     pub items: Items<Item>,
 }
 
@@ -16,6 +16,20 @@ pub struct Message {
 pub enum Item {
     /// A transaction to be carried out.
     Request(Request),
+    /// Replies that have arrived, by the numbers of their transactions.
+    Ack(Items<AckRange>),
+    /// A reply, or that one is pending: read, and of no effect.
+    Ignored,
+}
+
+/// Transactions whose replies have arrived (RFC 3525, Annex D.1): the numbers from the first to the last, both among
+/// them. The two are equal where one number stands alone.
+#[derive(Clone, Copy, Debug, PartialEq, Eq)]
+pub struct AckRange {
+    /// The first number. It may be above the last.
+    pub first: u32,
+    /// The last number.
+    pub last: u32,
 }
 
 /// A transaction request (RFC 3525, section 8.2.1).

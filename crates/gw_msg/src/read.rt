@@ -1,15 +1,17 @@
 //! Reading a whole message.
 
 ghost use Rattle.std.specs.Prelude.{◌≡◌, ◌≢◌, ◌⊎◌, ℕ, List, Result, Err};
-ghost use Rattle.gw_msg.specs.Reading.{Gives, IsAnswer, version_at, header_at, message_of};
+ghost use Rattle.gw_desc.specs.Parts.{Gives};
+ghost use Rattle.gw_msg.specs.Reading.{IsAnswer, version_at, header_at, message_of};
 ghost use Rattle.gw_msg.specs.Grammar.{IsReadingOf, Spells, HasVersionFault};
 ghost use Rattle.gw_msg.specs.declared.message.Message.{Message as SpelledMessage};
 ghost use Rattle.gw_msg.specs.declared.fault.ReadFault.{ReadFault as Fault};
 ghost use Rattle.gw_msg.specs.declared.fault.ReadFault.TheVariants.{NoMemory};
 
 use crate::fault::ReadFault;
+use crate::items::content;
 use crate::message::Message;
-use crate::parts::content;
+use gw_desc::PartFault;
 use gw_text::Cursor;
 use std::alloc::Global;
 
@@ -24,11 +26,11 @@ const VERSION_MAX: u32 = 99;
 
 /// What follows the first token of a header: the version, which is answered.
 #[tactic(auto, unfolding(crate::specs::Reading::version_at))]
-fn header_end(cursor: &mut Cursor<'_>) -> Result<u32, ReadFault>
+fn header_end(cursor: &mut Cursor<'_>) -> Result<u32, PartFault>
     ensures { Gives result cursor.new (version_at cursor.old) }
 {
     if !cursor.byte(b'/') {
-        return Err(ReadFault::Syntax);
+        return Err(PartFault::Syntax);
     }
     let version = cursor.number(VERSION_DIGITS, VERSION_MAX)?;
     cursor.sep()?;
@@ -37,12 +39,12 @@ fn header_end(cursor: &mut Cursor<'_>) -> Result<u32, ReadFault>
 
 /// The header: its version.
 #[tactic(auto, unfolding(crate::specs::Reading::header_at, gw_text::specs::SpaceScan::skip))]
-fn header(cursor: &mut Cursor<'_>) -> Result<u32, ReadFault>
+fn header(cursor: &mut Cursor<'_>) -> Result<u32, PartFault>
     ensures { Gives result cursor.new (header_at cursor.old) }
 {
     cursor.lwsp();
     if !cursor.prefix(b"MEGACO") && !cursor.byte(b'!') {
-        return Err(ReadFault::Syntax);
+        return Err(PartFault::Syntax);
     }
     header_end(cursor)
 }
@@ -56,7 +58,6 @@ fn answer(alloc: Global, text: &[u8]) -> Result<Message, ReadFault>
         return Err(ReadFault::Version);
     }
     let message = content(alloc, &mut cursor)?;
-    cursor.lwsp();
     if !cursor.is_empty() {
         return Err(ReadFault::Syntax);
     }

@@ -1,71 +1,107 @@
 //! Reading the single words of a message. After a fault nothing is said of the cursor.
 
-ghost use Rattle.std.specs.Prelude.{◌≡◌};
+ghost use Rattle.std.specs.Prelude.{◌≡◌, ◌||◌, not, Some};
 ghost use Rattle.gw_text.specs.Reader.{word_as, solid_as};
-ghost use Rattle.gw_msg.specs.Words.{verb_of, context_of, transaction_of, term_of, mid_of};
-ghost use Rattle.gw_msg.specs.Reading.{Gives, context_id_at};
+ghost use Rattle.gw_desc.specs.Parts.{Gives};
+ghost use Rattle.gw_msg.specs.Grammar.{may_be_wild, has_group};
+ghost use Rattle.gw_msg.specs.Words.{verb_of, context_of, error_of, term_of, mid_of};
+ghost use Rattle.gw_msg.specs.Reading.{mark_at, context_id_at};
 
-use crate::fault::ReadFault;
 use gw_base::{CtxNum, CtxRef, Mid, TermRef, Verb};
+use gw_desc::PartFault;
 use gw_text::{Cursor, Token, token_of};
 
+/// Whether the bytes come next, in any case; they are taken.
+#[tactic(auto, unfolding(crate::specs::Reading::mark_at))]
+pub fn mark(cursor: &mut Cursor<'_>, bytes: &[u8]) -> bool
+    ensures { mark_at bytes.now cursor.old ≡ Some (result, cursor.new) }
+{
+    cursor.prefix(bytes)
+}
+
 /// The command that a token names.
-pub fn verb(cursor: &mut Cursor<'_>) -> Result<Verb, ReadFault>
+pub fn verb(cursor: &mut Cursor<'_>) -> Result<Verb, PartFault>
     ensures { Gives result cursor.new (word_as verb_of cursor.old) }
 {
     match token_of(cursor.word()?) {
         Some(Token::Add) => Ok(Verb::Add),
+        Some(Token::Modify) => Ok(Verb::Modify),
+        Some(Token::Move) => Ok(Verb::Move),
         Some(Token::Subtract) => Ok(Verb::Subtract),
-        _ => Err(ReadFault::Syntax),
+        Some(Token::AuditValue) => Ok(Verb::AuditValue),
+        Some(Token::AuditCapability) => Ok(Verb::AuditCapability),
+        Some(Token::Notify) => Ok(Verb::Notify),
+        Some(Token::ServiceChange) => Ok(Verb::ServiceChange),
+        _ => Err(PartFault::Syntax),
     }
 }
 
+/// Whether `W-` may stand in front of the command.
+pub fn may_be_wild(verb: Verb) -> bool
+    ensures { result ≡ may_be_wild verb }
+{
+    matches!(
+        verb,
+        Verb::Subtract | Verb::AuditValue | Verb::AuditCapability
+    )
+}
+
+/// Whether what stands behind the command's TerminationID is read as a group.
+pub fn has_group(verb: Verb) -> bool
+    ensures { result ≡ has_group verb }
+{
+    matches!(verb, Verb::AuditCapability | Verb::Notify)
+}
+
 /// The token of an action.
-pub fn context_word(cursor: &mut Cursor<'_>) -> Result<(), ReadFault>
+pub fn context_word(cursor: &mut Cursor<'_>) -> Result<(), PartFault>
     ensures { Gives result cursor.new (word_as context_of cursor.old) }
 {
     match token_of(cursor.word()?) {
         Some(Token::Context) => Ok(()),
-        _ => Err(ReadFault::Syntax),
+        _ => Err(PartFault::Syntax),
     }
 }
 
-/// The token of a transaction.
-pub fn transaction_word(cursor: &mut Cursor<'_>) -> Result<(), ReadFault>
-    ensures { Gives result cursor.new (word_as transaction_of cursor.old) }
+/// The token of an error.
+pub fn error_word(cursor: &mut Cursor<'_>) -> Result<(), PartFault>
+    ensures { Gives result cursor.new (word_as error_of cursor.old) }
 {
     match token_of(cursor.word()?) {
-        Some(Token::Transaction) => Ok(()),
-        _ => Err(ReadFault::Syntax),
+        Some(Token::Error) => Ok(()),
+        _ => Err(PartFault::Syntax),
     }
 }
 
 /// The ContextID of an action.
 #[tactic(auto, unfolding(crate::specs::Reading::context_id_at))]
-pub fn context_id(cursor: &mut Cursor<'_>) -> Result<CtxRef, ReadFault>
+pub fn context_id(cursor: &mut Cursor<'_>) -> Result<CtxRef, PartFault>
     ensures { Gives result cursor.new (context_id_at cursor.old) }
 {
     if cursor.byte(b'$') {
         return Ok(CtxRef::Choose);
     }
+    if cursor.byte(b'*') {
+        return Ok(CtxRef::All);
+    }
+    if cursor.byte(b'-') {
+        return Ok(CtxRef::Null);
+    }
     let number = cursor.uint32()?;
     Ok(CtxRef::Num(CtxNum(number.value)))
 }
 
-/// The name of one termination.
-#[tactic(auto, using(crate::proofs::WordLemmas::term_read, crate::proofs::WordLemmas::term_not_read))]
-pub fn term(cursor: &mut Cursor<'_>) -> Result<TermRef, ReadFault>
+/// The TerminationID of a command.
+#[tactic(auto, using(crate::proofs::TermLaws::term_read, crate::proofs::TermLaws::term_not_read))]
+pub fn term(cursor: &mut Cursor<'_>) -> Result<TermRef, PartFault>
     ensures { Gives result cursor.new (word_as term_of cursor.old) }
 {
-    match TermRef::read(cursor.word()?)? {
-        TermRef::Name(name) => Ok(TermRef::Name(name)),
-        _ => Err(ReadFault::Syntax),
-    }
+    Ok(TermRef::read(cursor.word()?)?)
 }
 
 /// The sender's mId.
 #[tactic(auto, using(crate::proofs::WordLemmas::mid_read, crate::proofs::WordLemmas::mid_not_read))]
-pub fn mid(cursor: &mut Cursor<'_>) -> Result<Mid, ReadFault>
+pub fn mid(cursor: &mut Cursor<'_>) -> Result<Mid, PartFault>
     ensures { Gives result cursor.new (solid_as mid_of cursor.old) }
 {
     Ok(Mid::read(cursor.solid()?)?)

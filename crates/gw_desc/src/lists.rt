@@ -1,0 +1,125 @@
+//! Parts of a message that are read from a text, alone or in lists. After a fault nothing is said of the cursor.
+
+ghost use Rattle.std.specs.Prelude.{◌≡◌, ℕ, List, Option, Some, None, MatchResult};
+ghost use Rattle.gw_text.specs.Sign.{sign_at};
+ghost use Rattle.gw_text.specs.Reader.{list_at, closed_list_at, braced_at, optional_at, braced_or_empty_at};
+ghost use Rattle.gw_desc.specs.Parts.{Gives, Shrinks};
+
+use crate::fault::PartFault;
+use gw_base::Items;
+use gw_text::Cursor;
+use std::alloc::Global;
+
+/// A part of a message.
+pub trait Part: Drop {
+    // what reading gives at the front of a text
+    ghost read_at: { List ℕ → Option (Self × List ℕ) };
+
+    /// Reads the part that stands at the cursor.
+    ///
+    /// # Errors
+    ///
+    /// `Syntax` where there is none; `NoMemory` where a growth was refused.
+    fn read(alloc: Global, cursor: &mut Cursor<'_>) -> Result<Self, PartFault>
+        ensures { Gives result cursor.new (read_at cursor.old) };
+}
+
+/// Takes the sign, which must come next, with the white space on both sides.
+///
+/// # Errors
+///
+/// `Syntax` where it does not come next.
+pub fn sign(cursor: &mut Cursor<'_>, b: u8) -> Result<(), PartFault>
+    ensures { MatchResult result (λ _. sign_at b cursor.old ≡ Some cursor.new) (λ e. (e ≡ PartFault.Syntax) × (sign_at b cursor.old ≡ None)) }
+{
+    if cursor.sign(b) {
+        Ok(())
+    } else {
+        Err(PartFault::Syntax)
+    }
+}
+
+/// Reads one part or more, with commas between them. Each part is read once.
+///
+/// # Errors
+///
+/// `Syntax` where there are none; `NoMemory` where a growth was refused.
+pub fn list<T: Part>(alloc: Global, cursor: &mut Cursor<'_>) -> Result<Items<T>, PartFault>
+    requires { Shrinks T.read_at }
+    ensures { Gives result cursor.new (list_at T.read_at cursor.old) }
+{
+    let mut parts = Items::new(alloc);
+    loop {
+        let part = T::read(alloc, cursor)?;
+        parts.push(part)?;
+        if !cursor.sign(b',') {
+            return Ok(parts);
+        }
+    }
+}
+
+/// Reads one part or more, with commas between them, and the brace that closes them.
+///
+/// # Errors
+///
+/// `Syntax` where there are none; `NoMemory` where a growth was refused.
+pub fn closed<T: Part>(alloc: Global, cursor: &mut Cursor<'_>) -> Result<Items<T>, PartFault>
+    requires { Shrinks T.read_at }
+    ensures { Gives result cursor.new (closed_list_at T.read_at cursor.old) }
+{
+    let parts = list(alloc, cursor)?;
+    sign(cursor, b'}')?;
+    Ok(parts)
+}
+
+/// Reads one part or more in braces, with commas between them.
+///
+/// # Errors
+///
+/// `Syntax` where there are none; `NoMemory` where a growth was refused.
+pub fn braced<T: Part>(alloc: Global, cursor: &mut Cursor<'_>) -> Result<Items<T>, PartFault>
+    requires { Shrinks T.read_at }
+    ensures { Gives result cursor.new (braced_at T.read_at cursor.old) }
+{
+    sign(cursor, b'{')?;
+    closed(alloc, cursor)
+}
+
+/// Reads one part or more in braces, with commas between them, where a brace comes next; else nothing.
+///
+/// # Errors
+///
+/// `Syntax` where a brace comes next and no such list stands there; `NoMemory` where a growth was refused.
+#[tactic(auto, unfolding(gw_text::specs::Reader::optional_at))]
+pub fn optional_braced<T: Part>(
+    alloc: Global,
+    cursor: &mut Cursor<'_>,
+) -> Result<Items<T>, PartFault>
+    requires { Shrinks T.read_at }
+    ensures { Gives result cursor.new (optional_at T.read_at cursor.old) }
+{
+    if !cursor.sign(b'{') {
+        return Ok(Items::new(alloc));
+    }
+    closed(alloc, cursor)
+}
+
+/// Reads any number of parts in braces, with commas between them.
+///
+/// # Errors
+///
+/// `Syntax` where there is no such list; `NoMemory` where a growth was refused.
+#[tactic(auto, unfolding(gw_text::specs::Reader::braced_or_empty_at))]
+pub fn braced_or_empty<T: Part>(
+    alloc: Global,
+    cursor: &mut Cursor<'_>,
+) -> Result<Items<T>, PartFault>
+    requires { Shrinks T.read_at }
+    ensures { Gives result cursor.new (braced_or_empty_at T.read_at cursor.old) }
+{
+    sign(cursor, b'{')?;
+    if cursor.sign(b'}') {
+        return Ok(Items::new(alloc));
+    }
+    closed(alloc, cursor)
+}

@@ -1,0 +1,149 @@
+-- What the tokens of a message begin with, and so which of them comes next.
+use Rattle.std.proofs.Common.{◌≡◌, ◌⊎◌, inl, inr, ℕ, ◌+◌, ◌-◌, Bool, true, false, cond, not, ◌==◌, ◌||◌, ◌&&◌, List, [], ◌∷◌, map, Option, Some, None, refl, ap, sym, subst, ◌∙◌, arith}
+use Rattle.std.specs.Prelude.{bytes_eq, codes}
+use Rattle.std.specs.List.{list_all, list_any}
+use Rattle.std.specs.Char.{to_ascii_lowercase}
+use Rattle.std.proofs.lemmas.Slice.Eq.{bytes_eq-Decides}
+use Rattle.std.proofs.lemmas.Bool.{and_parts, or_cases, eqb-true, not-true}
+use Rattle.gw_base.specs.Bytes.{is_one_of}
+use Rattle.gw_text.specs.Runs.{begins, is_byte}
+use Rattle.gw_text.specs.Forms.{IsInAnyCase}
+use Rattle.gw_text.specs.Tokens.{Spelling, table, is_spelling, find_token, token_of}
+use Rattle.gw_text.specs.declared.token.Token.{Token}
+use Rattle.gw_text.specs.declared.token.Token.TheVariants as token
+use Rattle.gw_text.proofs.Signs.{some_is}
+use Rattle.gw_msg.specs.Words.{is_error_start}
+
+-- ---- the next byte
+
+eq_either : (a b : ℕ) → a == b ≡ b == a
+eq_either a b = grind arith
+
+none_begins : (bytes : List ℕ) → list_any (λ b. begins (is_byte b) []) bytes ≡ false
+none_begins [] = refl
+none_begins (b ∷ bs) = none_begins bs
+
+one_begins : (bytes : List ℕ) (c : ℕ) (cs : List ℕ) → list_any (λ b. begins (is_byte b) (c ∷ cs)) bytes ≡ is_one_of bytes c
+one_begins [] c cs = refl
+one_begins (b ∷ bs) c cs = ap (λ (t : Bool). t || list_any (λ b. begins (is_byte b) (c ∷ cs)) bs) (eq_either c b) ∙ ap (λ (t : Bool). b == c || t) (one_begins bs c cs)
+
+-- one of the bytes comes next
+pub begins_one_of : (bytes text : List ℕ) → list_any (λ b. begins (is_byte b) text) bytes ≡ begins (is_one_of bytes) text
+begins_one_of bytes [] = none_begins bytes
+begins_one_of bytes (c ∷ cs) = one_begins bytes c cs
+
+-- ---- the first bytes of tokens
+
+-- the first byte of either form of a token, as a small letter
+abbrev first_fits : Token → ℕ → Bool
+first_fits token.Error b = is_one_of (codes "e") b
+first_fits token.Transaction b = not (is_one_of (codes "e") b)
+first_fits token.Reply b = not (is_one_of (codes "e") b)
+first_fits token.Pending b = not (is_one_of (codes "e") b)
+first_fits token.TransactionResponseAck b = not (is_one_of (codes "e") b)
+first_fits _ b = true
+
+abbrev all_fit : List Spelling → Bool
+all_fit [] = true
+all_fit (s ∷ others) = begins (first_fits s.token) (map to_ascii_lowercase s.long) && (begins (first_fits s.token) (map to_ascii_lowercase s.short) && all_fit others)
+
+found_in : (P : Type 0) (t : Bool) (a b : Option Token) (x : Token) → cond t a b ≡ Some x → (t ≡ true → a ≡ Some x → P) → (b ≡ Some x → P) → P
+found_in P true a b x e f g = f refl e
+found_in P false a b x e f g = g e
+
+find_fits : (word : List ℕ) (entries : List Spelling) (t : Token) → all_fit entries ≡ true → find_token word entries ≡ Some t → begins (first_fits t) (map to_ascii_lowercase word) ≡ true
+unfolding is_spelling
+find_fits word [] t h e = absurd cc
+find_fits word (s ∷ others) t h e =
+    let lower : List ℕ = map to_ascii_lowercase word in
+    let long : List ℕ = map to_ascii_lowercase s.long in
+    let short : List ℕ = map to_ascii_lowercase s.short in
+    let a = and_parts (begins (first_fits s.token) long) (begins (first_fits s.token) short && all_fit others) h in
+    let b = and_parts (begins (first_fits s.token) short) (all_fit others) a.1 in
+    found_in (begins (first_fits t) lower ≡ true) (bytes_eq lower long || bytes_eq lower short) (Some s.token) (find_token word others) t e
+    (λ is same. ap (λ (u : Token). begins (first_fits u) lower) (sym (some_is s.token t same)) ∙ elim (or_cases (bytes_eq lower long) (bytes_eq lower short) is) [
+      | inl i ↦ ap (begins (first_fits s.token)) ((bytes_eq-Decides lower long).0 i) ∙ a.0
+      | inr i ↦ ap (begins (first_fits s.token)) ((bytes_eq-Decides lower short).0 i) ∙ b.0
+    ])
+    (λ i. find_fits word others t b.1 i)
+
+token_fits : (word : List ℕ) (t : Token) → token_of word ≡ Some t → begins (first_fits t) (map to_ascii_lowercase word) ≡ true
+unfolding token_of
+token_fits word t e = find_fits word table t refl e
+
+-- ---- small letters and letters
+
+lower_cases : (s t : Bool) (c m : ℕ) → cond s c (cond t (c + 32) c) ≡ m → (c + 32 ≡ m) ⊎ (c ≡ m)
+lower_cases true t c m e = inr e
+lower_cases false true c m e = inl e
+lower_cases false false c m e = inr e
+
+-- a letter of a class that has both its cases
+pub either_case : (p : ℕ → Bool) (m c : ℕ) → to_ascii_lowercase c ≡ m → p m ≡ true → p (m - 32) ≡ true → p c ≡ true
+either_case p m c e small large =
+    elim (lower_cases _ _ c m e) [
+      | inl k ↦ let same : c ≡ m - 32 = omega (arith, k) in ap p same ∙ large
+      | inr k ↦ ap p k ∙ small
+    ]
+
+-- what begins with a letter in any case
+pub case_begins : (p : ℕ → Bool) (l : ℕ) (ls text : List ℕ) → IsInAnyCase (l ∷ ls) text → p (to_ascii_lowercase l) ≡ true → p (to_ascii_lowercase l - 32) ≡ true → begins p text ≡ true
+case_begins p l ls [] h small large = absurd cc
+case_begins p l ls (c ∷ cs) h small large = let same : to_ascii_lowercase c ≡ to_ascii_lowercase l = cc in either_case p (to_ascii_lowercase l) c same small large
+
+-- what a class has of each of some marks
+pub one_of : (p : ℕ → Bool) (marks : List ℕ) (c : ℕ) → list_all p marks ≡ true → is_one_of marks c ≡ true → p c ≡ true
+one_of p [] c all h = absurd cc
+one_of p (m ∷ marks) c all h =
+    let a = and_parts (p m) (list_all p marks) all in
+    elim (or_cases (m == c) (is_one_of marks c) h) [
+      | inl e ↦ ap p (sym (eqb-true m c e)) ∙ a.0
+      | inr e ↦ one_of p marks c a.1 e
+    ]
+
+lower_in : (p : ℕ → Bool) (marks : List ℕ) (c : ℕ) → list_all p marks ≡ true → list_all (λ m. p (m - 32)) marks ≡ true → is_one_of marks (to_ascii_lowercase c) ≡ true → p c ≡ true
+lower_in p [] c small large h = absurd cc
+lower_in p (m ∷ marks) c small large h =
+    let a = and_parts (p m) (list_all p marks) small in
+    let b = and_parts (p (m - 32)) (list_all (λ m. p (m - 32)) marks) large in
+    elim (or_cases (m == to_ascii_lowercase c) (is_one_of marks (to_ascii_lowercase c)) h) [
+      | inl e ↦ either_case p m c (sym (eqb-true m (to_ascii_lowercase c) e)) a.0 b.0
+      | inr e ↦ lower_in p marks c a.1 b.1 e
+    ]
+
+begins_with : (p : ℕ → Bool) (marks text : List ℕ) → list_all p marks ≡ true → list_all (λ m. p (m - 32)) marks ≡ true → begins (is_one_of marks) (map to_ascii_lowercase text) ≡ true → begins p text ≡ true
+begins_with p marks [] small large h = absurd cc
+begins_with p marks (c ∷ cs) small large h = lower_in p marks c small large h
+
+refute : (t : Bool) → (t ≡ true → ⊥) → t ≡ false
+refute true h = absurd (h refl)
+refute false h = refl
+
+begins_without : (marks letters text : List ℕ) → list_all (λ x. is_one_of marks (to_ascii_lowercase x)) letters ≡ true → begins (λ b. not (is_one_of marks b)) (map to_ascii_lowercase text) ≡ true → begins (λ b. not (is_one_of letters b)) text ≡ true
+begins_without marks letters [] all h = absurd cc
+begins_without marks letters (c ∷ cs) all h =
+    ap not (refute (is_one_of letters c) (λ is.
+    let clash : true ≡ false = sym (one_of (λ x. is_one_of marks (to_ascii_lowercase x)) letters c all is) ∙ not-true _ h in absurd cc))
+
+-- ---- errors and items
+
+pub error_starts : (word : List ℕ) → token_of word ≡ Some token.Error → begins is_error_start word ≡ true
+error_starts word e = begins_with is_error_start (codes "e") word refl refl (token_fits word token.Error e)
+
+abbrev pub no_error_start : ℕ → Bool
+no_error_start b = not (is_error_start b)
+
+small_e : (word : List ℕ) → begins (λ b. not (is_one_of (codes "e") b)) (map to_ascii_lowercase word) ≡ true → begins no_error_start word ≡ true
+small_e word h = begins_without (codes "e") (codes "Ee") word refl h
+
+pub transaction_starts : (word : List ℕ) → token_of word ≡ Some token.Transaction → begins no_error_start word ≡ true
+transaction_starts word e = small_e word (token_fits word token.Transaction e)
+
+pub reply_starts : (word : List ℕ) → token_of word ≡ Some token.Reply → begins no_error_start word ≡ true
+reply_starts word e = small_e word (token_fits word token.Reply e)
+
+pub pending_starts : (word : List ℕ) → token_of word ≡ Some token.Pending → begins no_error_start word ≡ true
+pending_starts word e = small_e word (token_fits word token.Pending e)
+
+pub ack_starts : (word : List ℕ) → token_of word ≡ Some token.TransactionResponseAck → begins no_error_start word ≡ true
+ack_starts word e = small_e word (token_fits word token.TransactionResponseAck e)
