@@ -59,6 +59,8 @@ if_simple false r = None
 abbrev pub simple_request : List Item → Option Request
 simple_request [] = None
 simple_request (item.Request r ∷ []) = if_simple (is_simple_request r) r
+simple_request (item.Ack ranges ∷ []) = None
+simple_request (item.Ignored ∷ []) = None
 simple_request (i ∷ (j ∷ more)) = None
 
 -- ---- what is answered

@@ -12,6 +12,9 @@ const FIRST_REPLY: &str = "MEGACO/1 [10.0.0.1]:2944\nReply=1{Context=1{Add=T/1,A
 /// What a text that is no message is answered with.
 const SYNTAX_ERROR: &str = "MEGACO/1 [10.0.0.1]:2944\nError=400{\"Syntax error in message\"}";
 
+/// What a message that is read, and not carried out, is answered with.
+const NOT_IMPLEMENTED: &str = "MEGACO/1 [10.0.0.1]:2944\nError=501{\"Not implemented\"}";
+
 /// A configuration with these terminations.
 fn config(alloc: Global, names: &[&str]) -> Result<Config, Fail> {
     let mut terms = Items::new(alloc);
@@ -246,6 +249,34 @@ fn texts_that_are_no_message(rt: HostRuntime) -> Result<(), Fail> {
         "MEGACO/1 [10.0.0.1]:2944\nError=406{\"Version not supported\"}",
     )?;
     // None of them changed anything.
+    expect_answer(&rt, alloc, &mut gateway, first, FIRST_REPLY)
+}
+
+#[test]
+fn messages_that_are_not_carried_out(rt: HostRuntime) -> Result<(), Fail> {
+    let alloc = rt.alloc();
+    let mut gateway = new_gateway(alloc)?;
+    let bodies = [
+        "Transaction=1{Context=${Add=T/1,Add=$}}",
+        "Transaction=1{Context=${Add=T/1}} Transaction=2{Context=${Add=T/2}}",
+        "Transaction=1{Context=${Add=T/1},Context=-{Modify=T/2}}",
+        "Transaction=1{Context=*{Subtract=T/1}}",
+        "Transaction=1{Context=${Add=T/1,Move=T/2}}",
+        "Transaction=1{Context=${Add=T/1,O-Add=T/9}}",
+        "Transaction=1{Context=${Add=T/1,W-Subtract=T/1}}",
+        "Transaction=1{Context=${Add=T/1,Add=*}}",
+        "Transaction=1{Context=${Add=ROOT}}",
+        "TransactionResponseAck{1-3}",
+        "Reply=1{Context=1{Add=T/1}}",
+        "Pending=1{}",
+        "Error=400{\"Syntax error in message\"}",
+    ];
+    for body in bodies {
+        let asked = format!(in alloc; "MEGACO/1 [10.0.0.9]:2944 {body}")?;
+        expect_answer(&rt, alloc, &mut gateway, asked.as_bytes(), NOT_IMPLEMENTED)?;
+    }
+    // None of them changed anything.
+    let first = b"MEGACO/1 [10.0.0.9]:2944 Transaction=1{Context=${Add=T/1,Add=T/2}}";
     expect_answer(&rt, alloc, &mut gateway, first, FIRST_REPLY)
 }
 
