@@ -4,6 +4,7 @@
 mod descriptor;
 mod fault;
 mod lists;
+mod properties;
 mod spans;
 mod tails;
 
