@@ -2,3 +2,4 @@ pub mod Faults
 pub mod Texts
 pub mod TailLaws
 pub mod BracketPieces
+pub mod BracketLaws
