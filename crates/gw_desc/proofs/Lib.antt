@@ -3,3 +3,4 @@ pub mod Texts
 pub mod TailLaws
 pub mod BracketPieces
 pub mod BracketLaws
+pub mod PropertyLaws
