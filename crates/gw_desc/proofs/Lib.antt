@@ -4,3 +4,4 @@ pub mod TailLaws
 pub mod BracketPieces
 pub mod BracketLaws
 pub mod PropertyLaws
+pub mod MediaLaws

@@ -6,6 +6,7 @@ mod fault;
 mod lists;
 mod properties;
 mod spans;
+mod streams;
 mod tails;
 
 pub use descriptor::{
