@@ -5,3 +5,6 @@ pub mod BracketPieces
 pub mod BracketLaws
 pub mod PropertyLaws
 pub mod MediaLaws
+pub mod RunPieces
+pub mod ServiceLaws
+pub mod DescriptorLaws

@@ -207,3 +207,52 @@ abbrev MediaRest : Token → MediaPart → List ℕ → Type 0
 MediaRest token.Stream m text = AStream m text
 MediaRest token.TerminationState m text = (list : List Property) × (media.TerminationState list ≡ m) × Braced SpellsProperty list text
 MediaRest t m text = (p : StreamPart) × (media.Outside p ≡ m) × StreamRest t p text
+
+media_rest_reads : (t : Token) → ReadsUp (media_rest t) (MediaRest t) Any Same Skipped
+media_rest_reads token.Stream = stream_reads
+media_rest_reads token.TerminationState = made_of (braced_at property_at) (λ list. media.TerminationState list) (Braced SpellsProperty) properties_read
+media_rest_reads t = up_last (stream_rest t) (λ p. media.Outside p) (StreamRest t) Any Same Skipped (stream_rest_reads t)
+
+media_rest_ends : (t : Token) (m : MediaPart) (front rest : List ℕ) → MediaRest t m front → NoMore is_safe (front ++ rest)
+media_rest_ends token.Stream m front rest q = both_ends is_safe equals_sign (StreamId m) front rest safe_apart refl q
+media_rest_ends token.TerminationState m front rest q = braced_ends is_safe SpellsProperty safe_apart refl q.0 front rest q.2
+media_rest_ends t m front rest q = stream_rest_ends t q.0 front rest q.2
+
+media_part_to : (t : Token) (m : MediaPart) (text : List ℕ) → Both (IsToken t) (MediaRest t m) text → SpellsMediaPart m text
+media_part_to token.Stream m text b =
+    let c = b.second in let id = c.second in let parts = id.1.second in
+    subst (λ (x : MediaPart). SpellsMediaPart x text) parts.1 (with_second b (with_second c (with_second id.1 parts.2)))
+media_part_to token.TerminationState m text b = subst (λ (x : MediaPart). SpellsMediaPart x text) b.second.1 (with_second b b.second.2)
+media_part_to t m text b = subst (λ (x : MediaPart). SpellsMediaPart x text) b.second.1 (stream_part_to t b.second.0 text (with_second b b.second.2))
+
+-- a part of a stream is no Stream, and no TerminationState
+outside_from : (t : Token) (p : StreamPart) (text : List ℕ) → Both (IsToken t) (StreamRest t p) text → (u : Token) × Both (IsToken u) (MediaRest u (media.Outside p)) text
+outside_from token.Stream p text b = absurd (b.second)
+outside_from token.TerminationState p text b = absurd (b.second)
+outside_from t p text b = (t, with_second b (p, refl, b.second))
+
+media_part_from : (m : MediaPart) (text : List ℕ) → SpellsMediaPart m text → (t : Token) × Both (IsToken t) (MediaRest t m) text
+media_part_from (media.Outside p) text b = let s = stream_part_from p text b in outside_from s.0 p text s.1
+media_part_from (media.Stream id parts) text b =
+    let c = b.second in let d = c.second in
+    (token.Stream, with_second b (with_second c (id, with_second d (parts, refl, d.second))))
+media_part_from (media.TerminationState list) text b = (token.TerminationState, with_second b (list, refl, b.second))
+
+pub media_part_reads : ReadsUp media_part_at SpellsMediaPart Any Same Skipped
+unfolding media_part_at
+media_part_reads =
+    up_as (up_then (word_as token_of) media_rest IsToken MediaRest (NoMore is_safe) Any Same Same Skipped
+    token_reads media_rest_reads (λ t m front rest q n. media_rest_ends t m front rest q))
+    (λ m text h. media_part_to h.0 m text h.1) media_part_from
+
+pub media_part_shrinks : Shrinks media_part_at
+media_part_shrinks = up_shrinks media_part_reads
+
+media_part_solid : BeginsWith is_solid SpellsMediaPart
+media_part_solid m text h = let s = media_part_from m text h in both_begins is_solid (IsToken s.0) (MediaRest s.0 m) (token_solid s.0) text s.1
+
+pub media_part_braces : BracesUp SpellsMediaPart Any
+media_part_braces = record {
+  lists = record { next = λ front more sign. tt; begins = media_part_solid };
+  closes = λ front more sign. tt;
+}

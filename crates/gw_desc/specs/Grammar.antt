@@ -137,9 +137,12 @@ SpellsMediaPart (media.TerminationState properties) = IsToken token.TerminationS
 
 -- ---- Services
 
--- a byte of a value that is no quoted text (own)
+-- what a value that is no quoted text may have beside safe bytes (own)
+abbrev pub is_run_mark : ℕ → Bool
+is_run_mark b = is_one_of (codes "[]:<>#") b
+
 abbrev pub is_run_byte : ℕ → Bool
-is_run_byte b = is_safe b || is_one_of (codes "[]:<>#") b
+is_run_byte b = is_safe b || is_run_mark b
 
 -- the value of a Services parameter, as sent
 abbrev pub SpellsServiceValue : ServiceValue → List ℕ → Type 0

@@ -34,7 +34,7 @@ fn piece<'a>(cursor: &mut Cursor<'a>) -> Result<&'a [u8], PartFault>
 
 /// A bracket, its brackets included. Each piece of it is scanned once, and then copied.
 #[tactic(auto, using(crate::proofs::BracketPieces::piece_shrinks, crate::proofs::BracketPieces::bracket_goes_on, crate::proofs::BracketPieces::bracket_ends, crate::proofs::BracketPieces::bracket_fails), unfolding(crate::specs::Reading::bracket_at))]
-fn bracket(alloc: Global, cursor: &mut Cursor<'_>) -> Result<Items<u8>, PartFault>
+pub fn bracket(alloc: Global, cursor: &mut Cursor<'_>) -> Result<Items<u8>, PartFault>
     ensures { Gives result cursor.new (bracket_at cursor.old) }
 {
     if !cursor.byte(b'[') {
