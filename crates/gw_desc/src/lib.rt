@@ -2,9 +2,13 @@
 #![tactic(auto)]
 
 mod descriptor;
+mod descriptors;
 mod fault;
 mod lists;
+mod properties;
+mod services;
 mod spans;
+mod streams;
 mod tails;
 
 pub use descriptor::{
