@@ -10,7 +10,7 @@ use Rattle.gw_text.specs.Tokens.{token_of}
 use Rattle.gw_text.specs.Reader.{Reader, ◌>>=◌, braced_at, braced_or_empty_at, if_ahead}
 use Rattle.gw_text.specs.declared.token.Token.{Token}
 use Rattle.gw_text.specs.declared.token.Token.TheVariants as token
-use Rattle.gw_text.proofs.Signs.{sign_ends, sign_other, some_is}
+use Rattle.gw_text.proofs.Signs.{sign_ends, sign_other, sign_end, some_is}
 use Rattle.gw_text.proofs.ReadsUp.{ReadsUp, Same, Skipped, UpTo, Any, BeginsWith, up_as, up_next, up_from, up_to, up_then, up_last, up_if_ahead, same_up, skipped_up, up_shrinks}
 use Rattle.gw_text.proofs.Links.{safe_apart, safe_is_solid, both_begins, both_ends, both_other, with_second, word_solid}
 use Rattle.gw_text.proofs.Lists.{BracesUp, up_braced, up_braced_or_empty}
@@ -23,17 +23,12 @@ use Rattle.gw_desc.specs.declared.descriptor.ServiceParm.{ServiceParm}
 use Rattle.gw_desc.specs.declared.descriptor.Tail.{Tail}
 use Rattle.gw_desc.specs.Parts.{Shrinks}
 use Rattle.gw_desc.specs.Grammar.{Kept, IsToken, SpellsTail, IsBracket, SpellsMediaPart, SpellsServiceParm, kept_token, is_descriptor, IsOtherWord, IsTail, IsDropped, SpellsDescriptor}
-use Rattle.gw_desc.specs.Reading.{word_read, tail_at, left_bracket, bracket_at, media_part_at, service_parm_at, dropped_at, keep_at, descriptor_rest, descriptor_at, AfterTail}
+use Rattle.gw_desc.specs.Reading.{word_read, tail_at, left_bracket, bracket_at, media_part_at, service_parm_at, dropped_at, keep_at, descriptor_rest, descriptor_at, AfterTail, AfterDescriptor}
 use Rattle.gw_desc.proofs.Texts.{ahead_ends, word_reads, kept_solid, kept_begins}
 use Rattle.gw_desc.proofs.TailLaws.{tail_reads, tail_ends, tail_other, sign_after_tail}
 use Rattle.gw_desc.proofs.BracketLaws.{bracket_reads, bracket_begins}
 use Rattle.gw_desc.proofs.MediaLaws.{token_solid, braced_ends, media_part_reads, media_part_braces}
 use Rattle.gw_desc.proofs.ServiceLaws.{service_parm_reads, service_parm_braces, AfterServiceParm}
-
--- what may follow a descriptor: nothing that goes on with its tail, and no bracket
-pub record AfterDescriptor (rest : List ℕ) : Type 0 where
-  pub tail : AfterTail rest
-  pub bracket : sign_at left_bracket rest ≡ None
 
 -- ---- what follows another word
 
@@ -243,3 +238,25 @@ descriptor_braces = record {
   lists = record { next = sign_after comma refl refl refl refl refl; begins = descriptor_solid };
   closes = sign_after right_brace refl refl refl refl refl;
 }
+
+-- ---- a whole text
+
+pub nothing_after_tail : AfterTail []
+nothing_after_tail = record { word = refl; equals = sign_end equals_sign; group = sign_end left_brace }
+
+nothing_after : AfterDescriptor []
+nothing_after = record { tail = nothing_after_tail; bracket = sign_end left_bracket }
+
+-- a text is of one value, where it is read
+one_value : {V : Type 0} {read : Reader V} {Form : V → List ℕ → Type 0} {Next : List ℕ → Type 0} {To : List ℕ → List ℕ → Type 0} → ReadsUp read Form Next Same To → Next [] → (text : List ℕ) (v w : V) → Form v text → Form w text → v ≡ w
+one_value {V} h none text v w p q =
+    let a = h.complete v text [] (text ++ []) p none refl in
+    let b = h.complete w text [] (text ++ []) q none refl in
+    let first : V × List ℕ = (v, a.0) in
+    ap (λ (x : V × List ℕ). x.0) (some_is first (w, b.0) (sym a.1 ∙ b.1))
+
+pub one_tail : (text : List ℕ) (t u : Tail) → SpellsTail t text → SpellsTail u text → t ≡ u
+one_tail = one_value tail_reads nothing_after_tail
+
+pub one_descriptor : (text : List ℕ) (d e : Descriptor) → SpellsDescriptor d text → SpellsDescriptor e text → d ≡ e
+one_descriptor = one_value descriptor_reads nothing_after

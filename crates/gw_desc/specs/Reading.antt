@@ -216,3 +216,8 @@ unfoldable pub descriptor_at : Reader Descriptor
 descriptor_at text = do
   word ← word_read text
   descriptor_rest word.0 (token_of word.0) word.1
+
+-- what may follow a descriptor: nothing that goes on with its tail, and no bracket
+pub record AfterDescriptor (rest : List ℕ) : Type 0 where
+  pub tail : AfterTail rest
+  pub bracket : sign_at left_bracket rest ≡ None

@@ -54,3 +54,6 @@ impl Part for Descriptor {
         }
     }
 }
+
+#[cfg(test)]
+mod tests;
