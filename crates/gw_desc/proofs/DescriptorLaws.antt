@@ -1,18 +1,18 @@
 -- The reader of a descriptor reads its form.
-use Rattle.std.proofs.Common.{◌≡◌, ◌⊎◌, inl, inr, ℕ, Bool, true, false, List, [], ◌∷◌, ◌++◌, Option, Some, None, refl, ap, sym, subst, ◌∙◌}
+use Rattle.std.proofs.Common.{◌≡◌, ◌⊎◌, inl, inr, ℕ, false, List, [], ◌∷◌, ◌++◌, Option, Some, refl, ap, sym, subst, ◌∙◌}
 use Rattle.gw_base.specs.Lang.{Both, ◌▹◌}
-use Rattle.gw_text.specs.Lexical.{is_safe, is_solid, is_space_start, comma, right_brace, left_brace, equals_sign}
+use Rattle.gw_text.specs.Lexical.{is_safe, is_solid, is_space_start, comma, right_brace, left_brace, left_bracket, equals_sign}
 use Rattle.gw_text.specs.Space.{IsSpace}
-use Rattle.gw_text.specs.Runs.{begins, is_byte, NoMore}
-use Rattle.gw_text.specs.Sign.{sign_at}
-use Rattle.gw_text.specs.Forms.{IsWord, IsSign, IsWordFor, Braced, BracedOrEmpty}
+use Rattle.gw_text.specs.Runs.{is_byte, NoMore}
+use Rattle.gw_text.specs.Forms.{IsWord, IsSign, Braced, BracedOrEmpty}
+use Rattle.gw_text.specs.Bracket.{IsBracket}
 use Rattle.gw_text.specs.Tokens.{token_of}
-use Rattle.gw_text.specs.Reader.{Reader, ◌>>=◌, braced_at, braced_or_empty_at, if_ahead}
+use Rattle.gw_text.specs.Reader.{Reader, ◌>>=◌, braced_at, braced_or_empty_at, bracket_read}
 use Rattle.gw_text.specs.declared.token.Token.{Token}
 use Rattle.gw_text.specs.declared.token.Token.TheVariants as token
 use Rattle.gw_text.proofs.Signs.{sign_ends, sign_other, sign_end, some_is}
 use Rattle.gw_text.proofs.ReadsUp.{ReadsUp, Same, Skipped, UpTo, Any, BeginsWith, up_as, up_next, up_from, up_to, up_then, up_last, up_if_ahead, same_up, skipped_up, up_shrinks}
-use Rattle.gw_text.proofs.Links.{safe_apart, safe_is_solid, both_begins, both_ends, both_other, with_second, word_solid}
+use Rattle.gw_text.proofs.Links.{safe_apart, safe_is_solid, both_begins, both_ends, with_second}
 use Rattle.gw_text.proofs.Lists.{BracesUp, up_braced, up_braced_or_empty}
 use Rattle.gw_desc.specs.declared.descriptor.Descriptor.{Descriptor}
 use Rattle.gw_desc.specs.declared.descriptor.Descriptor.TheVariants as descriptor
@@ -22,26 +22,26 @@ use Rattle.gw_desc.specs.declared.descriptor.MediaPart.{MediaPart}
 use Rattle.gw_desc.specs.declared.descriptor.ServiceParm.{ServiceParm}
 use Rattle.gw_desc.specs.declared.descriptor.Tail.{Tail}
 use Rattle.gw_desc.specs.Parts.{Shrinks}
-use Rattle.gw_desc.specs.Grammar.{Kept, IsToken, SpellsTail, IsBracket, SpellsMediaPart, SpellsServiceParm, kept_token, is_descriptor, IsOtherWord, IsTail, IsDropped, SpellsDescriptor}
-use Rattle.gw_desc.specs.Reading.{word_read, tail_at, left_bracket, bracket_at, media_part_at, service_parm_at, dropped_at, keep_at, descriptor_rest, descriptor_at, AfterTail, AfterDescriptor}
+use Rattle.gw_desc.specs.Grammar.{Kept, IsToken, SpellsTail, SpellsMediaPart, SpellsServiceParm, kept_token, is_descriptor, IsOtherWord, IsDropped, SpellsDescriptor}
+use Rattle.gw_desc.specs.Reading.{word_read, tail_at, media_part_at, service_parm_at, dropped_at, keep_at, descriptor_rest, descriptor_at, AfterTail, AfterDescriptor}
 use Rattle.gw_desc.proofs.Texts.{ahead_ends, word_reads, kept_solid, kept_begins}
 use Rattle.gw_desc.proofs.TailLaws.{tail_reads, tail_ends, tail_other, sign_after_tail}
-use Rattle.gw_desc.proofs.BracketLaws.{bracket_reads, bracket_begins}
-use Rattle.gw_desc.proofs.MediaLaws.{token_solid, braced_ends, media_part_reads, media_part_braces}
+use Rattle.gw_text.proofs.BracketLaws.{up_bracket, bracket_begins}
+use Rattle.gw_desc.proofs.MediaLaws.{braced_ends, media_part_reads, media_part_braces}
 use Rattle.gw_desc.proofs.ServiceLaws.{service_parm_reads, service_parm_braces, AfterServiceParm}
 
 -- ---- what follows another word
 
 abbrev behind_bracket : Reader Tail
-behind_bracket text = bracket_at text >>= λ b. tail_at b.1
+behind_bracket text = bracket_read text >>= λ b. tail_at b.1
 
 abbrev BehindBracket : Tail → List ℕ → Type 0
 BehindBracket t text = (span : List ℕ) × Both (Kept IsBracket span) (SpellsTail t) text
 
-behind_bracket_reads : ReadsUp behind_bracket BehindBracket AfterDescriptor Same Same
-behind_bracket_reads =
-    up_then bracket_at (λ span. tail_at) (Kept IsBracket) (λ span. SpellsTail) Any AfterDescriptor Same Same Same
-    bracket_reads (λ span. up_next tail_reads (λ rest n. n.tail)) (λ span t front rest q n. tt)
+behind_up_bracket : ReadsUp behind_bracket BehindBracket AfterDescriptor Same Same
+behind_up_bracket =
+    up_then bracket_read (λ span. tail_at) (Kept IsBracket) (λ span. SpellsTail) Any AfterDescriptor Same Same Same
+    up_bracket (λ span. up_next tail_reads (λ rest n. n.tail)) (λ span t front rest q n. tt)
 
 abbrev Dropped : Tail → List ℕ → Type 0
 Dropped t text = Both IsSpace (BehindBracket t) text ⊎ SpellsTail t text
@@ -53,7 +53,7 @@ dropped_reads : ReadsUp dropped_at Dropped AfterDescriptor Same Same
 unfolding dropped_at
 dropped_reads =
     up_if_ahead left_bracket behind_bracket tail_at BehindBracket SpellsTail AfterDescriptor Same Same refl same_up
-    behind_bracket_reads (up_next tail_reads (λ rest n. n.tail)) behind_begins
+    behind_up_bracket (up_next tail_reads (λ rest n. n.tail)) behind_begins
     (λ t front rest q n. tail_other left_bracket refl refl t front rest q n.bracket)
 
 dropped_ends : (t : Tail) (front rest : List ℕ) → Dropped t front → AfterDescriptor rest → NoMore is_safe (front ++ rest)

@@ -1,17 +1,17 @@
 -- The reader of a property reads its form.
-use Rattle.std.proofs.Common.{◌≡◌, ◌⊎◌, inl, inr, ℕ, Bool, true, false, List, [], ◌∷◌, ◌++◌, Some, None, refl, ap, sym, subst, ◌∙◌}
+use Rattle.std.proofs.Common.{◌≡◌, ◌⊎◌, inl, inr, ℕ, true, false, List, [], ◌++◌, Some, refl, ap, sym, subst, ◌∙◌}
 use Rattle.std.proofs.lemmas.Bool.{eqb-true}
 use Rattle.std.proofs.lemmas.List.{append-nil}
 use Rattle.gw_base.specs.Lang.{Both, ◌▹◌}
-use Rattle.gw_text.specs.Lexical.{is_safe, is_solid, left_brace, right_brace, quote_mark, comma}
+use Rattle.gw_text.specs.Lexical.{is_safe, is_solid, left_brace, right_brace, left_bracket, quote_mark, comma}
 use Rattle.gw_text.specs.Runs.{begins, is_byte, NoMore}
 use Rattle.gw_text.specs.Sign.{sign_at}
 use Rattle.gw_text.specs.Forms.{IsWord, IsSign}
+use Rattle.gw_text.specs.Bracket.{IsBracket}
 use Rattle.gw_text.specs.Quoted.{IsQuoted}
-use Rattle.gw_text.specs.Group.{IsGroup}
-use Rattle.gw_text.specs.Reader.{Reader, ◌>>=◌, quoted_read, group_read, if_begins, if_sign}
+use Rattle.gw_text.specs.Reader.{Reader, ◌>>=◌, quoted_read, group_read, if_begins, if_sign, bracket_read}
 use Rattle.gw_text.proofs.Signs.{sign_ends, sign_other}
-use Rattle.gw_text.proofs.ReadsUp.{ReadsUp, Same, Skipped, UpTo, Any, BeginsWith, up_as, up_next, up_from, up_skipped, up_then, up_last, up_done, up_close, up_if_sign, up_if_begins, up_up, begins_wider, begins_append, byte_is_solid, same_up, up_shrinks}
+use Rattle.gw_text.proofs.ReadsUp.{ReadsUp, Same, Skipped, UpTo, Any, BeginsWith, up_as, up_next, up_from, up_skipped, up_then, up_last, up_done, up_close, up_if_sign, up_if_begins, up_up, begins_wider, byte_is_solid, same_up, up_shrinks}
 use Rattle.gw_text.proofs.Links.{safe_apart, both_begins, both_ends, both_other, begins_ends, with_second, word_begins, word_solid}
 use Rattle.gw_text.proofs.Lists.{BracesUp}
 use Rattle.gw_text.proofs.OctetsScans.{up_quoted}
@@ -20,10 +20,10 @@ use Rattle.gw_desc.specs.declared.descriptor.Property.{Property}
 use Rattle.gw_desc.specs.declared.descriptor.Sign.{Sign}
 use Rattle.gw_desc.specs.declared.descriptor.Sign.TheVariants.{Equal, NotEqual, Less, Greater}
 use Rattle.gw_desc.specs.Parts.{Shrinks}
-use Rattle.gw_desc.specs.Grammar.{Kept, request_depth, SpellsGroup, IsBracket, IsValue, sign_byte, SpellsProperty}
-use Rattle.gw_desc.specs.Reading.{word_read, left_bracket, bracket_at, value_at, relation_at, property_at}
+use Rattle.gw_desc.specs.Grammar.{Kept, request_depth, SpellsGroup, IsValue, sign_byte, SpellsProperty}
+use Rattle.gw_desc.specs.Reading.{word_read, value_at, relation_at, property_at}
 use Rattle.gw_desc.proofs.Texts.{safe_is_not, word_reads, kept_solid}
-use Rattle.gw_desc.proofs.BracketLaws.{bracket_reads, bracket_begins}
+use Rattle.gw_text.proofs.BracketLaws.{up_bracket, bracket_begins}
 
 -- ---- values
 
@@ -50,10 +50,10 @@ group_or_word_reads =
     (λ v text h. group_begins request_depth text h.1)
     (λ v front rest q n. word_first left_brace refl front rest q.1)
 
-not_quoted_reads : ReadsUp (if_begins (is_byte left_bracket) bracket_at (if_begins (is_byte left_brace) (group_read request_depth) word_read)) NotQuoted NoMoreSafe Same Same
+not_quoted_reads : ReadsUp (if_begins (is_byte left_bracket) bracket_read (if_begins (is_byte left_brace) (group_read request_depth) word_read)) NotQuoted NoMoreSafe Same Same
 not_quoted_reads =
-    up_if_begins (is_byte left_bracket) bracket_at (if_begins (is_byte left_brace) (group_read request_depth) word_read) (Kept IsBracket) GroupOrWord NoMoreSafe Same
-    (up_next bracket_reads (λ rest n. tt)) group_or_word_reads
+    up_if_begins (is_byte left_bracket) bracket_read (if_begins (is_byte left_brace) (group_read request_depth) word_read) (Kept IsBracket) GroupOrWord NoMoreSafe Same
+    (up_next up_bracket (λ rest n. tt)) group_or_word_reads
     (λ v text h. bracket_begins text h.1)
     (λ v front rest q n. elim q [
       | inl g ↦ other_first left_brace left_bracket refl front rest (group_begins request_depth front g.1)
@@ -89,7 +89,7 @@ value_from v text h =
 pub value_reads : ReadsUp value_at (Kept IsValue) NoMoreSafe Same Same
 unfolding value_at
 value_reads =
-    up_as (up_if_begins (is_byte quote_mark) quoted_read (if_begins (is_byte left_bracket) bracket_at (if_begins (is_byte left_brace) (group_read request_depth) word_read)) (Kept IsQuoted) NotQuoted NoMoreSafe Same
+    up_as (up_if_begins (is_byte quote_mark) quoted_read (if_begins (is_byte left_bracket) bracket_read (if_begins (is_byte left_brace) (group_read request_depth) word_read)) (Kept IsQuoted) NotQuoted NoMoreSafe Same
     (up_next up_quoted (λ rest n. tt)) not_quoted_reads
     (λ v text h. quoted_begins text h.1)
     (λ v front rest q n. elim q [

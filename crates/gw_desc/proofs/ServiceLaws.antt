@@ -1,21 +1,17 @@
 -- The reader of a Services parameter reads its form.
-use Rattle.std.proofs.Common.{◌≡◌, ◌⊎◌, inl, inr, ℕ, ◌<◌, Bool, true, false, ◌||◌, List, [], ◌∷◌, ◌++◌, length, take, drop, Option, Some, None, refl, ap, sym, subst, ◌∙◌, length-take, arith}
-use Rattle.std.specs.List.{list_all}
-use Rattle.std.proofs.lemmas.List.{take-append-drop}
-use Rattle.gw_base.specs.Lang.{Both, ◌▹◌}
+use Rattle.std.proofs.Common.{◌≡◌, ◌⊎◌, inl, inr, ℕ, true, false, List, [], ◌++◌, Option, Some, None, refl, ap, sym, subst, ◌∙◌}
+use Rattle.gw_base.specs.Lang.{Both}
 use Rattle.gw_text.specs.Lexical.{is_safe, is_solid, is_space_start, comma, right_brace, equals_sign, quote_mark}
-use Rattle.gw_text.specs.Runs.{run_len, begins, is_byte, NoMore}
+use Rattle.gw_text.specs.Runs.{begins, is_byte, NoMore}
 use Rattle.gw_text.specs.Sign.{sign_at}
-use Rattle.gw_text.specs.Scans.{some_at}
 use Rattle.gw_text.specs.Forms.{IsWord, IsSign, IsSomeRun}
+use Rattle.gw_text.specs.Bracket.{is_run_byte}
 use Rattle.gw_text.specs.Quoted.{IsQuoted}
-use Rattle.gw_text.specs.Reader.{Reader, ◌>>=◌, found, quoted_read, if_begins, if_sign}
-use Rattle.gw_text.proofs.RunLemmas.{run_is, run_len-le}
-use Rattle.gw_text.proofs.Scanned.{taken}
-use Rattle.gw_text.proofs.Signs.{sign_ends, sign_other}
-use Rattle.gw_text.proofs.ReadsUp.{ReadsUp, Same, Skipped, UpTo, Any, BeginsWith, up_as, up_next, up_skipped, up_then, up_last, up_done, up_if_sign, up_if_begins, begins_wider, byte_is_solid, same_up, up_shrinks}
-use Rattle.gw_text.proofs.Leaves.{found_ok}
+use Rattle.gw_text.specs.Reader.{◌>>=◌, quoted_read}
+use Rattle.gw_text.proofs.Signs.{sign_ends, sign_other, some_is}
+use Rattle.gw_text.proofs.ReadsUp.{ReadsUp, Same, Any, BeginsWith, up_as, up_next, up_skipped, up_then, up_last, up_done, up_if_sign, up_if_begins, begins_wider, byte_is_solid, same_up, up_shrinks}
 use Rattle.gw_text.proofs.Links.{space_bytes, safe_apart, is_solid_by, is_another, run_begins, begins_ends, both_begins, both_ends, with_second}
+use Rattle.gw_text.proofs.BracketLaws.{up_run}
 use Rattle.gw_text.proofs.Lists.{BracesUp}
 use Rattle.gw_text.proofs.OctetsScans.{up_quoted}
 use Rattle.gw_text.proofs.Spans.{quoted_begins}
@@ -23,27 +19,14 @@ use Rattle.gw_desc.specs.declared.descriptor.ServiceParm.{ServiceParm}
 use Rattle.gw_desc.specs.declared.descriptor.ServiceValue.{ServiceValue}
 use Rattle.gw_desc.specs.declared.descriptor.ServiceValue.TheVariants as value
 use Rattle.gw_desc.specs.Parts.{Shrinks}
-use Rattle.gw_desc.specs.Grammar.{Kept, is_run_byte, SpellsServiceValue, SpellsOptionalValue, SpellsServiceParm}
-use Rattle.gw_desc.specs.Reading.{word_read, run_at, service_value_at, service_rest, service_parm_at}
+use Rattle.gw_desc.specs.Grammar.{Kept, SpellsServiceValue, SpellsOptionalValue, SpellsServiceParm}
+use Rattle.gw_desc.specs.Reading.{word_read, run_read, service_value_at, service_rest, service_parm_at}
 use Rattle.gw_desc.proofs.Texts.{word_reads, kept_solid}
-use Rattle.gw_desc.proofs.RunPieces.{run_again_at}
 
 -- ---- runs
 
-run_took : (text span rest : List ℕ) → run_at text ≡ Some (span, rest) → (text ≡ span ++ rest) × IsSomeRun is_run_byte span
-unfolding run_at
-run_took text span rest e =
-    let n = run_len is_run_byte text in
-    let t = taken n text span rest (found_ok (some_at n text) (span, rest) e) in
-    let split : text ≡ span ++ rest = sym (take-append-drop n text) ∙ ap (λ (x : List ℕ). x ++ drop n text) t.span_is ∙ ap (λ (x : List ℕ). span ++ x) t.rest_is in
-    let some : 0 < length span = omega (arith, t.some, ap length t.span_is, length-take n text, run_len-le is_run_byte text) in
-    (split, record { run = subst (λ (x : List ℕ). list_all is_run_byte x ≡ true) t.span_is (run_is is_run_byte text); some = some })
-
-pub run_reads : ReadsUp run_at (Kept (IsSomeRun is_run_byte)) (NoMore is_run_byte) Same Same
-run_reads = record {
-  sound = λ text span rest e. let t = run_took text span rest e in (span, t.0, (refl, t.1));
-  complete = λ span front rest start q n e. (rest, ap run_at e ∙ run_again_at front rest q.1 n ∙ ap (λ (x : List ℕ). Some (x, rest)) (sym q.0), refl);
-}
+pub run_reads : ReadsUp run_read (Kept (IsSomeRun is_run_byte)) (NoMore is_run_byte) Same Same
+run_reads = up_as (up_run (λ r. Some r)) (λ r text h. (sym (some_is text r h.1), h.0)) (λ r text h. (h.1, ap (λ (x : List ℕ). Some x) (sym h.0)))
 
 run_apart : (c : ℕ) → is_space_start c ≡ true → is_run_byte c ≡ false
 run_apart = space_bytes (λ c. is_run_byte c ≡ false) refl refl refl refl refl
@@ -70,9 +53,9 @@ value_from (value.Run span) text h = inr (span, refl, h)
 pub service_value_reads : ReadsUp service_value_at SpellsServiceValue (NoMore is_run_byte) Same Same
 unfolding service_value_at
 service_value_reads =
-    up_as (up_if_begins (is_byte quote_mark) (λ text. quoted_read text >>= λ s. Some (value.Quoted s.0, s.1)) (λ text. run_at text >>= λ s. Some (value.Run s.0, s.1)) AQuoted ARun (NoMore is_run_byte) Same
+    up_as (up_if_begins (is_byte quote_mark) (λ text. quoted_read text >>= λ s. Some (value.Quoted s.0, s.1)) (λ text. run_read text >>= λ s. Some (value.Run s.0, s.1)) AQuoted ARun (NoMore is_run_byte) Same
     (up_next (up_last quoted_read (λ s. value.Quoted s) (Kept IsQuoted) Any Same Same up_quoted) (λ rest n. tt))
-    (up_last run_at (λ s. value.Run s) (Kept (IsSomeRun is_run_byte)) (NoMore is_run_byte) Same Same run_reads)
+    (up_last run_read (λ s. value.Run s) (Kept (IsSomeRun is_run_byte)) (NoMore is_run_byte) Same Same run_reads)
     (λ v text h. quoted_begins text h.2.1)
     (λ v front rest q n. begins_ends is_run_byte (is_byte quote_mark) (λ c e. is_another c quote_mark is_run_byte refl e) front rest (run_begins is_run_byte is_run_byte (λ c e. e) front q.2.1.run q.2.1.some)))
     value_to value_from

@@ -1,14 +1,14 @@
 -- Which texts spell a descriptor and its parts (RFC 3525, Annex B.2). EQUAL, LBRKT, RBRKT and COMMA are signs, with LWSP
 -- on both sides. What is kept as sent is not looked into (own).
-use Rattle.std.specs.Prelude.{◌≡◌, ◌⊎◌, ◌<◌, ◌||◌, ℕ, Bool, true, false, List, [], ◌∷◌, length, Option, Some, None, codes}
-use Rattle.std.specs.List.{concat}
-use Rattle.gw_base.specs.Bytes.{byte, is_one_of}
+use Rattle.std.specs.Prelude.{◌≡◌, ◌⊎◌, ℕ, Bool, true, false, List, [], ◌∷◌, Option, Some, None, codes}
+use Rattle.gw_base.specs.Bytes.{byte}
 use Rattle.gw_base.specs.Lang.{◌▹◌, IsText}
-use Rattle.gw_text.specs.Lexical.{is_safe, equals_sign, left_brace, right_brace}
-use Rattle.gw_text.specs.Space.{IsByte, Each, IsSpace, IsSep}
+use Rattle.gw_text.specs.Lexical.{equals_sign, left_brace, right_brace}
+use Rattle.gw_text.specs.Space.{IsSpace}
 use Rattle.gw_text.specs.Forms.{IsWord, IsSign, IsSomeRun, IsNumber, IsWordFor, Braced, BracedOrEmpty}
 use Rattle.gw_text.specs.Quoted.{IsQuoted}
 use Rattle.gw_text.specs.Octets.{IsOctetsOf}
+use Rattle.gw_text.specs.Bracket.{IsBracket, is_run_byte}
 use Rattle.gw_text.specs.Group.{IsGroup}
 use Rattle.gw_text.specs.Tokens.{token_of}
 use Rattle.gw_text.specs.declared.token.Token.{Token}
@@ -68,25 +68,6 @@ pub record SpellsTail (t : Tail) (text : List ℕ) : Type 0 where
 
 -- ---- properties
 
--- a byte that may stand in a bracket
-abbrev pub is_bracket_byte : ℕ → Bool
-is_bracket_byte b = is_safe b || is_one_of (codes ",:") b
-
--- such a byte, a quoted text, or SEP
-abbrev pub IsBracketPiece : List ℕ → Type 0
-IsBracketPiece text = IsByte is_bracket_byte text ⊎ IsQuoted text ⊎ IsSep text
-
--- one of them at least, in any order
-pub record IsBracketInside (text : List ℕ) : Type 0 where
-  pub pieces : List (List ℕ)
-  pub some : 0 < length pieces
-  pub whole : text ≡ concat pieces
-  pub each : Each IsBracketPiece pieces
-
--- a list or a range of values, which is not looked into (own: wider than LSBRKT VALUE *(COMMA VALUE) RSBRKT)
-abbrev pub IsBracket : List ℕ → Type 0
-IsBracket = IsText (codes "[") ▹ IsBracketInside ▹ IsText (codes "]")
-
 -- the value of a property, as sent: a quoted text, a word, a bracket or a group
 abbrev pub IsValue : List ℕ → Type 0
 IsValue text = IsQuoted text ⊎ IsBracket text ⊎ IsGroup request_depth text ⊎ IsWord text
@@ -136,13 +117,6 @@ SpellsMediaPart (media.Stream id parts) = IsToken token.Stream ▹ IsSign equals
 SpellsMediaPart (media.TerminationState properties) = IsToken token.TerminationState ▹ Braced SpellsProperty properties
 
 -- ---- Services
-
--- what a value that is no quoted text may have beside safe bytes (own)
-abbrev pub is_run_mark : ℕ → Bool
-is_run_mark b = is_one_of (codes "[]:<>#") b
-
-abbrev pub is_run_byte : ℕ → Bool
-is_run_byte b = is_safe b || is_run_mark b
 
 -- the value of a Services parameter, as sent
 abbrev pub SpellsServiceValue : ServiceValue → List ℕ → Type 0

@@ -1,12 +1,10 @@
 -- Descriptors as they are read, from left to right. That this is the grammar is proved.
-use Rattle.std.specs.Prelude.{◌≡◌, ℕ, zero, suc, true, false, List, [], ◌∷◌, ◌++◌, length, Option, Some, None, codes}
-use Rattle.gw_base.specs.Bytes.{byte}
-use Rattle.gw_text.specs.Lexical.{is_safe, equals_sign, left_brace, right_brace, quote_mark, comma, colon}
+use Rattle.std.specs.Prelude.{◌≡◌, ℕ, true, false, List, Option, Some, None}
+use Rattle.gw_text.specs.Lexical.{is_safe, equals_sign, left_brace, right_brace, left_bracket, quote_mark}
 use Rattle.gw_text.specs.SpaceScan.{skip}
-use Rattle.gw_text.specs.Runs.{run_len, is_byte, NoMore}
+use Rattle.gw_text.specs.Runs.{is_byte, NoMore}
 use Rattle.gw_text.specs.Sign.{byte_at, sign_at}
-use Rattle.gw_text.specs.Scans.{some_at, word_at, sep_at}
-use Rattle.gw_text.specs.Reader.{Reader, ◌>>=◌, found, or_else, word_as, number_up_to, octets_read, quoted_read, group_read, if_byte, if_sign, if_begins, if_ahead, braced_at, braced_or_empty_at}
+use Rattle.gw_text.specs.Reader.{Reader, ◌>>=◌, word_as, run_as, bracket_read, number_up_to, octets_read, quoted_read, group_read, if_sign, if_begins, if_ahead, braced_at, braced_or_empty_at}
 use Rattle.gw_text.specs.Tokens.{token_of}
 use Rattle.gw_text.specs.declared.token.Token.{Token}
 use Rattle.gw_text.specs.declared.token.Token.TheVariants as token
@@ -25,11 +23,15 @@ use Rattle.gw_desc.specs.declared.descriptor.Property.{Property}
 use Rattle.gw_desc.specs.declared.descriptor.Sign.{Sign}
 use Rattle.gw_desc.specs.declared.descriptor.Sign.TheVariants.{Equal, NotEqual, Less, Greater}
 use Rattle.gw_desc.specs.declared.descriptor.Tail.{Tail}
-use Rattle.gw_desc.specs.Grammar.{request_depth, sign_byte, stream_digits, stream_max, is_run_byte}
+use Rattle.gw_desc.specs.Grammar.{request_depth, sign_byte, stream_digits, stream_max}
 
 -- a word, as sent
 abbrev pub word_read : Reader (List ℕ)
 word_read = word_as (λ word. Some word)
+
+-- a run, as sent
+abbrev pub run_read : Reader (List ℕ)
+run_read = run_as (λ run. Some run)
 
 -- ---- tails
 
@@ -68,46 +70,10 @@ pub record AfterTail (rest : List ℕ) : Type 0 where
 
 -- ---- properties
 
--- what stands next in a bracket
-unfoldable pub piece_at : Reader (List ℕ)
-piece_at =
-    if_begins (is_byte quote_mark) quoted_read
-    (if_byte comma (λ rest. Some (comma ∷ [], rest))
-    (if_byte colon (λ rest. Some (colon ∷ [], rest))
-    (λ text. or_else (found (word_at text)) (λ word. Some word) (found (sep_at text)))))
-
--- the span before, and what is read behind it
-abbrev pub with_span : List ℕ → Option (List ℕ × List ℕ) → Option (List ℕ × List ℕ)
-with_span span None = None
-with_span span (Some x) = Some (span ++ x.0, x.1)
-
-abbrev pub right_bracket : ℕ
-right_bracket = byte (codes "]")
-
-abbrev pub left_bracket : ℕ
-left_bracket = byte (codes "[")
-
-abbrev pub if_closed : Reader (List ℕ) → List ℕ → List ℕ → Option (List ℕ × List ℕ)
-if_closed others span rest = or_else (byte_at right_bracket rest) (λ close. Some (span ++ right_bracket ∷ [], close)) (with_span span (others rest))
-
--- one piece or more, and the bracket that closes, in fewer steps than fuel
-unfoldable pub pieces_from : ℕ → Reader (List ℕ)
-pieces_from zero text = None
-pieces_from (suc fuel) text = piece_at text >>= λ x. if_closed (pieces_from fuel) x.0 x.1
-
--- each piece is a byte at least, so the text has fewer than this
-abbrev pub pieces_at : Reader (List ℕ)
-pieces_at text = pieces_from (suc (length text)) text
-
-unfoldable pub bracket_at : Reader (List ℕ)
-bracket_at text = do
-  inside ← byte_at left_bracket text
-  with_span (left_bracket ∷ []) (pieces_at inside)
-
 unfoldable pub value_at : Reader (List ℕ)
 value_at =
     if_begins (is_byte quote_mark) quoted_read
-    (if_begins (is_byte left_bracket) bracket_at
+    (if_begins (is_byte left_bracket) bracket_read
     (if_begins (is_byte left_brace) (group_read request_depth) word_read))
 
 unfoldable pub relation_at : Reader Sign
@@ -167,15 +133,12 @@ media_part_at text = do
 
 -- ---- Services
 
-unfoldable pub run_at : Reader (List ℕ)
-run_at text = found (some_at (run_len is_run_byte text) text)
-
 unfoldable pub service_value_at : Reader ServiceValue
 service_value_at =
     if_begins (is_byte quote_mark) (λ text. do
       span ← quoted_read text
       Some (value.Quoted span.0, span.1)) (λ text. do
-        span ← run_at text
+        span ← run_read text
         Some (value.Run span.0, span.1))
 
 abbrev pub service_rest : List ℕ → Reader ServiceParm
@@ -195,7 +158,7 @@ service_parm_at text = do
 unfoldable pub dropped_at : Reader Tail
 dropped_at =
     if_ahead left_bracket (λ text. do
-      bracket ← bracket_at text
+      bracket ← bracket_read text
       tail_at bracket.1) tail_at
 
 abbrev pub keep_at : KeptKind → Reader Descriptor

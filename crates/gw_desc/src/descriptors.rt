@@ -6,7 +6,6 @@ ghost use Rattle.gw_desc.specs.Parts.{Gives};
 use crate::descriptor::{Descriptor, KeptKind, Tail};
 use crate::fault::PartFault;
 use crate::lists::{Part, braced, braced_or_empty};
-use crate::properties::bracket;
 use crate::spans::copied;
 use crate::tails::tail;
 use gw_text::{Cursor, Token, token_of};
@@ -19,7 +18,7 @@ fn dropped(alloc: Global, cursor: &mut Cursor<'_>) -> Result<Tail, PartFault>
 {
     if cursor.is_ahead(b'[') {
         cursor.lwsp();
-        bracket(alloc, cursor)?;
+        cursor.bracket()?;
     }
     tail(alloc, cursor)
 }
