@@ -1,3 +1,10 @@
 pub mod Faults
 pub mod Texts
 pub mod TailLaws
+pub mod BracketPieces
+pub mod BracketLaws
+pub mod PropertyLaws
+pub mod MediaLaws
+pub mod RunPieces
+pub mod ServiceLaws
+pub mod DescriptorLaws

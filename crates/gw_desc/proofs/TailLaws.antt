@@ -9,8 +9,8 @@ use Rattle.gw_text.specs.Forms.{IsWord, IsSign}
 use Rattle.gw_text.specs.Reader.{Reader, ◌>>=◌, group_read, if_begins}
 use Rattle.gw_text.proofs.Skips.{no_space}
 use Rattle.gw_text.proofs.Signs.{sign_ends, sign_other}
-use Rattle.gw_text.proofs.ReadsUp.{ReadsUp, Same, Skipped, Any, BeginsWith, up_as, up_next, up_skipped, up_then, up_last, up_done, up_if_sign, up_if_ahead, up_if_begins, begins_wider, byte_is_solid, same_up, up_shrinks}
-use Rattle.gw_text.proofs.Links.{safe_apart, both_begins, begins_ends, with_second}
+use Rattle.gw_text.proofs.ReadsUp.{ReadsUp, Same, Skipped, Any, BeginsWith, up_as, up_next, up_skipped, up_then, up_last, up_done, up_if_sign, up_if_ahead, up_if_begins, begins_wider, byte_is_solid, same_up, up_shrinks, both_split}
+use Rattle.gw_text.proofs.Links.{safe_apart, both_begins, both_ends, both_other, begins_ends, with_second}
 use Rattle.gw_text.proofs.Spans.{up_group, group_begins}
 use Rattle.gw_desc.specs.declared.descriptor.Tail.{Tail}
 use Rattle.gw_desc.specs.Parts.{Shrinks}
@@ -159,3 +159,30 @@ comma_after_tail = sign_after_tail comma refl refl refl refl
 
 pub brace_after_tail : (front more : List ℕ) → IsSign right_brace front → AfterTail (front ++ more)
 brace_after_tail = sign_after_tail right_brace refl refl refl refl
+
+-- ---- what a tail does not go on with
+
+equals_ends : (e : Bool) (w : Option (List ℕ)) (front rest : List ℕ) → SpellsEquals e w front → NoMore is_safe rest → NoMore is_safe (front ++ rest)
+equals_ends false None front rest h n = ap (λ (x : List ℕ). begins is_safe (x ++ rest)) h ∙ n
+equals_ends false (Some w) front rest h n = absurd h
+equals_ends true None front rest h n = sign_ends is_safe equals_sign front rest safe_apart refl h
+equals_ends true (Some w) front rest h n = both_ends is_safe equals_sign (Kept IsWord w) front rest safe_apart refl h
+
+pub tail_ends : (t : Tail) (front rest : List ℕ) → SpellsTail t front → AfterTail rest → NoMore is_safe (front ++ rest)
+tail_ends t front rest h n =
+    let b = h.words in
+    ap (begins is_safe) (both_split (SpellsEquals t.equals t.word) (SpellsOptionalGroup t.group) front rest b)
+    ∙ equals_ends t.equals t.word b.front (b.back ++ rest) b.first (group_ends is_safe safe_apart refl t.group b.back rest b.second n.word)
+
+equals_other : (b : ℕ) → is_byte b equals_sign ≡ false → (e : Bool) (w : Option (List ℕ)) (front rest : List ℕ) → SpellsEquals e w front → sign_at b rest ≡ None → sign_at b (front ++ rest) ≡ None
+equals_other b other false None front rest h n = ap (λ (x : List ℕ). sign_at b (x ++ rest)) h ∙ n
+equals_other b other false (Some w) front rest h n = absurd h
+equals_other b other true None front rest h n = sign_other equals_sign b front rest refl other h
+equals_other b other true (Some w) front rest h n = both_other equals_sign b (Kept IsWord w) front rest refl other h
+
+-- no tail begins with another sign
+pub tail_other : (b : ℕ) → is_byte b equals_sign ≡ false → is_byte left_brace b ≡ false → (t : Tail) (front rest : List ℕ) → SpellsTail t front → sign_at b rest ≡ None → sign_at b (front ++ rest) ≡ None
+tail_other b equals brace t front rest h n =
+    let w = h.words in
+    ap (sign_at b) (both_split (SpellsEquals t.equals t.word) (SpellsOptionalGroup t.group) front rest w)
+    ∙ equals_other b equals t.equals t.word w.front (w.back ++ rest) w.first (group_other b brace t.group w.back rest w.second n)

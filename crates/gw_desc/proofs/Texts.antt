@@ -9,9 +9,10 @@ use Rattle.gw_text.specs.Runs.{begins, is_byte, NoMore}
 use Rattle.gw_text.specs.Sign.{sign_at}
 use Rattle.gw_text.specs.Forms.{IsWord, IsSign}
 use Rattle.gw_text.proofs.Signs.{some_is, sign_space}
-use Rattle.gw_text.proofs.ReadsUp.{ReadsUp, Same, BeginsWith, up_as, both_split, begins_append, byte_is_solid}
+use Rattle.gw_text.proofs.ReadsUp.{ReadsUp, Same, BeginsWith, up_as, both_split, begins_append, byte_is_solid, up_shrinks}
 use Rattle.gw_text.proofs.Leaves.{up_word}
 use Rattle.gw_text.proofs.Links.{is_another, begins_ends, begins_no_sign, space_ends, word_solid, word_begins}
+use Rattle.gw_desc.specs.Parts.{Shrinks}
 use Rattle.gw_desc.specs.Grammar.{Kept}
 use Rattle.gw_desc.specs.Reading.{word_read}
 
@@ -106,3 +107,6 @@ kept_solid w text h = word_solid text h.1
 
 pub kept_begins : BeginsWith is_safe (Kept IsWord)
 kept_begins w text h = word_begins text h.1
+
+pub word_shrinks : Shrinks word_read
+word_shrinks = up_shrinks word_reads

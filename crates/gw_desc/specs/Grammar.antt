@@ -1,11 +1,32 @@
 -- Which texts spell a descriptor and its parts (RFC 3525, Annex B.2). EQUAL, LBRKT, RBRKT and COMMA are signs, with LWSP
 -- on both sides. What is kept as sent is not looked into (own).
-use Rattle.std.specs.Prelude.{◌≡◌, ◌⊎◌, ℕ, Bool, true, false, List, [], Option, Some, None}
-use Rattle.gw_base.specs.Lang.{◌▹◌}
-use Rattle.gw_text.specs.Lexical.{equals_sign}
-use Rattle.gw_text.specs.Space.{IsSpace}
-use Rattle.gw_text.specs.Forms.{IsWord, IsSign}
+use Rattle.std.specs.Prelude.{◌≡◌, ◌⊎◌, ◌<◌, ◌||◌, ℕ, Bool, true, false, List, [], ◌∷◌, length, Option, Some, None, codes}
+use Rattle.std.specs.List.{concat}
+use Rattle.gw_base.specs.Bytes.{byte, is_one_of}
+use Rattle.gw_base.specs.Lang.{◌▹◌, IsText}
+use Rattle.gw_text.specs.Lexical.{is_safe, equals_sign, left_brace, right_brace}
+use Rattle.gw_text.specs.Space.{IsByte, Each, IsSpace, IsSep}
+use Rattle.gw_text.specs.Forms.{IsWord, IsSign, IsSomeRun, IsNumber, IsWordFor, Braced, BracedOrEmpty}
+use Rattle.gw_text.specs.Quoted.{IsQuoted}
+use Rattle.gw_text.specs.Octets.{IsOctetsOf}
 use Rattle.gw_text.specs.Group.{IsGroup}
+use Rattle.gw_text.specs.Tokens.{token_of}
+use Rattle.gw_text.specs.declared.token.Token.{Token}
+use Rattle.gw_text.specs.declared.token.Token.TheVariants as token
+use Rattle.gw_desc.specs.declared.descriptor.Descriptor.{Descriptor}
+use Rattle.gw_desc.specs.declared.descriptor.Descriptor.TheVariants as descriptor
+use Rattle.gw_desc.specs.declared.descriptor.KeptKind.{KeptKind}
+use Rattle.gw_desc.specs.declared.descriptor.KeptKind.TheVariants as kept
+use Rattle.gw_desc.specs.declared.descriptor.MediaPart.{MediaPart}
+use Rattle.gw_desc.specs.declared.descriptor.MediaPart.TheVariants as media
+use Rattle.gw_desc.specs.declared.descriptor.StreamPart.{StreamPart}
+use Rattle.gw_desc.specs.declared.descriptor.StreamPart.TheVariants as part
+use Rattle.gw_desc.specs.declared.descriptor.ServiceParm.{ServiceParm}
+use Rattle.gw_desc.specs.declared.descriptor.ServiceValue.{ServiceValue}
+use Rattle.gw_desc.specs.declared.descriptor.ServiceValue.TheVariants as value
+use Rattle.gw_desc.specs.declared.descriptor.Property.{Property}
+use Rattle.gw_desc.specs.declared.descriptor.Sign.{Sign}
+use Rattle.gw_desc.specs.declared.descriptor.Sign.TheVariants.{Equal, NotEqual, Less, Greater}
 use Rattle.gw_desc.specs.declared.descriptor.Tail.{Tail}
 
 -- a text that is kept as sent
@@ -44,3 +65,134 @@ pub record SpellsTail (t : Tail) (text : List ℕ) : Type 0 where
   pub words : (SpellsEquals t.equals t.word ▹ SpellsOptionalGroup t.group) text
   -- not `=` alone
   pub some : t.equals ≡ true → IsThere t.word ⊎ IsThere t.group
+
+-- ---- properties
+
+-- a byte that may stand in a bracket
+abbrev pub is_bracket_byte : ℕ → Bool
+is_bracket_byte b = is_safe b || is_one_of (codes ",:") b
+
+-- such a byte, a quoted text, or SEP
+abbrev pub IsBracketPiece : List ℕ → Type 0
+IsBracketPiece text = IsByte is_bracket_byte text ⊎ IsQuoted text ⊎ IsSep text
+
+-- one of them at least, in any order
+pub record IsBracketInside (text : List ℕ) : Type 0 where
+  pub pieces : List (List ℕ)
+  pub some : 0 < length pieces
+  pub whole : text ≡ concat pieces
+  pub each : Each IsBracketPiece pieces
+
+-- a list or a range of values, which is not looked into (own: wider than LSBRKT VALUE *(COMMA VALUE) RSBRKT)
+abbrev pub IsBracket : List ℕ → Type 0
+IsBracket = IsText (codes "[") ▹ IsBracketInside ▹ IsText (codes "]")
+
+-- the value of a property, as sent: a quoted text, a word, a bracket or a group
+abbrev pub IsValue : List ℕ → Type 0
+IsValue text = IsQuoted text ⊎ IsBracket text ⊎ IsGroup request_depth text ⊎ IsWord text
+
+-- EQUAL, or `#`, `<` or `>` in its place
+abbrev pub sign_byte : Sign → ℕ
+sign_byte Equal = byte (codes "=")
+sign_byte NotEqual = byte (codes "#")
+sign_byte Less = byte (codes "<")
+sign_byte Greater = byte (codes ">")
+
+-- propertyParm: a name, LWSP, a sign, LWSP, and a value
+abbrev pub SpellsProperty : Property → List ℕ → Type 0
+SpellsProperty p = Kept IsWord p.name ▹ IsSign (sign_byte p.sign) ▹ Kept IsValue p.value
+
+-- ---- media
+
+-- a token in its long or its short form, in any case: a whole word
+abbrev pub IsToken : Token → List ℕ → Type 0
+IsToken t = IsWordFor token_of t
+
+-- LBRKT octetString RBRKT, of which span is kept
+abbrev pub SpellsOctets : List ℕ → List ℕ → Type 0
+SpellsOctets span = IsSpace ▹ IsText (left_brace ∷ []) ▹ IsOctetsOf span ▹ IsText (right_brace ∷ []) ▹ IsSpace
+
+-- localDescriptor, remoteDescriptor, localControlDescriptor
+abbrev pub SpellsStreamPart : StreamPart → List ℕ → Type 0
+SpellsStreamPart (part.Local span) = IsToken token.Local ▹ SpellsOctets span
+SpellsStreamPart (part.Remote span) = IsToken token.Remote ▹ SpellsOctets span
+SpellsStreamPart (part.LocalControl properties) = IsToken token.LocalControl ▹ Braced SpellsProperty properties
+
+-- the most digits of a StreamID, and the greatest number that they write
+abbrev pub stream_digits : ℕ
+stream_digits = 5
+
+abbrev pub stream_max : ℕ
+stream_max = 65535
+
+-- StreamID: UINT16
+abbrev pub IsStreamId : ℕ → List ℕ → Type 0
+IsStreamId = IsNumber stream_digits stream_max
+
+-- mediaParm: a streamParm, streamDescriptor, terminationStateDescriptor
+abbrev pub SpellsMediaPart : MediaPart → List ℕ → Type 0
+SpellsMediaPart (media.Outside p) = SpellsStreamPart p
+SpellsMediaPart (media.Stream id parts) = IsToken token.Stream ▹ IsSign equals_sign ▹ IsStreamId id ▹ Braced SpellsStreamPart parts
+SpellsMediaPart (media.TerminationState properties) = IsToken token.TerminationState ▹ Braced SpellsProperty properties
+
+-- ---- Services
+
+-- what a value that is no quoted text may have beside safe bytes (own)
+abbrev pub is_run_mark : ℕ → Bool
+is_run_mark b = is_one_of (codes "[]:<>#") b
+
+abbrev pub is_run_byte : ℕ → Bool
+is_run_byte b = is_safe b || is_run_mark b
+
+-- the value of a Services parameter, as sent
+abbrev pub SpellsServiceValue : ServiceValue → List ℕ → Type 0
+SpellsServiceValue (value.Quoted span) = Kept IsQuoted span
+SpellsServiceValue (value.Run span) = Kept (IsSomeRun is_run_byte) span
+
+-- [EQUAL value]
+abbrev pub SpellsOptionalValue : Option ServiceValue → List ℕ → Type 0
+SpellsOptionalValue None text = text ≡ []
+SpellsOptionalValue (Some v) text = (IsSign equals_sign ▹ SpellsServiceValue v) text
+
+-- serviceChangeParm (own: any word is a name)
+abbrev pub SpellsServiceParm : ServiceParm → List ℕ → Type 0
+SpellsServiceParm p = Kept IsWord p.name ▹ SpellsOptionalValue p.value
+
+-- ---- descriptors
+
+abbrev pub kept_token : KeptKind → Token
+kept_token kept.Events = token.Events
+kept_token kept.Signals = token.Signals
+kept_token kept.DigitMap = token.DigitMap
+kept_token kept.EventBuffer = token.EventBuffer
+
+-- a token with which a descriptor begins that has a form of its own
+abbrev pub is_descriptor : Option Token → Bool
+is_descriptor (Some token.Media) = true
+is_descriptor (Some token.Events) = true
+is_descriptor (Some token.Signals) = true
+is_descriptor (Some token.DigitMap) = true
+is_descriptor (Some token.EventBuffer) = true
+is_descriptor (Some token.Audit) = true
+is_descriptor (Some token.Services) = true
+is_descriptor _ = false
+
+-- any other word
+abbrev pub IsOtherWord : List ℕ → Type 0
+IsOtherWord text = IsWord text × (is_descriptor (token_of text) ≡ false)
+
+-- a tail, whichever it is
+abbrev pub IsTail : List ℕ → Type 0
+IsTail text = (t : Tail) × SpellsTail t text
+
+-- what follows it, which is dropped (own): [LWSP bracket] tail
+abbrev pub IsDropped : List ℕ → Type 0
+IsDropped text = (IsSpace ▹ IsBracket ▹ IsTail) text ⊎ IsTail text
+
+-- ammParameter, auditDescriptor, servicesDescriptor
+abbrev pub SpellsDescriptor : Descriptor → List ℕ → Type 0
+SpellsDescriptor (descriptor.Media parts) = IsToken token.Media ▹ Braced SpellsMediaPart parts
+SpellsDescriptor (descriptor.Keep kind tail) = IsToken (kept_token kind) ▹ SpellsTail tail
+SpellsDescriptor (descriptor.Audit words) = IsToken token.Audit ▹ BracedOrEmpty (Kept IsWord) words
+SpellsDescriptor (descriptor.Services parms) = IsToken token.Services ▹ Braced SpellsServiceParm parms
+SpellsDescriptor (descriptor.Other word) = Kept IsOtherWord word ▹ IsDropped

@@ -2,15 +2,21 @@
 #![tactic(auto)]
 
 mod descriptor;
+mod descriptors;
 mod fault;
+mod laws;
 mod lists;
+mod properties;
+mod services;
 mod spans;
+mod streams;
 mod tails;
 
 pub use descriptor::{
     Descriptor, KeptKind, MediaPart, Property, ServiceParm, ServiceValue, Sign, StreamPart, Tail,
 };
 pub use fault::PartFault;
-pub use lists::{Part, braced, braced_or_empty, closed, list, optional_braced, sign};
+pub use laws::{descriptors_are_read, tails_are_read};
+pub use lists::{Part, braced, braced_or_empty, closed, items, list, optional_braced, sign};
 pub use spans::copied;
 pub use tails::tail;

@@ -2,8 +2,8 @@
 
 ghost use Rattle.std.specs.Prelude.{◌≡◌, ℕ, List, Option, Some, None, MatchResult};
 ghost use Rattle.gw_text.specs.Sign.{sign_at};
-ghost use Rattle.gw_text.specs.Reader.{list_at, closed_list_at, braced_at, optional_at, braced_or_empty_at};
-ghost use Rattle.gw_desc.specs.Parts.{Gives, Shrinks};
+ghost use Rattle.gw_text.specs.Reader.{list_at, closed_list_at, braced_at, optional_at, braced_or_empty_at, items_at};
+ghost use Rattle.gw_desc.specs.Parts.{Gives, Shrinks, ShrinksMore};
 
 use crate::fault::PartFault;
 use gw_base::Items;
@@ -122,4 +122,25 @@ pub fn braced_or_empty<T: Part>(
         return Ok(Items::new(alloc));
     }
     closed(alloc, cursor)
+}
+
+/// Reads one part or more, with white space between them or none, to the end of the text. Each part takes a byte at
+/// least.
+///
+/// # Errors
+///
+/// `Syntax` where anything else stands there; `NoMemory` where a growth was refused.
+pub fn items<T: Part>(alloc: Global, cursor: &mut Cursor<'_>) -> Result<Items<T>, PartFault>
+    requires { ShrinksMore T.read_at }
+    ensures { Gives result cursor.new (items_at T.read_at cursor.old) }
+{
+    let mut parts = Items::new(alloc);
+    loop {
+        let part = T::read(alloc, cursor)?;
+        parts.push(part)?;
+        cursor.lwsp();
+        if cursor.is_empty() {
+            return Ok(parts);
+        }
+    }
 }

@@ -1,0 +1,155 @@
+-- The reader of a Services parameter reads its form.
+use Rattle.std.proofs.Common.{◌≡◌, ◌⊎◌, inl, inr, ℕ, ◌<◌, Bool, true, false, ◌||◌, List, [], ◌∷◌, ◌++◌, length, take, drop, Option, Some, None, refl, ap, sym, subst, ◌∙◌, length-take, arith}
+use Rattle.std.specs.List.{list_all}
+use Rattle.std.proofs.lemmas.List.{take-append-drop}
+use Rattle.gw_base.specs.Lang.{Both, ◌▹◌}
+use Rattle.gw_text.specs.Lexical.{is_safe, is_solid, is_space_start, comma, right_brace, equals_sign, quote_mark}
+use Rattle.gw_text.specs.Runs.{run_len, begins, is_byte, NoMore}
+use Rattle.gw_text.specs.Sign.{sign_at}
+use Rattle.gw_text.specs.Scans.{some_at}
+use Rattle.gw_text.specs.Forms.{IsWord, IsSign, IsSomeRun}
+use Rattle.gw_text.specs.Quoted.{IsQuoted}
+use Rattle.gw_text.specs.Reader.{Reader, ◌>>=◌, found, quoted_read, if_begins, if_sign}
+use Rattle.gw_text.proofs.RunLemmas.{run_is, run_len-le}
+use Rattle.gw_text.proofs.Scanned.{taken}
+use Rattle.gw_text.proofs.Signs.{sign_ends, sign_other}
+use Rattle.gw_text.proofs.ReadsUp.{ReadsUp, Same, Skipped, UpTo, Any, BeginsWith, up_as, up_next, up_skipped, up_then, up_last, up_done, up_if_sign, up_if_begins, begins_wider, byte_is_solid, same_up, up_shrinks}
+use Rattle.gw_text.proofs.Leaves.{found_ok}
+use Rattle.gw_text.proofs.Links.{space_bytes, safe_apart, is_solid_by, is_another, run_begins, begins_ends, both_begins, both_ends, with_second}
+use Rattle.gw_text.proofs.Lists.{BracesUp}
+use Rattle.gw_text.proofs.OctetsScans.{up_quoted}
+use Rattle.gw_text.proofs.Spans.{quoted_begins}
+use Rattle.gw_desc.specs.declared.descriptor.ServiceParm.{ServiceParm}
+use Rattle.gw_desc.specs.declared.descriptor.ServiceValue.{ServiceValue}
+use Rattle.gw_desc.specs.declared.descriptor.ServiceValue.TheVariants as value
+use Rattle.gw_desc.specs.Parts.{Shrinks}
+use Rattle.gw_desc.specs.Grammar.{Kept, is_run_byte, SpellsServiceValue, SpellsOptionalValue, SpellsServiceParm}
+use Rattle.gw_desc.specs.Reading.{word_read, run_at, service_value_at, service_rest, service_parm_at}
+use Rattle.gw_desc.proofs.Texts.{word_reads, kept_solid}
+use Rattle.gw_desc.proofs.RunPieces.{run_again_at}
+
+-- ---- runs
+
+run_took : (text span rest : List ℕ) → run_at text ≡ Some (span, rest) → (text ≡ span ++ rest) × IsSomeRun is_run_byte span
+unfolding run_at
+run_took text span rest e =
+    let n = run_len is_run_byte text in
+    let t = taken n text span rest (found_ok (some_at n text) (span, rest) e) in
+    let split : text ≡ span ++ rest = sym (take-append-drop n text) ∙ ap (λ (x : List ℕ). x ++ drop n text) t.span_is ∙ ap (λ (x : List ℕ). span ++ x) t.rest_is in
+    let some : 0 < length span = omega (arith, t.some, ap length t.span_is, length-take n text, run_len-le is_run_byte text) in
+    (split, record { run = subst (λ (x : List ℕ). list_all is_run_byte x ≡ true) t.span_is (run_is is_run_byte text); some = some })
+
+pub run_reads : ReadsUp run_at (Kept (IsSomeRun is_run_byte)) (NoMore is_run_byte) Same Same
+run_reads = record {
+  sound = λ text span rest e. let t = run_took text span rest e in (span, t.0, (refl, t.1));
+  complete = λ span front rest start q n e. (rest, ap run_at e ∙ run_again_at front rest q.1 n ∙ ap (λ (x : List ℕ). Some (x, rest)) (sym q.0), refl);
+}
+
+run_apart : (c : ℕ) → is_space_start c ≡ true → is_run_byte c ≡ false
+run_apart = space_bytes (λ c. is_run_byte c ≡ false) refl refl refl refl refl
+
+-- ---- values
+
+abbrev AQuoted : ServiceValue → List ℕ → Type 0
+AQuoted v text = (span : List ℕ) × (value.Quoted span ≡ v) × Kept IsQuoted span text
+
+abbrev ARun : ServiceValue → List ℕ → Type 0
+ARun v text = (span : List ℕ) × (value.Run span ≡ v) × Kept (IsSomeRun is_run_byte) span text
+
+value_to : (v : ServiceValue) (text : List ℕ) → (AQuoted v text ⊎ ARun v text) → SpellsServiceValue v text
+value_to v text h =
+    elim h [
+      | inl q ↦ subst (λ (x : ServiceValue). SpellsServiceValue x text) q.1 q.2
+      | inr r ↦ subst (λ (x : ServiceValue). SpellsServiceValue x text) r.1 r.2
+    ]
+
+value_from : (v : ServiceValue) (text : List ℕ) → SpellsServiceValue v text → (AQuoted v text ⊎ ARun v text)
+value_from (value.Quoted span) text h = inl (span, refl, h)
+value_from (value.Run span) text h = inr (span, refl, h)
+
+pub service_value_reads : ReadsUp service_value_at SpellsServiceValue (NoMore is_run_byte) Same Same
+unfolding service_value_at
+service_value_reads =
+    up_as (up_if_begins (is_byte quote_mark) (λ text. quoted_read text >>= λ s. Some (value.Quoted s.0, s.1)) (λ text. run_at text >>= λ s. Some (value.Run s.0, s.1)) AQuoted ARun (NoMore is_run_byte) Same
+    (up_next (up_last quoted_read (λ s. value.Quoted s) (Kept IsQuoted) Any Same Same up_quoted) (λ rest n. tt))
+    (up_last run_at (λ s. value.Run s) (Kept (IsSomeRun is_run_byte)) (NoMore is_run_byte) Same Same run_reads)
+    (λ v text h. quoted_begins text h.2.1)
+    (λ v front rest q n. begins_ends is_run_byte (is_byte quote_mark) (λ c e. is_another c quote_mark is_run_byte refl e) front rest (run_begins is_run_byte is_run_byte (λ c e. e) front q.2.1.run q.2.1.some)))
+    value_to value_from
+
+value_solid : BeginsWith is_solid SpellsServiceValue
+value_solid (value.Quoted span) text h = begins_wider (is_byte quote_mark) is_solid (byte_is_solid quote_mark refl) text (quoted_begins text h.1)
+value_solid (value.Run span) text h = run_begins is_run_byte is_solid (is_solid_by is_run_byte run_apart) text h.1.run h.1.some
+
+-- ---- parameters
+
+-- what may follow a parameter: no more of its value, and no `=`
+pub record AfterServiceParm (rest : List ℕ) : Type 0 where
+  pub run : NoMore is_run_byte rest
+  pub word : NoMore is_safe rest
+  pub equals : sign_at equals_sign rest ≡ None
+
+abbrev parm_of : List ℕ → Option ServiceValue → ServiceParm
+parm_of name value = record { name = name; value = value }
+
+abbrev WithValue : List ℕ → ServiceParm → List ℕ → Type 0
+WithValue name p text = (v : ServiceValue) × (parm_of name (Some v) ≡ p) × SpellsServiceValue v text
+
+abbrev WithoutValue : List ℕ → ServiceParm → List ℕ → Type 0
+WithoutValue name p text = (parm_of name None ≡ p) × (text ≡ [])
+
+abbrev ServiceRest : List ℕ → ServiceParm → List ℕ → Type 0
+ServiceRest name p text = Both (IsSign equals_sign) (WithValue name p) text ⊎ WithoutValue name p text
+
+service_rest_reads : (name : List ℕ) → ReadsUp (service_rest name) (ServiceRest name) AfterServiceParm Same Same
+service_rest_reads name =
+    up_if_sign equals_sign (λ text. service_value_at text >>= λ v. Some (parm_of name (Some v.0), v.1)) (λ text. Some (parm_of name None, text)) (WithValue name) (WithoutValue name) AfterServiceParm Same Same refl same_up
+    (up_next (up_skipped (λ p text h. value_solid h.0 text h.2) (up_last service_value_at (λ v. parm_of name (Some v)) SpellsServiceValue (NoMore is_run_byte) Same Same service_value_reads)) (λ rest n. n.run))
+    (up_done (parm_of name None) AfterServiceParm Same)
+    (λ p front rest q n. ap (λ (x : List ℕ). sign_at equals_sign (x ++ rest)) q.1 ∙ n.equals)
+
+service_rest_ends : (name : List ℕ) (p : ServiceParm) (front rest : List ℕ) → ServiceRest name p front → AfterServiceParm rest → NoMore is_safe (front ++ rest)
+service_rest_ends name p front rest q n =
+    elim q [
+      | inl b ↦ both_ends is_safe equals_sign (WithValue name p) front rest safe_apart refl b
+      | inr w ↦ ap (λ (x : List ℕ). begins is_safe (x ++ rest)) w.1 ∙ n.word
+    ]
+
+parm_to : (p : ServiceParm) (text : List ℕ) → ((name : List ℕ) × Both (Kept IsWord name) (ServiceRest name p) text) → SpellsServiceParm p text
+parm_to p text h =
+    let b = h.1 in
+    elim (b.second) [
+      | inl s ↦ subst (λ (x : ServiceParm). SpellsServiceParm x text) s.second.1 (with_second b (with_second s s.second.2))
+      | inr w ↦ subst (λ (x : ServiceParm). SpellsServiceParm x text) w.0 (with_second b w.1)
+    ]
+
+rest_from : (name : List ℕ) (o : Option ServiceValue) (text : List ℕ) → SpellsOptionalValue o text → ServiceRest name (parm_of name o) text
+rest_from name None text h = inr (refl, h)
+rest_from name (Some v) text b = inl (with_second b (v, refl, b.second))
+
+pub service_parm_reads : ReadsUp service_parm_at SpellsServiceParm AfterServiceParm Same Same
+unfolding service_parm_at
+service_parm_reads =
+    up_as (up_then word_read service_rest (Kept IsWord) ServiceRest (NoMore is_safe) AfterServiceParm Same Same Same
+    word_reads service_rest_reads service_rest_ends)
+    parm_to
+    (λ p text b. (p.name, with_second b (rest_from p.name p.value b.back b.second)))
+
+pub service_parm_shrinks : Shrinks service_parm_at
+service_parm_shrinks = up_shrinks service_parm_reads
+
+service_parm_solid : BeginsWith is_solid SpellsServiceParm
+service_parm_solid p text h = both_begins is_solid (Kept IsWord p.name) (SpellsOptionalValue p.value) (kept_solid p.name) text h
+
+after_sign : (b : ℕ) → is_space_start b ≡ false → is_run_byte b ≡ false → is_safe b ≡ false → is_byte equals_sign b ≡ false → (front more : List ℕ) → IsSign b front → AfterServiceParm (front ++ more)
+after_sign b solid run safe equals front more h = record {
+  run = sign_ends is_run_byte b front more run_apart run h;
+  word = sign_ends is_safe b front more safe_apart safe h;
+  equals = sign_other b equals_sign front more solid equals h;
+}
+
+pub service_parm_braces : BracesUp SpellsServiceParm AfterServiceParm
+service_parm_braces = record {
+  lists = record { next = after_sign comma refl refl refl refl; begins = service_parm_solid };
+  closes = after_sign right_brace refl refl refl refl;
+}

@@ -1,0 +1,94 @@
+//! The parts of a Media descriptor, as they are read. After a fault nothing is said of the cursor.
+
+ghost use Rattle.gw_text.specs.Reader.{word_as};
+ghost use Rattle.gw_text.specs.Tokens.{token_of};
+ghost use Rattle.gw_desc.specs.Reading.{media_part_at, octets_text_at, stream_at, stream_part_at, stream_rest};
+ghost use Rattle.gw_desc.specs.Parts.{Gives};
+
+use crate::descriptor::{MediaPart, StreamPart};
+use crate::fault::PartFault;
+use crate::lists::{Part, braced, sign};
+use crate::spans::copied;
+use gw_base::Items;
+use gw_text::{Cursor, Token, token_of};
+use std::alloc::Global;
+
+/// The most digits of a stream's number (RFC 3525, section 7.1.6).
+const STREAM_DIGITS: usize = 5;
+
+/// The greatest number of a stream.
+const STREAM_MAX: u32 = 65_535;
+
+/// The token that comes next.
+fn token(cursor: &mut Cursor<'_>) -> Result<Token, PartFault>
+    ensures { Gives result cursor.new (word_as token_of cursor.old) }
+{
+    match token_of(cursor.word()?) {
+        Some(token) => Ok(token),
+        None => Err(PartFault::Syntax),
+    }
+}
+
+/// Octets in braces, with the white space round them.
+#[tactic(auto, unfolding(crate::specs::Reading::octets_text_at, gw_text::specs::SpaceScan::skip))]
+fn octets(alloc: Global, cursor: &mut Cursor<'_>) -> Result<Items<u8>, PartFault>
+    ensures { Gives result cursor.new (octets_text_at cursor.old) }
+{
+    cursor.lwsp();
+    if !cursor.byte(b'{') {
+        return Err(PartFault::Syntax);
+    }
+    let octets = copied(alloc, cursor.octets()?)?;
+    if !cursor.byte(b'}') {
+        return Err(PartFault::Syntax);
+    }
+    cursor.lwsp();
+    Ok(octets)
+}
+
+/// What follows the word of a part of a stream.
+#[tactic(auto, using(crate::proofs::PropertyLaws::property_shrinks))]
+fn stream_part(alloc: Global, cursor: &mut Cursor<'_>, word: Token) -> Result<StreamPart, PartFault>
+    ensures { Gives result cursor.new (stream_rest word cursor.old) }
+{
+    match word {
+        Token::Local => Ok(StreamPart::Local(octets(alloc, cursor)?)),
+        Token::Remote => Ok(StreamPart::Remote(octets(alloc, cursor)?)),
+        Token::LocalControl => Ok(StreamPart::LocalControl(braced(alloc, cursor)?)),
+        _ => Err(PartFault::Syntax),
+    }
+}
+
+impl Part for StreamPart {
+    ghost read_at = { stream_part_at };
+
+    #[tactic(auto, unfolding(crate::specs::Reading::stream_part_at))]
+    fn read(alloc: Global, cursor: &mut Cursor<'_>) -> Result<StreamPart, PartFault> {
+        let word = token(cursor)?;
+        stream_part(alloc, cursor, word)
+    }
+}
+
+/// What follows the word `Stream`: its number and its parts.
+#[tactic(auto, using(crate::proofs::MediaLaws::stream_part_shrinks), unfolding(crate::specs::Reading::stream_at))]
+fn stream(alloc: Global, cursor: &mut Cursor<'_>) -> Result<MediaPart, PartFault>
+    ensures { Gives result cursor.new (stream_at cursor.old) }
+{
+    sign(cursor, b'=')?;
+    let id = cursor.number(STREAM_DIGITS, STREAM_MAX)?;
+    let parts = braced(alloc, cursor)?;
+    Ok(MediaPart::Stream(id.value as u16, parts))
+}
+
+impl Part for MediaPart {
+    ghost read_at = { media_part_at };
+
+    #[tactic(auto, using(crate::proofs::PropertyLaws::property_shrinks), unfolding(crate::specs::Reading::media_part_at))]
+    fn read(alloc: Global, cursor: &mut Cursor<'_>) -> Result<MediaPart, PartFault> {
+        match token(cursor)? {
+            Token::Stream => stream(alloc, cursor),
+            Token::TerminationState => Ok(MediaPart::TerminationState(braced(alloc, cursor)?)),
+            word => Ok(MediaPart::Outside(stream_part(alloc, cursor, word)?)),
+        }
+    }
+}
