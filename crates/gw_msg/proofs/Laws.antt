@@ -1,7 +1,8 @@
 -- The readers of commands and actions read their forms.
-use Rattle.std.proofs.Common.{◌≡◌, ℕ, Bool, true, false, ◌==◌, List, [], ◌∷◌, ◌++◌, Some, refl, ap, sym, subst, ◌∙◌}
-use Rattle.std.specs.Prelude.{codes}
+use Rattle.std.proofs.Common.{◌≡◌, ◌⊎◌, inl, inr, ℕ, zero, suc, ◌<◌, ◌≤◌, Bool, true, false, cond, ◌==◌, List, [], ◌∷◌, ◌++◌, map, length, Option, Some, None, Result, Err, refl, ap, sym, subst, ◌∙◌, length-append, arith}
+use Rattle.std.specs.Prelude.{codes, nat_lt}
 use Rattle.std.specs.Char.{to_ascii_lowercase}
+use Rattle.std.proofs.lemmas.Bool.{not-true, lt-ltb}
 use Rattle.gw_base.specs.Bytes.{byte, is_digit}
 use Rattle.gw_base.specs.Lang.{Both, ◌▹◌}
 use Rattle.gw_base.specs.declared.term_ref.TermRef.{TermRef}
@@ -10,24 +11,29 @@ use Rattle.gw_base.specs.declared.command_words.Verb.{Verb}
 use Rattle.gw_text.specs.Lexical.{is_safe, is_solid, is_space_start, comma, dash, equals_sign, left_brace, right_brace}
 use Rattle.gw_text.specs.Runs.{begins, NoMore}
 use Rattle.gw_text.specs.Sign.{prefix_at, sign_at}
-use Rattle.gw_text.specs.Forms.{IsSign, IsInAnyCase, Braced}
-use Rattle.gw_text.specs.Reader.{Reader, ◌>>=◌, word_as, braced_at}
+use Rattle.gw_text.specs.Forms.{IsWord, IsSign, IsInAnyCase, Separated}
+use Rattle.gw_text.specs.Reader.{Reader, ◌>>=◌, word_as, or_else, if_sign, list_at}
 use Rattle.gw_text.specs.declared.token.Token.TheVariants as token
-use Rattle.gw_text.proofs.Signs.{sign_ends, sign_other}
+use Rattle.gw_text.proofs.Signs.{some_is, sign_ends, sign_other, sign_shrinks}
 use Rattle.gw_text.proofs.TokenWords.{no_mark}
-use Rattle.gw_text.proofs.ReadsUp.{ReadsUp, Same, Skipped, UpTo, Any, BeginsWith, both_split, up_as, up_from, up_next, up_to, up_skipped, up_then, up_last, up_done, up_sign, up_shrinks, same_up}
-use Rattle.gw_text.proofs.Links.{safe_apart, digit_apart, word_solid, both_begins, both_ends, with_second}
-use Rattle.gw_text.proofs.Lists.{NoSign, BracesUp, up_braced}
-use Rattle.gw_desc.specs.Parts.{Shrinks}
-use Rattle.gw_desc.specs.Grammar.{request_depth}
+use Rattle.gw_text.proofs.ReadsUp.{ReadsUp, Same, Skipped, UpTo, Any, BeginsWith, bind_some, both_split, begins_append, begins_some, up_as, up_from, up_next, up_to, up_skipped, up_then, up_last, up_done, up_sign, up_close, up_if_sign, up_if_begins, up_shrinks, same_up}
+use Rattle.gw_text.proofs.Links.{safe_apart, digit_apart, word_solid, both_begins, both_ends, begins_ends, with_second}
+use Rattle.gw_text.proofs.Lists.{NoSign, ListsUp, BracesUp, up_list, separated_begins}
+use Rattle.gw_desc.specs.declared.descriptor.Tail.{Tail}
+use Rattle.gw_desc.specs.declared.fault.PartFault.{PartFault}
+use Rattle.gw_desc.specs.declared.fault.PartFault.TheVariants.{Syntax, NoMemory}
+use Rattle.gw_desc.specs.Parts.{Gives, Shrinks}
+use Rattle.gw_desc.specs.Grammar.{Kept, request_depth, SpellsEquals, SpellsOptionalGroup, SpellsTail}
+use Rattle.gw_desc.specs.Reading.{tail_at, AfterTail}
+use Rattle.gw_desc.proofs.TailLaws.{group_ends, tail_reads, comma_after_tail, brace_after_tail}
 use Rattle.gw_msg.specs.declared.message.Command.{Command}
 use Rattle.gw_msg.specs.declared.message.Action.{Action}
-use Rattle.gw_msg.specs.Grammar.{IsToken, command_token, SpellsVerb, SpellsTerm, SpellsMark, may_be_wild, has_group, SpellsDetailsOf, SpellsDetails, SpellsCommand, SpellsContextId, SpellsAction}
-use Rattle.gw_msg.specs.Words.{verb_of, context_of, term_of}
-use Rattle.gw_msg.specs.Reading.{mark_at, only_if, is_allowed, details_of, command_at, context_id_at, action_at}
-use Rattle.gw_msg.proofs.Starts.{case_begins}
-use Rattle.gw_msg.proofs.Steps.{NoPrefix, Dropped, mark_reads, mark_begins, up_only_if, optional_group_reads, optional_group_ends}
-use Rattle.gw_msg.proofs.WordLaws.{verb_reads, context_reads, token_solid, term_reads, term_solid, context_id_reads, context_id_solid}
+use Rattle.gw_msg.specs.Grammar.{IsToken, command_token, SpellsVerb, SpellsTerm, SpellsMark, may_be_wild, has_group, SpellsDetailsOf, SpellsDetails, SpellsCommand, SpellsContextId, IsPropertyToken, SpellsProperty, SpellsPart, parts_of, SpellsAction}
+use Rattle.gw_msg.specs.Words.{verb_of, context_of, property_of, is_property_start, term_of}
+use Rattle.gw_msg.specs.Reading.{mark_at, only_if, is_allowed, details_of, command_at, context_id_at, property_at, property_then, commands_from, commands_at, contents_at, action_at}
+use Rattle.gw_msg.proofs.Starts.{case_begins, property_starts, no_property_start, verb_starts}
+use Rattle.gw_msg.proofs.Steps.{NoPrefix, Done, Dropped, nothing_more, nothing_behind, mark_reads, mark_begins, up_only_if, optional_group_reads, optional_group_ends}
+use Rattle.gw_msg.proofs.WordLaws.{verb_reads, context_reads, property_word_reads, property_word_solid, token_solid, term_reads, term_solid, context_id_reads, context_id_solid}
 
 -- behind what stands just there, a sign, and then a reader of what begins with no white space
 pub behind_sign : {W : Type 0} (b : ℕ) (k : Reader W) (Q : W → List ℕ → Type 0) (Next : List ℕ → Type 0) (To : List ℕ → List ℕ → Type 0) → is_space_start b ≡ false → BeginsWith is_solid Q → ReadsUp k Q Next Same To
@@ -183,40 +189,248 @@ command_solid = command_begins is_solid refl refl refl refl (λ v text h. word_s
 sign_after_command : (b : ℕ) → is_space_start b ≡ false → is_safe b ≡ false → b == left_brace ≡ false → (front more : List ℕ) → IsSign b front → AfterCommand (front ++ more)
 sign_after_command b solid safe brace front more h = record { next = sign_ends is_safe b front more safe_apart safe h; bare = sign_other b left_brace front more solid brace h }
 
-command_braces : BracesUp SpellsCommand AfterCommand
-command_braces = record {
-  lists = record { next = sign_after_command comma refl refl refl; begins = command_solid };
-  closes = sign_after_command right_brace refl refl refl;
+command_lists : ListsUp SpellsCommand AfterCommand
+command_lists = record { next = sign_after_command comma refl refl refl; begins = command_solid }
+
+command_no_property : BeginsWith no_property_start SpellsCommand
+command_no_property = command_begins no_property_start refl refl refl refl verb_starts
+
+-- ---- properties
+
+equals_parts_end : (equals : Bool) (word group : Option (List ℕ)) (front rest : List ℕ) → (SpellsEquals equals word ▹ SpellsOptionalGroup group) front → NoMore is_safe rest → NoMore is_safe (front ++ rest)
+equals_parts_end false None group front rest b n =
+    ap (begins is_safe) (both_split (SpellsEquals false None) (SpellsOptionalGroup group) front rest b ∙ ap (λ (x : List ℕ). x ++ (b.back ++ rest)) b.first)
+    ∙ group_ends is_safe safe_apart refl group b.back rest b.second n
+equals_parts_end false (Some w) group front rest b n = absurd (b.first)
+equals_parts_end true None group front rest b n = both_ends is_safe equals_sign (SpellsOptionalGroup group) front rest safe_apart refl b
+equals_parts_end true (Some w) group front rest b n =
+    ap (begins is_safe) (both_split (SpellsEquals true (Some w)) (SpellsOptionalGroup group) front rest b)
+    ∙ both_ends is_safe equals_sign (Kept IsWord w) b.front (b.back ++ rest) safe_apart refl b.first
+
+abbrev SomeTail : Unit {0} → List ℕ → Type 0
+SomeTail u text = (t : Tail) × (tt ≡ u) × SpellsTail t text
+
+property_reads : ReadsUp property_at (Dropped SpellsProperty) AfterTail Same Same
+unfolding property_at
+property_reads =
+    up_as (up_then (word_as property_of) (λ u text. tail_at text >>= λ t. Some (tt, t.1)) (Dropped IsPropertyToken) (λ u. SomeTail) (NoMore is_safe) AfterTail Same Same Same
+    property_word_reads
+    (λ u. up_last tail_at (λ t. tt) SpellsTail AfterTail Same Same tail_reads)
+    (λ u v front rest q n. equals_parts_end q.0.equals q.0.word q.0.group front rest q.2.words n.word))
+    (λ u text h. with_second h.1 (h.1.second.0, h.1.second.2))
+    (λ u text b. (tt, with_second b (b.second.0, refl, b.second.1)))
+
+pub property_shrinks : Shrinks property_at
+property_shrinks = up_shrinks property_reads
+
+property_solid : (text : List ℕ) → SpellsProperty text → begins is_solid text ≡ true
+property_solid text h = both_begins is_solid IsPropertyToken _ property_word_solid text h
+
+property_begins : (text : List ℕ) → SpellsProperty text → begins is_property_start text ≡ true
+property_begins text h = both_begins is_property_start IsPropertyToken _ property_starts text h
+
+-- ---- properties and commands
+
+-- what may follow them
+record AfterContents (rest : List ℕ) : Type 0 where
+  pub tail : AfterTail rest
+  pub comma : sign_at comma rest ≡ None
+
+-- commands behind fewer properties than fuel
+abbrev Behind : (List Command → List ℕ → Type 0) → List Command → List ℕ → Type 0
+Behind Form commands text = Both (IsSign comma) (Form commands) text ⊎ Done [] commands text
+
+abbrev PropertyThen : (List Command → List ℕ → Type 0) → List Command → List ℕ → Type 0
+PropertyThen Form commands text = (u : Unit {0}) × Both SpellsProperty (Behind Form commands) text
+
+abbrev Commands : ℕ → List Command → List ℕ → Type 0
+Commands zero commands text = ⊥
+Commands (suc fuel) commands text = PropertyThen (Commands fuel) commands text ⊎ Separated SpellsCommand commands text
+
+commands_solid : (fuel : ℕ) → BeginsWith is_solid (Commands fuel)
+commands_solid zero commands text h = absurd h
+commands_solid (suc fuel) commands text h =
+    elim h [
+      | inl p ↦ both_begins is_solid SpellsProperty (Behind (Commands fuel) commands) property_solid text p.1
+      | inr s ↦ separated_begins is_solid SpellsCommand command_solid commands text s
+    ]
+
+behind_after : (Form : List Command → List ℕ → Type 0) (commands : List Command) (front rest : List ℕ) → Behind Form commands front → AfterContents rest → AfterTail (front ++ rest)
+behind_after Form commands front rest h n =
+    elim h [
+      | inl b ↦ subst AfterTail (sym (both_split (IsSign comma) (Form commands) front rest b)) (comma_after_tail b.front (b.back ++ rest) b.first)
+      | inr d ↦ subst AfterTail (ap (λ (x : List ℕ). x ++ rest) (sym d.1)) n.tail
+    ]
+
+commands_reads : (fuel : ℕ) → ReadsUp (commands_from fuel) (Commands fuel) AfterContents Same UpTo
+unfolding commands_from
+commands_reads zero = record {
+  sound = λ text v rest e. absurd cc;
+  complete = λ v front rest start q n e. absurd q;
 }
+commands_reads (suc fuel) =
+    up_if_begins is_property_start (property_then (commands_from fuel)) (list_at command_at) (PropertyThen (Commands fuel)) (Separated SpellsCommand) AfterContents UpTo
+    (up_then property_at (λ u. if_sign comma (commands_from fuel) (λ rest. Some ([], rest))) (Dropped SpellsProperty) (λ u. Behind (Commands fuel)) AfterTail AfterContents Same Same UpTo
+    property_reads
+    (λ u. up_if_sign comma (commands_from fuel) (λ rest. Some ([], rest)) (Commands fuel) (Done []) AfterContents Same UpTo refl same_up
+    (up_skipped (commands_solid fuel) (commands_reads fuel))
+    (up_to (up_done [] AfterContents Same) same_up)
+    (λ v front rest q n. ap (λ (x : List ℕ). sign_at comma (x ++ rest)) q.1 ∙ n.comma))
+    (λ u v front rest q n. behind_after (Commands fuel) v front rest q n))
+    (up_next (up_list command_at SpellsCommand AfterCommand command_reads command_lists) (λ rest n. record { next = record { next = n.tail.word; bare = n.tail.group }; bare = n.comma }))
+    (λ v text p. both_begins is_property_start SpellsProperty (Behind (Commands fuel) v) property_begins text p.1)
+    (λ v front rest q n. begins_ends no_property_start is_property_start (λ c is. not-true _ is) front rest (separated_begins no_property_start SpellsCommand command_no_property v front q))
+
+-- ---- in the grammar's words
+
+some_parts : (commands : List Command) (text : List ℕ) → Separated SpellsCommand commands text → Separated SpellsPart (map (λ c. Some c) commands) text
+some_parts [] text h = absurd h
+some_parts (c ∷ []) text h = h
+some_parts (c ∷ (d ∷ ds)) text h = with_second h (with_second h.second (some_parts (d ∷ ds) h.second.back h.second.second))
+
+some_commands : (commands : List Command) (text : List ℕ) → Separated SpellsPart (map (λ c. Some c) commands) text → Separated SpellsCommand commands text
+some_commands [] text h = absurd h
+some_commands (c ∷ []) text h = h
+some_commands (c ∷ (d ∷ ds)) text h = with_second h (with_second h.second (some_commands (d ∷ ds) h.second.back h.second.second))
+
+-- a property in front of other parts
+more_parts : (parts : List (Option Command)) (text : List ℕ) → (SpellsProperty ▹ IsSign comma ▹ Separated SpellsPart parts) text → Separated SpellsPart (None ∷ parts) text
+more_parts [] text h = absurd (h.second.second)
+more_parts (p ∷ ps) text h = h
+
+abbrev Parts : List Command → List ℕ → Type 0
+Parts commands text = (n : ℕ) × Separated SpellsPart (parts_of n commands) text
+
+commands_to : (fuel : ℕ) (commands : List Command) (text : List ℕ) → Commands fuel commands text → Parts commands text
+commands_to zero commands text h = absurd h
+commands_to (suc fuel) commands text (inr s) = (0, some_parts commands text s)
+commands_to (suc fuel) commands text (inl p) =
+    elim p.1.second [
+      | inl d ↦ let q = commands_to fuel commands d.back d.second in (suc q.0, more_parts (parts_of q.0 commands) text (with_second p.1 (with_second d q.1)))
+      | inr d ↦ subst (λ (cs : List Command). Parts cs text) d.0 (1, nothing_behind SpellsProperty (Behind (Commands fuel) commands) text p.1 d.1)
+    ]
+
+commands_of : (n fuel : ℕ) (commands : List Command) (text : List ℕ) → n < fuel → Separated SpellsPart (parts_of n commands) text → Commands fuel commands text
+commands_of n zero commands text less h = absurd (omega arith)
+commands_of zero (suc fuel) commands text less h = inr (some_commands commands text h)
+commands_of (suc zero) (suc fuel) [] text less h = inl (tt, nothing_more text h (inr (refl, refl)))
+commands_of (suc zero) (suc fuel) (c ∷ cs) text less h = inl (tt, with_second h (inl (with_second h.second (commands_of zero fuel (c ∷ cs) h.second.back (omega arith) h.second.second))))
+commands_of (suc (suc n)) (suc fuel) commands text less h = inl (tt, with_second h (inl (with_second h.second (commands_of (suc n) fuel commands h.second.back (omega arith) h.second.second))))
+
+-- a property in front of other parts begins as a property, and is a byte at least
+abbrev FrontProperty : (List ℕ → Type 0) → List ℕ → Type 0
+FrontProperty Q text = Both SpellsProperty Q text
+
+front_begins : (Q : List ℕ → Type 0) (text : List ℕ) → FrontProperty Q text → begins is_property_start text ≡ true
+front_begins Q text b = both_begins is_property_start SpellsProperty Q property_begins text b
+
+-- there are no more properties than bytes
+parts_len : (n : ℕ) (commands : List Command) (text : List ℕ) → Separated SpellsPart (parts_of n commands) text → n ≤ length text
+parts_len zero commands text h = omega arith
+parts_len (suc zero) [] text h = begins_some is_solid text (property_solid text h)
+parts_len (suc zero) (c ∷ cs) text h = omega (arith, begins_some is_property_start text (front_begins _ text h))
+parts_len (suc (suc n)) commands text h =
+    let d = h.second in
+    omega (arith, begins_some is_solid h.front (property_solid h.front h.first), parts_len (suc n) commands d.back d.second, ap length h.split, length-append h.front h.back, ap length d.split, length-append d.front d.back)
+
+commands_at_reads : ReadsUp commands_at Parts AfterContents Same UpTo
+commands_at_reads = record {
+  sound = λ text commands rest e. let s = (commands_reads (suc (length text))).sound text commands rest e in (s.0, s.1, commands_to (suc (length text)) commands s.0 s.2);
+  complete = λ commands front rest start q n e.
+      (commands_reads (suc (length start))).complete commands front rest start (commands_of q.0 (suc (length start)) commands front (omega (arith, parts_len q.0 commands front q.1, ap length e, length-append front rest)) q.1) n e;
+}
+
+-- whether properties stand there
+one_more : (n : ℕ) → nat_lt 0 (suc n) ≡ true
+one_more n = lt-ltb _ _ (omega arith)
+
+parts_begin : (n : ℕ) (commands : List Command) (front rest : List ℕ) → Separated SpellsPart (parts_of n commands) front → begins is_property_start (front ++ rest) ≡ nat_lt 0 n
+parts_begin zero commands front rest h = begins_ends no_property_start is_property_start (λ c is. not-true _ is) front rest (separated_begins no_property_start SpellsCommand command_no_property commands front (some_commands commands front h))
+parts_begin (suc zero) [] front rest h = begins_append is_property_start front rest (property_begins front h) ∙ sym (one_more 0)
+parts_begin (suc zero) (c ∷ cs) front rest h = begins_append is_property_start front rest (front_begins _ front h) ∙ sym (one_more 0)
+parts_begin (suc (suc n)) commands front rest h = begins_append is_property_start front rest (front_begins _ front h) ∙ sym (one_more (suc n))
+
+abbrev Contents : Bool × List Command → List ℕ → Type 0
+Contents x text = (n : ℕ) × (x.0 ≡ nat_lt 0 n) × Separated SpellsPart (parts_of n x.1) text
+
+contents_reads : ReadsUp contents_at Contents AfterContents Same UpTo
+contents_reads = record {
+  sound = λ text x rest e.
+      let b = bind_some (commands_at text) (λ y. Some ((begins is_property_start text, y.0), y.1)) (x, rest) e in
+      let made : (Bool × List Command) × List ℕ = ((begins is_property_start text, b.0.0), b.0.1) in
+      let same = some_is made (x, rest) b.2 in
+      let s = commands_at_reads.sound text b.0.0 b.0.1 b.1 in
+      let is : Contents (begins is_property_start text, b.0.0) s.0 = (s.2.0, ap (begins is_property_start) s.1 ∙ parts_begin s.2.0 b.0.0 s.0 b.0.1 s.2.1, s.2.1) in
+      (s.0, s.1 ∙ ap (λ (p : (Bool × List Command) × List ℕ). s.0 ++ p.1) same, subst (λ (p : (Bool × List Command) × List ℕ). Contents p.0 s.0) same is);
+  complete = λ x front rest start q n e.
+      let one = commands_at_reads.complete x.1 front rest start (q.0, q.2) n e in
+      let flag : begins is_property_start start ≡ x.0 = ap (begins is_property_start) e ∙ parts_begin q.0 x.1 front rest q.2 ∙ sym q.1 in (
+        one.0,
+        ap (λ (o : Option (List Command × List ℕ)). o >>= λ y. Some ((begins is_property_start start, y.0), y.1)) one.1
+            ∙ ap (λ (p : Bool). Some ((p, x.1), one.0)) flag,
+        one.2,
+      );
+}
+
+contents_solid : BeginsWith is_solid Contents
+contents_solid x text h = commands_solid (suc h.0) x.1 text (commands_of h.0 (suc h.0) x.1 text (omega arith) h.2)
 
 -- ---- actions
 
-abbrev action_of : CtxRef → List Command → Action
-action_of ctx commands = record { ctx = ctx; props = false; commands = commands }
+abbrev action_of : CtxRef → Bool × List Command → Action
+action_of ctx x = record { ctx = ctx; props = x.0; commands = x.1 }
 
-abbrev action_commands : CtxRef → Reader Action
-action_commands ctx text = braced_at command_at text >>= λ x. Some (action_of ctx x.0, x.1)
+abbrev action_contents : CtxRef → Reader Action
+action_contents ctx text = sign_at left_brace text >>= λ l. contents_at l >>= λ x. sign_at right_brace x.1 >>= λ r. Some (action_of ctx x.0, r)
 
-abbrev ActionCommands : CtxRef → Action → List ℕ → Type 0
-ActionCommands ctx a text = (commands : List Command) × (action_of ctx commands ≡ a) × Braced SpellsCommand commands text
+abbrev ContentsClosed : CtxRef → Action → List ℕ → Type 0
+ContentsClosed ctx a text = (x : Bool × List Command) × Both (Contents x) (λ t. (action_of ctx x ≡ a) × IsSign right_brace t) text
+
+abbrev ActionContents : CtxRef → Action → List ℕ → Type 0
+ActionContents ctx a = IsSign left_brace ▹ ContentsClosed ctx a
+
+after_contents : (front rest : List ℕ) → IsSign right_brace front → AfterContents (front ++ rest)
+after_contents front rest h = record { tail = brace_after_tail front rest h; comma = sign_other right_brace comma front rest refl refl h }
+
+action_contents_reads : (ctx : CtxRef) → ReadsUp (action_contents ctx) (ActionContents ctx) Any UpTo Skipped
+action_contents_reads ctx =
+    up_sign left_brace (λ l. contents_at l >>= λ x. sign_at right_brace x.1 >>= λ r. Some (action_of ctx x.0, r)) (ContentsClosed ctx) Any Skipped refl
+    (up_skipped (λ a text h. both_begins is_solid (Contents h.0) _ (contents_solid h.0) text h.1)
+    (up_then contents_at (λ x text. sign_at right_brace text >>= λ r. Some (action_of ctx x, r)) Contents (λ x a t. (action_of ctx x ≡ a) × IsSign right_brace t) AfterContents Any Same UpTo Skipped
+    contents_reads (λ x. up_close right_brace (action_of ctx x) refl)
+    (λ x a front rest q n. after_contents front rest q.1)))
 
 abbrev action_ctx : Reader Action
-action_ctx text = context_id_at text >>= λ x. action_commands x.0 x.1
+action_ctx text = context_id_at text >>= λ x. action_contents x.0 x.1
 
 abbrev ActionCtx : Action → List ℕ → Type 0
-ActionCtx a text = (ctx : CtxRef) × Both (SpellsContextId ctx) (ActionCommands ctx a) text
+ActionCtx a text = (ctx : CtxRef) × Both (SpellsContextId ctx) (ActionContents ctx a) text
 
 action_ctx_reads : ReadsUp action_ctx ActionCtx Any Same Skipped
 action_ctx_reads =
-    up_then context_id_at action_commands SpellsContextId ActionCommands (NoMore is_digit) Any Same Same Skipped context_id_reads
-    (λ ctx. up_from (up_last (braced_at command_at) (action_of ctx) (Braced SpellsCommand) Any UpTo Skipped (up_braced command_at SpellsCommand AfterCommand command_reads command_braces)) same_up)
-    (λ ctx a front rest q n. both_ends is_digit left_brace _ front rest digit_apart refl q.2)
+    up_then context_id_at action_contents SpellsContextId ActionContents (NoMore is_digit) Any Same Same Skipped context_id_reads
+    (λ ctx. up_from (action_contents_reads ctx) same_up)
+    (λ ctx a front rest q n. both_ends is_digit left_brace _ front rest digit_apart refl q)
 
 action_ctx_solid : BeginsWith is_solid ActionCtx
-action_ctx_solid a text h = both_begins is_solid (SpellsContextId h.0) (ActionCommands h.0 a) (context_id_solid h.0) text h.1
+action_ctx_solid a text h = both_begins is_solid (SpellsContextId h.0) (ActionContents h.0 a) (context_id_solid h.0) text h.1
 
-action_is : (a : Action) → a.props ≡ false → action_of a.ctx a.commands ≡ a
-action_is a e = ap (λ (p : Bool). let b : Action = record { ctx = a.ctx; props = p; commands = a.commands } in b) (sym e)
+action_to : (a : Action) (text : List ℕ) → Both (IsToken token.Context) (IsSign equals_sign ▹ ActionCtx a) text → SpellsAction a text
+action_to a text b =
+    let ctx = b.second.second in let left = ctx.1.second in let x = left.second in let c = x.1 in
+    subst (λ (d : Action). SpellsAction d text) c.second.0 (record {
+      properties = c.first.0;
+      words = with_second b (with_second b.second (with_second ctx.1 (with_second left (with_both c c.first.2 c.second.1))));
+      props = c.first.1;
+    })
+  where
+    with_both : {P Q R S : List ℕ → Type 0} {t : List ℕ} (d : Both P Q t) → R d.front → S d.back → Both R S t
+    with_both d r s = record { front = d.front; back = d.back; split = d.split; first = r; second = s }
+
+action_from : (a : Action) (text : List ℕ) → SpellsAction a text → Both (IsToken token.Context) (IsSign equals_sign ▹ ActionCtx a) text
+action_from a text h =
+    let b = h.words in let ctx = b.second.second in let left = ctx.second in let c = left.second in
+    with_second b (with_second b.second (a.ctx, with_second ctx (with_second left ((a.props, a.commands), record { front = c.front; back = c.back; split = c.split; first = (h.properties, h.props, c.first); second = (refl, c.second) }))))
 
 pub action_reads : ReadsUp action_at SpellsAction Any Same Skipped
 unfolding action_at
@@ -225,12 +439,8 @@ action_reads =
     context_reads
     (λ u. behind_sign equals_sign action_ctx ActionCtx Any Skipped refl action_ctx_solid action_ctx_reads)
     (λ u a front rest q n. both_ends is_safe equals_sign (ActionCtx a) front rest safe_apart refl q))
-    (λ a text h.
-    let b = h.1 in let ctx = b.second.second in let commands = ctx.1.second in
-    subst (λ (d : Action). SpellsAction d text) commands.1 (record { words = with_second b (with_second b.second (with_second ctx.1 commands.2)); props = refl }))
-    (λ a text h.
-    let b = h.words in let ctx = b.second.second in
-    (tt, with_second b (with_second b.second (a.ctx, with_second ctx (a.commands, action_is a h.props, ctx.second)))))
+    (λ a text h. action_to a text h.1)
+    (λ a text h. (tt, action_from a text h))
 
 pub action_shrinks : Shrinks action_at
 action_shrinks = up_shrinks action_reads
@@ -243,3 +453,60 @@ action_braces = record {
   lists = record { next = λ front more sign. tt; begins = action_solid };
   closes = λ front more sign. tt;
 }
+
+-- ---- the loop over properties
+
+same_bind : {A B : Type 0} (o : Option A) (f g : A → Option B) → ((x : A) → o ≡ Some x → f x ≡ g x) → (o >>= f) ≡ (o >>= g)
+same_bind None f g h = refl
+same_bind (Some x) f g h = h x refl
+
+same_else : {A B : Type 0} (o : Option A) (f g : A → Option B) (d : Option B) → ((x : A) → o ≡ Some x → f x ≡ g x) → or_else o f d ≡ or_else o g d
+same_else None f g d h = refl
+same_else (Some x) f g d h = h x refl
+
+-- more fuel changes nothing
+commands_enough : (n m : ℕ) (text : List ℕ) → length text < n → length text < m → commands_from n text ≡ commands_from m text
+unfolding commands_from
+commands_enough zero m text p q = absurd (omega arith)
+commands_enough (suc n) zero text p q = absurd (omega arith)
+commands_enough (suc n) (suc m) text p q =
+    ap (λ (o : Option (List Command × List ℕ)). cond (begins is_property_start text) o (list_at command_at text))
+    (same_bind (property_at text) (λ x. if_sign comma (commands_from n) (λ rest. Some ([], rest)) x.1) (λ x. if_sign comma (commands_from m) (λ rest. Some ([], rest)) x.1)
+    (λ x e. same_else (sign_at comma x.1) (commands_from n) (commands_from m) (Some ([], x.1))
+    (λ more c. commands_enough n m more (omega (arith, property_shrinks text x.0 x.1 e, sign_shrinks comma x.1 more c)) (omega (arith, property_shrinks text x.0 x.1 e, sign_shrinks comma x.1 more c)))))
+
+abbrev on_property : ℕ → Option (Unit {0} × List ℕ) → Option (List Command × List ℕ)
+on_property fuel o = o >>= λ x. if_sign comma (commands_from fuel) (λ rest. Some ([], rest)) x.1
+
+property_step : (text : List ℕ) → begins is_property_start text ≡ true → commands_at text ≡ on_property (length text) (property_at text)
+unfolding commands_from
+property_step text is = ap (λ (t : Bool). cond t (on_property (length text) (property_at text)) (list_at command_at text)) is
+
+-- a property was read, and a comma behind it
+pub property_goes_on : (text rest more : List ℕ) (u : Unit {0}) (total : Option (List Command × List ℕ)) → begins is_property_start text ≡ true → property_at text ≡ Some (u, rest) → sign_at comma rest ≡ Some more → commands_at text ≡ total → commands_at more ≡ total
+property_goes_on text rest more u total is e c so_far =
+    let less : length more < length text = omega (arith, property_shrinks text u rest e, sign_shrinks comma rest more c) in
+    commands_enough (suc (length more)) (length text) more (omega arith) less
+    ∙ sym (property_step text is ∙ ap (on_property (length text)) e ∙ ap (λ (o : Option (List ℕ)). or_else o (commands_from (length text)) (Some ([], rest))) c)
+    ∙ so_far
+
+-- a property was read, and no comma behind it
+pub property_ends : (text rest : List ℕ) (u : Unit {0}) (total : Option (List Command × List ℕ)) → begins is_property_start text ≡ true → property_at text ≡ Some (u, rest) → sign_at comma rest ≡ None → commands_at text ≡ total → total ≡ Some ([], rest)
+property_ends text rest u total is e c so_far =
+    sym so_far ∙ property_step text is ∙ ap (on_property (length text)) e ∙ ap (λ (o : Option (List ℕ)). or_else o (commands_from (length text)) (Some ([], rest))) c
+
+-- no property was read
+pub property_fails : (fault : PartFault) (text after end : List ℕ) (total : Option (List Command × List ℕ)) → begins is_property_start text ≡ true → Gives {V = Unit {0}} (Err fault) after (property_at text) → commands_at text ≡ total → Gives {V = List Command} (Err fault) end total
+property_fails Syntax text after end total is e so_far = sym so_far ∙ property_step text is ∙ ap (on_property (length text)) e
+property_fails NoMemory text after end total is e so_far = tt
+
+-- there are no more properties
+pub no_property : (text : List ℕ) (total : Option (List Command × List ℕ)) → begins is_property_start text ≡ false → commands_at text ≡ total → total ≡ list_at command_at text
+unfolding commands_from
+no_property text total is so_far = sym so_far ∙ ap (λ (t : Bool). cond t (on_property (length text) (property_at text)) (list_at command_at text)) is
+
+pub commands_are : (result : Result (List Command) PartFault) (text after : List ℕ) (total : Option (List Command × List ℕ)) → begins is_property_start text ≡ false → Gives result after (list_at command_at text) → commands_at text ≡ total → Gives result after total
+commands_are result text after total is e so_far = subst (Gives result after) (sym (no_property text total is so_far)) e
+
+pub property_read : (text rest more : List ℕ) (u : Unit {0}) → property_at text ≡ Some (u, rest) → sign_at comma rest ≡ Some more → length more < length text
+property_read text rest more u e c = omega (arith, property_shrinks text u rest e, sign_shrinks comma rest more c)

@@ -12,7 +12,10 @@ use Rattle.gw_text.specs.Tokens.{Spelling, table, is_spelling, find_token, token
 use Rattle.gw_text.specs.declared.token.Token.{Token}
 use Rattle.gw_text.specs.declared.token.Token.TheVariants as token
 use Rattle.gw_text.proofs.Signs.{some_is}
-use Rattle.gw_msg.specs.Words.{is_error_start}
+use Rattle.gw_base.specs.declared.command_words.Verb.{Verb}
+use Rattle.gw_base.specs.declared.command_words.Verb.TheVariants as verb
+use Rattle.gw_msg.specs.Words.{is_error_start, is_property_start}
+use Rattle.gw_msg.specs.Grammar.{IsPropertyToken, SpellsVerb}
 
 -- ---- the next byte
 
@@ -41,6 +44,18 @@ first_fits token.Transaction b = not (is_one_of (codes "e") b)
 first_fits token.Reply b = not (is_one_of (codes "e") b)
 first_fits token.Pending b = not (is_one_of (codes "e") b)
 first_fits token.TransactionResponseAck b = not (is_one_of (codes "e") b)
+first_fits token.Topology b = is_one_of (codes "tpec") b
+first_fits token.Priority b = is_one_of (codes "tpec") b
+first_fits token.Emergency b = is_one_of (codes "tpec") b
+first_fits token.ContextAudit b = is_one_of (codes "tpec") b
+first_fits token.Add b = not (is_one_of (codes "tpec") b)
+first_fits token.Modify b = not (is_one_of (codes "tpec") b)
+first_fits token.Move b = not (is_one_of (codes "tpec") b)
+first_fits token.Subtract b = not (is_one_of (codes "tpec") b)
+first_fits token.AuditValue b = not (is_one_of (codes "tpec") b)
+first_fits token.AuditCapability b = not (is_one_of (codes "tpec") b)
+first_fits token.Notify b = not (is_one_of (codes "tpec") b)
+first_fits token.ServiceChange b = not (is_one_of (codes "tpec") b)
 first_fits _ b = true
 
 abbrev all_fit : List Spelling → Bool
@@ -147,3 +162,30 @@ pending_starts word e = small_e word (token_fits word token.Pending e)
 
 pub ack_starts : (word : List ℕ) → token_of word ≡ Some token.TransactionResponseAck → begins no_error_start word ≡ true
 ack_starts word e = small_e word (token_fits word token.TransactionResponseAck e)
+
+-- ---- properties and commands
+
+small_property : (word : List ℕ) → begins (is_one_of (codes "tpec")) (map to_ascii_lowercase word) ≡ true → begins is_property_start word ≡ true
+small_property word h = begins_with is_property_start (codes "tpec") word refl refl h
+
+pub property_starts : (word : List ℕ) → IsPropertyToken word → begins is_property_start word ≡ true
+property_starts word (inl h) = small_property word (token_fits word token.Topology h.stands)
+property_starts word (inr (inl h)) = small_property word (token_fits word token.Priority h.stands)
+property_starts word (inr (inr (inl h))) = small_property word (token_fits word token.Emergency h.stands)
+property_starts word (inr (inr (inr h))) = small_property word (token_fits word token.ContextAudit h.stands)
+
+abbrev pub no_property_start : ℕ → Bool
+no_property_start b = not (is_property_start b)
+
+small_verb : (word : List ℕ) → begins (λ b. not (is_one_of (codes "tpec") b)) (map to_ascii_lowercase word) ≡ true → begins no_property_start word ≡ true
+small_verb word h = begins_without (codes "tpec") (codes "TtPpEeCc") word refl h
+
+pub verb_starts : (v : Verb) (word : List ℕ) → SpellsVerb v word → begins no_property_start word ≡ true
+verb_starts verb.Add word h = small_verb word (token_fits word token.Add h.stands)
+verb_starts verb.Modify word h = small_verb word (token_fits word token.Modify h.stands)
+verb_starts verb.Move word h = small_verb word (token_fits word token.Move h.stands)
+verb_starts verb.Subtract word h = small_verb word (token_fits word token.Subtract h.stands)
+verb_starts verb.AuditValue word h = small_verb word (token_fits word token.AuditValue h.stands)
+verb_starts verb.AuditCapability word h = small_verb word (token_fits word token.AuditCapability h.stands)
+verb_starts verb.Notify word h = small_verb word (token_fits word token.Notify h.stands)
+verb_starts verb.ServiceChange word h = small_verb word (token_fits word token.ServiceChange h.stands)

@@ -17,7 +17,7 @@ use Rattle.gw_base.specs.declared.command_words.Verb.{Verb}
 use Rattle.gw_base.specs.declared.command_words.Verb.TheVariants as verb
 use Rattle.gw_text.specs.Lexical.{is_safe, is_safe_mark, is_solid, is_space_start}
 use Rattle.gw_text.specs.Runs.{begins, NoMore}
-use Rattle.gw_text.specs.Forms.{IsSomeRun, IsWord, IsUint32}
+use Rattle.gw_text.specs.Forms.{IsSomeRun, IsWord, IsUint32, IsWordFor}
 use Rattle.gw_text.specs.Reader.{word_as, solid_as, number_at}
 use Rattle.gw_text.specs.Tokens.{token_of}
 use Rattle.gw_text.specs.declared.token.Token.{Token}
@@ -26,13 +26,13 @@ use Rattle.gw_text.proofs.Signs.{some_is}
 use Rattle.gw_text.proofs.ReadsUp.{ReadsUp, Same, BeginsWith, up_as, up_last, begins_wider}
 use Rattle.gw_text.proofs.Leaves.{up_word, up_solid, up_number}
 use Rattle.gw_text.proofs.Links.{space_bytes, is_solid_by, digit_apart, run_begins, word_solid, number_begins, number_solid, both_begins}
-use Rattle.gw_msg.specs.Grammar.{IsToken, command_token, SpellsVerb, SpellsTerm, SpellsContextId, SpellsMid}
-use Rattle.gw_msg.specs.Words.{verb_for, verb_of, context_for, context_of, error_for, error_of, class_of, term_of, is_mid, mid_of}
+use Rattle.gw_msg.specs.Grammar.{IsToken, IsPropertyToken, command_token, SpellsVerb, SpellsTerm, SpellsContextId, SpellsMid}
+use Rattle.gw_msg.specs.Words.{verb_for, verb_of, context_for, context_of, property_for, property_of, error_for, error_of, class_of, term_of, is_mid, mid_of}
 use Rattle.gw_msg.specs.Reading.{if_mark, context_number_at, context_id_at}
 use Rattle.gw_msg.proofs.FormTests.{tests_term_text, tests_mid}
 use Rattle.gw_msg.proofs.TermLaws.{where_true, where_some, class_one, term_is}
 use Rattle.gw_msg.proofs.Starts.{one_of}
-use Rattle.gw_msg.proofs.Steps.{Done, nothing_behind, nothing_more, other_than, up_mark}
+use Rattle.gw_msg.proofs.Steps.{Done, Dropped, nothing_behind, nothing_more, other_than, up_mark}
 use Rattle.gw_msg.proofs.WordLemmas.{is_a_mid, some_mid}
 
 -- ---- tokens
@@ -72,6 +72,32 @@ context_stands None u e = absurd cc
 
 pub context_reads : ReadsUp (word_as context_of) (λ u. IsToken token.Context) (NoMore is_safe) Same Same
 context_reads = up_as (up_word context_of) (λ u text h. record { word = h.word; stands = context_stands (token_of text) u h.stands }) (λ u text h. record { word = h.word; stands = ap context_for h.stands })
+
+property_stands : (o : Option Token) (u : Unit {0}) → property_for o ≡ Some u → (o ≡ Some token.Topology) ⊎ ((o ≡ Some token.Priority) ⊎ ((o ≡ Some token.Emergency) ⊎ (o ≡ Some token.ContextAudit)))
+property_stands (Some token.Topology) u e = inl refl
+property_stands (Some token.Priority) u e = inr (inl refl)
+property_stands (Some token.Emergency) u e = inr (inr (inl refl))
+property_stands (Some token.ContextAudit) u e = inr (inr (inr refl))
+property_stands (Some _) u e = absurd cc
+property_stands None u e = absurd cc
+
+property_to : (text : List ℕ) → IsWord text → (token_of text ≡ Some token.Topology) ⊎ ((token_of text ≡ Some token.Priority) ⊎ ((token_of text ≡ Some token.Emergency) ⊎ (token_of text ≡ Some token.ContextAudit))) → IsPropertyToken text
+property_to text w (inl e) = inl (record { word = w; stands = e })
+property_to text w (inr (inl e)) = inr (inl (record { word = w; stands = e }))
+property_to text w (inr (inr (inl e))) = inr (inr (inl (record { word = w; stands = e })))
+property_to text w (inr (inr (inr e))) = inr (inr (inr (record { word = w; stands = e })))
+
+property_from : (u : Unit {0}) (text : List ℕ) → IsPropertyToken text → IsWordFor property_of u text
+property_from u text (inl h) = record { word = h.word; stands = ap property_for h.stands }
+property_from u text (inr (inl h)) = record { word = h.word; stands = ap property_for h.stands }
+property_from u text (inr (inr (inl h))) = record { word = h.word; stands = ap property_for h.stands }
+property_from u text (inr (inr (inr h))) = record { word = h.word; stands = ap property_for h.stands }
+
+pub property_word_reads : ReadsUp (word_as property_of) (Dropped IsPropertyToken) (NoMore is_safe) Same Same
+property_word_reads = up_as (up_word property_of) (λ u text h. property_to text h.word (property_stands (token_of text) u h.stands)) property_from
+
+pub property_word_solid : (text : List ℕ) → IsPropertyToken text → begins is_solid text ≡ true
+property_word_solid text h = word_solid text (property_from tt text h).word
 
 error_stands : (o : Option Token) (u : Unit {0}) → error_for o ≡ Some u → o ≡ Some token.Error
 error_stands (Some token.Error) u e = refl

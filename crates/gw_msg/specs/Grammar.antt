@@ -1,5 +1,5 @@
 -- Which texts spell a message (RFC 3525, Annex B.2). EQUAL, LBRKT, RBRKT and COMMA are signs, with LWSP on both sides.
-use Rattle.std.specs.Prelude.{◌≡◌, ◌≢◌, ◌⊎◌, ℕ, true, false, Bool, List, [], ◌∷◌, Result, Ok, Err, codes}
+use Rattle.std.specs.Prelude.{◌≡◌, ◌≢◌, ◌⊎◌, ℕ, zero, suc, nat_lt, true, false, Bool, List, [], ◌∷◌, map, Option, Some, None, Result, Ok, Err, codes}
 use Rattle.gw_base.specs.Lang.{◌▹◌, IsText}
 use Rattle.gw_base.specs.Mids.{IsMid}
 use Rattle.gw_base.specs.Wildcards.{IsTermText}
@@ -17,7 +17,8 @@ use Rattle.gw_text.specs.Group.{IsGroup}
 use Rattle.gw_text.specs.Tokens.{token_of}
 use Rattle.gw_text.specs.declared.token.Token.{Token}
 use Rattle.gw_text.specs.declared.token.Token.TheVariants as token
-use Rattle.gw_desc.specs.Grammar.{request_depth}
+use Rattle.gw_desc.specs.Grammar.{request_depth, SpellsTail}
+use Rattle.gw_desc.specs.declared.descriptor.Tail.{Tail}
 use Rattle.gw_msg.specs.declared.message.Command.{Command}
 use Rattle.gw_msg.specs.declared.message.Action.{Action}
 use Rattle.gw_msg.specs.declared.message.Request.{Request}
@@ -101,10 +102,29 @@ SpellsContextId All text = IsText (codes "*") text
 SpellsContextId Null text = IsText (codes "-") text
 SpellsContextId (Num n) text = IsUint32 n.0 text
 
--- actionRequest, without context properties: CtxToken EQUAL ContextID LBRKT commandRequestList RBRKT
+-- TopologyToken, PriorityToken, EmergencyToken, ContextAuditToken
+abbrev pub IsPropertyToken : List ℕ → Type 0
+IsPropertyToken text = IsToken token.Topology text ⊎ (IsToken token.Priority text ⊎ (IsToken token.Emergency text ⊎ IsToken token.ContextAudit text))
+
+-- a contextProperty or a contextAudit: its token and a tail, which is read and dropped (own)
+abbrev pub SpellsProperty : List ℕ → Type 0
+SpellsProperty = IsPropertyToken ▹ (λ text. (t : Tail) × SpellsTail t text)
+
+-- a part of an action: a command, or a property, of which nothing is kept
+abbrev pub SpellsPart : Option Command → List ℕ → Type 0
+SpellsPart None text = SpellsProperty text
+SpellsPart (Some c) text = SpellsCommand c text
+
+-- the parts of an action: so many properties, and then the commands
+abbrev pub parts_of : ℕ → List Command → List (Option Command)
+parts_of zero commands = map (λ c. Some c) commands
+parts_of (suc properties) commands = None ∷ parts_of properties commands
+
+-- actionRequest: CtxToken EQUAL ContextID LBRKT, properties and then commands, one part at least in all, RBRKT
 pub record SpellsAction (a : Action) (text : List ℕ) : Type 0 where
-  pub words : (IsToken token.Context ▹ IsSign equals_sign ▹ SpellsContextId a.ctx ▹ Braced SpellsCommand a.commands) text
-  pub props : a.props ≡ false
+  pub properties : ℕ
+  pub words : (IsToken token.Context ▹ IsSign equals_sign ▹ SpellsContextId a.ctx ▹ Braced SpellsPart (parts_of properties a.commands)) text
+  pub props : a.props ≡ nat_lt 0 properties
 
 -- ---- messages
 

@@ -1,18 +1,18 @@
 -- Messages as they are read, from left to right. That this is the grammar is proved.
-use Rattle.std.specs.Prelude.{◌≡◌, ◌==◌, ◌||◌, not, ℕ, true, false, Bool, List, [], ◌∷◌, if◌then◌else◌, Option, Some, None, Result, Ok, Err, codes}
+use Rattle.std.specs.Prelude.{◌≡◌, ◌==◌, ◌||◌, not, ℕ, zero, suc, length, true, false, Bool, List, [], ◌∷◌, if◌then◌else◌, Option, Some, None, Result, Ok, Err, codes}
 use Rattle.gw_base.specs.Bytes.{byte}
 use Rattle.gw_base.specs.declared.command_words.CtxRef.{CtxRef}
 use Rattle.gw_base.specs.declared.command_words.CtxRef.TheVariants.{Null, All, Choose, Num}
 use Rattle.gw_base.specs.declared.command_words.Verb.{Verb}
-use Rattle.gw_text.specs.Lexical.{equals_sign, left_brace, right_brace, dash, quote_mark}
-use Rattle.gw_text.specs.Runs.{is_byte}
+use Rattle.gw_text.specs.Lexical.{comma, equals_sign, left_brace, right_brace, dash, quote_mark}
+use Rattle.gw_text.specs.Runs.{begins, is_byte}
 use Rattle.gw_text.specs.Tokens.{token_of}
 use Rattle.gw_text.specs.declared.token.Token.{Token}
 use Rattle.gw_text.specs.declared.token.Token.TheVariants as token
 use Rattle.gw_text.specs.SpaceScan.{skip}
 use Rattle.gw_text.specs.Sign.{byte_at, sign_at}
 use Rattle.gw_text.specs.Scans.{sep_at}
-use Rattle.gw_text.specs.Reader.{Reader, ◌>>=◌, found, word_as, solid_as, number_at, number_up_to, group_read, quoted_read, if_byte, if_prefix, if_begins, if_ahead, braced_at, items_at, if_end}
+use Rattle.gw_text.specs.Reader.{Reader, ◌>>=◌, found, word_as, solid_as, number_at, number_up_to, group_read, quoted_read, if_byte, if_sign, if_prefix, if_begins, if_ahead, list_at, braced_at, items_at, if_end}
 use Rattle.gw_msg.specs.declared.message.Command.{Command}
 use Rattle.gw_msg.specs.declared.message.Action.{Action}
 use Rattle.gw_msg.specs.declared.message.AckRange.{AckRange}
@@ -22,10 +22,11 @@ use Rattle.gw_msg.specs.declared.message.Message.{Message}
 use Rattle.gw_msg.specs.declared.fault.ReadFault.{ReadFault}
 use Rattle.gw_msg.specs.declared.fault.ReadFault.TheVariants.{Version, Syntax, NoMemory}
 use Rattle.gw_desc.specs.Grammar.{request_depth}
+use Rattle.gw_desc.specs.Reading.{tail_at}
 use Rattle.gw_desc.specs.declared.fault.PartFault.{PartFault}
 use Rattle.gw_desc.specs.declared.fault.PartFault.TheVariants as part
 use Rattle.gw_msg.specs.Grammar.{may_be_wild, has_group, reply_depth, code_digits, code_max, spoken_version, version_digits, version_max}
-use Rattle.gw_msg.specs.Words.{verb_of, context_of, error_of, is_error_start, term_of, mid_of}
+use Rattle.gw_msg.specs.Words.{verb_of, context_of, property_of, is_property_start, error_of, is_error_start, term_of, mid_of}
 
 -- ---- steps
 
@@ -81,13 +82,42 @@ context_number_at text = do
 unfoldable pub context_id_at : Reader CtxRef
 context_id_at = if_mark (codes "$") Choose (if_mark (codes "*") All (if_mark (codes "-") Null context_number_at))
 
+unfoldable pub property_at : Reader (Unit {0})
+property_at text = do
+  word ← word_as property_of text
+  tail ← tail_at word.1
+  Some (tt, tail.1)
+
+-- a property, and what others read behind a comma
+abbrev pub property_then : Reader (List Command) → Reader (List Command)
+property_then others text = do
+  property ← property_at text
+  if_sign comma others (λ rest. Some ([], rest)) property.1
+
+-- the commands behind the properties, which are fewer than fuel
+unfoldable pub commands_from : ℕ → Reader (List Command)
+commands_from zero text = None
+commands_from (suc fuel) text = if_begins is_property_start (property_then (commands_from fuel)) (list_at command_at) text
+
+-- each property is a byte at least, so the text has fewer than this
+abbrev pub commands_at : Reader (List Command)
+commands_at text = commands_from (suc (length text)) text
+
+-- whether properties stand there, and the commands
+abbrev pub contents_at : Reader (Bool × List Command)
+contents_at text = do
+  commands ← commands_at text
+  Some ((begins is_property_start text, commands.0), commands.1)
+
 unfoldable pub action_at : Reader Action
 action_at text = do
   word ← word_as context_of text
   equals ← sign_at equals_sign word.1
   ctx ← context_id_at equals
-  commands ← braced_at command_at ctx.1
-  Some (record { ctx = ctx.0; props = false; commands = commands.0 }, commands.1)
+  left ← sign_at left_brace ctx.1
+  contents ← contents_at left
+  right ← sign_at right_brace contents.1
+  Some (record { ctx = ctx.0; props = contents.0.0; commands = contents.0.1 }, right)
 
 -- ---- messages
 

@@ -35,6 +35,13 @@ abbrev pub error_for : Option Token → Option (Unit {0})
 error_for (Some token.Error) = Some tt
 error_for _ = None
 
+abbrev pub property_for : Option Token → Option (Unit {0})
+property_for (Some token.Topology) = Some tt
+property_for (Some token.Priority) = Some tt
+property_for (Some token.Emergency) = Some tt
+property_for (Some token.ContextAudit) = Some tt
+property_for _ = None
+
 abbrev pub verb_of : List ℕ → Option Verb
 verb_of word = verb_for (token_of word)
 
@@ -43,6 +50,13 @@ context_of word = context_for (token_of word)
 
 abbrev pub error_of : List ℕ → Option (Unit {0})
 error_of word = error_for (token_of word)
+
+abbrev pub property_of : List ℕ → Option (Unit {0})
+property_of word = property_for (token_of word)
+
+-- of what may stand in an action, context properties alone begin with one of these letters
+abbrev pub is_property_start : ℕ → Bool
+is_property_start b = is_one_of (codes "TtPpEeCc") b
 
 -- of the tokens that may begin a body, Error alone begins with an E
 abbrev pub is_error_start : ℕ → Bool

@@ -2,11 +2,15 @@
 
 ghost use Rattle.std.specs.Prelude.{◌≡◌};
 ghost use Rattle.gw_desc.specs.Parts.{Gives};
-ghost use Rattle.gw_msg.specs.Reading.{details_of, command_at, action_at};
+ghost use Rattle.gw_msg.specs.Reading.{details_of, command_at, property_at, commands_at, action_at};
 
 use crate::message::{Action, Command};
-use crate::words::{context_id, context_word, has_group, mark, may_be_wild, term, verb};
-use gw_desc::{Part, PartFault, braced, sign};
+use crate::words::{
+    context_id, context_word, has_group, is_property_next, mark, may_be_wild, property_word, term,
+    verb,
+};
+use gw_base::Items;
+use gw_desc::{Part, PartFault, list, sign, tail};
 use gw_text::Cursor;
 use std::alloc::Global;
 
@@ -48,18 +52,44 @@ impl Part for Command {
     }
 }
 
+/// A context property, or that they are audited; it is read and dropped.
+#[tactic(auto, unfolding(crate::specs::Reading::property_at))]
+fn property(alloc: Global, cursor: &mut Cursor<'_>) -> Result<(), PartFault>
+    ensures { Gives result cursor.new (property_at cursor.old) }
+{
+    property_word(cursor)?;
+    tail(alloc, cursor)?;
+    Ok(())
+}
+
+/// The commands behind the properties, if there are any.
+fn commands(alloc: Global, cursor: &mut Cursor<'_>) -> Result<Items<Command>, PartFault>
+    ensures { Gives result cursor.new (commands_at cursor.old) }
+{
+    while is_property_next(cursor) {
+        property(alloc, cursor)?;
+        if !cursor.sign(b',') {
+            return Ok(Items::new(alloc));
+        }
+    }
+    list(alloc, cursor)
+}
+
 impl Part for Action {
     ghost read_at = { action_at };
 
-    #[tactic(auto, using(crate::proofs::Laws::command_shrinks), unfolding(crate::specs::Reading::action_at))]
+    #[tactic(auto, unfolding(crate::specs::Reading::action_at))]
     fn read(alloc: Global, cursor: &mut Cursor<'_>) -> Result<Action, PartFault> {
         context_word(cursor)?;
         sign(cursor, b'=')?;
         let ctx = context_id(cursor)?;
-        let commands = braced(alloc, cursor)?;
+        sign(cursor, b'{')?;
+        let props = is_property_next(cursor);
+        let commands = commands(alloc, cursor)?;
+        sign(cursor, b'}')?;
         Ok(Action {
             ctx,
-            props: false,
+            props,
             commands,
         })
     }

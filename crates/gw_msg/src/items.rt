@@ -1,14 +1,12 @@
 //! The body of a message: its items, or an error.
 
 ghost use Rattle.std.specs.Prelude.{◌≡◌};
-ghost use Rattle.gw_text.specs.Runs.{begins};
 ghost use Rattle.gw_text.specs.Reader.{items_at};
 ghost use Rattle.gw_desc.specs.Parts.{Gives};
-ghost use Rattle.gw_msg.specs.Words.{is_error_start};
 ghost use Rattle.gw_msg.specs.Reading.{request_at, reply_at, pending_at, last_at, range_at, ack_at, item_at, quoted_or_nothing, error_at, error_body_at, body_at, content_at};
 
 use crate::message::{AckRange, Item, Message, Request};
-use crate::words::{error_word, mid};
+use crate::words::{error_word, is_error_next, mid};
 use gw_base::{Items, TxId};
 use gw_desc::{Part, PartFault, braced, sign};
 use gw_text::{Cursor, Token, token_of};
@@ -157,14 +155,6 @@ fn error_body(alloc: Global, cursor: &mut Cursor<'_>) -> Result<Items<Item>, Par
         return Err(PartFault::Syntax);
     }
     Ok(Items::new(alloc))
-}
-
-/// Whether an error comes next: of the tokens that may begin a body, `Error` alone begins with an E.
-#[tactic(auto, using(crate::proofs::Starts::begins_one_of))]
-fn is_error_next(cursor: &Cursor<'_>) -> bool
-    ensures { result ≡ begins is_error_start cursor.now }
-{
-    b"Ee".iter().any(|b| cursor.is_at(*b))
 }
 
 /// The body, to the end of the text.

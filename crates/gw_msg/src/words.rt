@@ -1,10 +1,12 @@
 //! Reading the single words of a message. After a fault nothing is said of the cursor.
 
 ghost use Rattle.std.specs.Prelude.{◌≡◌, ◌||◌, not, Some};
+ghost use Rattle.std.specs.List.{list_any};
+ghost use Rattle.gw_text.specs.Runs.{begins, is_byte};
 ghost use Rattle.gw_text.specs.Reader.{word_as, solid_as};
 ghost use Rattle.gw_desc.specs.Parts.{Gives};
 ghost use Rattle.gw_msg.specs.Grammar.{may_be_wild, has_group};
-ghost use Rattle.gw_msg.specs.Words.{verb_of, context_of, error_of, term_of, mid_of};
+ghost use Rattle.gw_msg.specs.Words.{verb_of, context_of, property_of, is_property_start, error_of, is_error_start, term_of, mid_of};
 ghost use Rattle.gw_msg.specs.Reading.{mark_at, context_id_at};
 
 use gw_base::{CtxNum, CtxRef, Mid, TermRef, Verb};
@@ -17,6 +19,30 @@ pub fn mark(cursor: &mut Cursor<'_>, bytes: &[u8]) -> bool
     ensures { mark_at bytes.now cursor.old ≡ Some (result, cursor.new) }
 {
     cursor.prefix(bytes)
+}
+
+/// Whether one of the bytes comes next. It is not taken.
+fn is_one_next(cursor: &Cursor<'_>, bytes: &[u8]) -> bool
+    ensures { result ≡ list_any (λ b. begins (is_byte b) cursor.now) bytes.now }
+{
+    bytes.iter().any(|b| cursor.is_at(*b))
+}
+
+/// Whether a context property comes next: of what may stand in an action, properties alone begin with one of these
+/// letters.
+#[tactic(auto, using(crate::proofs::Starts::begins_one_of))]
+pub fn is_property_next(cursor: &Cursor<'_>) -> bool
+    ensures { result ≡ begins is_property_start cursor.now }
+{
+    is_one_next(cursor, b"TtPpEeCc")
+}
+
+/// Whether an error comes next: of the tokens that may begin a body, `Error` alone begins with an E.
+#[tactic(auto, using(crate::proofs::Starts::begins_one_of))]
+pub fn is_error_next(cursor: &Cursor<'_>) -> bool
+    ensures { result ≡ begins is_error_start cursor.now }
+{
+    is_one_next(cursor, b"Ee")
 }
 
 /// The command that a token names.
@@ -59,6 +85,16 @@ pub fn context_word(cursor: &mut Cursor<'_>) -> Result<(), PartFault>
 {
     match token_of(cursor.word()?) {
         Some(Token::Context) => Ok(()),
+        _ => Err(PartFault::Syntax),
+    }
+}
+
+/// The token of a context property.
+pub fn property_word(cursor: &mut Cursor<'_>) -> Result<(), PartFault>
+    ensures { Gives result cursor.new (word_as property_of cursor.old) }
+{
+    match token_of(cursor.word()?) {
+        Some(Token::Topology | Token::Priority | Token::Emergency | Token::ContextAudit) => Ok(()),
         _ => Err(PartFault::Syntax),
     }
 }
