@@ -1,12 +1,11 @@
 -- The reader of a bracket reads its form.
-use Rattle.std.proofs.Common.{◌≡◌, ◌⊎◌, inl, inr, ℕ, zero, suc, ◌<◌, Bool, true, false, not, ◌||◌, ◌==◌, List, [], ◌∷◌, ◌++◌, length, Option, Some, None, Ok, refl, ap, sym, subst, ◌∙◌, append_assoc, arith}
+use Rattle.std.proofs.Common.{◌≡◌, inl, inr, ℕ, zero, suc, ◌<◌, Bool, true, false, not, ◌||◌, ◌==◌, List, [], ◌∷◌, ◌++◌, length, Option, Some, None, refl, ap, sym, subst, ◌∙◌, append_assoc, arith}
 use Rattle.std.specs.Prelude.{codes}
 use Rattle.std.specs.List.{concat, list_all}
 use Rattle.std.proofs.lemmas.Bool.{and_from, or_cases, eqb-true}
 use Rattle.std.proofs.lemmas.List.{append-nil, append_cancel_right}
 use Rattle.gw_base.specs.Bytes.{is_one_of}
-use Rattle.gw_base.specs.Lang.{Both}
-use Rattle.gw_text.specs.Lexical.{is_safe, is_solid, is_space_start, comma, colon, quote_mark}
+use Rattle.gw_text.specs.Lexical.{is_safe, is_space_start, comma, colon, quote_mark}
 use Rattle.gw_text.specs.Space.{Each, IsSpace, IsSep}
 use Rattle.gw_text.specs.SpaceScan.{skip}
 use Rattle.gw_text.specs.Runs.{begins, is_byte, NoMore}
@@ -23,7 +22,7 @@ use Rattle.gw_text.proofs.Links.{space_bytes, safe_apart, byte_apart_space, is_a
 use Rattle.gw_text.proofs.Scanned.{sep_found}
 use Rattle.gw_text.proofs.OctetsScans.{quoted_again_at}
 use Rattle.gw_text.proofs.Spans.{quoted_begins}
-use Rattle.gw_desc.specs.Grammar.{Kept, is_bracket_byte, IsBracketPiece, IsBracketInside, IsBracket}
+use Rattle.gw_desc.specs.Grammar.{Kept, is_bracket_byte, IsBracketPiece, IsBracket}
 use Rattle.gw_desc.specs.Reading.{piece_at, with_span, left_bracket, right_bracket, if_closed, pieces_from, pieces_at, bracket_at}
 use Rattle.gw_desc.proofs.Texts.{space_both, safe_is_not}
 use Rattle.gw_desc.proofs.BracketPieces.{piece_took, piece_shrinks}

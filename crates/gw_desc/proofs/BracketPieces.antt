@@ -1,19 +1,19 @@
 -- Brackets: what each step of their scan takes, and the loop over their pieces.
-use Rattle.std.proofs.Common.{◌≡◌, ◌⊎◌, inl, inr, ℕ, zero, suc, ◌<◌, ◌≤◌, Bool, true, false, cond, ◌||◌, List, [], ◌∷◌, ◌++◌, length, Option, Some, None, refl, ap, sym, subst, ◌∙◌, append_assoc, length-append, arith}
+use Rattle.std.proofs.Common.{◌≡◌, ◌⊎◌, inl, inr, ℕ, zero, suc, ◌<◌, Bool, true, false, cond, ◌||◌, List, [], ◌∷◌, ◌++◌, length, Option, Some, None, refl, ap, sym, subst, ◌∙◌, append_assoc, length-append, arith}
 use Rattle.std.specs.Prelude.{codes}
 use Rattle.std.specs.List.{concat, list_all}
 use Rattle.std.proofs.lemmas.List.{append-nil}
 use Rattle.gw_base.specs.Bytes.{is_one_of}
-use Rattle.gw_text.specs.Lexical.{is_safe, is_solid, comma, colon, quote_mark}
-use Rattle.gw_text.specs.Space.{IsByte, Each, IsSep}
+use Rattle.gw_text.specs.Lexical.{is_safe, comma, colon, quote_mark}
+use Rattle.gw_text.specs.Space.{Each}
 use Rattle.gw_text.specs.Runs.{begins, is_byte}
 use Rattle.gw_text.specs.Sign.{byte_at}
 use Rattle.gw_text.specs.Scans.{word_at, sep_at}
-use Rattle.gw_text.specs.Quoted.{IsQuoted, quoted_at}
+use Rattle.gw_text.specs.Quoted.{quoted_at}
 use Rattle.gw_text.specs.Reader.{Reader, ◌>>=◌, found, or_else}
 use Rattle.gw_text.proofs.RunLemmas.{and_true}
 use Rattle.gw_text.proofs.Signs.{some_is, byte_sound}
-use Rattle.gw_text.proofs.ReadsUp.{else_some, bind_some, begins_some}
+use Rattle.gw_text.proofs.ReadsUp.{else_some, begins_some}
 use Rattle.gw_text.proofs.Leaves.{found_ok}
 use Rattle.gw_text.proofs.Scanned.{word_found, sep_found}
 use Rattle.gw_text.proofs.OctetsScans.{quoted_took}

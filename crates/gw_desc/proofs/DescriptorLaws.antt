@@ -1,18 +1,17 @@
 -- The reader of a descriptor reads its form.
-use Rattle.std.proofs.Common.{◌≡◌, ◌⊎◌, inl, inr, ℕ, Bool, true, false, List, [], ◌∷◌, ◌++◌, Option, Some, None, refl, ap, sym, subst, ◌∙◌}
+use Rattle.std.proofs.Common.{◌≡◌, ◌⊎◌, inl, inr, ℕ, false, List, [], ◌∷◌, ◌++◌, Option, Some, refl, ap, sym, subst, ◌∙◌}
 use Rattle.gw_base.specs.Lang.{Both, ◌▹◌}
 use Rattle.gw_text.specs.Lexical.{is_safe, is_solid, is_space_start, comma, right_brace, left_brace, equals_sign}
 use Rattle.gw_text.specs.Space.{IsSpace}
-use Rattle.gw_text.specs.Runs.{begins, is_byte, NoMore}
-use Rattle.gw_text.specs.Sign.{sign_at}
-use Rattle.gw_text.specs.Forms.{IsWord, IsSign, IsWordFor, Braced, BracedOrEmpty}
+use Rattle.gw_text.specs.Runs.{is_byte, NoMore}
+use Rattle.gw_text.specs.Forms.{IsWord, IsSign, Braced, BracedOrEmpty}
 use Rattle.gw_text.specs.Tokens.{token_of}
-use Rattle.gw_text.specs.Reader.{Reader, ◌>>=◌, braced_at, braced_or_empty_at, if_ahead}
+use Rattle.gw_text.specs.Reader.{Reader, ◌>>=◌, braced_at, braced_or_empty_at}
 use Rattle.gw_text.specs.declared.token.Token.{Token}
 use Rattle.gw_text.specs.declared.token.Token.TheVariants as token
 use Rattle.gw_text.proofs.Signs.{sign_ends, sign_other, sign_end, some_is}
 use Rattle.gw_text.proofs.ReadsUp.{ReadsUp, Same, Skipped, UpTo, Any, BeginsWith, up_as, up_next, up_from, up_to, up_then, up_last, up_if_ahead, same_up, skipped_up, up_shrinks}
-use Rattle.gw_text.proofs.Links.{safe_apart, safe_is_solid, both_begins, both_ends, both_other, with_second, word_solid}
+use Rattle.gw_text.proofs.Links.{safe_apart, safe_is_solid, both_begins, both_ends, with_second}
 use Rattle.gw_text.proofs.Lists.{BracesUp, up_braced, up_braced_or_empty}
 use Rattle.gw_desc.specs.declared.descriptor.Descriptor.{Descriptor}
 use Rattle.gw_desc.specs.declared.descriptor.Descriptor.TheVariants as descriptor
@@ -22,12 +21,12 @@ use Rattle.gw_desc.specs.declared.descriptor.MediaPart.{MediaPart}
 use Rattle.gw_desc.specs.declared.descriptor.ServiceParm.{ServiceParm}
 use Rattle.gw_desc.specs.declared.descriptor.Tail.{Tail}
 use Rattle.gw_desc.specs.Parts.{Shrinks}
-use Rattle.gw_desc.specs.Grammar.{Kept, IsToken, SpellsTail, IsBracket, SpellsMediaPart, SpellsServiceParm, kept_token, is_descriptor, IsOtherWord, IsTail, IsDropped, SpellsDescriptor}
+use Rattle.gw_desc.specs.Grammar.{Kept, IsToken, SpellsTail, IsBracket, SpellsMediaPart, SpellsServiceParm, kept_token, is_descriptor, IsOtherWord, IsDropped, SpellsDescriptor}
 use Rattle.gw_desc.specs.Reading.{word_read, tail_at, left_bracket, bracket_at, media_part_at, service_parm_at, dropped_at, keep_at, descriptor_rest, descriptor_at, AfterTail, AfterDescriptor}
 use Rattle.gw_desc.proofs.Texts.{ahead_ends, word_reads, kept_solid, kept_begins}
 use Rattle.gw_desc.proofs.TailLaws.{tail_reads, tail_ends, tail_other, sign_after_tail}
 use Rattle.gw_desc.proofs.BracketLaws.{bracket_reads, bracket_begins}
-use Rattle.gw_desc.proofs.MediaLaws.{token_solid, braced_ends, media_part_reads, media_part_braces}
+use Rattle.gw_desc.proofs.MediaLaws.{braced_ends, media_part_reads, media_part_braces}
 use Rattle.gw_desc.proofs.ServiceLaws.{service_parm_reads, service_parm_braces, AfterServiceParm}
 
 -- ---- what follows another word

@@ -1,5 +1,5 @@
 -- The readers of the parts of a Media descriptor read their forms.
-use Rattle.std.proofs.Common.{◌≡◌, ◌⊎◌, inl, inr, ℕ, Bool, true, false, List, [], ◌∷◌, ◌++◌, Option, Some, None, refl, ap, sym, subst, ◌∙◌}
+use Rattle.std.proofs.Common.{◌≡◌, ℕ, Bool, true, false, List, [], ◌∷◌, ◌++◌, Some, None, refl, ap, sym, subst, ◌∙◌}
 use Rattle.std.proofs.lemmas.List.{append-nil}
 use Rattle.gw_base.specs.Bytes.{is_digit}
 use Rattle.gw_base.specs.Lang.{Both, ◌▹◌, IsText}
@@ -7,14 +7,14 @@ use Rattle.gw_text.specs.Lexical.{is_safe, is_solid, left_brace, right_brace, eq
 use Rattle.gw_text.specs.Space.{IsSpace}
 use Rattle.gw_text.specs.SpaceScan.{skip}
 use Rattle.gw_text.specs.Runs.{begins, is_byte, NoMore}
-use Rattle.gw_text.specs.Sign.{byte_at, sign_at}
-use Rattle.gw_text.specs.Forms.{IsSign, IsWordFor, Braced}
+use Rattle.gw_text.specs.Sign.{byte_at}
+use Rattle.gw_text.specs.Forms.{IsSign, Braced}
 use Rattle.gw_text.specs.Octets.{IsOctetsOf}
 use Rattle.gw_text.specs.Tokens.{token_of}
 use Rattle.gw_text.specs.Reader.{Reader, ◌>>=◌, word_as, number_up_to, octets_read, braced_at}
 use Rattle.gw_text.specs.declared.token.Token.{Token}
 use Rattle.gw_text.specs.declared.token.Token.TheVariants as token
-use Rattle.gw_text.proofs.ReadsUp.{ReadsUp, Same, Skipped, UpTo, Any, BeginsWith, up_as, up_next, up_from, up_to, up_skipped, up_then, up_last, up_done, up_sign, up_byte, up_space, both_split, same_up, skipped_up, up_shrinks}
+use Rattle.gw_text.proofs.ReadsUp.{ReadsUp, Same, Skipped, UpTo, Any, BeginsWith, up_as, up_from, up_to, up_skipped, up_then, up_last, up_done, up_sign, up_byte, up_space, same_up, skipped_up, up_shrinks}
 use Rattle.gw_text.proofs.Leaves.{up_word, up_number_up_to}
 use Rattle.gw_text.proofs.Links.{safe_apart, digit_apart, both_begins, both_ends, with_second, word_solid, number_solid}
 use Rattle.gw_text.proofs.Lists.{BracesUp, up_braced}

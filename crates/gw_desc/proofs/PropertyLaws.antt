@@ -1,5 +1,5 @@
 -- The reader of a property reads its form.
-use Rattle.std.proofs.Common.{◌≡◌, ◌⊎◌, inl, inr, ℕ, Bool, true, false, List, [], ◌∷◌, ◌++◌, Some, None, refl, ap, sym, subst, ◌∙◌}
+use Rattle.std.proofs.Common.{◌≡◌, ◌⊎◌, inl, inr, ℕ, true, false, List, [], ◌++◌, Some, refl, ap, sym, subst, ◌∙◌}
 use Rattle.std.proofs.lemmas.Bool.{eqb-true}
 use Rattle.std.proofs.lemmas.List.{append-nil}
 use Rattle.gw_base.specs.Lang.{Both, ◌▹◌}
@@ -8,10 +8,9 @@ use Rattle.gw_text.specs.Runs.{begins, is_byte, NoMore}
 use Rattle.gw_text.specs.Sign.{sign_at}
 use Rattle.gw_text.specs.Forms.{IsWord, IsSign}
 use Rattle.gw_text.specs.Quoted.{IsQuoted}
-use Rattle.gw_text.specs.Group.{IsGroup}
 use Rattle.gw_text.specs.Reader.{Reader, ◌>>=◌, quoted_read, group_read, if_begins, if_sign}
 use Rattle.gw_text.proofs.Signs.{sign_ends, sign_other}
-use Rattle.gw_text.proofs.ReadsUp.{ReadsUp, Same, Skipped, UpTo, Any, BeginsWith, up_as, up_next, up_from, up_skipped, up_then, up_last, up_done, up_close, up_if_sign, up_if_begins, up_up, begins_wider, begins_append, byte_is_solid, same_up, up_shrinks}
+use Rattle.gw_text.proofs.ReadsUp.{ReadsUp, Same, Skipped, UpTo, Any, BeginsWith, up_as, up_next, up_from, up_skipped, up_then, up_last, up_done, up_close, up_if_sign, up_if_begins, up_up, begins_wider, byte_is_solid, same_up, up_shrinks}
 use Rattle.gw_text.proofs.Links.{safe_apart, both_begins, both_ends, both_other, begins_ends, with_second, word_begins, word_solid}
 use Rattle.gw_text.proofs.Lists.{BracesUp}
 use Rattle.gw_text.proofs.OctetsScans.{up_quoted}

@@ -1,15 +1,13 @@
 -- Values of Services parameters that are no quoted texts: what is taken of them step by step.
-use Rattle.std.proofs.Common.{◌≡◌, ◌⊎◌, inl, inr, ℕ, suc, ◌<◌, Bool, true, false, cond, ◌||◌, ◌==◌, List, [], ◌∷◌, ◌++◌, length, take, drop, Option, Some, None, Ok, refl, ap, sym, subst, ◌∙◌, append_assoc, arith}
+use Rattle.std.proofs.Common.{◌≡◌, ℕ, suc, ◌<◌, Bool, true, false, ◌||◌, ◌==◌, List, [], ◌∷◌, ◌++◌, length, Some, None, refl, ap, sym, ◌∙◌, append_assoc, arith}
 use Rattle.std.specs.List.{list_all}
 use Rattle.std.proofs.lemmas.Bool.{or_left, and_parts, and_from, ne_eqb, eqb-true}
-use Rattle.std.proofs.lemmas.List.{append-nil, take_at, drop_at}
+use Rattle.std.proofs.lemmas.List.{take_at, drop_at}
 use Rattle.std.proofs.lemmas.List.Folds.{list_all-append}
 use Rattle.gw_text.specs.Lexical.{is_safe}
 use Rattle.gw_text.specs.Runs.{run_len, begins, is_byte, IsRun, NoMore}
-use Rattle.gw_text.specs.Scans.{some_at}
 use Rattle.gw_text.specs.Longest.{IsLongest}
 use Rattle.gw_text.specs.Forms.{IsWord, IsSomeRun}
-use Rattle.gw_text.specs.Reader.{found}
 use Rattle.gw_text.proofs.RunLemmas.{run_again}
 use Rattle.gw_text.proofs.Signs.{same_byte}
 use Rattle.gw_text.proofs.Leaves.{eq_zero}

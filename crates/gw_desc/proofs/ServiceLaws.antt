@@ -1,19 +1,19 @@
 -- The reader of a Services parameter reads its form.
-use Rattle.std.proofs.Common.{◌≡◌, ◌⊎◌, inl, inr, ℕ, ◌<◌, Bool, true, false, ◌||◌, List, [], ◌∷◌, ◌++◌, length, take, drop, Option, Some, None, refl, ap, sym, subst, ◌∙◌, length-take, arith}
+use Rattle.std.proofs.Common.{◌≡◌, ◌⊎◌, inl, inr, ℕ, ◌<◌, true, false, List, [], ◌++◌, length, drop, Option, Some, None, refl, ap, sym, subst, ◌∙◌, length-take, arith}
 use Rattle.std.specs.List.{list_all}
 use Rattle.std.proofs.lemmas.List.{take-append-drop}
-use Rattle.gw_base.specs.Lang.{Both, ◌▹◌}
+use Rattle.gw_base.specs.Lang.{Both}
 use Rattle.gw_text.specs.Lexical.{is_safe, is_solid, is_space_start, comma, right_brace, equals_sign, quote_mark}
 use Rattle.gw_text.specs.Runs.{run_len, begins, is_byte, NoMore}
 use Rattle.gw_text.specs.Sign.{sign_at}
 use Rattle.gw_text.specs.Scans.{some_at}
 use Rattle.gw_text.specs.Forms.{IsWord, IsSign, IsSomeRun}
 use Rattle.gw_text.specs.Quoted.{IsQuoted}
-use Rattle.gw_text.specs.Reader.{Reader, ◌>>=◌, found, quoted_read, if_begins, if_sign}
+use Rattle.gw_text.specs.Reader.{◌>>=◌, quoted_read}
 use Rattle.gw_text.proofs.RunLemmas.{run_is, run_len-le}
 use Rattle.gw_text.proofs.Scanned.{taken}
 use Rattle.gw_text.proofs.Signs.{sign_ends, sign_other}
-use Rattle.gw_text.proofs.ReadsUp.{ReadsUp, Same, Skipped, UpTo, Any, BeginsWith, up_as, up_next, up_skipped, up_then, up_last, up_done, up_if_sign, up_if_begins, begins_wider, byte_is_solid, same_up, up_shrinks}
+use Rattle.gw_text.proofs.ReadsUp.{ReadsUp, Same, Any, BeginsWith, up_as, up_next, up_skipped, up_then, up_last, up_done, up_if_sign, up_if_begins, begins_wider, byte_is_solid, same_up, up_shrinks}
 use Rattle.gw_text.proofs.Leaves.{found_ok}
 use Rattle.gw_text.proofs.Links.{space_bytes, safe_apart, is_solid_by, is_another, run_begins, begins_ends, both_begins, both_ends, with_second}
 use Rattle.gw_text.proofs.Lists.{BracesUp}

@@ -1,12 +1,12 @@
 -- The reader of a tail reads its form.
-use Rattle.std.proofs.Common.{◌≡◌, ◌⊎◌, inl, inr, ℕ, Bool, true, false, List, [], ◌∷◌, ◌++◌, Option, Some, None, refl, ap, sym, subst, ◌∙◌}
+use Rattle.std.proofs.Common.{◌≡◌, ◌⊎◌, inl, inr, ℕ, Bool, true, false, List, [], ◌++◌, Option, Some, None, refl, ap, sym, subst, ◌∙◌}
 use Rattle.gw_base.specs.Lang.{Both, ◌▹◌}
 use Rattle.gw_text.specs.Lexical.{is_safe, is_solid, equals_sign, left_brace, is_space_start, comma, right_brace}
 use Rattle.gw_text.specs.Space.{IsSpace}
 use Rattle.gw_text.specs.Runs.{begins, is_byte, NoMore}
 use Rattle.gw_text.specs.Sign.{sign_at}
 use Rattle.gw_text.specs.Forms.{IsWord, IsSign}
-use Rattle.gw_text.specs.Reader.{Reader, ◌>>=◌, group_read, if_begins}
+use Rattle.gw_text.specs.Reader.{◌>>=◌, group_read, if_begins}
 use Rattle.gw_text.proofs.Skips.{no_space}
 use Rattle.gw_text.proofs.Signs.{sign_ends, sign_other}
 use Rattle.gw_text.proofs.ReadsUp.{ReadsUp, Same, Skipped, Any, BeginsWith, up_as, up_next, up_skipped, up_then, up_last, up_done, up_if_sign, up_if_ahead, up_if_begins, begins_wider, byte_is_solid, same_up, up_shrinks, both_split}
@@ -16,7 +16,7 @@ use Rattle.gw_desc.specs.declared.descriptor.Tail.{Tail}
 use Rattle.gw_desc.specs.Parts.{Shrinks}
 use Rattle.gw_desc.specs.Grammar.{Kept, request_depth, SpellsGroup, SpellsEquals, SpellsOptionalGroup, IsThere, SpellsTail}
 use Rattle.gw_desc.specs.Reading.{word_read, optional_group_at, group_tail_at, word_tail_at, bare_tail_at, tail_at, AfterTail}
-use Rattle.gw_desc.proofs.Texts.{first_two, last_two, with_first_part, sign_takes_space, ahead_ends, ahead_other, safe_is_not, word_reads, kept_solid, kept_begins}
+use Rattle.gw_desc.proofs.Texts.{first_two, last_two, sign_takes_space, ahead_ends, ahead_other, safe_is_not, word_reads, kept_solid, kept_begins}
 
 -- ---- groups
 

@@ -1,8 +1,8 @@
 -- Texts of two forms and more.
-use Rattle.std.proofs.Common.{◌≡◌, ℕ, Bool, true, false, List, [], ◌∷◌, ◌++◌, Option, Some, None, refl, ap, sym, subst, ◌∙◌, append_assoc}
+use Rattle.std.proofs.Common.{◌≡◌, ℕ, Bool, true, false, List, [], ◌∷◌, ◌++◌, Some, None, refl, ap, sym, ◌∙◌, append_assoc}
 use Rattle.std.specs.List.{concat}
 use Rattle.std.proofs.lemmas.Bool.{eqb-true}
-use Rattle.gw_base.specs.Lang.{Both, ◌▹◌, IsText}
+use Rattle.gw_base.specs.Lang.{Both, ◌▹◌}
 use Rattle.gw_text.specs.Lexical.{is_safe, is_solid, is_space_start}
 use Rattle.gw_text.specs.Space.{IsSpacePiece, Each, IsSpace}
 use Rattle.gw_text.specs.Runs.{begins, is_byte, NoMore}

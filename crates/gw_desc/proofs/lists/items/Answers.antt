@@ -1,4 +1,4 @@
-use Rattle.std.proofs.Common.{◌≡◌, Bool, true, false, refl}
+use Rattle.std.proofs.Common.{◌≡◌, true, false, refl}
 use Rattle.std.proofs.lemmas.Result.{err_from_is_err_and}
 use Rattle.gw_text.specs.Reader.{items_at}
 use Rattle.gw_desc.proofs.Faults.{items_loop_fails, items_loop_ends, items_loop_goes_on}
