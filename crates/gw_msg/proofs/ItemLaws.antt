@@ -24,11 +24,10 @@ use Rattle.gw_text.proofs.ReadsUp.{ReadsUp, Same, Skipped, UpTo, Any, BeginsWith
 use Rattle.gw_text.proofs.Leaves.{up_number, up_number_up_to, up_sep}
 use Rattle.gw_text.proofs.Links.{safe_apart, digit_apart, solid_apart, digit_is_safe, is_another, word_solid, number_solid, begins_ends, no_byte, both_begins, both_ends, both_no_more, space_ends, sep_ends, with_second}
 use Rattle.gw_text.proofs.Lists.{BracesUp, up_braced}
-use Rattle.gw_text.proofs.Loops.{ShrinksMore}
 use Rattle.gw_text.proofs.Items.{ItemsUp, ToEnd, Ended, up_items, at_end, spaced_begins}
 use Rattle.gw_text.proofs.OctetsScans.{up_quoted}
 use Rattle.gw_text.proofs.Spans.{up_group, group_begins, quoted_begins}
-use Rattle.gw_desc.specs.Parts.{Shrinks}
+use Rattle.gw_desc.specs.Parts.{Shrinks, ShrinksMore}
 use Rattle.gw_desc.proofs.Texts.{ahead_ends}
 use Rattle.gw_msg.specs.declared.message.Action.{Action}
 use Rattle.gw_msg.specs.declared.message.Request.{Request}

@@ -12,27 +12,29 @@ use Rattle.gw_text.specs.Lexical.{is_safe, is_solid, is_space_start, comma, dash
 use Rattle.gw_text.specs.Runs.{begins, NoMore}
 use Rattle.gw_text.specs.Sign.{prefix_at, sign_at}
 use Rattle.gw_text.specs.Forms.{IsWord, IsSign, IsInAnyCase, Separated}
-use Rattle.gw_text.specs.Reader.{Reader, ◌>>=◌, word_as, or_else, if_sign, list_at}
+use Rattle.gw_text.specs.Reader.{Reader, ◌>>=◌, word_as, or_else, if_sign, if_ahead, list_at}
 use Rattle.gw_text.specs.declared.token.Token.TheVariants as token
 use Rattle.gw_text.proofs.Signs.{some_is, sign_ends, sign_other, sign_shrinks}
 use Rattle.gw_text.proofs.TokenWords.{no_mark}
 use Rattle.gw_text.proofs.ReadsUp.{ReadsUp, Same, Skipped, UpTo, Any, BeginsWith, bind_some, both_split, begins_append, begins_some, up_as, up_from, up_next, up_to, up_skipped, up_then, up_last, up_done, up_sign, up_close, up_if_sign, up_if_begins, up_shrinks, same_up}
 use Rattle.gw_text.proofs.Links.{safe_apart, digit_apart, word_solid, both_begins, both_ends, begins_ends, with_second}
-use Rattle.gw_text.proofs.Lists.{NoSign, ListsUp, BracesUp, up_list, separated_begins}
+use Rattle.gw_text.proofs.Lists.{NoSign, ListsUp, BracesUp, up_list, up_optional, separated_begins}
+use Rattle.gw_desc.specs.declared.descriptor.Descriptor.{Descriptor}
 use Rattle.gw_desc.specs.declared.descriptor.Tail.{Tail}
 use Rattle.gw_desc.specs.declared.fault.PartFault.{PartFault}
 use Rattle.gw_desc.specs.declared.fault.PartFault.TheVariants.{Syntax, NoMemory}
 use Rattle.gw_desc.specs.Parts.{Gives, Shrinks}
-use Rattle.gw_desc.specs.Grammar.{Kept, request_depth, SpellsEquals, SpellsOptionalGroup, SpellsTail}
-use Rattle.gw_desc.specs.Reading.{tail_at, AfterTail}
+use Rattle.gw_desc.specs.Grammar.{Kept, request_depth, SpellsEquals, SpellsOptionalGroup, SpellsTail, SpellsDescriptor}
+use Rattle.gw_desc.specs.Reading.{tail_at, AfterTail, descriptor_at, AfterDescriptor}
 use Rattle.gw_desc.proofs.TailLaws.{group_ends, tail_reads, comma_after_tail, brace_after_tail}
+use Rattle.gw_desc.proofs.DescriptorLaws.{descriptor_reads, descriptor_braces}
 use Rattle.gw_msg.specs.declared.message.Command.{Command}
 use Rattle.gw_msg.specs.declared.message.Action.{Action}
-use Rattle.gw_msg.specs.Grammar.{IsToken, command_token, SpellsVerb, SpellsTerm, SpellsMark, may_be_wild, has_group, SpellsDetailsOf, SpellsDetails, SpellsCommand, SpellsContextId, IsPropertyToken, SpellsProperty, SpellsPart, parts_of, SpellsAction}
+use Rattle.gw_msg.specs.Grammar.{IsToken, command_token, SpellsVerb, SpellsTerm, SpellsMark, may_be_wild, has_group, IsOptionalGroup, SpellsDetailsOf, SpellsDetails, SpellsCommand, SpellsContextId, IsPropertyToken, SpellsProperty, SpellsPart, parts_of, SpellsAction}
 use Rattle.gw_msg.specs.Words.{verb_of, context_of, property_of, is_property_start, term_of}
-use Rattle.gw_msg.specs.Reading.{mark_at, only_if, is_allowed, details_of, command_at, context_id_at, property_at, property_then, commands_from, commands_at, contents_at, action_at}
+use Rattle.gw_msg.specs.Reading.{mark_at, only_if, nothing_at, group_at, is_allowed, details_of, command_at, context_id_at, property_at, property_then, commands_from, commands_at, contents_at, action_at}
 use Rattle.gw_msg.proofs.Starts.{case_begins, property_starts, no_property_start, verb_starts}
-use Rattle.gw_msg.proofs.Steps.{NoPrefix, Done, Dropped, nothing_more, nothing_behind, mark_reads, mark_begins, up_only_if, optional_group_reads, optional_group_ends}
+use Rattle.gw_msg.proofs.Steps.{NoPrefix, NoBrace, Done, Dropped, nothing_more, nothing_behind, mark_reads, mark_begins, up_only_if, optional_group_reads, optional_group_ends}
 use Rattle.gw_msg.proofs.WordLaws.{verb_reads, context_reads, property_word_reads, property_word_solid, token_solid, term_reads, term_solid, context_id_reads, context_id_solid}
 
 -- behind what stands just there, a sign, and then a reader of what begins with no white space
@@ -46,34 +48,37 @@ behind_sign b k Q Next To solid first h = up_from (up_sign b k Q Next To solid (
 abbrev AfterCommand : List ℕ → Type 0
 AfterCommand = NoSign left_brace (NoMore is_safe)
 
-abbrev command_of : Bool → Bool → Verb → TermRef → Command
-command_of o w v t = record { verb = v; term = t; optional = o; wild = w }
+abbrev command_of : Bool → Bool → Verb → TermRef → List Descriptor → Command
+command_of o w v t ds = record { verb = v; term = t; optional = o; wild = w; descriptors = ds }
 
-details_reads : (g : Bool) → ReadsUp (details_of g) (Dropped (SpellsDetailsOf g)) AfterCommand Same UpTo
+details_reads : (g : Bool) → ReadsUp (details_of g) (SpellsDetailsOf g) AfterCommand Same UpTo
 unfolding details_of
-details_reads true = up_to (up_next (optional_group_reads request_depth) (λ rest n. n.bare)) same_up
-details_reads false = up_to (up_as (up_done tt AfterCommand Same) (λ u text h. h.1) (λ u text h. (refl, h))) same_up
+details_reads true =
+    up_to (up_next (up_as (up_last (λ text. if_ahead left_brace (group_at request_depth) nothing_at text) (λ u. []) (Dropped (IsOptionalGroup request_depth)) NoBrace Same Same (optional_group_reads request_depth))
+    (λ ds text h. (sym h.1, h.2)) (λ ds text h. (tt, sym h.0, h.1))) (λ rest n. n.bare)) same_up
+details_reads false = up_from (up_optional descriptor_at SpellsDescriptor AfterDescriptor (NoMore is_safe) descriptor_reads descriptor_braces) same_up
 
-details_ends : (g : Bool) (front rest : List ℕ) → SpellsDetailsOf g front → NoMore is_safe rest → NoMore is_safe (front ++ rest)
-details_ends true front rest h n = optional_group_ends request_depth front rest h n
-details_ends false front rest h n = ap (λ (x : List ℕ). begins is_safe (x ++ rest)) h ∙ n
+details_ends : (g : Bool) (ds : List Descriptor) (front rest : List ℕ) → SpellsDetailsOf g ds front → NoMore is_safe rest → NoMore is_safe (front ++ rest)
+details_ends true ds front rest h n = optional_group_ends request_depth front rest h.1 n
+details_ends false [] front rest h n = ap (λ (x : List ℕ). begins is_safe (x ++ rest)) h ∙ n
+details_ends false (d ∷ ds) front rest h n = both_ends is_safe left_brace _ front rest safe_apart refl h
 
 -- a command without its verb and its marks
 abbrev term_at : Bool → Bool → Verb → Reader Command
-term_at o w v text = word_as term_of text >>= λ t. details_of (has_group v) t.1 >>= λ d. Some (command_of o w v t.0, d.1)
+term_at o w v text = word_as term_of text >>= λ t. details_of (has_group v) t.1 >>= λ d. Some (command_of o w v t.0 d.0, d.1)
 
 abbrev TermDetails : Bool → Bool → Verb → TermRef → Command → List ℕ → Type 0
-TermDetails o w v t c text = (d : Unit {0}) × (command_of o w v t ≡ c) × SpellsDetails v text
+TermDetails o w v t c text = (ds : List Descriptor) × (command_of o w v t ds ≡ c) × SpellsDetails v ds text
 
 abbrev TermPart : Bool → Bool → Verb → Command → List ℕ → Type 0
 TermPart o w v c text = (t : TermRef) × Both (SpellsTerm t) (TermDetails o w v t c) text
 
 term_part_reads : (o w : Bool) (v : Verb) → ReadsUp (term_at o w v) (TermPart o w v) AfterCommand Same UpTo
 term_part_reads o w v =
-    up_then (word_as term_of) (λ t text. details_of (has_group v) text >>= λ d. Some (command_of o w v t, d.1)) SpellsTerm (TermDetails o w v) (NoMore is_safe) AfterCommand Same Same UpTo
+    up_then (word_as term_of) (λ t text. details_of (has_group v) text >>= λ d. Some (command_of o w v t d.0, d.1)) SpellsTerm (TermDetails o w v) (NoMore is_safe) AfterCommand Same Same UpTo
     term_reads
-    (λ t. up_last (details_of (has_group v)) (λ d. command_of o w v t) (Dropped (SpellsDetailsOf (has_group v))) AfterCommand Same UpTo (details_reads (has_group v)))
-    (λ t c front rest q n. details_ends (has_group v) front rest q.2 n.next)
+    (λ t. up_last (details_of (has_group v)) (command_of o w v t) (SpellsDetailsOf (has_group v)) AfterCommand Same UpTo (details_reads (has_group v)))
+    (λ t c front rest q n. details_ends (has_group v) q.0 front rest q.2 n.next)
 
 term_part_solid : (o w : Bool) (v : Verb) → BeginsWith is_solid (TermPart o w v)
 term_part_solid o w v c text h = both_begins is_solid (SpellsTerm h.0) (TermDetails o w v h.0 c) (term_solid h.0) text h.1
@@ -163,7 +168,7 @@ command_to c text h =
 command_from : (c : Command) (text : List ℕ) → SpellsCommand c text → CommandPart c text
 command_from c text h =
     let b1 = h.words in let b2 = b1.second in let b3 = b2.second in let b4 = b3.second in let b5 = b4.second in
-    (c.optional, with_second b1 (c.wild, with_second b2 (c.verb, with_second b3 (allowed_from c.wild c.verb h.wild, with_second b4 (c.term, with_second b5 (tt, refl, b5.second))))))
+    (c.optional, with_second b1 (c.wild, with_second b2 (c.verb, with_second b3 (allowed_from c.wild c.verb h.wild, with_second b4 (c.term, with_second b5 (c.descriptors, refl, b5.second))))))
 
 pub command_reads : ReadsUp command_at SpellsCommand AfterCommand Same UpTo
 command_reads = up_as command_part_reads command_to command_from
@@ -174,11 +179,11 @@ command_shrinks = up_shrinks command_reads
 -- a command begins with a letter of its first word
 pub command_begins : (p : ℕ → Bool) → p (byte (codes "o")) ≡ true → p (byte (codes "O")) ≡ true → p (byte (codes "w")) ≡ true → p (byte (codes "W")) ≡ true → BeginsWith p SpellsVerb → BeginsWith p SpellsCommand
 command_begins p o1 o2 w1 w2 verbs c text h =
-    mark_begins p (codes "O-") (SpellsMark (codes "W-") c.wild ▹ SpellsVerb c.verb ▹ IsSign equals_sign ▹ SpellsTerm c.term ▹ SpellsDetails c.verb)
+    mark_begins p (codes "O-") (SpellsMark (codes "W-") c.wild ▹ SpellsVerb c.verb ▹ IsSign equals_sign ▹ SpellsTerm c.term ▹ SpellsDetails c.verb c.descriptors)
     (λ t m. case_begins p (byte (codes "O")) (codes "-") t m o1 o2)
-    (λ t b. mark_begins p (codes "W-") (SpellsVerb c.verb ▹ IsSign equals_sign ▹ SpellsTerm c.term ▹ SpellsDetails c.verb)
+    (λ t b. mark_begins p (codes "W-") (SpellsVerb c.verb ▹ IsSign equals_sign ▹ SpellsTerm c.term ▹ SpellsDetails c.verb c.descriptors)
     (λ t m. case_begins p (byte (codes "W")) (codes "-") t m w1 w2)
-    (λ t d. both_begins p (SpellsVerb c.verb) (IsSign equals_sign ▹ SpellsTerm c.term ▹ SpellsDetails c.verb) (verbs c.verb) t d)
+    (λ t d. both_begins p (SpellsVerb c.verb) (IsSign equals_sign ▹ SpellsTerm c.term ▹ SpellsDetails c.verb c.descriptors) (verbs c.verb) t d)
     c.wild t b)
     c.optional text h.words
 

@@ -6,6 +6,5 @@ pub mod Steps
 pub mod WordLaws
 pub mod Laws
 pub mod ItemLaws
-pub mod ItemLoops
 pub mod HeaderLaws
 pub mod Whole

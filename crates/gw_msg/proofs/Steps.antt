@@ -92,7 +92,7 @@ group_reads depth =
     (λ u text h. h.2.1) (λ u text h. (text, refl, (refl, h)))
 
 -- no brace comes next
-abbrev NoBrace : List ℕ → Type 0
+abbrev pub NoBrace : List ℕ → Type 0
 NoBrace rest = sign_at left_brace rest ≡ None
 
 pub optional_group_reads : (depth : ℕ) → ReadsUp (λ text. if_ahead left_brace (group_at depth) nothing_at text) (Dropped (IsOptionalGroup depth)) NoBrace Same Same

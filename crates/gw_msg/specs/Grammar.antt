@@ -11,13 +11,14 @@ use Rattle.gw_base.specs.declared.command_words.Verb.{Verb}
 use Rattle.gw_base.specs.declared.command_words.Verb.TheVariants as verb
 use Rattle.gw_text.specs.Lexical.{equals_sign, left_brace, right_brace}
 use Rattle.gw_text.specs.Space.{IsSpace, IsSep}
-use Rattle.gw_text.specs.Forms.{IsSign, IsInAnyCase, IsWordFor, IsNumber, IsUint32, Spaced, Braced}
+use Rattle.gw_text.specs.Forms.{IsSign, IsInAnyCase, IsWordFor, IsNumber, IsUint32, Spaced, Braced, OptionalBraced}
 use Rattle.gw_text.specs.Quoted.{IsQuoted}
 use Rattle.gw_text.specs.Group.{IsGroup}
 use Rattle.gw_text.specs.Tokens.{token_of}
 use Rattle.gw_text.specs.declared.token.Token.{Token}
 use Rattle.gw_text.specs.declared.token.Token.TheVariants as token
-use Rattle.gw_desc.specs.Grammar.{request_depth, SpellsTail}
+use Rattle.gw_desc.specs.Grammar.{request_depth, SpellsTail, SpellsDescriptor}
+use Rattle.gw_desc.specs.declared.descriptor.Descriptor.{Descriptor}
 use Rattle.gw_desc.specs.declared.descriptor.Tail.{Tail}
 use Rattle.gw_msg.specs.declared.message.Command.{Command}
 use Rattle.gw_msg.specs.declared.message.Action.{Action}
@@ -80,17 +81,17 @@ reply_depth = 16
 abbrev pub IsOptionalGroup : ℕ → List ℕ → Type 0
 IsOptionalGroup depth text = (IsSpace ▹ IsGroup depth) text ⊎ (text ≡ [])
 
--- what stands behind the TerminationID
-abbrev pub SpellsDetailsOf : Bool → List ℕ → Type 0
-SpellsDetailsOf true text = IsOptionalGroup request_depth text
-SpellsDetailsOf false text = text ≡ []
+-- what stands behind the TerminationID: descriptors in braces, or a group, of which nothing is kept
+abbrev pub SpellsDetailsOf : Bool → List Descriptor → List ℕ → Type 0
+SpellsDetailsOf true descriptors text = (descriptors ≡ []) × IsOptionalGroup request_depth text
+SpellsDetailsOf false descriptors text = OptionalBraced SpellsDescriptor descriptors text
 
-abbrev pub SpellsDetails : Verb → List ℕ → Type 0
+abbrev pub SpellsDetails : Verb → List Descriptor → List ℕ → Type 0
 SpellsDetails v = SpellsDetailsOf (has_group v)
 
--- commandRequest, without descriptors
+-- commandRequest
 pub record SpellsCommand (c : Command) (text : List ℕ) : Type 0 where
-  pub words : (SpellsMark (codes "O-") c.optional ▹ SpellsMark (codes "W-") c.wild ▹ SpellsVerb c.verb ▹ IsSign equals_sign ▹ SpellsTerm c.term ▹ SpellsDetails c.verb) text
+  pub words : (SpellsMark (codes "O-") c.optional ▹ SpellsMark (codes "W-") c.wild ▹ SpellsVerb c.verb ▹ IsSign equals_sign ▹ SpellsTerm c.term ▹ SpellsDetails c.verb c.descriptors) text
   pub wild : c.wild ≡ true → may_be_wild c.verb ≡ true
 
 -- ---- actions

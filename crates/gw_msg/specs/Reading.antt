@@ -12,7 +12,7 @@ use Rattle.gw_text.specs.declared.token.Token.TheVariants as token
 use Rattle.gw_text.specs.SpaceScan.{skip}
 use Rattle.gw_text.specs.Sign.{byte_at, sign_at}
 use Rattle.gw_text.specs.Scans.{sep_at}
-use Rattle.gw_text.specs.Reader.{Reader, ◌>>=◌, found, word_as, solid_as, number_at, number_up_to, group_read, quoted_read, if_byte, if_sign, if_prefix, if_begins, if_ahead, list_at, braced_at, items_at, if_end}
+use Rattle.gw_text.specs.Reader.{Reader, ◌>>=◌, found, word_as, solid_as, number_at, number_up_to, group_read, quoted_read, if_byte, if_sign, if_prefix, if_begins, if_ahead, list_at, braced_at, optional_at, items_at, if_end}
 use Rattle.gw_msg.specs.declared.message.Command.{Command}
 use Rattle.gw_msg.specs.declared.message.Action.{Action}
 use Rattle.gw_msg.specs.declared.message.AckRange.{AckRange}
@@ -22,7 +22,8 @@ use Rattle.gw_msg.specs.declared.message.Message.{Message}
 use Rattle.gw_msg.specs.declared.fault.ReadFault.{ReadFault}
 use Rattle.gw_msg.specs.declared.fault.ReadFault.TheVariants.{Version, Syntax, NoMemory}
 use Rattle.gw_desc.specs.Grammar.{request_depth}
-use Rattle.gw_desc.specs.Reading.{tail_at}
+use Rattle.gw_desc.specs.Reading.{tail_at, descriptor_at}
+use Rattle.gw_desc.specs.declared.descriptor.Descriptor.{Descriptor}
 use Rattle.gw_desc.specs.declared.fault.PartFault.{PartFault}
 use Rattle.gw_desc.specs.declared.fault.PartFault.TheVariants as part
 use Rattle.gw_msg.specs.Grammar.{may_be_wild, has_group, reply_depth, code_digits, code_max, spoken_version, version_digits, version_max}
@@ -55,9 +56,10 @@ group_at depth text = do
 abbrev pub is_allowed : Bool → Verb → Bool
 is_allowed wild v = not wild || may_be_wild v
 
-unfoldable pub details_of : Bool → Reader (Unit {0})
-details_of true = if_ahead left_brace (group_at request_depth) nothing_at
-details_of false = nothing_at
+-- descriptors in braces, or a group, read and dropped
+unfoldable pub details_of : Bool → Reader (List Descriptor)
+details_of true text = if_ahead left_brace (group_at request_depth) nothing_at text >>= λ group. Some ([], group.1)
+details_of false text = optional_at descriptor_at text
 
 unfoldable pub command_at : Reader Command
 command_at text = do
@@ -68,7 +70,7 @@ command_at text = do
   equals ← sign_at equals_sign verb.1
   term ← word_as term_of equals
   details ← details_of (has_group verb.0) term.1
-  Some (record { verb = verb.0; term = term.0; optional = optional.0; wild = wild.0 }, details.1)
+  Some (record { verb = verb.0; term = term.0; optional = optional.0; wild = wild.0; descriptors = details.0 }, details.1)
 
 -- the context that the byte stands for, or what more reads
 abbrev pub if_mark : List ℕ → CtxRef → Reader CtxRef → Reader CtxRef

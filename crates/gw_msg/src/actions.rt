@@ -10,30 +10,37 @@ use crate::words::{
     verb,
 };
 use gw_base::Items;
-use gw_desc::{Part, PartFault, list, sign, tail};
+use gw_desc::{Descriptor, Part, PartFault, list, optional_braced, sign, tail};
 use gw_text::Cursor;
 use std::alloc::Global;
 
 /// How deep groups may lie in a request.
 const REQUEST_DEPTH: u32 = 8;
 
-/// What stands behind a TerminationID: a group, where the command may have one.
-#[tactic(auto, unfolding(crate::specs::Reading::details_of, gw_text::specs::SpaceScan::skip))]
-fn details(cursor: &mut Cursor<'_>, has_group: bool) -> Result<(), PartFault>
+/// What stands behind a TerminationID: the command's descriptors, or a group, which is read and dropped.
+#[tactic(auto, using(gw_desc::proofs::DescriptorLaws::descriptor_shrinks), unfolding(crate::specs::Reading::details_of, gw_text::specs::SpaceScan::skip))]
+fn details(
+    alloc: Global,
+    cursor: &mut Cursor<'_>,
+    has_group: bool,
+) -> Result<Items<Descriptor>, PartFault>
     ensures { Gives result cursor.new (details_of has_group cursor.old) }
 {
-    if has_group && cursor.is_ahead(b'{') {
+    if !has_group {
+        return optional_braced(alloc, cursor);
+    }
+    if cursor.is_ahead(b'{') {
         cursor.lwsp();
         cursor.balanced(REQUEST_DEPTH)?;
     }
-    Ok(())
+    Ok(Items::new(alloc))
 }
 
 impl Part for Command {
     ghost read_at = { command_at };
 
     #[tactic(auto, unfolding(crate::specs::Reading::command_at))]
-    fn read(_alloc: Global, cursor: &mut Cursor<'_>) -> Result<Command, PartFault> {
+    fn read(alloc: Global, cursor: &mut Cursor<'_>) -> Result<Command, PartFault> {
         let optional = mark(cursor, b"O-");
         let wild = mark(cursor, b"W-");
         let verb = verb(cursor)?;
@@ -42,12 +49,13 @@ impl Part for Command {
         }
         sign(cursor, b'=')?;
         let term = term(cursor)?;
-        details(cursor, has_group(verb))?;
+        let descriptors = details(alloc, cursor, has_group(verb))?;
         Ok(Command {
             verb,
             term,
             optional,
             wild,
+            descriptors,
         })
     }
 }

@@ -1,14 +1,13 @@
 //! The body of a message: its items, or an error.
 
 ghost use Rattle.std.specs.Prelude.{◌≡◌};
-ghost use Rattle.gw_text.specs.Reader.{items_at};
 ghost use Rattle.gw_desc.specs.Parts.{Gives};
 ghost use Rattle.gw_msg.specs.Reading.{request_at, reply_at, pending_at, last_at, range_at, ack_at, item_at, quoted_or_nothing, error_at, error_body_at, body_at, content_at};
 
 use crate::message::{AckRange, Item, Message, Request};
 use crate::words::{error_word, is_error_next, mid};
 use gw_base::{Items, TxId};
-use gw_desc::{Part, PartFault, braced, sign};
+use gw_desc::{Part, PartFault, braced, items, sign};
 use gw_text::{Cursor, Token, token_of};
 use std::alloc::Global;
 
@@ -91,31 +90,17 @@ fn ack(alloc: Global, cursor: &mut Cursor<'_>) -> Result<Item, PartFault>
     Ok(Item::Ack(braced(alloc, cursor)?))
 }
 
-/// A part of the body.
-#[tactic(auto, unfolding(crate::specs::Reading::item_at))]
-fn item(alloc: Global, cursor: &mut Cursor<'_>) -> Result<Item, PartFault>
-    ensures { Gives result cursor.new (item_at cursor.old) }
-{
-    match token_of(cursor.word()?) {
-        Some(Token::Transaction) => request(alloc, cursor),
-        Some(Token::Reply) => reply(cursor),
-        Some(Token::Pending) => pending(cursor),
-        Some(Token::TransactionResponseAck) => ack(alloc, cursor),
-        _ => Err(PartFault::Syntax),
-    }
-}
+impl Part for Item {
+    ghost read_at = { item_at };
 
-/// The parts of the body, to the end of the text.
-fn items(alloc: Global, cursor: &mut Cursor<'_>) -> Result<Items<Item>, PartFault>
-    ensures { Gives result cursor.new (items_at item_at cursor.old) }
-{
-    let mut items = Items::new(alloc);
-    loop {
-        let item = item(alloc, cursor)?;
-        items.push(item)?;
-        cursor.lwsp();
-        if cursor.is_empty() {
-            return Ok(items);
+    #[tactic(auto, unfolding(crate::specs::Reading::item_at))]
+    fn read(alloc: Global, cursor: &mut Cursor<'_>) -> Result<Item, PartFault> {
+        match token_of(cursor.word()?) {
+            Some(Token::Transaction) => request(alloc, cursor),
+            Some(Token::Reply) => reply(cursor),
+            Some(Token::Pending) => pending(cursor),
+            Some(Token::TransactionResponseAck) => ack(alloc, cursor),
+            _ => Err(PartFault::Syntax),
         }
     }
 }
@@ -158,7 +143,7 @@ fn error_body(alloc: Global, cursor: &mut Cursor<'_>) -> Result<Items<Item>, Par
 }
 
 /// The body, to the end of the text.
-#[tactic(auto, unfolding(crate::specs::Reading::body_at))]
+#[tactic(auto, using(crate::proofs::ItemLaws::item_shrinks), unfolding(crate::specs::Reading::body_at))]
 fn body(alloc: Global, cursor: &mut Cursor<'_>) -> Result<Items<Item>, PartFault>
     ensures { Gives result cursor.new (body_at cursor.old) }
 {

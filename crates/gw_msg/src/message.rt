@@ -1,6 +1,7 @@
 //! The tree of a message (RFC 3525, section 8 and Annex B.2).
 
 use gw_base::{CtxRef, Items, Mid, TermRef, TxId, Verb};
+use gw_desc::Descriptor;
 
 /// A message: who sent it, and what it holds in the order sent.
 #[derive(Debug, Drop)]
@@ -53,7 +54,7 @@ pub struct Action {
 }
 
 /// A command (RFC 3525, section 7.2).
-#[derive(Clone, Copy, Debug)]
+#[derive(Debug, Drop)]
 pub struct Command {
     /// What is to be done.
     pub verb: Verb,
@@ -63,4 +64,6 @@ pub struct Command {
     pub optional: bool,
     /// `W-`: one reply for all that a wildcard matches.
     pub wild: bool,
+    /// Its descriptors in the order sent; none for AuditCapability and Notify, of which they are read and dropped.
+    pub descriptors: Items<Descriptor>,
 }

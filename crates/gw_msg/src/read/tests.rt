@@ -12,7 +12,7 @@ use std::test::Fail;
 /// One transaction, two commands.
 const ROW: &[u8] = b"MEGACO/1 [10.0.0.9]:2944 Transaction=1{Context=${Add=T/1,Add=T/2}}";
 
-/// A command in one line: its marks, its verb and its termination.
+/// A command in one line: its marks, its verb, its termination and how many descriptors it has.
 fn write_command(text: &mut String, command: &Command) -> Result<(), AllocError> {
     if command.optional {
         write!(text, " O-")?;
@@ -21,6 +21,9 @@ fn write_command(text: &mut String, command: &Command) -> Result<(), AllocError>
         write!(text, " W-")?;
     }
     write!(text, " {:?} {:?}", command.verb, command.term)?;
+    if !command.descriptors.is_empty() {
+        write!(text, " with {}", command.descriptors.len())?;
+    }
     Ok(())
 }
 

@@ -79,6 +79,97 @@ fn commands_and_their_trees(rt: HostRuntime) -> Result<(), Fail> {
 }
 
 #[test]
+fn descriptors_and_properties(rt: HostRuntime) -> Result<(), Fail> {
+    let cases: [(&str, &str); 22] = [
+        (
+            "T=1{C=${A=T/1{Media{Stream=1{LocalControl{Mode=SendOnly},Local{v=0\nc=IN IP4 $\n}}}}}}",
+            "mg T1 $ Add Name(T/1) with 1",
+        ),
+        (
+            "T=1{C=${A=T/1{Media{L{v=0}},Events=1{al/of},SG{cg/dt}},A=$ { M { O { MO = SR } } } }}",
+            "mg T1 $ Add Name(T/1) with 3 Add Choose with 1",
+        ),
+        (
+            "T=1{C=1{MF=T/1{Signals}}}",
+            "mg T1 1 Modify Name(T/1) with 1",
+        ),
+        (
+            "T=1{C=1{MV=T/1{DigitMap=d{(1)},EB}}}",
+            "mg T1 1 Move Name(T/1) with 2",
+        ),
+        (
+            "T=1{C=1{S=T/1{Audit{}}}}",
+            "mg T1 1 Subtract Name(T/1) with 1",
+        ),
+        (
+            "T=1{C=-{W-AV=*{AT{Media,Events}}}}",
+            "mg T1 - W- AuditValue All with 1",
+        ),
+        (
+            "T=1{C=-{SC=ROOT{Services{Method=Restart,Reason=\"901\"}}}}",
+            "mg T1 - ServiceChange Root with 1",
+        ),
+        (
+            "T=1{C=1{A=T/1{Mux=H221{T/1}},O-S=T/2{AT{},SA}}}",
+            "mg T1 1 Add Name(T/1) with 1 O- Subtract Name(T/2) with 2",
+        ),
+        (
+            "T=1{C=1{N=T/1{ObservedEvents=1{a/b}},A=T/2{EB}}}",
+            "mg T1 1 Notify Name(T/1) Add Name(T/2) with 1",
+        ),
+        ("T=1{C=1{Topology{T/1,T/2,Bothway}}}", "mg T1 1+"),
+        ("T=1{C=1{TP{T/1,T/2,BW}}}", "mg T1 1+"),
+        ("T=1{C=1{Priority=3}}", "mg T1 1+"),
+        ("T=1{C=1{pr = 3}}", "mg T1 1+"),
+        ("T=1{C=1{Emergency}}", "mg T1 1+"),
+        ("T=1{C=1{EG=ON}}", "mg T1 1+"),
+        ("T=1{C=*{ContextAudit{Topology,Priority}}}", "mg T1 *+"),
+        ("T=1{C=*{ca {TP}}}", "mg T1 *+"),
+        (
+            "T=1{C=1{Priority=3,Emergency,Add=T/1}}",
+            "mg T1 1+ Add Name(T/1)",
+        ),
+        (
+            "T=1{C=${PR=3 , EG , TP{a} , A=$ , S=T/2}}",
+            "mg T1 $+ Add Choose Subtract Name(T/2)",
+        ),
+        ("T=1{C=1{PR=3},C=2{S=x}}", "mg T1 1+ 2 Subtract Name(x)"),
+        ("T=1{C=1{PR=3,O-W-S=*}}", "mg T1 1+ O- W- Subtract All"),
+        ("T=1{C=1{CA=x{y},PR={z},EG}}", "mg T1 1+"),
+    ];
+    for (body, tree) in cases {
+        assert_eq!(rt; told_body(rt.alloc(), body)?.as_str(), tree, "{body}");
+    }
+    Ok(())
+}
+
+#[test]
+fn descriptors_and_properties_that_are_none(rt: HostRuntime) -> Result<(), Fail> {
+    let bodies: [&str; 16] = [
+        "T=1{C=1{Add=T/1,Priority=3}}",
+        "T=1{C=1{Priority=3,Add=T/1,Emergency}}",
+        "T=1{C=1{Priority=3 Emergency}}",
+        "T=1{C=1{Priority=3,}}",
+        "T=1{C=1{Priority=}}",
+        "T=1{C=1{Priorities=3}}",
+        "T=1{C=1{Topology{}",
+        "T=1{C=1{O-Priority=3}}",
+        "T=1{C=1{A=T/1{}}}",
+        "T=1{C=1{A=T/1{EB,}}}",
+        "T=1{C=1{A=T/1{EB}{EB}}}",
+        "T=1{C=1{A=T/1{EB EB}}}",
+        "T=1{C=1{A=T/1{Media{}}}}",
+        "T=1{C=1{A=T/1{Media{Local{v=0}}}",
+        "T=1{C=1{S=T/1{Services{}}}}",
+        "T=1{C=1{A=T/1{Events=}}}",
+    ];
+    for body in bodies {
+        assert_eq!(rt; told_body(rt.alloc(), body)?.as_str(), "syntax", "{body}");
+    }
+    Ok(())
+}
+
+#[test]
 fn items_and_their_trees(rt: HostRuntime) -> Result<(), Fail> {
     let cases: [(&str, &str); 26] = [
         (
