@@ -1,5 +1,5 @@
 -- The numbers in cyclic order, and taking them one by one.
-use Rattle.std.proofs.Common.{◌≡◌, ℕ, zero, suc, ◌+◌, ◌-◌, ◌<◌, ◌≤◌, Bool, cond, List, [], ◌∷◌, ◌++◌, map, length, get_or, take, drop, slice_get, Option, None, Some, refl, sym, ap, ◌∙◌, arith, add-one, option_copied, is_some, not, Bor}
+use Rattle.std.proofs.Common.{◌≡◌, ℕ, zero, suc, ◌+◌, ◌-◌, ◌<◌, ◌≤◌, Bool, true, false, cond, List, [], ◌∷◌, ◌++◌, map, length, get_or, take, drop, slice_get, Option, None, Some, refl, sym, ap, ◌∙◌, arith, add-one, option_copied, is_some, not, Bor}
 use Rattle.std.specs.Prelude.{is_none}
 use Rattle.std.specs.List.{range_with_len}
 use Rattle.std.proofs.Math.ListN.{get_or-append, drop_of_length-le}
@@ -8,7 +8,9 @@ use Rattle.std.proofs.lemmas.List.FromFn.{length-range_with_len, get_or-range_wi
 use Rattle.std.proofs.Math.Seq.{drop-cons}
 use Rattle.gw_base.specs.declared.ids.CtxNum.{CtxNum}
 use Rattle.gw_engine.specs.Maps.{Maps, ctx}
-use Rattle.gw_engine.specs.Owners.{number, cyclic, free_in, places, last_number}
+use Rattle.gw_msg.specs.declared.message.Action.{Action}
+use Rattle.gw_engine.specs.Transactions.{is_choose}
+use Rattle.gw_engine.specs.Owners.{number, cyclic, free_in, places, last_number, choose_count}
 
 order : ℕ → ℕ → List ℕ
 order c n = range_with_len (c + 1) (n - c) ++ range_with_len 1 c
@@ -95,3 +97,18 @@ own_miss F rest i d last ids new a b c l e =
       c ∙ sym t.rest ∙ ap (λ (k : ℕ). drop k F) (sym (add-one i)),
       l ∙ ap (λ x. last_number d x) (sym t.same) ∙ ap (λ (k : ℕ). last_number d (take k F)) (sym (add-one i)),
     )
+
+-- ---- how many $ places there are
+
+counted : (a : Action) (rest : List Action) (b : Bool) → is_choose a.ctx ≡ b → choose_count (a ∷ rest) ≡ cond b (suc (choose_count rest)) (choose_count rest)
+counted a rest true h = rw h refl
+counted a rest false h = rw h refl
+
+-- one action more was looked at
+pub counts_on : (left rest : List Action) (a : Action) (n m total : ℕ) (b : Bool) → is_choose a.ctx ≡ b → left ≡ a ∷ rest → m ≡ cond b (n + 1) n → n + choose_count left ≡ total → m + choose_count rest ≡ total
+counts_on left rest a n m total true h split e so_far =
+    let one : choose_count left ≡ suc (choose_count rest) = ap (λ (l : List Action). choose_count l) split ∙ counted a rest true h in
+    omega (arith, one, e, so_far)
+counts_on left rest a n m total false h split e so_far =
+    let none : choose_count left ≡ choose_count rest = ap (λ (l : List Action). choose_count l) split ∙ counted a rest false h in
+    omega (arith, none, e, so_far)

@@ -1,6 +1,6 @@
 -- What a gateway answers to a datagram, and the state that it leaves (RFC 3525, section 8; own where the standard leaves it
 -- open).
-use Rattle.std.specs.Prelude.{◌≡◌, ℕ, Bool, true, false, ◌&&◌, not, ◌||◌, is_some, List, [], ◌∷◌, Option, None, Some, Result, Ok, Err}
+use Rattle.std.specs.Prelude.{◌≡◌, ◌==◌, ℕ, Bool, true, false, ◌&&◌, length, not, ◌||◌, is_some, List, [], ◌∷◌, Option, None, Some, Result, Ok, Err}
 use Rattle.std.specs.List.{list_all}
 use Rattle.gw_base.specs.declared.code.Code.{Code}
 use Rattle.gw_base.specs.declared.code.Code.TheVariants.{SyntaxError, VersionNotSupported, NotImplemented}
@@ -34,9 +34,9 @@ IsMessageOf text (Err _) = ⊥
 
 -- ---- which messages are carried out
 
--- Add or Subtract of a termination by its name, unmarked
+-- Add or Subtract of a termination by its name, unmarked and without descriptors
 abbrev pub is_simple_command : Command → Bool
-is_simple_command c = is_some (change_of c) && not (c.optional || c.wild)
+is_simple_command c = is_some (change_of c) && not (c.optional || c.wild) && length c.descriptors == 0
 
 -- a context by number or $
 abbrev pub is_simple_context : CtxRef → Bool

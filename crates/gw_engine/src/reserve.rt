@@ -59,7 +59,13 @@ fn first_free(tables: &Tables, cursor: u32, contexts: u32, from: u32) -> Option<
 fn count_choose(asked: &[Action]) -> usize
     ensures { result ≡ choose_count asked.now }
 {
-    asked.iter().filter(|a| is_choose(a.ctx)).count()
+    let mut count = 0;
+    for action in asked {
+        if is_choose(action.ctx) {
+            count += 1;
+        }
+    }
+    count
 }
 
 /// What the `$` places of a request's actions own, and the new cursor. Takes as many steps as there are numbers between the

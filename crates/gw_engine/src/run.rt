@@ -19,7 +19,9 @@ use std::alloc::Global;
 fn is_simple_command(command: &Command) -> bool
     ensures { result ≡ is_simple_command command.now }
 {
-    Change::of(command).is_some() && !(command.optional || command.wild)
+    Change::of(command).is_some()
+        && !(command.optional || command.wild)
+        && command.descriptors.is_empty()
 }
 
 fn is_simple_context(sent: CtxRef) -> bool
@@ -125,8 +127,8 @@ impl Gateway {
     /// Answers a burst, which has one datagram at most: the caller knows that, and that the datagram has at most 65,507
     /// bytes. The answer is for the peer of the datagram.
     ///
-    /// A message that is not one transaction of Add and Subtract by name, in contexts by number or `$`, is answered with
-    /// error 501 and changes nothing.
+    /// A message that is not one transaction of Add and Subtract by name, without `O-`, `W-` and descriptors, in contexts by
+    /// number or `$` without properties, is answered with error 501 and changes nothing.
     ///
     /// # Errors
     ///

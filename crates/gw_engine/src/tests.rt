@@ -266,6 +266,8 @@ fn messages_that_are_not_carried_out(rt: HostRuntime) -> Result<(), Fail> {
         "Transaction=1{Context=${Add=T/1,W-Subtract=T/1}}",
         "Transaction=1{Context=${Add=T/1,Add=*}}",
         "Transaction=1{Context=${Add=ROOT}}",
+        "Transaction=1{Context=${Add=T/1{Media{Local{v=0}}}}}",
+        "Transaction=1{Context=${Priority=3,Add=T/1}}",
         "TransactionResponseAck{1-3}",
         "Reply=1{Context=1{Add=T/1}}",
         "Pending=1{}",
