@@ -92,3 +92,5 @@ pub fn one_answer()
 
 #[cfg(test)]
 mod tests;
+#[cfg(test)]
+mod trees;
