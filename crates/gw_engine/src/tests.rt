@@ -241,6 +241,20 @@ fn texts_that_are_no_message(rt: HostRuntime) -> Result<(), Fail> {
     for end in 0..first.len() {
         expect_answer(&rt, alloc, &mut gateway, &first[..end], SYNTAX_ERROR)?;
     }
+    let second = b"MEGACO/1 [10.0.0.9]:2944 Transaction=1{Context=${Add=T/1,Add=$}}".as_slice();
+    for end in 0..second.len() {
+        expect_answer(&rt, alloc, &mut gateway, &second[..end], SYNTAX_ERROR)?;
+    }
+    let bodies = [
+        "Transaction=1{Context=${Add=T/1,Add=$}};x",
+        "Transaction=1{Context=${Add=T/1{}}",
+        "Transaction=1{Context=${Add=T/1}} Transaction=2{Context=${Add=T/2}",
+        "Transaction=1{Context=${Add=T/1}} Transaction=2{Context=${Add=T/2{}}}",
+    ];
+    for body in bodies {
+        let asked = format!(in alloc; "MEGACO/1 [10.0.0.9]:2944 {body}")?;
+        expect_answer(&rt, alloc, &mut gateway, asked.as_bytes(), SYNTAX_ERROR)?;
+    }
     expect_answer(
         &rt,
         alloc,
