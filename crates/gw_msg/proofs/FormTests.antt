@@ -1,5 +1,5 @@
 -- The tests of names and mIds decide their forms.
-use Rattle.std.proofs.Common.{◌≡◌, inl, inr, ℕ, ◌<◌, ◌≤◌, Bool, true, false, ◌==◌, ◌&&◌, ◌||◌, List, [], ◌∷◌, ◌++◌, length, get_or, refl, ap, sym, ◌∙◌}
+use Rattle.std.proofs.Common.{◌≡◌, inl, inr, ℕ, ◌<◌, ◌≤◌, Bool, true, false, ◌==◌, ◌&&◌, ◌||◌, List, [], ◌∷◌, ◌++◌, length, get_or, refl, ap, ◌∙◌}
 use Rattle.std.specs.Prelude.{nat_lt, nat_le, codes}
 use Rattle.std.specs.Bool.{Decides}
 use Rattle.std.specs.List.{list_all}

@@ -2,9 +2,8 @@
 use Rattle.std.proofs.Common.{◌≡◌, ◌⊎◌, inl, inr, ℕ, Bool, true, false, not, ◌==◌, List, [], ◌∷◌, ◌++◌, Some, None, refl, ap, sym, subst, ◌∙◌}
 use Rattle.std.proofs.lemmas.List.{append-nil}
 use Rattle.std.proofs.lemmas.Bool.{not-true}
-use Rattle.gw_base.specs.Lang.{Both, ◌▹◌, IsText}
-use Rattle.gw_text.specs.Lexical.{is_safe, is_space_start, left_brace}
-use Rattle.gw_text.specs.Space.{IsSpace}
+use Rattle.gw_base.specs.Lang.{Both, IsText}
+use Rattle.gw_text.specs.Lexical.{is_safe, left_brace}
 use Rattle.gw_text.specs.Runs.{begins, is_byte, NoMore}
 use Rattle.gw_text.specs.Sign.{prefix_at, sign_at}
 use Rattle.gw_text.specs.Forms.{IsInAnyCase}

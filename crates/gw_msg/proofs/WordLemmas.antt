@@ -1,5 +1,5 @@
 -- What a word stands for as an mId is what gw_base reads it as, and what the grammar says of it.
-use Rattle.std.proofs.Common.{◌≡◌, inl, inr, ℕ, ◌≤◌, length, length-append, Bool, true, false, cond, List, [], ◌∷◌, ◌++◌, get_or, Option, Some, None, Ok, Err, refl, ap, sym, subst, ◌∙◌, arith}
+use Rattle.std.proofs.Common.{◌≡◌, inl, inr, ℕ, ◌≤◌, length, length-append, Bool, true, false, cond, List, [], ◌∷◌, ◌++◌, get_or, Some, None, Ok, Err, refl, ap, sym, subst, ◌∙◌, arith}
 use Rattle.std.specs.Prelude.{codes}
 use Rattle.gw_base.specs.Bytes.{byte, is_one_of}
 use Rattle.gw_base.specs.Lang.{◌▹◌, IsText}

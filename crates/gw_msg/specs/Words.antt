@@ -1,5 +1,5 @@
 -- What the words of a message stand for, as they are read one by one.
-use Rattle.std.specs.Prelude.{◌==◌, ◌-◌, ℕ, true, false, Bool, ◌&&◌, ◌||◌, not, nat_lt, nat_le, bytes_eq, if◌then◌else◌, List, [], ◌∷◌, ◌++◌, length, take, slice_index, Option, Some, None, codes}
+use Rattle.std.specs.Prelude.{◌==◌, ◌-◌, ℕ, Bool, ◌&&◌, ◌||◌, nat_lt, nat_le, bytes_eq, if◌then◌else◌, List, [], ◌∷◌, ◌++◌, length, take, slice_index, Option, Some, None, codes}
 use Rattle.std.specs.List.{list_all, list_any}
 use Rattle.std.specs.Str.Parse.{digits_value}
 use Rattle.gw_base.specs.Bytes.{byte, last_byte, is_letter, is_digit, is_name_byte, is_one_of}

@@ -1,10 +1,9 @@
-use Rattle.std.proofs.Common.{◌≡◌, true, false, ℕ, length, rules, sym, ◌∙◌, arith, None, Some}
+use Rattle.std.proofs.Common.{◌≡◌, true, false, rules}
 use Rattle.std.proofs.lemmas.Result.{err_from_is_err_and}
 use Rattle.gw_text.specs.Runs.{begins}
-use Rattle.gw_text.proofs.Signs.{sign_shrinks}
 use Rattle.gw_msg.specs.Words.{is_property_start}
 use Rattle.gw_msg.specs.Reading.{commands_at}
-use Rattle.gw_msg.proofs.Laws.{command_shrinks, property_shrinks, property_fails, property_goes_on, property_ends, property_read, commands_are}
+use Rattle.gw_msg.proofs.Laws.{command_shrinks, property_fails, property_goes_on, property_ends, property_read, commands_are}
 use Rattle.gw_msg.proofs.actions.commands.Goals as goal
 
 pub returns-in_err-property : goal.returns-in_err-property
