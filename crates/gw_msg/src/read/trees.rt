@@ -329,7 +329,7 @@ fn bodies(rt: HostRuntime) -> Result<(), Fail> {
 
 #[test]
 fn actions(rt: HostRuntime) -> Result<(), Fail> {
-    let table: [(&str, &str); 20] = [
+    let table: [(&str, &str); 19] = [
         ("Context=1{Topology{T/1,T/2,Isolate}}", " in 1 properties"),
         ("C=1{TP{T/1,T/2,BW},PR=3,EG,CA{TP}}", " in 1 properties"),
         (
@@ -344,7 +344,6 @@ fn actions(rt: HostRuntime) -> Result<(), Fail> {
             "Context=*{ContextAudit{Topology,Priority}}",
             " in * properties",
         ),
-        ("Context=-{Priority=,Add=T/1}", "-"),
         ("Context=1{Move=T/1}", " in 1; Move Name(T/1)"),
         ("C=1{MV=T/1}", " in 1; Move Name(T/1)"),
         ("C=1{MF=T/1}", " in 1; Modify Name(T/1)"),
@@ -394,13 +393,12 @@ fn actions(rt: HostRuntime) -> Result<(), Fail> {
         ),
     ];
     for (action, tree) in table {
-        let told = told_action(rt.alloc(), action)?;
-        let want = if tree == "-" {
-            format!(in rt.alloc(); "none")?
-        } else {
-            format!(in rt.alloc(); "request 1{tree}.")?
-        };
-        assert_eq!(rt; told.as_slice(), want.as_bytes(), "{action}");
+        let want = format!(in rt.alloc(); "request 1{tree}.")?;
+        assert_eq!(rt;
+            told_action(rt.alloc(), action)?.as_slice(),
+            want.as_bytes(),
+            "{action}"
+        );
     }
     Ok(())
 }
@@ -551,7 +549,8 @@ fn bodies_that_have_no_tree(rt: HostRuntime) -> Result<(), Fail> {
 
 #[test]
 fn actions_that_have_no_tree(rt: HostRuntime) -> Result<(), Fail> {
-    let actions: [&str; 20] = [
+    let actions: [&str; 21] = [
+        "Context=-{Priority=,Add=T/1}",
         "Context=x{Add=T/1}",
         "Context=**{Add=T/1}",
         "Context={Add=T/1}",
