@@ -92,5 +92,3 @@ pub fn one_answer()
 
 #[cfg(test)]
 mod tests;
-#[cfg(test)]
-mod trees;

@@ -1,93 +1,18 @@
-//! Texts and their trees.
+//! Headers, spellings and ends of messages.
 
-mod bodies;
+mod outline;
+mod refusals;
+mod trees;
 
-use super::read_message;
-use crate::fault::ReadFault;
-use crate::message::{Action, Command, Item, Message};
-use gw_base::CtxRef;
+use outline::told;
 use std::alloc::{AllocError, Global};
 use std::test::Fail;
 
 /// One transaction, two commands.
 const ROW: &[u8] = b"MEGACO/1 [10.0.0.9]:2944 Transaction=1{Context=${Add=T/1,Add=T/2}}";
 
-/// A command in one line: its marks, its verb, its termination and how many descriptors it has.
-fn write_command(text: &mut String, command: &Command) -> Result<(), AllocError> {
-    if command.optional {
-        write!(text, " O-")?;
-    }
-    if command.wild {
-        write!(text, " W-")?;
-    }
-    write!(text, " {:?} {:?}", command.verb, command.term)?;
-    if !command.descriptors.is_empty() {
-        write!(text, " with {}", command.descriptors.len())?;
-    }
-    Ok(())
-}
-
-/// An action in one line: its context, a `+` where properties stand, and its commands.
-fn write_action(text: &mut String, action: &Action) -> Result<(), AllocError> {
-    match action.ctx {
-        CtxRef::Choose => write!(text, " $")?,
-        CtxRef::All => write!(text, " *")?,
-        CtxRef::Null => write!(text, " -")?,
-        CtxRef::Num(number) => write!(text, " {}", number.0)?,
-    }
-    if action.props {
-        write!(text, "+")?;
-    }
-    for command in action.commands.as_slice() {
-        write_command(text, command)?;
-    }
-    Ok(())
-}
-
-/// An item in one line.
-fn write_item(text: &mut String, item: &Item) -> Result<(), AllocError> {
-    match item {
-        Item::Request(request) => {
-            write!(text, " T{}", request.id.0)?;
-            for action in request.actions.as_slice() {
-                write_action(text, action)?;
-            }
-        }
-        Item::Ack(ranges) => {
-            write!(text, " K")?;
-            for range in ranges.as_slice() {
-                write!(text, " {}-{}", range.first, range.last)?;
-            }
-        }
-        Item::Ignored => write!(text, " ignored")?,
-    }
-    Ok(())
-}
-
-/// The tree in one line.
-fn outline(alloc: Global, message: &Message) -> Result<String, AllocError> {
-    let mut text = format!(in alloc; "{}", message.mid)?;
-    for item in message.items.as_slice() {
-        write_item(&mut text, item)?;
-    }
-    Ok(text)
-}
-
-/// What the text is read as: its tree in one line, or the fault.
-fn told(alloc: Global, text: &[u8]) -> Result<String, AllocError> {
-    match read_message(alloc, text) {
-        Ok(message) => outline(alloc, &message),
-        Err(ReadFault::Version) => String::from_str(alloc, "version"),
-        Err(ReadFault::Syntax) => String::from_str(alloc, "syntax"),
-        Err(ReadFault::NoMemory) => Err(AllocError),
-    }
-}
-
-/// What a message of this body is read as.
-fn told_body(alloc: Global, body: &str) -> Result<String, AllocError> {
-    let text = format!(in alloc; "MEGACO/1 mg {body}")?;
-    told(alloc, text.as_bytes())
-}
+/// Its tree.
+const TREE: &[u8] = b"[10.0.0.9]:2944: request 1 in $; Add Name(T/1); Add Name(T/2).";
 
 /// The row with a tail.
 fn row_with(alloc: Global, tail: &[u8]) -> Result<Vec<u8>, AllocError> {
@@ -98,7 +23,6 @@ fn row_with(alloc: Global, tail: &[u8]) -> Result<Vec<u8>, AllocError> {
 
 #[test]
 fn one_tree_in_many_spellings(rt: HostRuntime) -> Result<(), Fail> {
-    let tree = "[10.0.0.9]:2944 T1 $ Add Name(T/1) Add Name(T/2)";
     let spellings: [&[u8]; 8] = [
         ROW,
         b"!/1 [10.0.0.9]:2944 T=1{C=${A=T/1,A=T/2}}",
@@ -110,46 +34,46 @@ fn one_tree_in_many_spellings(rt: HostRuntime) -> Result<(), Fail> {
         b"!/1 [10.0.0.9]:2944 ;hello\r\nt = 1 { c = $ {\r\na = T/1 , a = T/2 } }\r\n",
     ];
     for text in spellings {
-        assert_eq!(rt; told(rt.alloc(), text)?.as_str(), tree, "{text:?}");
+        assert_eq!(rt; told(rt.alloc(), text)?.as_slice(), TREE, "{text:?}");
     }
     Ok(())
 }
 
 #[test]
 fn a_termination_to_be_made(rt: HostRuntime) -> Result<(), Fail> {
-    let tree = "[10.0.0.9]:2944 T1 $ Add Name(T/1) Add Choose";
+    let tree: &[u8] = b"[10.0.0.9]:2944: request 1 in $; Add Name(T/1); Add Choose.";
     let spellings: [&[u8]; 2] = [
         b"MEGACO/1 [10.0.0.9]:2944 Transaction=1{Context=${Add=T/1,Add=$}}",
         b"!/1 [10.0.0.9]:2944 ;hello\r\nt = 1 { c = $ {\r\na = T/1 , a = $ } }\r\n",
     ];
     for text in spellings {
-        assert_eq!(rt; told(rt.alloc(), text)?.as_str(), tree, "{text:?}");
+        assert_eq!(rt; told(rt.alloc(), text)?.as_slice(), tree, "{text:?}");
     }
     Ok(())
 }
 
 #[test]
 fn other_senders(rt: HostRuntime) -> Result<(), Fail> {
-    let cases: [(&[u8], &str); 4] = [
+    let cases: [(&[u8], &[u8]); 4] = [
         (
             b"!/1 [::1] T=4294967295{C=4294967295{S=t/1,a=RTP/0}}",
-            "[::1] T4294967295 4294967295 Subtract Name(t/1) Add Name(RTP/0)",
+            b"[::1]: request 4294967295 in 4294967295; Subtract Name(t/1); Add Name(RTP/0).",
         ),
         (
             b"!/1 <gw-1.example.org>:65535 T=0{C=0007{Subtract=a}}",
-            "<gw-1.example.org>:65535 T0 7 Subtract Name(a)",
+            b"<gw-1.example.org>:65535: request 0 in 7; Subtract Name(a).",
         ),
         (
             b"!/1 *$x T=1{C=0{SUBTRACT=z_/@.-9}}",
-            "*$x T1 0 Subtract Name(z_/@.-9)",
+            b"*$x: request 1 in 0; Subtract Name(z_/@.-9).",
         ),
         (
             b"!/1 mgc/7@example t=2{c=1{s=x},c=1{s=x}}",
-            "mgc/7@example T2 1 Subtract Name(x) 1 Subtract Name(x)",
+            b"mgc/7@example: request 2 in 1; Subtract Name(x) in 1; Subtract Name(x).",
         ),
     ];
     for (text, tree) in cases {
-        assert_eq!(rt; told(rt.alloc(), text)?.as_str(), tree, "{text:?}");
+        assert_eq!(rt; told(rt.alloc(), text)?.as_slice(), tree, "{text:?}");
     }
     Ok(())
 }
@@ -158,8 +82,8 @@ fn other_senders(rt: HostRuntime) -> Result<(), Fail> {
 fn each_proper_prefix_is_no_message(rt: HostRuntime) -> Result<(), Fail> {
     for end in 0..ROW.len() {
         assert_eq!(rt;
-            told(rt.alloc(), &ROW[..end])?.as_str(),
-            "syntax",
+            told(rt.alloc(), &ROW[..end])?.as_slice(),
+            b"none".as_slice(),
             "{end} bytes"
         );
     }
@@ -179,7 +103,11 @@ fn another_version_whatever_follows(rt: HostRuntime) -> Result<(), Fail> {
         b"\r\n!/11\t",
     ];
     for text in texts {
-        assert_eq!(rt; told(rt.alloc(), text)?.as_str(), "version", "{text:?}");
+        assert_eq!(rt;
+            told(rt.alloc(), text)?.as_slice(),
+            b"version".as_slice(),
+            "{text:?}"
+        );
     }
     Ok(())
 }
@@ -206,7 +134,11 @@ fn headers_that_are_none(rt: HostRuntime) -> Result<(), Fail> {
         b"MEGACO/1 [10.0.0.9]:65536 Transaction=1{Context=${Add=T/1}}",
     ];
     for text in texts {
-        assert_eq!(rt; told(rt.alloc(), text)?.as_str(), "syntax", "{text:?}");
+        assert_eq!(rt;
+            told(rt.alloc(), text)?.as_slice(),
+            b"none".as_slice(),
+            "{text:?}"
+        );
     }
     Ok(())
 }
@@ -217,8 +149,8 @@ fn nothing_but_white_space_at_the_end(rt: HostRuntime) -> Result<(), Fail> {
     for tail in tails {
         let text = row_with(rt.alloc(), tail)?;
         assert_eq!(rt;
-            told(rt.alloc(), text.as_slice())?.as_str(),
-            "syntax",
+            told(rt.alloc(), text.as_slice())?.as_slice(),
+            b"none".as_slice(),
             "{tail:?}"
         );
     }
@@ -226,8 +158,8 @@ fn nothing_but_white_space_at_the_end(rt: HostRuntime) -> Result<(), Fail> {
     for tail in tails {
         let text = row_with(rt.alloc(), tail)?;
         assert_eq!(rt;
-            told(rt.alloc(), text.as_slice())?.as_str(),
-            "[10.0.0.9]:2944 T1 $ Add Name(T/1) Add Name(T/2)",
+            told(rt.alloc(), text.as_slice())?.as_slice(),
+            TREE,
             "{tail:?}"
         );
     }
