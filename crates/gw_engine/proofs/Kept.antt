@@ -30,19 +30,19 @@ use Rattle.gw_engine.proofs.Whole.{whole_joined, whole_subtracted}
 
 -- what joining, in a context with room, and leaving keep
 pub record IsKept (limit : ℕ) (P : Maps → Type 0) : Type 0 where
-  pub joins : (n : CtxNum) (t : List ℕ) (r : Termination) (m : Maps) → P m → place_of (term m t) ≡ None → nat_le limit (length (members_of (ctx m n))) ≡ false → P (joined n t r m)
-  pub leaves : (n : CtxNum) (t : List ℕ) (r : Termination) (m : Maps) → P m → place_of (term m t) ≡ Some n → P (subtracted n t r m)
+  pub joins : (n : CtxNum) (t : List ℕ) (r : Termination) (m : Maps) → P m → term m t ≡ Some r → r.place ≡ None → nat_le limit (length (members_of (ctx m n))) ≡ false → P (joined n t r m)
+  pub leaves : (n : CtxNum) (t : List ℕ) (r : Termination) (m : Maps) → P m → term m t ≡ Some r → r.place ≡ Some n → P (subtracted n t r m)
 
 pub sound_is_kept : (limit : ℕ) → IsKept limit IsSound
 sound_is_kept limit = record {
-  joins = λ n t r m s e room. sound_joined n t r m s (free_at_none t m s e);
-  leaves = λ n t r m s e. sound_subtracted n t r m s e;
+  joins = λ n t r m s e i room. sound_joined n t r m s (free_at_none t m s (ap (λ o. place_of o) e ∙ i));
+  leaves = λ n t r m s e i. sound_subtracted n t r m s (ap (λ o. place_of o) e ∙ i);
 }
 
 pub whole_is_kept : (limit : ℕ) → IsKept limit (AreWellFormed limit)
 whole_is_kept limit = record {
-  joins = λ n t r m w e room. whole_joined limit n t r m w e (leb-false limit (length (members_of (ctx m n))) room);
-  leaves = λ n t r m w e. whole_subtracted limit n t r m w e;
+  joins = λ n t r m w e i room. whole_joined limit n t r m w e i (leb-false limit (length (members_of (ctx m n))) room);
+  leaves = λ n t r m w e i. whole_subtracted limit n t r m w e i;
 }
 
 kept_if : (P : Maps → Type 0) {A : Type 0} (b : Bool) (x y : Outcome A) → (b ≡ true → P x.maps) → (b ≡ false → P y.maps) → P (if b then x else y).maps
@@ -58,7 +58,7 @@ module _ {P : Maps → Type 0} (rules : Rules) (k : IsKept rules.members P) wher
       at (Some q) i = p
       at None i =
           kept_if P (nat_le rules.members (length (members_of (ctx m n)))) (refused ContextFull m) (done (joined n t r m)) (λ _. p)
-          (λ room. k.joins n t r m p (ap (λ o. place_of o) e ∙ i) room)
+          (λ room. k.joins n t r m p e i room)
 
   kept_subtract : (n : CtxNum) (t : List ℕ) (m : Maps) (o : Option Termination) → term m t ≡ o → P m → P (subtract_from n t m o).maps
   kept_subtract n t m None e p = p
@@ -68,7 +68,7 @@ module _ {P : Maps → Type 0} (rules : Rules) (k : IsKept rules.members P) wher
       at None i = p
       at (Some q) i =
           kept_if P (nat_eq q.0 n.0) (done (subtracted n t r m)) (refused NotInContext m)
-          (λ same. k.leaves n t r m p (ap (λ o. place_of o) e ∙ i ∙ ap (λ y. Some y) (same_number q n same))) (λ _. p)
+          (λ same. k.leaves n t r m p e (i ∙ ap (λ y. Some y) (same_number q n same))) (λ _. p)
 
   kept_unless : (o : Option (List (List ℕ))) (m : Maps) (x : Outcome (Result Unit Code)) → P m → P x.maps → P (unless_ended o m x).maps
   kept_unless None m x p q = p

@@ -3,6 +3,7 @@ use Rattle.std.proofs.Common.{◌≡◌, ℕ, zero, suc, ◌+◌, ◌<◌, ◌�
 use Rattle.std.specs.Prelude.{◌||◌, if◌then◌else◌}
 use Rattle.std.specs.Cmp.Lexicographic.{nat_list_cmp_total}
 use Rattle.std.specs.Ordering.{nat_cmp}
+use Rattle.std.specs.List.{list_any}
 use Rattle.std.specs.FinMap as finite
 use Rattle.std.specs.FinMap.{get-insert, get-empty}
 use Rattle.std.proofs.lemmas.List.{take_more}
@@ -14,6 +15,7 @@ use Rattle.gw_base.specs.declared.config.Config.{Config}
 use Rattle.gw_engine.specs.declared.fault.LimitName.{LimitName}
 use Rattle.gw_engine.specs.declared.fault.LimitName.TheVariants.{Contexts, Slots, Members, Keep, Terms}
 use Rattle.gw_engine.specs.Places.{place_of}
+use Rattle.gw_engine.specs.Reserved.{is_reserved}
 use Rattle.gw_engine.specs.WellFormed.{AreWellFormed}
 use Rattle.gw_engine.specs.Configuration.{is_within, first_limit, provisioned, new_maps}
 use Rattle.gw_engine.proofs.Names.{name_test, same_name}
@@ -114,9 +116,19 @@ holds_it_already names i t m before h e so_far was old n =
 pub holds_all : (names : List (List ℕ)) (m : Maps) → Holds names m → m ≡ new_maps names
 holds_all names m h = same_maps m (new_maps names) (λ q. h.terms q ∙ sym (term-new_maps names q)) (λ q. ap (λ (c : finite.FinMap nat_cmp (List (List ℕ))). finite.get c q.0) h.contexts)
 
+-- a reserved name is not among names that are not
+not_listed : (names : List (List ℕ)) (t : List ℕ) → list_any is_reserved names ≡ false → is_reserved t ≡ true → is_in t names ≡ false
+not_listed [] t free h = refl
+not_listed (x ∷ xs) t free h = by_first (bytes_eq t x) refl (is_reserved x) refl (λ more. not_listed xs t more h)
+  where
+    by_first : (b : Bool) → bytes_eq t x ≡ b → (d : Bool) → is_reserved x ≡ d → (list_any is_reserved xs ≡ false → is_in t xs ≡ false) → b || is_in t xs ≡ false
+    by_first true a d e others = let same : is_reserved x ≡ true = ap (λ (y : List ℕ). is_reserved y) (sym (same_name t x a)) ∙ h in absurd (let clash : true ≡ false = sym (ap (λ b. b || list_any is_reserved xs) same) ∙ free in cc)
+    by_first false a true e others = absurd (let clash : true ≡ false = sym (ap (λ b. b || list_any is_reserved xs) e) ∙ free in cc)
+    by_first false a false e others = others (sym (ap (λ b. b || list_any is_reserved xs) e) ∙ free)
+
 -- and these are well-formed
-pub new_maps_fit : (limit : ℕ) (names : List (List ℕ)) → AreWellFormed limit (new_maps names)
-new_maps_fit limit names = record {
+pub new_maps_fit : (limit : ℕ) (names : List (List ℕ)) → list_any is_reserved names ≡ false → AreWellFormed limit (new_maps names)
+new_maps_fit limit names free = record {
   sound = record {
     recorded = λ t n h. let off : is_in t (members_of (ctx (new_maps names) n)) ≡ false = ap (λ o. is_in t (members_of o)) (no_context n) in absurd (let clash : true ≡ false = sym h ∙ off in cc);
     once = λ n. subst (λ o. NoDoubles (members_of o)) (sym (no_context n)) tt;
@@ -124,6 +136,7 @@ new_maps_fit limit names = record {
   listed = λ t n e. absurd (nowhere (is_in t names) n (ap (λ o. place_of o) (sym (term-new_maps names t)) ∙ e));
   some = λ n e. let clash : None ≡ Some [] = sym (no_context n) ∙ e in cc;
   few = λ n. subst (λ o. length (members_of o) ≤ limit) (sym (no_context n)) (omega arith);
+  named = λ t h. term-new_maps names t ∙ ap (λ b. if_in b) (not_listed names t free h);
 }
   where
     no_context : (n : CtxNum) → ctx (new_maps names) n ≡ None

@@ -6,9 +6,10 @@ use Rattle.gw_engine.specs.declared.termination.Termination.{Termination}
 use Rattle.gw_engine.specs.Maps.{Maps, term, ctx, put_ctx, members_of}
 use Rattle.gw_engine.specs.Members.{is_in, without, unless_empty}
 use Rattle.gw_engine.specs.Places.{place_of}
+use Rattle.gw_engine.specs.Reserved.{is_reserved}
 use Rattle.gw_engine.specs.Commands.{joined, left, subtracted}
 use Rattle.gw_engine.specs.WellFormed.{AreWellFormed}
-use Rattle.gw_engine.proofs.Names.{same_number, number_itself}
+use Rattle.gw_engine.proofs.Names.{same_name, same_number, number_itself}
 use Rattle.gw_engine.proofs.Lookups.{term-put_term, ctx-put_term, term-put_ctx, ctx-put_ctx}
 use Rattle.gw_engine.proofs.MemberLists.{last_in_pushed, stays_in_pushed, stays_without, length_without, members-unless_empty}
 use Rattle.gw_engine.proofs.Sound.{free_at_none, sound_joined, sound_subtracted}
@@ -17,12 +18,21 @@ pushed_some : (l : List (List ℕ)) (t : List ℕ) → Some (l ++ t ∷ []) ≢ 
 pushed_some [] t e = cc
 pushed_some (x ∷ xs) t e = cc
 
-pub whole_joined : (limit : ℕ) (n : CtxNum) (t : List ℕ) (r : Termination) (m : Maps) → AreWellFormed limit m → place_of (term m t) ≡ None → length (members_of (ctx m n)) < limit → AreWellFormed limit (joined n t r m)
-whole_joined limit n t r m w nowhere room = record {
-  sound = sound_joined n t r m w.sound (free_at_none t m w.sound nowhere);
+-- a termination that is there has no name of the gateway's own, nor gets one
+unnamed : (limit : ℕ) (t q : List ℕ) (r : Termination) (m : Maps) → AreWellFormed limit m → term m t ≡ Some r → is_reserved q ≡ true → (new : Option Termination) (b : Bool) → bytes_eq q t ≡ b → cond b new (term m q) ≡ None
+unnamed limit t q r m w is h new false e = w.named q h
+unnamed limit t q r m w is h new true e =
+    let same : term m q ≡ Some r = ap (λ (k : List ℕ). term m k) (same_name q t e) ∙ is in
+    let clash : None ≡ Some r = sym (w.named q h) ∙ same in
+    cc
+
+pub whole_joined : (limit : ℕ) (n : CtxNum) (t : List ℕ) (r : Termination) (m : Maps) → AreWellFormed limit m → term m t ≡ Some r → r.place ≡ None → length (members_of (ctx m n)) < limit → AreWellFormed limit (joined n t r m)
+whole_joined limit n t r m w is nowhere room = record {
+  sound = sound_joined n t r m w.sound (free_at_none t m w.sound (ap (λ o. place_of o) is ∙ nowhere));
   listed = λ q c e. ap (λ o. is_in q (members_of o)) (at_ctx c) ∙ listed q c (bytes_eq q t) (nat_eq c.0 n.0) refl refl (ap (λ o. place_of o) (sym (at_term q)) ∙ e);
   some = λ c e. some c (nat_eq c.0 n.0) (sym (at_ctx c) ∙ e);
   few = λ c. subst (λ o. length (members_of o) ≤ limit) (sym (at_ctx c)) (few c (nat_eq c.0 n.0));
+  named = λ q h. at_term q ∙ unnamed limit t q r m w is h new (bytes_eq q t) refl;
 }
   where
     new : Option Termination
@@ -58,12 +68,13 @@ unless_some : (l : List (List ℕ)) → unless_empty l ≢ Some []
 unless_some [] e = cc
 unless_some (x ∷ xs) e = cc
 
-pub whole_subtracted : (limit : ℕ) (n : CtxNum) (t : List ℕ) (r : Termination) (m : Maps) → AreWellFormed limit m → place_of (term m t) ≡ Some n → AreWellFormed limit (subtracted n t r m)
-whole_subtracted limit n t r m w there = record {
-  sound = sound_subtracted n t r m w.sound there;
+pub whole_subtracted : (limit : ℕ) (n : CtxNum) (t : List ℕ) (r : Termination) (m : Maps) → AreWellFormed limit m → term m t ≡ Some r → r.place ≡ Some n → AreWellFormed limit (subtracted n t r m)
+whole_subtracted limit n t r m w is there = record {
+  sound = sound_subtracted n t r m w.sound (ap (λ o. place_of o) is ∙ there);
   listed = λ q c e. ap (λ o. is_in q (members_of o)) (at_ctx c) ∙ listed q c (bytes_eq q t) (nat_eq c.0 n.0) refl refl (ap (λ o. place_of o) (sym (at_term q)) ∙ e);
   some = λ c e. some c (nat_eq c.0 n.0) (sym (at_ctx c) ∙ e);
   few = λ c. subst (λ o. length (members_of o) ≤ limit) (sym (at_ctx c)) (few c (nat_eq c.0 n.0));
+  named = λ q h. at_term q ∙ unnamed limit t q r m w is h new (bytes_eq q t) refl;
 }
   where
     new : Option Termination

@@ -1,7 +1,6 @@
 -- Which configurations make a gateway, which fault another has, and the gateway that is made (limits and their order: own).
-use Rattle.std.specs.Prelude.{◌≡◌, ℕ, Bool, true, false, ◌||◌, ◌&&◌, bytes_eq, nat_eq, if◌then◌else◌, nat_le, List, [], length, map, Option, None, Some, codes}
-use Rattle.std.specs.List.{list_any, starts_with}
-use Rattle.std.specs.Char.{to_ascii_lowercase}
+use Rattle.std.specs.Prelude.{◌≡◌, ℕ, Bool, true, false, ◌&&◌, if◌then◌else◌, nat_le, List, [], length, map, Option, None, Some}
+use Rattle.std.specs.List.{list_any}
 use Rattle.std.specs.FinMap as finite
 use Rattle.gw_base.specs.declared.config.Config.{Config}
 use Rattle.gw_base.specs.declared.command_words.Service.TheVariants.{InService}
@@ -12,6 +11,7 @@ use Rattle.gw_engine.specs.declared.fault.ConfigFault.TheVariants.{LimitOutOfRan
 use Rattle.gw_engine.specs.declared.termination.Termination.{Termination}
 use Rattle.gw_engine.specs.Maps.{Maps}
 use Rattle.gw_engine.specs.Members.{NoDoubles}
+use Rattle.gw_engine.specs.Reserved.{is_reserved}
 use Rattle.gw_engine.specs.State.{Whole}
 
 -- n is from low to high
@@ -28,10 +28,6 @@ first_limit c =
     else Some Members)
     else Some Slots)
     else Some Contexts
-
--- ROOT in any case, and what begins with RTP/
-abbrev pub is_reserved : List ℕ → Bool
-is_reserved name = bytes_eq (map to_ascii_lowercase name) (map to_ascii_lowercase (codes "ROOT")) || starts_with nat_eq name (codes "RTP/")
 
 -- a fault that is not another's to be told first
 abbrev pub IsFault : Config → ConfigFault → Type 0

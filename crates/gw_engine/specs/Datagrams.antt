@@ -13,7 +13,8 @@ use Rattle.gw_msg.specs.declared.message.Request.{Request}
 use Rattle.gw_msg.specs.declared.message.Item.{Item}
 use Rattle.gw_msg.specs.declared.message.Item.TheVariants as item
 use Rattle.gw_msg.specs.declared.message.Message.{Message}
-use Rattle.gw_msg.specs.Grammar.{Spells, HasVersionFault}
+use Rattle.gw_msg.specs.declared.fault.ReadFault.TheVariants.{Version, Syntax}
+use Rattle.gw_msg.specs.Grammar.{IsReadingOf}
 use Rattle.gw_reply.specs.declared.reply.TxReply.{TxReply}
 use Rattle.gw_reply.specs.Messages.{reply_text, fault_text}
 use Rattle.gw_engine.specs.declared.datagram.Datagram.{Datagram}
@@ -25,11 +26,11 @@ use Rattle.gw_engine.specs.State.{State, Whole}
 
 -- ---- the message of a datagram
 
--- Version where the text has the version fault; otherwise the message that it spells; otherwise a syntax error.
+-- The message that the text spells; 406 where its header has another version; 400 where it is neither.
 abbrev pub IsMessageOf : List ℕ → Result Message Code → Type 0
-IsMessageOf text (Ok m) = Spells m text
-IsMessageOf text (Err VersionNotSupported) = HasVersionFault text
-IsMessageOf text (Err SyntaxError) = (¬ HasVersionFault text) × ((m : Message) → ¬ Spells m text)
+IsMessageOf text (Ok m) = IsReadingOf text (Ok m)
+IsMessageOf text (Err VersionNotSupported) = IsReadingOf text (Err Version)
+IsMessageOf text (Err SyntaxError) = IsReadingOf text (Err Syntax)
 IsMessageOf text (Err _) = ⊥
 
 -- ---- which messages are carried out

@@ -1,16 +1,12 @@
 -- The entries of the maps that a command may read or write: its keys, in the maps as they are before it.
-use Rattle.std.specs.Prelude.{nat_eq, ℕ, Bool, false, bytes_eq, List, [], ◌∷◌, ◌++◌, Option, None, Some}
+use Rattle.std.specs.Prelude.{nat_eq, ℕ, Bool, false, bytes_eq, List, [], ◌∷◌, Option, None, Some}
 use Rattle.std.specs.List.{list_any}
 use Rattle.gw_base.specs.declared.ids.CtxNum.{CtxNum}
-use Rattle.gw_base.specs.declared.command_words.CtxRef.{CtxRef}
-use Rattle.gw_base.specs.declared.command_words.CtxRef.TheVariants.{Null, All, Choose, Num}
 use Rattle.gw_base.specs.declared.term_ref.TermRef.{TermRef}
 use Rattle.gw_base.specs.declared.term_ref.TermRef.TheVariants as ref
 use Rattle.gw_msg.specs.declared.message.Command.{Command}
-use Rattle.gw_msg.specs.declared.message.Action.{Action}
 use Rattle.gw_engine.specs.Maps.{Maps, term}
 use Rattle.gw_engine.specs.Places.{place_of}
-use Rattle.gw_engine.specs.Transactions.{next_owned, owned_after}
 
 pub data Key : Type 0 where
   Term : List ℕ → Key
@@ -44,22 +40,3 @@ term_keys (ref.Other t) m = []
 -- a command's keys beside that of its context
 abbrev pub command_keys : Command → Maps → List Key
 command_keys c m = term_keys c.term m
-
-abbrev pub commands_keys : List Command → Maps → List Key
-commands_keys [] m = []
-commands_keys (c ∷ cs) m = command_keys c m ++ commands_keys cs m
-
--- the context of an action: its number, or the one that its $ owns
-abbrev pub context_keys : CtxRef → Option CtxNum → List Key
-context_keys (Num n) owned = Ctx n ∷ []
-context_keys Choose owned = place_key owned
-context_keys Null owned = []
-context_keys All owned = []
-
-abbrev pub action_keys : Option CtxNum → Action → Maps → List Key
-action_keys owned a m = context_keys a.ctx owned ++ commands_keys a.commands m
-
--- the keys of all commands, reached or not, in the maps as they are at the start
-abbrev pub request_keys : List (Option CtxNum) → List Action → Maps → List Key
-request_keys owned [] m = []
-request_keys owned (a ∷ as') m = action_keys (next_owned owned) a m ++ request_keys (owned_after a.ctx owned) as' m

@@ -1,5 +1,5 @@
 -- The state of a gateway, and what was configured (RFC 3525, section 6; the cursors and the kept replies are own).
-use Rattle.std.specs.Prelude.{ℕ, ◌≤◌, List, refl}
+use Rattle.std.specs.Prelude.{ℕ, ◌≤◌, List, length, refl}
 use Rattle.std.specs.Coded.{Coded, code_by, coded×, coded_list, coded_ℕ}
 use Rattle.gw_base.specs.declared.command_words.Rules.{Rules}
 use Rattle.gw_engine.specs.Maps.{Maps, coded_maps}
@@ -31,11 +31,12 @@ pub record Whole : Type 0 where
   pub settings : Settings
   pub state : State
 
--- the tables fit together, and the cursors are within the limits
+-- the tables fit together, the cursors are within the limits, and no more replies are kept than may be
 pub record IsWellFormed (settings : Settings) (state : State) : Type 0 where
   pub maps : AreWellFormed settings.rules.members state.maps
   pub context_cursor : state.context_cursor ≤ settings.contexts
   pub slot_cursor : state.slot_cursor ≤ settings.slots
+  pub kept : length state.kept ≤ settings.keep
 
 -- ---- codes, by which values of models are told apart
 

@@ -4,6 +4,7 @@ ghost use Rattle.std.specs.Prelude.{◌≡◌, ◌++◌, IfOk, OnOk, codes, deci
 ghost use Rattle.std.specs.List.{flat_map};
 ghost use Rattle.std.specs.FinMap as map;
 ghost use Rattle.gw_engine.specs.AuditText.{place_text, service_text, member_text, context_line, term_line, cursors_line, kept_line, audit_text};
+ghost use Rattle.gw_engine.specs.State.{IsWellFormed};
 
 use crate::gateway::{Cursors, Gateway};
 use crate::tables::Tables;
@@ -120,7 +121,8 @@ impl Gateway {
     ///
     /// Want of memory.
     pub fn audit_tables(&self, alloc: Global) -> Result<Vec<u8>, NoMemory>
-        ensures { IfOk result (λ text. text.items ≡ audit_text self.now) }
+        ensures text { IfOk result (λ text. text.items ≡ audit_text self.now) }
+        ensures fits { IsWellFormed self.now.settings self.now.state }
     {
         let mut out = Vec::new(alloc);
         write_cursors(self.cursors, &mut out)?;

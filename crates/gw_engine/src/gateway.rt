@@ -2,8 +2,9 @@
 
 ghost use Rattle.std.specs.Prelude.{◌≡◌, ◌⊎◌, IfOk, IfErr};
 ghost use Rattle.std.specs.List.{list_any};
-ghost use Rattle.gw_engine.specs.Configuration.{is_within, first_limit, is_reserved, IsFault, IsAccepted, new_gateway, new_maps};
+ghost use Rattle.gw_engine.specs.Configuration.{is_within, first_limit, IsFault, IsAccepted, new_gateway, new_maps};
 ghost use Rattle.gw_engine.specs.Members.{NoDoubles};
+ghost use Rattle.gw_engine.specs.Reserved.{is_reserved};
 
 use crate::fault::{ConfigFault, LimitName};
 use crate::tables::Tables;

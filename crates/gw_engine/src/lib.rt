@@ -19,6 +19,7 @@ mod termination;
 pub use datagram::Datagram;
 pub use fault::{ConfigFault, LimitName};
 pub use gateway::Gateway;
+pub use gw_base::Config;
 pub use laws::commands_keep_to_their_keys;
 
 #[cfg(test)]

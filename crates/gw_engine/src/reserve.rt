@@ -68,8 +68,8 @@ fn count_choose(asked: &[Action]) -> usize
     count
 }
 
-/// What the `$` places of a request's actions own, and the new cursor. Takes as many steps as there are numbers between the
-/// cursor and the last one owned.
+/// What the `$` places of a request's actions own, and the new cursor. Each number is looked at once, from the one behind the
+/// cursor to the last one owned, or round to the cursor where the numbers run out.
 pub(crate) fn reserve(
     alloc: Global,
     tables: &Tables,
@@ -93,7 +93,10 @@ pub(crate) fn reserve(
                 next = free.next;
                 last = free.number.0;
             }
-            None => owned.push(None)?,
+            None => {
+                owned.push(None)?;
+                next = contexts;
+            }
         }
     }
     let ids = Ids {

@@ -4,6 +4,7 @@ ghost use Rattle.std.specs.Prelude.{◌≡◌, ◌≤◌, length, IfOk, OnErr, M
 ghost use Rattle.std.specs.List.{list_all};
 ghost use Rattle.gw_engine.specs.Datagrams.{is_simple_command, is_simple_context, is_simple_action, is_simple_request, simple_request, refusal, reply_to, AnswersBurst};
 ghost use Rattle.gw_engine.specs.Serving.{Prepares, PreparesText};
+ghost use Rattle.gw_engine.specs.State.{IsWellFormed};
 
 use crate::carry::transaction;
 use crate::change::Change;
@@ -137,7 +138,10 @@ impl Gateway {
         requires { length burst.now ≤ 1 }
         ensures ok { IfOk result (λ answers. AnswersBurst self.old burst.now answers self.new) }
         ensures err { OnErr result (self.new ≡ self.old) }
+        ensures fits { IsWellFormed self.new.settings self.new.state }
     {
+        // No effect at run time. The proof reads here that the state is well-formed.
+        let _ = &self.tables;
         let mut answers = Items::new(alloc);
         let [datagram] = burst else {
             return Ok(answers);

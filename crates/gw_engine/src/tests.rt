@@ -372,6 +372,26 @@ fn configurations_with_faults(rt: HostRuntime) -> Result<(), Fail> {
     Ok(())
 }
 
+#[test]
+fn texts_of_configuration_faults(rt: HostRuntime) -> Result<(), Fail> {
+    let table = [
+        (
+            ConfigFault::LimitOutOfRange(LimitName::Slots),
+            "the limit Slots is out of range",
+        ),
+        (
+            ConfigFault::ReservedName,
+            "a termination has a reserved name",
+        ),
+        (ConfigFault::DuplicateName, "a termination is named twice"),
+        (ConfigFault::NoMemory, "no memory"),
+    ];
+    for (fault, text) in table {
+        assert_eq!(rt; format!(in rt.alloc(); "{fault}")?.as_str(), text);
+    }
+    Ok(())
+}
+
 /// A configuration with so many terminations, each of its own name.
 fn many(alloc: Global, count: u32) -> Result<Config, Fail> {
     let mut many = config(alloc, &[])?;
@@ -389,6 +409,20 @@ fn terminations_have_a_limit(rt: HostRuntime) -> Result<(), Fail> {
     assert_eq!(rt;
         fault_of(alloc, many(alloc, 65_536)?),
         Some(ConfigFault::LimitOutOfRange(LimitName::Terms))
+    );
+    // It is told after the other limits, and before the names are looked at.
+    let mut wrong = many(alloc, 65_536)?;
+    wrong.terms.push(TermName::read(b"ROOT")?)?;
+    wrong.terms.push(TermName::read(b"T/1")?)?;
+    assert_eq!(rt;
+        fault_of(alloc, wrong),
+        Some(ConfigFault::LimitOutOfRange(LimitName::Terms))
+    );
+    let mut wrong = many(alloc, 65_536)?;
+    wrong.keep = 0;
+    assert_eq!(rt;
+        fault_of(alloc, wrong),
+        Some(ConfigFault::LimitOutOfRange(LimitName::Keep))
     );
     Ok(())
 }

@@ -35,6 +35,7 @@ returns c =
         maps = kept_transaction g.settings.rules (whole_is_kept g.settings.rules.members) r (owned_by g r) g.state.maps c.self.invariant.well_formed.maps;
         context_cursor = subst (λ (n : ℕ). n ≤ g.settings.contexts) cursor c.in_ok-ids.ensures.small;
         slot_cursor = c.self.invariant.well_formed.slot_cursor;
+        kept = c.self.invariant.well_formed.kept;
       };
     } in
     subst (λ (w : Whole). Prepares w (reply_to w r) c.in_ok-bytes.bytes.items (Some (c.transaction.new.tables, record { context = c.in_ok-ids.context; slot = c.self.inside.cursors.slot }))) c.self.view_is prepared
