@@ -1,17 +1,20 @@
 //! The gateway that the program has.
 
+ghost use Rattle.std.specs.Prelude.{◌≡◌, IfOk};
 ghost use Rattle.gw_base.specs.Addresses.{IsAddress};
 ghost use Rattle.gw_base.specs.Mids.{IsMid};
 ghost use Rattle.gw_base.specs.Names.{IsName};
+ghost use Rattle.h248gw.specs.Start.{start};
 
 use crate::fault::Fault;
-use gw_base::{Config, Items, MediaAddr, Mid, TermName};
-use gw_engine::Gateway;
+use gw_base::{Items, MediaAddr, Mid, TermName};
+use gw_engine::{Config, Gateway};
 use std::alloc::Global;
 
 /// The mId of a text that is one.
 fn mid(text: &[u8]) -> Mid
     requires { IsMid text.now }
+    ensures { result ≡ text.now }
 {
     match Mid::read(text) {
         Ok(mid) => mid,
@@ -22,6 +25,7 @@ fn mid(text: &[u8]) -> Mid
 /// The address of a text that is one.
 fn address(text: &[u8]) -> MediaAddr
     requires { IsAddress text.now }
+    ensures { result ≡ text.now }
 {
     match MediaAddr::read(text) {
         Ok(address) => address,
@@ -32,6 +36,7 @@ fn address(text: &[u8]) -> MediaAddr
 /// The name of a text that is one.
 fn name(text: &[u8]) -> TermName
     requires { IsName text.now }
+    ensures { result ≡ text.now }
 {
     match TermName::read(text) {
         Ok(name) => name,
@@ -40,7 +45,9 @@ fn name(text: &[u8]) -> TermName
 }
 
 /// The gateway `[10.0.0.1]:2944`: four terminations T/1 to T/4, 8 contexts of at most 3 members, 4 slots, 4 kept replies.
-pub fn gateway(alloc: Global) -> Result<Gateway, Fault> {
+pub fn gateway(alloc: Global) -> Result<Gateway, Fault>
+    ensures { IfOk result (λ gateway. gateway ≡ start) }
+{
     let mut terms = Items::new(alloc);
     terms.push(name(b"T/1"))?;
     terms.push(name(b"T/2"))?;
