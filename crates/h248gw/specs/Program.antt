@@ -1,5 +1,5 @@
 -- What the program writes for what it reads (own).
-use Rattle.std.specs.Prelude.{◌≡◌, ℕ, List, [], ◌∷◌, flat_map}
+use Rattle.std.specs.Prelude.{◌≡◌, ◌≤◌, ℕ, List, [], ◌∷◌, length, flat_map}
 use Rattle.gw_engine.specs.declared.datagram.Datagram.{Datagram}
 use Rattle.gw_engine.specs.State.{Whole}
 use Rattle.gw_engine.specs.Datagrams.{AnswersBurst}
@@ -17,8 +17,9 @@ burst_of text = record { peer = 0; bytes = text } ∷ []
 abbrev pub bytes_of : List Datagram → List ℕ
 bytes_of answers = flat_map (λ d. d.bytes) answers
 
--- what is written for a datagram is what a new gateway answers to it
+-- What is written for a text is what a new gateway answers to it; the text is a datagram.
 pub record IsWritten (text written : List ℕ) : Type 0 where
+  pub short : length text ≤ longest_datagram
   pub answers : List Datagram
   pub after : Whole
   pub burst : AnswersBurst start (burst_of text) answers after

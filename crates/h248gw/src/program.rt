@@ -17,6 +17,7 @@ const LONGEST_DATAGRAM: usize = 65_507;
 /// All that the reader has, if it is a datagram. One byte more than that is asked for, which tells a longer one.
 fn read_datagram<R: Read>(alloc: Global, reader: &mut R) -> Result<Vec<u8>, Fault>
     ensures whole { IfOk result (λ datagram. IfSome (R.remaining reader.old) (λ input. datagram.items ≡ input)) }
+    ensures short { IfOk result (λ datagram. length datagram.items ≤ longest_datagram) }
     ensures long { IfErr result (λ fault. fault ≡ Fault.ReplayTooLong → IfSome (R.remaining reader.old) (λ input. longest_datagram < length input)) }
 {
     let mut datagram = Vec::new(alloc);

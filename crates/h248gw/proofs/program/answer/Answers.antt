@@ -17,4 +17,4 @@ returns-clause-written g c =
     subst (λ (w : Whole). AnswersBurst w (burst_of c.in_ok-datagram.datagram.items) answers c.run.new.self) c.in_ok-gateway.ensures asked in
     let written : OnOk c.write_answers.result (Appends (g.W.Write.contents c.args.out.now) (g.W.Write.contents c.write_answers.new.out) (bytes_of answers)) =
     subst (λ (l : List Datagram). OnOk c.write_answers.result (Appends (g.W.Write.contents c.args.out.now) (g.W.Write.contents c.write_answers.new.out) (bytes_of l))) c.as_slice-2.ensures c.write_answers.ensures.written in
-    answers_written (g.R.Read.remaining c.args.reader.now) (g.W.Write.contents c.args.out.now) (g.W.Write.contents c.write_answers.new.out) c.in_ok-datagram.datagram.items answers c.run.new.self c.write_answers.result c.in_ok-datagram.ensures.whole answered written
+    answers_written (g.R.Read.remaining c.args.reader.now) (g.W.Write.contents c.args.out.now) (g.W.Write.contents c.write_answers.new.out) c.in_ok-datagram.datagram.items answers c.run.new.self c.write_answers.result c.in_ok-datagram.ensures.whole c.in_ok-datagram.ensures.short answered written
