@@ -21,7 +21,7 @@ use Rattle.gw_engine.specs.Places.{number_of, place_of}
 use Rattle.gw_engine.specs.Changes.{change_of, change_of_term, change_of_name}
 use Rattle.gw_engine.specs.Commands as commands
 use Rattle.gw_engine.specs.Keys.{Key, Term, Ctx, same_key, has, name_keys, place_key, term_keys, command_keys}
-use Rattle.gw_engine.specs.Accesses.{Accesses, ReadTerm, PutCtx, run, NewIn, Within, refuse, place, leave, add_at, add_to, subtract_at, subtract_from, unless_ended, change_in, attempt}
+use Rattle.gw_engine.specs.Accesses.{Accesses, ReadTerm, PutCtx, run, NewIn, Within, refuse, place, leave, add_placed, add_found, subtract_placed, subtract_found, in_context, change_in, attempt}
 use Rattle.gw_engine.proofs.Names.{same_name, number_itself}
 use Rattle.gw_engine.proofs.MemberLists.{or_left, or_right, either, itself, in_pushed, in_without, members-unless_empty}
 
@@ -31,32 +31,32 @@ run-cond : {A : Type 0} (b : Bool) (p q : Accesses A) (x y : commands.Outcome A)
 run-cond true p q x y m e f = e
 run-cond false p q x y m e f = f
 
-run-unless_ended : (l : Option (List (List ℕ))) (p : Accesses (Result Unit Code)) (x : commands.Outcome (Result Unit Code)) (m : Maps) → run p m ≡ x → run (unless_ended l p) m ≡ commands.unless_ended l m x
+run-unless_ended : (l : Option (List (List ℕ))) (p : Accesses (Result Unit Code)) (x : commands.Outcome (Result Unit Code)) (m : Maps) → run p m ≡ x → run (in_context l p) m ≡ commands.unless_ended l m x
 run-unless_ended None p x m e = refl
 run-unless_ended (Some l) p x m e = e
 
-run-add_to : (rules : Rules) (n : CtxNum) (t : List ℕ) (o : Option Termination) (m : Maps) → run (add_to rules n t o) m ≡ commands.add_to rules n t m o
+run-add_to : (rules : Rules) (n : CtxNum) (t : List ℕ) (o : Option Termination) (m : Maps) → run (add_found rules n t o) m ≡ commands.add_to rules n t m o
 run-add_to rules n t None m = refl
 run-add_to rules n t (Some r) m = at r.place
   where
-    at : (p : Option CtxNum) → run (add_at rules n t r p) m ≡ commands.add_at rules n t m r p
+    at : (p : Option CtxNum) → run (add_placed rules n t r p) m ≡ commands.add_at rules n t m r p
     at (Some p) = refl
     at None =
         run-cond (nat_le rules.members (length (members_of (ctx m n)))) (refuse ContextFull) (PutCtx n (Some (members_of (ctx m n) ++ t ∷ [])) (place t (Some n) r))
         (commands.refused ContextFull m) (commands.done (commands.joined n t r m)) m refl refl
 
-run-subtract_from : (n : CtxNum) (t : List ℕ) (o : Option Termination) (m : Maps) → run (subtract_from n t o) m ≡ commands.subtract_from n t m o
+run-subtract_from : (n : CtxNum) (t : List ℕ) (o : Option Termination) (m : Maps) → run (subtract_found n t o) m ≡ commands.subtract_from n t m o
 run-subtract_from n t None m = refl
 run-subtract_from n t (Some r) m = at r.place
   where
-    at : (p : Option CtxNum) → run (subtract_at n t r p) m ≡ commands.subtract_at n t m r p
+    at : (p : Option CtxNum) → run (subtract_placed n t r p) m ≡ commands.subtract_at n t m r p
     at None = refl
     at (Some p) = run-cond (nat_eq p.0 n.0) (leave n t r) (refuse NotInContext) (commands.done (commands.subtracted n t r m)) (commands.refused NotInContext m) m refl refl
 
 run-change_in : (rules : Rules) (at : At) (change : Change) (m : Maps) → run (change_in rules at change) m ≡ commands.changed rules at change m
-run-change_in rules (Live n) (Enter t) m = run-unless_ended (ctx m n) (ReadTerm t (λ o. add_to rules n t o)) (commands.add_to rules n t m (term m t)) m (run-add_to rules n t (term m t) m)
+run-change_in rules (Live n) (Enter t) m = run-unless_ended (ctx m n) (ReadTerm t (λ o. add_found rules n t o)) (commands.add_to rules n t m (term m t)) m (run-add_to rules n t (term m t) m)
 run-change_in rules (Unmade n) (Enter t) m = run-add_to rules n t (term m t) m
-run-change_in rules (Live n) (Leave t) m = run-unless_ended (ctx m n) (ReadTerm t (λ o. subtract_from n t o)) (commands.subtract_from n t m (term m t)) m (run-subtract_from n t (term m t) m)
+run-change_in rules (Live n) (Leave t) m = run-unless_ended (ctx m n) (ReadTerm t (λ o. subtract_found n t o)) (commands.subtract_from n t m (term m t)) m (run-subtract_from n t (term m t) m)
 run-change_in rules (Unmade n) (Leave t) m = refl
 
 pub run-attempt : (rules : Rules) (at : At) (change : Option Change) (m : Maps) → run (attempt rules at change) m ≡ commands.attempted rules at change m
@@ -86,11 +86,11 @@ new_in_left : (keys : List Key) (t : List ℕ) (l : List (List ℕ)) → NewIn k
 new_in_left keys t l q h = inl (in_without t q l (ap (is_in q) (sym (members-unless_empty (without t l))) ∙ h))
 
 module _ (keys : List Key) (n : CtxNum) (t : List ℕ) (hn : has keys (Ctx n) ≡ true) (ht : has keys (Term t) ≡ true) where
-  within-add_to : (rules : Rules) (o : Option Termination) (m : Maps) → Within keys (add_to rules n t o) m
+  within-add_to : (rules : Rules) (o : Option Termination) (m : Maps) → Within keys (add_found rules n t o) m
   within-add_to rules None m = tt
   within-add_to rules (Some r) m = at r.place
     where
-      at : (p : Option CtxNum) → Within keys (add_at rules n t r p) m
+      at : (p : Option CtxNum) → Within keys (add_placed rules n t r p) m
       at (Some p) = tt
       at None = (
         hn,
@@ -98,17 +98,17 @@ module _ (keys : List Key) (n : CtxNum) (t : List ℕ) (hn : has keys (Ctx n) �
             tt (hn, new_in_joined keys t (members_of (ctx m n)) ht, (ht, hn, tt)),
       )
 
-  within-subtract_from : (o : Option Termination) (m : Maps) → Within keys (subtract_from n t o) m
+  within-subtract_from : (o : Option Termination) (m : Maps) → Within keys (subtract_found n t o) m
   within-subtract_from None m = tt
   within-subtract_from (Some r) m = at r.place
     where
-      at : (p : Option CtxNum) → Within keys (subtract_at n t r p) m
+      at : (p : Option CtxNum) → Within keys (subtract_placed n t r p) m
       at None = tt
       at (Some p) =
           within-cond keys (nat_eq p.0 n.0) (leave n t r) (refuse NotInContext) m
           (hn, (hn, new_in_left keys t (members_of (ctx m n)), (ht, tt, tt))) tt
 
-  within-unless_ended : (l : Option (List (List ℕ))) (p : Accesses (Result Unit Code)) (m : Maps) → Within keys p m → Within keys (unless_ended l p) m
+  within-unless_ended : (l : Option (List (List ℕ))) (p : Accesses (Result Unit Code)) (m : Maps) → Within keys p m → Within keys (in_context l p) m
   within-unless_ended None p m w = tt
   within-unless_ended (Some l) p m w = w
 
@@ -117,9 +117,9 @@ name_of (Enter t) = t
 name_of (Leave t) = t
 
 within-change_in : (keys : List Key) (rules : Rules) (at : At) (change : Change) (m : Maps) → has keys (Ctx (number_of at)) ≡ true → has keys (Term (name_of change)) ≡ true → Within keys (change_in rules at change) m
-within-change_in keys rules (Live n) (Enter t) m hn ht = (hn, within-unless_ended keys n t hn ht (ctx m n) (ReadTerm t (λ o. add_to rules n t o)) m (ht, within-add_to keys n t hn ht rules (term m t) m))
+within-change_in keys rules (Live n) (Enter t) m hn ht = (hn, within-unless_ended keys n t hn ht (ctx m n) (ReadTerm t (λ o. add_found rules n t o)) m (ht, within-add_to keys n t hn ht rules (term m t) m))
 within-change_in keys rules (Unmade n) (Enter t) m hn ht = (ht, within-add_to keys n t hn ht rules (term m t) m)
-within-change_in keys rules (Live n) (Leave t) m hn ht = (hn, within-unless_ended keys n t hn ht (ctx m n) (ReadTerm t (λ o. subtract_from n t o)) m (ht, within-subtract_from keys n t hn ht (term m t) m))
+within-change_in keys rules (Live n) (Leave t) m hn ht = (hn, within-unless_ended keys n t hn ht (ctx m n) (ReadTerm t (λ o. subtract_found n t o)) m (ht, within-subtract_from keys n t hn ht (term m t) m))
 within-change_in keys rules (Unmade n) (Leave t) m hn ht = tt
 
 within-name : (rules : Rules) (at : At) (v : Verb) (t : List ℕ) (m : Maps) → Within (Ctx (number_of at) ∷ name_keys t m) (attempt rules at (change_of_name v t)) m

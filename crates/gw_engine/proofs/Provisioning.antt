@@ -17,7 +17,7 @@ use Rattle.gw_engine.specs.declared.fault.LimitName.TheVariants.{Contexts, Slots
 use Rattle.gw_engine.specs.Places.{place_of}
 use Rattle.gw_engine.specs.Reserved.{is_reserved}
 use Rattle.gw_engine.specs.WellFormed.{AreWellFormed}
-use Rattle.gw_engine.specs.Configuration.{is_within, first_limit, provisioned, new_maps}
+use Rattle.gw_engine.specs.Configuration.{is_within, most_contexts, most_slots, most_members, most_kept, most_terms, first_limit, provisioned, new_maps}
 use Rattle.gw_engine.proofs.Names.{name_test, same_name}
 use Rattle.gw_engine.proofs.Lookups.{term-put_term, same_maps}
 use Rattle.gw_engine.proofs.MemberLists.{or_left, or_right, itself, pushed}
@@ -149,19 +149,19 @@ new_maps_fit limit names free = record {
 -- ---- limits
 
 pub record AreLimitsKept (c : Config) : Type 0 where
-  pub contexts : is_within 1 65535 c.contexts ≡ true
-  pub slots : is_within 0 4096 c.slots ≡ true
-  pub members : is_within 1 64 c.members ≡ true
-  pub keep : is_within 1 4096 c.keep ≡ true
+  pub contexts : is_within 1 most_contexts c.contexts ≡ true
+  pub slots : is_within 0 most_slots c.slots ≡ true
+  pub members : is_within 1 most_members c.members ≡ true
+  pub keep : is_within 1 most_kept c.keep ≡ true
 
 abbrev first_of : Bool → Bool → Bool → Bool → Bool → Option LimitName
 first_of a b c d e =
     if a then (if b then (if c then (if d then (if e then None else Some Terms) else Some Keep) else Some Members) else Some Slots) else Some Contexts
 
 pub limits_kept : (c : Config) → first_limit c ≡ None → AreLimitsKept c
-limits_kept c h = kept (is_within 1 65535 c.contexts) (is_within 0 4096 c.slots) (is_within 1 64 c.members) (is_within 1 4096 c.keep) (is_within 0 65535 (length c.terms)) refl refl refl refl h
+limits_kept c h = kept (is_within 1 most_contexts c.contexts) (is_within 0 most_slots c.slots) (is_within 1 most_members c.members) (is_within 1 most_kept c.keep) (is_within 0 most_terms (length c.terms)) refl refl refl refl h
   where
-    kept : (s t u v w : Bool) → is_within 1 65535 c.contexts ≡ s → is_within 0 4096 c.slots ≡ t → is_within 1 64 c.members ≡ u → is_within 1 4096 c.keep ≡ v → first_of s t u v w ≡ None → AreLimitsKept c
+    kept : (s t u v w : Bool) → is_within 1 most_contexts c.contexts ≡ s → is_within 0 most_slots c.slots ≡ t → is_within 1 most_members c.members ≡ u → is_within 1 most_kept c.keep ≡ v → first_of s t u v w ≡ None → AreLimitsKept c
     kept true true true true w a b m k e = record { contexts = a; slots = b; members = m; keep = k }
     kept true true true false w a b m k e = absurd cc
     kept true true false v w a b m k e = absurd cc

@@ -1,4 +1,5 @@
--- A command as single reads and writes of entries, one after another.
+-- A command as single reads and writes of entries, one after another (own): what carries out transactions side by side may
+-- rely on.
 use Rattle.std.specs.Prelude.{nat_eq, nat_le, ◌≡◌, ℕ, true, cond, List, [], ◌∷◌, ◌++◌, length, Option, None, Some, Result, Ok, Err, ◌⊎◌}
 use Rattle.gw_base.specs.declared.code.Code.{Code}
 use Rattle.gw_base.specs.declared.code.Code.TheVariants.{UnknownContext, IllegalCombination, UnknownTermination, AlreadyInContext, ContextFull, NotInContext, NotImplemented}
@@ -61,30 +62,30 @@ join rules n t r = ReadCtx n (λ l. cond (nat_le rules.members (length (members_
 abbrev pub leave : CtxNum → List ℕ → Termination → Accesses (Result Unit Code)
 leave n t r = ReadCtx n (λ l. PutCtx n (unless_empty (without t (members_of l))) (place t None r))
 
-abbrev pub add_at : Rules → CtxNum → List ℕ → Termination → Option CtxNum → Accesses (Result Unit Code)
-add_at rules n t r (Some p) = refuse AlreadyInContext
-add_at rules n t r None = join rules n t r
+abbrev pub add_placed : Rules → CtxNum → List ℕ → Termination → Option CtxNum → Accesses (Result Unit Code)
+add_placed rules n t r (Some p) = refuse AlreadyInContext
+add_placed rules n t r None = join rules n t r
 
-abbrev pub add_to : Rules → CtxNum → List ℕ → Option Termination → Accesses (Result Unit Code)
-add_to rules n t None = refuse UnknownTermination
-add_to rules n t (Some r) = add_at rules n t r r.place
+abbrev pub add_found : Rules → CtxNum → List ℕ → Option Termination → Accesses (Result Unit Code)
+add_found rules n t None = refuse UnknownTermination
+add_found rules n t (Some r) = add_placed rules n t r r.place
 
-abbrev pub subtract_at : CtxNum → List ℕ → Termination → Option CtxNum → Accesses (Result Unit Code)
-subtract_at n t r None = refuse NotInContext
-subtract_at n t r (Some p) = cond (nat_eq p.0 n.0) (leave n t r) (refuse NotInContext)
+abbrev pub subtract_placed : CtxNum → List ℕ → Termination → Option CtxNum → Accesses (Result Unit Code)
+subtract_placed n t r None = refuse NotInContext
+subtract_placed n t r (Some p) = cond (nat_eq p.0 n.0) (leave n t r) (refuse NotInContext)
 
-abbrev pub subtract_from : CtxNum → List ℕ → Option Termination → Accesses (Result Unit Code)
-subtract_from n t None = refuse UnknownTermination
-subtract_from n t (Some r) = subtract_at n t r r.place
+abbrev pub subtract_found : CtxNum → List ℕ → Option Termination → Accesses (Result Unit Code)
+subtract_found n t None = refuse UnknownTermination
+subtract_found n t (Some r) = subtract_placed n t r r.place
 
-abbrev pub unless_ended : Option (List (List ℕ)) → Accesses (Result Unit Code) → Accesses (Result Unit Code)
-unless_ended None p = refuse UnknownContext
-unless_ended (Some l) p = p
+abbrev pub in_context : Option (List (List ℕ)) → Accesses (Result Unit Code) → Accesses (Result Unit Code)
+in_context None p = refuse UnknownContext
+in_context (Some l) p = p
 
 abbrev pub change_in : Rules → At → Change → Accesses (Result Unit Code)
-change_in rules (Live n) (Enter t) = ReadCtx n (λ l. unless_ended l (ReadTerm t (λ o. add_to rules n t o)))
-change_in rules (Unmade n) (Enter t) = ReadTerm t (λ o. add_to rules n t o)
-change_in rules (Live n) (Leave t) = ReadCtx n (λ l. unless_ended l (ReadTerm t (λ o. subtract_from n t o)))
+change_in rules (Live n) (Enter t) = ReadCtx n (λ l. in_context l (ReadTerm t (λ o. add_found rules n t o)))
+change_in rules (Unmade n) (Enter t) = ReadTerm t (λ o. add_found rules n t o)
+change_in rules (Live n) (Leave t) = ReadCtx n (λ l. in_context l (ReadTerm t (λ o. subtract_found n t o)))
 change_in rules (Unmade n) (Leave t) = refuse IllegalCombination
 
 abbrev pub attempt : Rules → At → Option Change → Accesses (Result Unit Code)

@@ -1,4 +1,4 @@
--- Which commands are carried out, and what each asks of the tables.
+-- Which commands are carried out, and what each asks of the tables (RFC 3525, sections 7.2.1 and 7.2.3).
 use Rattle.std.specs.Prelude.{ℕ, List, Option, None, Some}
 use Rattle.gw_base.specs.declared.command_words.Verb.{Verb}
 use Rattle.gw_base.specs.declared.command_words.Verb.TheVariants.{Add, Modify, Move, Subtract, AuditValue, AuditCapability, Notify, ServiceChange}

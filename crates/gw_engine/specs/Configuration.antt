@@ -18,13 +18,29 @@ use Rattle.gw_engine.specs.State.{Whole}
 abbrev pub is_within : ℕ → ℕ → ℕ → Bool
 is_within low high n = nat_le low n && nat_le n high
 
+-- the greatest numbers of a configuration
+abbrev pub most_contexts : ℕ
+most_contexts = 65535
+
+abbrev pub most_slots : ℕ
+most_slots = 4096
+
+abbrev pub most_members : ℕ
+most_members = 64
+
+abbrev pub most_kept : ℕ
+most_kept = 4096
+
+abbrev pub most_terms : ℕ
+most_terms = 65535
+
 -- the first of the limits that is not kept
 abbrev pub first_limit : Config → Option LimitName
 first_limit c =
-    if is_within 1 65535 c.contexts then
-    (if is_within 0 4096 c.slots then
-    (if is_within 1 64 c.members then
-    (if is_within 1 4096 c.keep then (if is_within 0 65535 (length c.terms) then None else Some Terms) else Some Keep)
+    if is_within 1 most_contexts c.contexts then
+    (if is_within 0 most_slots c.slots then
+    (if is_within 1 most_members c.members then
+    (if is_within 1 most_kept c.keep then (if is_within 0 most_terms (length c.terms) then None else Some Terms) else Some Keep)
     else Some Members)
     else Some Slots)
     else Some Contexts

@@ -1,7 +1,7 @@
--- A gateway's fields, as contracts see them.
+-- A gateway's fields, as contracts see them (own).
 use Rattle.std.specs.Prelude.{◌≡◌, true, []}
 use Rattle.gw_engine.specs.declared.gateway.Gateway.TheInside.{Inside}
-use Rattle.gw_engine.specs.Configuration.{is_within}
+use Rattle.gw_engine.specs.Configuration.{is_within, most_contexts, most_slots, most_members, most_kept}
 use Rattle.gw_engine.specs.State.{Whole, IsWellFormed}
 
 abbrev pub whole_of : Inside → Whole
@@ -12,8 +12,8 @@ whole_of a = record {
 
 -- the limits are kept, and the state is well-formed
 pub record IsGateway (a : Inside) : Type 0 where
-  pub contexts : is_within 1 65535 a.contexts ≡ true
-  pub slots : is_within 0 4096 a.slots ≡ true
-  pub members : is_within 1 64 a.rules.members ≡ true
-  pub keep : is_within 1 4096 a.keep ≡ true
+  pub contexts : is_within 1 most_contexts a.contexts ≡ true
+  pub slots : is_within 0 most_slots a.slots ≡ true
+  pub members : is_within 1 most_members a.rules.members ≡ true
+  pub keep : is_within 1 most_kept a.keep ≡ true
   pub well_formed : IsWellFormed (whole_of a).settings (whole_of a).state

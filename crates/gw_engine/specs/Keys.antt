@@ -1,4 +1,4 @@
--- The entries of the maps that a command may read or write: its keys, in the maps as they are before it.
+-- The entries of the maps that a command may read or write: its keys, in the maps as they are before it (own).
 use Rattle.std.specs.Prelude.{nat_eq, ℕ, Bool, false, bytes_eq, List, [], ◌∷◌, Option, None, Some}
 use Rattle.std.specs.List.{list_any}
 use Rattle.gw_base.specs.declared.ids.CtxNum.{CtxNum}

@@ -1,4 +1,4 @@
--- Lists of members.
+-- Lists of members, in joining order (RFC 3525, section 6.1; the order is own).
 use Rattle.std.specs.Prelude.{◌≡◌, ℕ, Bool, false, bytes_eq, List, [], ◌∷◌, Option, None, Some}
 use Rattle.std.specs.List.{list_any}
 use Rattle.std.specs.Set.{remove_key}

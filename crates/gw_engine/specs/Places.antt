@@ -1,4 +1,4 @@
--- The context of an action while its commands are carried out, and where a termination is.
+-- The context of an action while its commands are carried out, and where a termination is (RFC 3525, sections 6.1 and 8.1).
 use Rattle.std.specs.Prelude.{Bool, true, false, Option, None, Some}
 use Rattle.gw_base.specs.declared.ids.CtxNum.{CtxNum}
 use Rattle.gw_base.specs.declared.command_words.CtxRef.{CtxRef}

@@ -1,4 +1,4 @@
--- An answer that was prepared, with the change that comes with it, against what is to be answered.
+-- An answer that was prepared, with the change that comes with it, against what is to be answered (own).
 use Rattle.std.specs.Prelude.{◌≡◌, ℕ, List, Option, None, Some, Result}
 use Rattle.gw_base.specs.declared.code.Code.{Code}
 use Rattle.gw_msg.specs.declared.message.Message.{Message}

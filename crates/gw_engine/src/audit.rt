@@ -1,6 +1,6 @@
 //! The gateway's tables as text, for an operator.
 
-ghost use Rattle.std.specs.Prelude.{◌≡◌, ◌++◌, IfOk, OnOk, codes, decimal};
+ghost use Rattle.std.specs.Prelude.{◌≡◌, ◌++◌, IfOk, OnOk};
 ghost use Rattle.std.specs.List.{flat_map};
 ghost use Rattle.std.specs.FinMap as map;
 ghost use Rattle.gw_engine.specs.AuditText.{place_text, service_text, member_text, context_line, term_line, cursors_line, kept_line, audit_text};
@@ -10,14 +10,8 @@ use crate::gateway::{Cursors, Gateway};
 use crate::tables::Tables;
 use crate::termination::Termination;
 use gw_base::{CtxNum, NoMemory, Service, TermName};
-use itoa::Buffer;
+use gw_reply::write_number;
 use std::alloc::{AllocError, Global};
-
-fn write_number(number: u32, out: &mut Vec<u8>) -> Result<(), AllocError>
-    ensures { OnOk result (out.new.items ≡ out.old.items ++ decimal number) }
-{
-    out.extend_from_slice(Buffer::new().format(number).as_bytes())
-}
 
 fn write_place(place: Option<CtxNum>, out: &mut Vec<u8>) -> Result<(), AllocError>
     ensures { OnOk result (out.new.items ≡ out.old.items ++ place_text place) }
@@ -115,7 +109,8 @@ impl Tables {
 
 impl Gateway {
     /// The tables and cursors as text: a line `cursors <contexts> <slots>`, a line `context <number> <members>` for each
-    /// context, a line `term <name> <context or -> <service state>` for each termination, and a line `kept <count>`.
+    /// context, a line `term <name> <context or -> <service state>` for each termination, and a line `kept <count>`. The work is
+    /// linear in the text.
     ///
     /// # Errors
     ///

@@ -2,7 +2,7 @@
 
 ghost use Rattle.std.specs.Prelude.{◌≡◌, ◌⊎◌, IfOk, IfErr};
 ghost use Rattle.std.specs.List.{list_any};
-ghost use Rattle.gw_engine.specs.Configuration.{is_within, first_limit, IsFault, IsAccepted, new_gateway, new_maps};
+ghost use Rattle.gw_engine.specs.Configuration.{first_limit, IsFault, IsAccepted, new_gateway, new_maps};
 ghost use Rattle.gw_engine.specs.Members.{NoDoubles};
 ghost use Rattle.gw_engine.specs.Reserved.{is_reserved};
 
@@ -48,25 +48,30 @@ impl Model for Gateway {
     ghost invariant = { IsGateway };
 }
 
-fn is_within(low: u32, high: u32, n: u32) -> bool
-    ensures { result ≡ is_within low high n }
-{
-    low <= n && n <= high
-}
+/// The greatest numbers of a configuration (own to this profile).
+const MOST_CONTEXTS: u32 = 65_535;
+
+const MOST_SLOTS: u32 = 4_096;
+
+const MOST_MEMBERS: u32 = 64;
+
+const MOST_KEPT: u32 = 4_096;
+
+const MOST_TERMS: usize = 65_535;
 
 /// The first of the limits that is not kept.
 fn first_limit(config: &Config) -> Option<LimitName>
     ensures { result ≡ first_limit config.now }
 {
-    if !is_within(1, 65_535, config.contexts) {
+    if !(1..=MOST_CONTEXTS).contains(&config.contexts) {
         Some(LimitName::Contexts)
-    } else if !is_within(0, 4_096, config.slots) {
+    } else if config.slots > MOST_SLOTS {
         Some(LimitName::Slots)
-    } else if !is_within(1, 64, config.members) {
+    } else if !(1..=MOST_MEMBERS).contains(&config.members) {
         Some(LimitName::Members)
-    } else if !is_within(1, 4_096, config.keep) {
+    } else if !(1..=MOST_KEPT).contains(&config.keep) {
         Some(LimitName::Keep)
-    } else if config.terms.len() > 65_535 {
+    } else if config.terms.len() > MOST_TERMS {
         Some(LimitName::Terms)
     } else {
         None
@@ -108,6 +113,11 @@ fn provisioned(alloc: Global, names: &[TermName]) -> Result<Tables, ConfigFault>
 impl Gateway {
     /// The gateway of a configuration, with its terminations in the null context and no contexts. Its names are looked up in
     /// the order of their bytes, so this takes n log n steps in them.
+    ///
+    /// # Errors
+    ///
+    /// The first that applies: a limit that is not kept, in the order of `LimitName`; a reserved name; a name given twice.
+    /// Want of memory at any growth.
     pub fn new(alloc: Global, config: Config) -> Result<Gateway, ConfigFault>
         ensures ok { IfOk result (λ gateway. IsAccepted config × (gateway ≡ new_gateway config)) }
         ensures fault { IfErr result (IsFault config) }

@@ -34,7 +34,7 @@ fn is_simple_context(sent: CtxRef) -> bool
 fn are_simple_commands(commands: &[Command]) -> bool
     ensures { result ≡ list_all is_simple_command commands.now }
 {
-    commands.iter().all(|command| is_simple_command(command))
+    commands.iter().all(is_simple_command)
 }
 
 fn is_simple_action(action: &Action) -> bool
@@ -48,11 +48,7 @@ fn is_simple_action(action: &Action) -> bool
 fn is_simple_request(request: &Request) -> bool
     ensures { result ≡ is_simple_request request.now }
 {
-    request
-        .actions
-        .as_slice()
-        .iter()
-        .all(|action| is_simple_action(action))
+    request.actions.as_slice().iter().all(is_simple_action)
 }
 
 /// The one request that a message holds, where this gateway carries all of it out.
@@ -125,8 +121,8 @@ impl Gateway {
         }
     }
 
-    /// Answers a burst, which has one datagram at most: the caller knows that, and that the datagram has at most 65,507
-    /// bytes. The answer is for the peer of the datagram.
+    /// Answers a burst, which has one datagram at most: the caller knows that. The datagram may have any length. The answer is
+    /// for the peer of the datagram. The work is linear in the datagram and in the tables, which are copied once.
     ///
     /// A message that is not one transaction of Add and Subtract by name, without `O-`, `W-` and descriptors, in contexts by
     /// number or `$` without properties, is answered with error 501 and changes nothing.

@@ -334,7 +334,11 @@ fn configurations_with_faults(rt: HostRuntime) -> Result<(), Fail> {
         (["rOOt", "T/1"], ConfigFault::ReservedName),
     ];
     for (names, fault) in names {
-        assert_eq!(rt; fault_of(alloc, config(alloc, &names)?), Some(fault));
+        assert_eq!(rt;
+            fault_of(alloc, config(alloc, &names)?),
+            Some(fault),
+            "{names:?}"
+        );
     }
     assert_eq!(rt;
         fault_of(alloc, config(alloc, &["rtp/0", "RTPX", "Rooty"])?),
@@ -366,7 +370,8 @@ fn configurations_with_faults(rt: HostRuntime) -> Result<(), Fail> {
         wrong.keep = keep;
         assert_eq!(rt;
             fault_of(alloc, wrong),
-            Some(ConfigFault::LimitOutOfRange(limit))
+            Some(ConfigFault::LimitOutOfRange(limit)),
+            "{limit:?}"
         );
     }
     Ok(())
@@ -387,7 +392,11 @@ fn texts_of_configuration_faults(rt: HostRuntime) -> Result<(), Fail> {
         (ConfigFault::NoMemory, "no memory"),
     ];
     for (fault, text) in table {
-        assert_eq!(rt; format!(in rt.alloc(); "{fault}")?.as_str(), text);
+        assert_eq!(rt;
+            format!(in rt.alloc(); "{fault}")?.as_str(),
+            text,
+            "{fault:?}"
+        );
     }
     Ok(())
 }
@@ -425,4 +434,28 @@ fn terminations_have_a_limit(rt: HostRuntime) -> Result<(), Fail> {
         Some(ConfigFault::LimitOutOfRange(LimitName::Keep))
     );
     Ok(())
+}
+
+/// A transaction of so many actions, each of which makes a context with a termination of its own.
+fn one_context_each(alloc: Global, count: u32) -> Result<String, Fail> {
+    let mut text = String::from_str(alloc, "Transaction=1{Context=${Add=T/0}")?;
+    for number in 1..count {
+        write!(text, ",C=${{A=T/{number}}}")?;
+    }
+    text.push('}')?;
+    Ok(text)
+}
+
+// If each place without a number looked for one, 4,000 places would look at 16 million numbers, which takes minutes here.
+#[test]
+fn numbers_that_ran_out_are_looked_for_once(rt: HostRuntime) -> Result<(), Fail> {
+    let alloc = rt.alloc();
+    let mut config = many(alloc, 4_000)?;
+    config.contexts = 4_000;
+    let mut gateway = Gateway::new(alloc, config)?;
+    let request = one_context_each(alloc, 4_000)?;
+    let too_long = "Reply=1{Error=533{\"Response exceeds maximum transport PDU size\"}}";
+    expect_reply(&rt, alloc, &mut gateway, request.as_str(), too_long)?;
+    let none_left = "Reply=1{Context=${Error=412{\"No ContextIDs available\"}}}";
+    expect_reply(&rt, alloc, &mut gateway, request.as_str(), none_left)
 }

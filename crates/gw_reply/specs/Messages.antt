@@ -19,6 +19,10 @@ longest_header = 82
 abbrev pub longest_message : ℕ
 longest_message = 16384
 
+-- how long a reply with one error may be at most, its number of ten digits included
+abbrev pub longest_short_reply : ℕ
+longest_short_reply = 189
+
 -- the reply to the transaction of this number, with error 533 in place of all that it held
 abbrev pub too_long : TxId → TxReply
 too_long id = record { id = id; result = Err ReplyTooLong }

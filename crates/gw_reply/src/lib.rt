@@ -12,3 +12,4 @@ mod wire;
 
 pub use message::{write_fault, write_reply};
 pub use reply::{ActionReply, CommandReply, TxReply};
+pub use wire::write_number;

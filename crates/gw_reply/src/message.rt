@@ -2,7 +2,7 @@
 
 ghost use Rattle.std.specs.Prelude.{◌≡◌, ◌+◌, ◌≤◌, length, IfOk};
 ghost use Rattle.gw_reply.specs.Replies.{transaction_reply_text};
-ghost use Rattle.gw_reply.specs.Messages.{message_text, longest_header, longest_message, too_long, reply_text, fault_text};
+ghost use Rattle.gw_reply.specs.Messages.{message_text, longest_header, longest_message, longest_short_reply, too_long, reply_text, fault_text};
 
 use crate::reply::TxReply;
 use crate::wire::WireText;
@@ -27,7 +27,7 @@ fn write_message<T: WireText>(alloc: Global, body: &T, mid: &Mid) -> Result<Vec<
 /// The reply to the transaction of this number, with error 533 in place of all that it held.
 fn too_long(id: TxId) -> TxReply
     ensures value { result ≡ too_long id }
-    ensures short { length (transaction_reply_text result) ≤ 189 }
+    ensures short { length (transaction_reply_text result) ≤ longest_short_reply }
 {
     TxReply {
         id,
@@ -37,6 +37,10 @@ fn too_long(id: TxId) -> TxReply
 
 /// The message with the reply, from the gateway of this mId. One that would be longer than 16,384 bytes is replaced by the
 /// message with error 533 in the reply. The work is linear in the text of the whole reply.
+///
+/// # Errors
+///
+/// Want of memory.
 #[tactic(auto, unfolding(crate::specs::Messages::reply_text))]
 pub fn write_reply(alloc: Global, reply: &TxReply, mid: &Mid) -> Result<Vec<u8>, NoMemory>
     ensures text { IfOk result (λ text. text.items ≡ reply_text mid.now reply.now) }
@@ -50,6 +54,10 @@ pub fn write_reply(alloc: Global, reply: &TxReply, mid: &Mid) -> Result<Vec<u8>,
 }
 
 /// The message whose body is the error, from the gateway of this mId: the answer to a datagram that is no message.
+///
+/// # Errors
+///
+/// Want of memory.
 #[tactic(auto, using(crate::proofs::TextLengths::error_is_short), unfolding(crate::specs::Messages::fault_text))]
 pub fn write_fault(alloc: Global, code: Code, mid: &Mid) -> Result<Vec<u8>, NoMemory>
     ensures text { IfOk result (λ text. text.items ≡ fault_text mid.now code) }

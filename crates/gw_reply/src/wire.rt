@@ -17,8 +17,12 @@ pub(crate) trait WireText {
         ensures { OnOk result (out.new.items ≡ out.old.items ++ text self.now) };
 }
 
-/// A number in decimal, without leading zeros.
-pub(crate) fn write_number(number: u32, out: &mut Vec<u8>) -> Result<(), AllocError>
+/// Writes a number in decimal, without leading zeros, behind what the buffer holds.
+///
+/// # Errors
+///
+/// `AllocError` where memory was refused; the buffer may then hold some of the digits.
+pub fn write_number(number: u32, out: &mut Vec<u8>) -> Result<(), AllocError>
     ensures { OnOk result (out.new.items ≡ out.old.items ++ decimal number) }
 {
     out.extend_from_slice(Buffer::new().format(number).as_bytes())
