@@ -2,8 +2,7 @@
 use Rattle.std.specs.Prelude.{◌≡◌, ◌≢◌, ◌⊎◌, ℕ, zero, suc, nat_lt, true, false, Bool, List, [], ◌∷◌, map, Option, Some, None, Result, Ok, Err, codes}
 use Rattle.gw_base.specs.Lang.{◌▹◌, IsText}
 use Rattle.gw_base.specs.Mids.{IsMid}
-use Rattle.gw_base.specs.Wildcards.{IsTermText}
-use Rattle.gw_base.specs.TermRefs.{IsClass}
+use Rattle.gw_base.specs.TermRefs.{IsTerm}
 use Rattle.gw_base.specs.declared.term_ref.TermRef.{TermRef}
 use Rattle.gw_base.specs.declared.command_words.CtxRef.{CtxRef}
 use Rattle.gw_base.specs.declared.command_words.CtxRef.TheVariants.{Null, All, Choose, Num}
@@ -53,7 +52,7 @@ SpellsVerb v = IsToken (command_token v)
 
 -- TerminationID: its form, and its class
 abbrev pub SpellsTerm : TermRef → List ℕ → Type 0
-SpellsTerm t text = IsTermText text × IsClass t text
+SpellsTerm = IsTerm
 
 -- `O-` or `W-` in front of a command, in any case, or nothing
 abbrev pub SpellsMark : List ℕ → Bool → List ℕ → Type 0
