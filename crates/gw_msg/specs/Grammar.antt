@@ -225,9 +225,9 @@ pub record HasVersionFault (text : List ℕ) : Type 0 where
   pub header : (IsHeader version ▹ (λ rest. Unit {0})) text
 
 -- What reading a text may answer: the message that it spells; Version where the header has another; Syntax where it is
--- neither. Memory may run out at any text.
+-- neither. Memory may run out at any text whose header has no other version.
 abbrev pub IsReadingOf : List ℕ → Result Message ReadFault → Type 0
 IsReadingOf text (Ok m) = Spells m text
 IsReadingOf text (Err Version) = HasVersionFault text
 IsReadingOf text (Err Syntax) = (¬ HasVersionFault text) × ((m : Message) → ¬ Spells m text)
-IsReadingOf text (Err NoMemory) = Unit {0}
+IsReadingOf text (Err NoMemory) = ¬ HasVersionFault text
