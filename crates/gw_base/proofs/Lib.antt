@@ -1,6 +1,10 @@
 pub mod Enclosures
+pub mod Known
+pub mod NameForms
 pub mod Paddings
 pub mod Ports
+pub mod SpelledLaws
+pub mod TermClasses
 pub mod TermNames
 pub mod Tests
 pub mod Views

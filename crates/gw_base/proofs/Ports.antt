@@ -8,6 +8,7 @@ use Rattle.std.proofs.lemmas.Str.{digit_value_digit}
 use Rattle.std.proofs.lemmas.Str.Parse.{digits_value-take-le}
 use Rattle.std.proofs.lemmas.Bool.{leb-true}
 use Rattle.gw_base.specs.Bytes.{is_digit}
+use Rattle.gw_base.specs.Mids.{port_max}
 use Rattle.gw_base.proofs.Tests.{each_at, refuted}
 
 digit_range : (b : ℕ) → is_digit b ≡ true → IsInRange 48 57 b
@@ -19,8 +20,8 @@ next_digit digits i number e h all =
     omega (arith, digits_value_more 10 digits i h, e, digit)
 
 -- digits whose front writes a number above the highest port write one above it
-pub large : (digits : List ℕ) (i number : ℕ) → number ≡ digits_value 10 (take i digits) → i < length digits → list_all is_digit digits ≡ true → 65535 < number * 10 + (get_or digits i 0 - 48) → false ≡ nat_le (digits_value 10 digits) 65535
+pub large : (digits : List ℕ) (i number : ℕ) → number ≡ digits_value 10 (take i digits) → i < length digits → list_all is_digit digits ≡ true → port_max < number * 10 + (get_or digits i 0 - 48) → false ≡ nat_le (digits_value 10 digits) port_max
 large digits i number e h all more =
     let front = next_digit digits i number e h all in
     let le = digits_value-take-le 10 digits (i + 1) (omega arith) in
-    sym (refuted (nat_le (digits_value 10 digits) 65535) (λ t. let small = leb-true (digits_value 10 digits) 65535 t in omega arith))
+    sym (refuted (nat_le (digits_value 10 digits) port_max) (λ t. let small = leb-true (digits_value 10 digits) port_max t in omega arith))

@@ -2,7 +2,7 @@
 use Rattle.std.proofs.Common.{◌≡◌, ℕ, ◌<◌, Bool, true, false, ◌&&◌, ◌||◌, List, [], ◌∷◌, length, get_or, Err, refl, sym, ap, ◌∙◌}
 use Rattle.std.specs.List.{list_all, list_any}
 use Rattle.gw_base.specs.Bytes.{is_letter, is_name_byte}
-use Rattle.gw_base.specs.Names.{IsName}
+use Rattle.gw_base.specs.Names.{IsName, name_max}
 use Rattle.gw_base.specs.Reads.{ReadsAs}
 use Rattle.gw_base.specs.Wildcards.{is_wildcard, is_term_byte, IsTermText}
 use Rattle.gw_base.specs.declared.fault.NameFault.{NameFault}
@@ -34,7 +34,7 @@ term_name text t h = record {
 }
 
 -- so no fault is left for it
-pub no_fault : (text : List ℕ) (fault : NameFault) → IsTermText text → list_any is_wildcard text ≡ false → ReadsAs IsName 64 text (Err fault) → ReadsAs IsTermText 64 text (Err fault)
+pub no_fault : (text : List ℕ) (fault : NameFault) → IsTermText text → list_any is_wildcard text ≡ false → ReadsAs IsName name_max text (Err fault) → ReadsAs IsTermText name_max text (Err fault)
 no_fault text Empty t h e = e
 no_fault text TooLong t h e = e
 no_fault text BadByte t h e = absurd (e.2 (term_name text t h))

@@ -1,7 +1,6 @@
 -- An ordered map of the program, and the finite map that it is seen as. Generic in the order of the keys, which is total and
 -- in which only equal keys tie.
 use Rattle.std.proofs.Common.{◌≡◌, Bool, true, false, T, ◌&&◌, cond, List, [], ◌∷◌, Option, None, Some, refl, sym, ap, subst, ◌∙◌, Ordering}
-use Rattle.std.specs.Ordering.{eq_by_cmp}
 use Rattle.std.specs.Cmp.{IsTotalOrder, eq_by_cmp_equiv}
 use Rattle.std.specs.Map.{lookup}
 use Rattle.std.specs.BTreeMap.{is_at}

@@ -7,8 +7,12 @@ use Rattle.gw_base.specs.Bytes.{is_hex_digit, is_one_of}
 abbrev pub is_address_byte : ℕ → Bool
 is_address_byte b = is_hex_digit b || is_one_of (codes ".:") b
 
--- 1 to 45 hexadecimal digits, dots and colons
+-- the most bytes of an address
+abbrev pub address_max : ℕ
+address_max = 45
+
+-- hexadecimal digits, dots and colons: one at least, and at most so many
 pub record IsAddress (bytes : List ℕ) : Type 0 where
   pub some : 0 < length bytes
-  pub short : length bytes ≤ 45
+  pub short : length bytes ≤ address_max
   pub each : list_all is_address_byte bytes ≡ true

@@ -1,9 +1,6 @@
 -- Languages of texts, and texts of two forms, one behind the other.
-use Rattle.std.specs.Prelude.{◌≡◌, ℕ, List, ◌++◌}
-
--- which texts have a form
-abbrev pub Form : Type 1
-Form = List ℕ → Type 0
+use Rattle.std.specs.Prelude.{◌≡◌, ℕ, List, ◌++◌, map}
+use Rattle.std.specs.Char.{to_ascii_lowercase}
 
 -- a text of the one form, and behind it one of the other
 pub record Both (P Q : List ℕ → Type 0) (text : List ℕ) : Type 0 where
@@ -21,3 +18,7 @@ abbrev pub ◌▹◌ : (List ℕ → Type 0) → (List ℕ → Type 0) → List 
 -- these bytes and no others
 abbrev pub IsText : List ℕ → List ℕ → Type 0
 IsText bytes text = text ≡ bytes
+
+-- these bytes in any case
+abbrev pub IsInAnyCase : List ℕ → List ℕ → Type 0
+IsInAnyCase bytes text = map to_ascii_lowercase text ≡ map to_ascii_lowercase bytes

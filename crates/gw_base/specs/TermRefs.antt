@@ -1,6 +1,7 @@
 -- What a TerminationID is, by its text.
 use Rattle.std.specs.Prelude.{◌≡◌, ◌≢◌, ℕ, true, false, ◌⊎◌, List, codes, Result, Ok, Err}
 use Rattle.std.specs.List.{list_any}
+use Rattle.gw_base.specs.Names.{name_max}
 use Rattle.gw_base.specs.Reads.{ReadsAs}
 use Rattle.gw_base.specs.Wildcards.{is_wildcard, IsTermText, IsRoot, IsUnder}
 use Rattle.gw_base.specs.declared.fault.NameFault.{NameFault}
@@ -20,7 +21,11 @@ IsClass (Under prefix) text = IsUnder prefix text
 IsClass (Other pattern) text = (pattern ≡ text) × (list_any is_wildcard text ≡ true) × (text ≢ codes "*") × (¬ IsChoose text) × ((prefix : List ℕ) → ¬ IsUnder prefix text)
 IsClass (Name name) text = (name ≡ text) × (list_any is_wildcard text ≡ false) × ¬ IsRoot text
 
+-- a text of the form, and what it stands for
+abbrev pub IsTerm : TermRef → List ℕ → Type 0
+IsTerm term text = IsTermText text × IsClass term text
+
 -- what a text is read as, and the first fault of one that is refused
 abbrev pub ReadsTerm : List ℕ → Result TermRef NameFault → Type 0
-ReadsTerm text (Ok term) = IsTermText text × IsClass term text
-ReadsTerm text (Err fault) = ReadsAs IsTermText 64 text (Err fault)
+ReadsTerm text (Ok term) = IsTerm term text
+ReadsTerm text (Err fault) = ReadsAs IsTermText name_max text (Err fault)

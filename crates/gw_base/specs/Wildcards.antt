@@ -1,9 +1,9 @@
 -- TerminationIDs with wildcards (RFC 3525, section 6.2.2; what each stands for is own where the standard leaves it open).
-use Rattle.std.specs.Prelude.{◌≡◌, ℕ, ◌<◌, ◌≤◌, Bool, true, ◌||◌, List, ◌++◌, length, slice_index, map, codes}
+use Rattle.std.specs.Prelude.{◌≡◌, ℕ, ◌<◌, ◌≤◌, Bool, true, ◌||◌, List, ◌++◌, length, slice_index, codes}
 use Rattle.std.specs.List.{list_all}
-use Rattle.std.specs.Char.{to_ascii_lowercase}
 use Rattle.gw_base.specs.Bytes.{is_letter, is_name_byte, is_one_of, byte, last_byte}
-use Rattle.gw_base.specs.Names.{IsName}
+use Rattle.gw_base.specs.Lang.{IsInAnyCase}
+use Rattle.gw_base.specs.Names.{IsName, name_max}
 
 -- ALL or CHOOSE
 abbrev pub is_wildcard : ℕ → Bool
@@ -12,16 +12,16 @@ is_wildcard b = is_one_of (codes "*$") b
 abbrev pub is_term_byte : ℕ → Bool
 is_term_byte b = is_name_byte b || is_wildcard b
 
--- 1 to 64 letters, digits and _ / * $ @ . -, of which the first is a letter, * or $
+-- letters, digits and _ / * $ @ . -, of which the first is a letter, * or $: as many as a name may have
 pub record IsTermText (bytes : List ℕ) : Type 0 where
   pub some : 0 < length bytes
-  pub short : length bytes ≤ 64
+  pub short : length bytes ≤ name_max
   pub first : is_letter (slice_index bytes 0) || is_wildcard (slice_index bytes 0) ≡ true
   pub each : list_all is_term_byte bytes ≡ true
 
 -- ROOT in any case
 abbrev pub IsRoot : List ℕ → Type 0
-IsRoot text = map to_ascii_lowercase text ≡ map to_ascii_lowercase (codes "ROOT")
+IsRoot = IsInAnyCase (codes "ROOT")
 
 -- a name that ends in /, and *
 pub record IsUnder (prefix text : List ℕ) : Type 0 where

@@ -1,6 +1,6 @@
 //! Tests: which texts are names, mIds, addresses and references, and the table of codes.
 
-use crate::{Code, MediaAddr, Mid, NameFault, TermName, TermRef};
+use crate::{Code, MediaAddr, Mid, NameFault, NoMemory, TermName, TermRef};
 use std::alloc::Global;
 use std::test::Fail;
 
@@ -240,6 +240,24 @@ fn other_texts_are_no_termination_ids(rt: HostRuntime) {
             "{text}"
         );
     }
+}
+
+#[test]
+fn faults_have_their_texts(rt: HostRuntime) -> Result<(), Fail> {
+    for (fault, text) in [
+        (NameFault::Empty, "the text is empty"),
+        (NameFault::TooLong, "the text is too long"),
+        (
+            NameFault::BadByte,
+            "the text has a byte that its form does not allow there",
+        ),
+    ] {
+        let shown = format!(in rt.alloc(); "{fault}")?;
+        assert_eq!(rt; shown.as_str(), text, "{fault:?}");
+    }
+    let shown = format!(in rt.alloc(); "{NoMemory}")?;
+    assert_eq!(rt; shown.as_str(), "no memory", "of NoMemory");
+    Ok(())
 }
 
 #[test]

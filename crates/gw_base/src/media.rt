@@ -2,7 +2,7 @@
 
 ghost use Rattle.std.specs.Prelude.{◌≡◌, ◌≤◌, ◌↔◌, IsTrue, length};
 ghost use Rattle.std.specs.List.{list_all};
-ghost use Rattle.gw_base.specs.Addresses.{is_address_byte, IsAddress};
+ghost use Rattle.gw_base.specs.Addresses.{is_address_byte, IsAddress, address_max};
 ghost use Rattle.gw_base.specs.Reads.{ReadsAs};
 
 use crate::bytes::is_hex_digit;
@@ -53,7 +53,7 @@ impl MediaAddr {
     /// The address that the text is. A text of no bytes is `Empty`, one of more than 45 `TooLong`, any other that is no
     /// address `BadByte`.
     pub fn read(text: &[u8]) -> Result<MediaAddr, NameFault>
-        ensures { ReadsAs IsAddress 45 text.now result }
+        ensures { ReadsAs IsAddress address_max text.now result }
     {
         if text.is_empty() {
             return Err(NameFault::Empty);

@@ -6,7 +6,7 @@ ghost use Rattle.std.specs.Str.Parse.{digits_value};
 ghost use Rattle.gw_base.specs.Bytes.{is_digit};
 ghost use Rattle.gw_base.specs.Lang.{◌▹◌, IsText};
 ghost use Rattle.gw_base.specs.Addresses.{IsAddress};
-ghost use Rattle.gw_base.specs.Mids.{is_domain_byte, is_device_byte, IsDomain, IsPort, IsOptionalPort, IsDevice, IsMid, longest_mid};
+ghost use Rattle.gw_base.specs.Mids.{is_domain_byte, is_device_byte, IsDomain, IsPort, IsOptionalPort, IsDevice, IsMid, port_max, longest_mid};
 ghost use Rattle.gw_base.specs.Reads.{ReadsAs};
 
 use crate::bytes::{is_digit, is_letter, is_name_byte};
@@ -87,7 +87,7 @@ fn is_device(text: &[u8]) -> bool
 /// Whether the digits write a number of at most 65,535.
 fn is_port_number(digits: &[u8]) -> bool
     requires { list_all is_digit digits.now ≡ true }
-    ensures { result ≡ nat_le (digits_value 10 digits.now) 65535 }
+    ensures { result ≡ nat_le (digits_value 10 digits.now) port_max }
 {
     let mut number: u32 = 0;
     for b in digits {

@@ -3,7 +3,7 @@
 ghost use Rattle.std.specs.Prelude.{◌≡◌, length, ◌≤◌, ◌↔◌, IsTrue};
 ghost use Rattle.std.specs.List.{list_all};
 ghost use Rattle.gw_base.specs.Bytes.{is_name_byte};
-ghost use Rattle.gw_base.specs.Names.{IsName};
+ghost use Rattle.gw_base.specs.Names.{IsName, name_max};
 ghost use Rattle.gw_base.specs.Reads.{ReadsAs};
 
 use crate::bytes::{is_letter, is_name_byte};
@@ -39,7 +39,7 @@ fn are_name_bytes(text: &[u8]) -> bool
 }
 
 fn is_name(text: &[u8]) -> bool
-    requires { length text.now ≤ 64 }
+    requires { length text.now ≤ name_max }
     ensures { IsTrue result ↔ IsName text.now }
 {
     text.len() > 0 && is_letter(text[0]) && are_name_bytes(text)
@@ -49,7 +49,7 @@ impl TermName {
     /// The name that the text is. A text of no bytes is `Empty`, one of more than 64 `TooLong`, any other that is no name
     /// `BadByte`.
     pub fn read(text: &[u8]) -> Result<TermName, NameFault>
-        ensures { ReadsAs IsName 64 text.now result }
+        ensures { ReadsAs IsName name_max text.now result }
     {
         if text.is_empty() {
             return Err(NameFault::Empty);

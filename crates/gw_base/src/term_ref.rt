@@ -2,6 +2,7 @@
 
 ghost use Rattle.std.specs.Prelude.{◌≡◌, ◌≤◌, ◌↔◌, ℕ, List, true, length, IsTrue, MatchOption};
 ghost use Rattle.std.specs.List.{list_all, list_any};
+ghost use Rattle.gw_base.specs.Names.{name_max};
 ghost use Rattle.gw_base.specs.Wildcards.{is_wildcard, is_term_byte, IsTermText, IsRoot, IsUnder};
 ghost use Rattle.gw_base.specs.TermRefs.{ReadsTerm};
 
@@ -61,7 +62,7 @@ fn are_term_bytes(text: &[u8]) -> bool
 }
 
 fn is_term(text: &[u8]) -> bool
-    requires { length text.now ≤ 64 }
+    requires { length text.now ≤ name_max }
     ensures { IsTrue result ↔ IsTermText text.now }
 {
     text.len() > 0 && (is_letter(text[0]) || is_wildcard(text[0])) && are_term_bytes(text)

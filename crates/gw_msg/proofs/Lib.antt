@@ -1,5 +1,3 @@
-pub mod FormTests
-pub mod TermLaws
 pub mod WordLemmas
 pub mod Starts
 pub mod Steps

@@ -98,7 +98,7 @@ version_complete text h =
 pub reading : (text : List ℕ) (answer : Answer) → IsAnswer answer (message_of text) → IsReadingOf text answer
 reading text (Ok m) h = message_sound text m h
 reading text (Err Version) h = version_sound text h
-reading text (Err NoMemory) h = tt
+reading text (Err NoMemory) h = λ v. h (version_complete text v)
 reading text (Err Syntax) h = (
   λ v. let clash : Err Syntax ≡ Err Version = sym h ∙ version_complete text v in absurd cc,
   λ m s. let clash : Err Syntax ≡ Ok m = sym h ∙ message_complete text m s in absurd cc,
@@ -116,13 +116,20 @@ one text m n p q = done_is m n (sym (message_complete text m p) ∙ message_comp
 pub no_version : (text : List ℕ) (m : Message) → Spells m text → HasVersionFault text → ⊥
 no_version text m p v = let clash : Ok m ≡ Err Version = sym (message_complete text m p) ∙ version_complete text v in absurd cc
 
+-- a header of another version has one answer
+pub version_answer : (text : List ℕ) (answer : Answer) → IsReadingOf text answer → HasVersionFault text → answer ≡ Err Version
+version_answer text (Ok m) h v = absurd (no_version text m h v)
+version_answer text (Err Version) h v = refl
+version_answer text (Err Syntax) h v = absurd (h.0 v)
+version_answer text (Err NoMemory) h v = absurd (h v)
+
 -- ---- each text has one answer
 
 answers_itself : (answer : Answer) → IsAnswer answer answer
 answers_itself (Ok m) = refl
 answers_itself (Err Version) = refl
 answers_itself (Err Syntax) = refl
-answers_itself (Err NoMemory) = tt
+answers_itself (Err NoMemory) = λ e. absurd cc
 
 pub its_answer : (text : List ℕ) → IsReadingOf text (message_of text)
 its_answer text = reading text (message_of text) (answers_itself (message_of text))

@@ -6,6 +6,7 @@ use Rattle.std.proofs.lemmas.List.Folds.{list_all-append}
 use Rattle.std.proofs.lemmas.Bool.{and_parts, and_from, or_cases, or_left}
 use Rattle.gw_base.specs.Bytes.{byte, is_letter, is_digit, is_name_mark, is_name_byte}
 use Rattle.gw_base.proofs.Tests.{other_byte}
+use Rattle.gw_base.proofs.NameForms.{some_mid}
 use Rattle.gw_base.specs.Lang.{Both, ◌▹◌, IsText}
 use Rattle.gw_base.specs.Addresses.{is_address_byte, IsAddress}
 use Rattle.gw_base.specs.Mids.{is_domain_byte, is_device_byte, IsDomain, IsPort, IsOptionalPort, IsMid}
@@ -27,13 +28,11 @@ use Rattle.gw_text.proofs.ReadsUp.{ReadsUp, Same, BeginsWith, up_as, up_last, be
 use Rattle.gw_text.proofs.Leaves.{up_word, up_solid, up_number}
 use Rattle.gw_text.proofs.Links.{space_bytes, is_solid_by, digit_apart, run_begins, word_solid, number_begins, number_solid, both_begins}
 use Rattle.gw_msg.specs.Grammar.{IsToken, IsPropertyToken, command_token, SpellsVerb, SpellsTerm, SpellsContextId, SpellsMid}
-use Rattle.gw_msg.specs.Words.{verb_for, verb_of, context_for, context_of, property_for, property_of, error_for, error_of, class_of, term_of, is_mid, mid_of}
+use Rattle.gw_msg.specs.Words.{verb_for, verb_of, context_for, context_of, property_for, property_of, error_for, error_of, term_of, mid_of}
 use Rattle.gw_msg.specs.Reading.{if_mark, context_number_at, context_id_at}
-use Rattle.gw_msg.proofs.FormTests.{tests_term_text, tests_mid}
-use Rattle.gw_msg.proofs.TermLaws.{where_true, where_some, class_one, term_is}
 use Rattle.gw_msg.proofs.Starts.{one_of}
 use Rattle.gw_msg.proofs.Steps.{Done, Dropped, nothing_behind, nothing_more, other_than, up_mark}
-use Rattle.gw_msg.proofs.WordLemmas.{is_a_mid, some_mid}
+use Rattle.gw_msg.proofs.WordLemmas.{term_is, term_again, mid_is, mid_again}
 
 -- ---- tokens
 
@@ -143,7 +142,7 @@ term_word text h = record { run = wider is_term_byte is_safe term_byte_safe text
 pub term_reads : ReadsUp (word_as term_of) SpellsTerm (NoMore is_safe) Same Same
 term_reads =
     up_as (up_word term_of) (λ t text h. term_is t text h.stands)
-    (λ t text h. record { word = term_word text h.0; stands = ap (where_true (class_of text)) ((tests_term_text text).1 h.0) ∙ ap (λ (u : TermRef). Some u) (class_one t text h.1) })
+    (λ t text h. record { word = term_word text h.0; stands = term_again t text h })
 
 pub term_solid : BeginsWith is_solid SpellsTerm
 term_solid t text h = word_solid text (term_word text h.0)
@@ -269,13 +268,8 @@ mid_some (c ∷ cs) h = omega arith
 mid_run : (text : List ℕ) → IsMid text → IsSomeRun is_solid text
 mid_run text h = record { run = mid_solid text h; some = mid_some text h }
 
-mid_to : (mid text : List ℕ) → mid_of text ≡ Some mid → SpellsMid mid text
-mid_to mid text e =
-    let s = where_some (is_mid text) text mid e in
-    (sym s.1, (tests_mid text).0 s.0)
-
 pub mid_reads : ReadsUp (solid_as mid_of) SpellsMid (NoMore is_solid) Same Same
-mid_reads = up_as (up_solid mid_of) (λ mid text h. mid_to mid text h.1) (λ mid text h. (mid_run text h.1, is_a_mid text h.1 ∙ ap (λ (x : List ℕ). Some x) (sym h.0)))
+mid_reads = up_as (up_solid mid_of) (λ mid text h. mid_is mid text h.1) (λ mid text h. (mid_run text h.1, mid_again mid text h))
 
 pub mid_begins : BeginsWith is_solid SpellsMid
 mid_begins mid text h = let r = mid_run text h.1 in run_begins is_solid is_solid (λ c e. e) text r.run r.some

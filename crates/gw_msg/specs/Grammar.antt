@@ -2,8 +2,7 @@
 use Rattle.std.specs.Prelude.{◌≡◌, ◌≢◌, ◌⊎◌, ℕ, zero, suc, nat_lt, true, false, Bool, List, [], ◌∷◌, map, Option, Some, None, Result, Ok, Err, codes}
 use Rattle.gw_base.specs.Lang.{◌▹◌, IsText}
 use Rattle.gw_base.specs.Mids.{IsMid}
-use Rattle.gw_base.specs.Wildcards.{IsTermText}
-use Rattle.gw_base.specs.TermRefs.{IsClass}
+use Rattle.gw_base.specs.TermRefs.{IsTerm}
 use Rattle.gw_base.specs.declared.term_ref.TermRef.{TermRef}
 use Rattle.gw_base.specs.declared.command_words.CtxRef.{CtxRef}
 use Rattle.gw_base.specs.declared.command_words.CtxRef.TheVariants.{Null, All, Choose, Num}
@@ -53,7 +52,7 @@ SpellsVerb v = IsToken (command_token v)
 
 -- TerminationID: its form, and its class
 abbrev pub SpellsTerm : TermRef → List ℕ → Type 0
-SpellsTerm t text = IsTermText text × IsClass t text
+SpellsTerm = IsTerm
 
 -- `O-` or `W-` in front of a command, in any case, or nothing
 abbrev pub SpellsMark : List ℕ → Bool → List ℕ → Type 0
@@ -226,9 +225,9 @@ pub record HasVersionFault (text : List ℕ) : Type 0 where
   pub header : (IsHeader version ▹ (λ rest. Unit {0})) text
 
 -- What reading a text may answer: the message that it spells; Version where the header has another; Syntax where it is
--- neither. Memory may run out at any text.
+-- neither. Memory may run out at any text whose header has no other version.
 abbrev pub IsReadingOf : List ℕ → Result Message ReadFault → Type 0
 IsReadingOf text (Ok m) = Spells m text
 IsReadingOf text (Err Version) = HasVersionFault text
 IsReadingOf text (Err Syntax) = (¬ HasVersionFault text) × ((m : Message) → ¬ Spells m text)
-IsReadingOf text (Err NoMemory) = Unit {0}
+IsReadingOf text (Err NoMemory) = ¬ HasVersionFault text

@@ -1,5 +1,5 @@
 -- Messages as they are read, from left to right. That this is the grammar is proved.
-use Rattle.std.specs.Prelude.{◌≡◌, ◌==◌, ◌||◌, not, ℕ, zero, suc, length, true, false, Bool, List, [], if◌then◌else◌, Option, Some, None, Result, Ok, Err, codes}
+use Rattle.std.specs.Prelude.{◌≡◌, ◌≢◌, ◌==◌, ◌||◌, not, ℕ, zero, suc, length, true, false, Bool, List, [], if◌then◌else◌, Option, Some, None, Result, Ok, Err, codes}
 use Rattle.gw_base.specs.Bytes.{byte}
 use Rattle.gw_base.specs.declared.command_words.CtxRef.{CtxRef}
 use Rattle.gw_base.specs.declared.command_words.CtxRef.TheVariants.{Null, All, Choose, Num}
@@ -249,9 +249,9 @@ abbrev pub fault_of : PartFault → ReadFault
 fault_of part.Syntax = Syntax
 fault_of part.NoMemory = NoMemory
 
--- What a function returned is the answer, unless memory ran out.
+-- What a function returned is the answer, unless memory ran out, which it does at no header of another version.
 abbrev pub IsAnswer : Result Message ReadFault → Result Message ReadFault → Type 0
 IsAnswer (Ok m) answer = answer ≡ Ok m
 IsAnswer (Err Version) answer = answer ≡ Err Version
 IsAnswer (Err Syntax) answer = answer ≡ Err Syntax
-IsAnswer (Err NoMemory) answer = Unit {0}
+IsAnswer (Err NoMemory) answer = answer ≢ Err Version

@@ -1,12 +1,11 @@
 //! Reading a whole message.
 
-ghost use Rattle.std.specs.Prelude.{◌≡◌, ◌≢◌, ◌⊎◌, ℕ, List, Result, Err};
-ghost use Rattle.gw_desc.specs.Parts.{Gives};
+ghost use Rattle.std.specs.Prelude.{◌≡◌, ◌≢◌, ◌⊎◌, ℕ, List, Some, None, Result, Err, MatchResult};
 ghost use Rattle.gw_msg.specs.Reading.{IsAnswer, version_at, header_at, message_of};
 ghost use Rattle.gw_msg.specs.Grammar.{IsReadingOf, Spells, HasVersionFault};
 ghost use Rattle.gw_msg.specs.declared.message.Message.{Message as SpelledMessage};
 ghost use Rattle.gw_msg.specs.declared.fault.ReadFault.{ReadFault as Fault};
-ghost use Rattle.gw_msg.specs.declared.fault.ReadFault.TheVariants.{NoMemory};
+ghost use Rattle.gw_msg.specs.declared.fault.ReadFault.TheVariants.{Version, NoMemory};
 
 use crate::fault::ReadFault;
 use crate::items::content;
@@ -27,7 +26,7 @@ const VERSION_MAX: u32 = 99;
 /// What follows the first token of a header: the version, which is answered.
 #[tactic(auto, unfolding(crate::specs::Reading::version_at))]
 fn header_end(cursor: &mut Cursor<'_>) -> Result<u32, PartFault>
-    ensures { Gives result cursor.new (version_at cursor.old) }
+    ensures { MatchResult result (λ version. version_at cursor.old ≡ Some (version, cursor.new)) (λ e. (e ≡ PartFault.Syntax) × (version_at cursor.old ≡ None)) }
 {
     if !cursor.byte(b'/') {
         return Err(PartFault::Syntax);
@@ -40,7 +39,7 @@ fn header_end(cursor: &mut Cursor<'_>) -> Result<u32, PartFault>
 /// The header: its version.
 #[tactic(auto, unfolding(crate::specs::Reading::header_at, gw_text::specs::SpaceScan::skip))]
 fn header(cursor: &mut Cursor<'_>) -> Result<u32, PartFault>
-    ensures { Gives result cursor.new (header_at cursor.old) }
+    ensures { MatchResult result (λ version. header_at cursor.old ≡ Some (version, cursor.new)) (λ e. (e ≡ PartFault.Syntax) × (header_at cursor.old ≡ None)) }
 {
     cursor.lwsp();
     if !cursor.prefix(b"MEGACO") && !cursor.byte(b'!') {
@@ -64,8 +63,9 @@ fn answer(alloc: Global, text: &[u8]) -> Result<Message, ReadFault>
     Ok(message)
 }
 
-/// The message that the text spells. The text is read once, from left to right, so the cost grows with its length: each
-/// word is scanned once, white space at most twice.
+/// The message that the text spells. It is read from left to right, and the cost is linear in the length of the text: each
+/// word and each run of white space is scanned a fixed number of times at most. Behind a word white space is scanned once
+/// for each sign that may stand there, which are five at most, and a word is read again for what it stands for.
 ///
 /// # Errors
 ///
@@ -83,10 +83,12 @@ pub fn one_message()
     ensures version { (text : List ℕ) (m : SpelledMessage) → Spells m text → ¬ HasVersionFault text }
 {}
 
-/// Each text has one answer but for want of memory, and `message_of` is that answer.
+/// Each text has one answer but for want of memory, and `message_of` is that answer. A header of another version leaves
+/// no room for want of memory.
 pub fn one_answer()
     ensures answer { (text : List ℕ) → IsReadingOf text (message_of text) }
     ensures memory { (text : List ℕ) → message_of text ≢ Err NoMemory }
+    ensures version { (text : List ℕ) (answer : Result SpelledMessage Fault) → IsReadingOf text answer → HasVersionFault text → answer ≡ Err Version }
     ensures only { (text : List ℕ) (answer : Result SpelledMessage Fault) → IsReadingOf text answer → (answer ≡ message_of text) ⊎ (answer ≡ Err NoMemory) }
 {}
 

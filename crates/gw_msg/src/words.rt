@@ -128,7 +128,7 @@ pub fn context_id(cursor: &mut Cursor<'_>) -> Result<CtxRef, PartFault>
 }
 
 /// The TerminationID of a command.
-#[tactic(auto, using(crate::proofs::TermLaws::term_read, crate::proofs::TermLaws::term_not_read))]
+#[tactic(auto, using(crate::proofs::WordLemmas::term_read, crate::proofs::WordLemmas::term_not_read))]
 pub fn term(cursor: &mut Cursor<'_>) -> Result<TermRef, PartFault>
     ensures { Gives result cursor.new (word_as term_of cursor.old) }
 {

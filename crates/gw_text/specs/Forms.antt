@@ -1,8 +1,8 @@
 -- The forms of words and numbers, of signs, and of lists (RFC 3525, Annex B.2).
-use Rattle.std.specs.Prelude.{◌≡◌, ℕ, ◌<◌, ◌≤◌, false, Bool, List, [], ◌∷◌, map, length, Option, Some}
-use Rattle.std.specs.Char.{to_ascii_lowercase}
+use Rattle.std.specs.Prelude.{◌≡◌, ℕ, ◌<◌, ◌≤◌, false, Bool, List, [], ◌∷◌, length, Option, Some}
 use Rattle.gw_base.specs.Bytes.{is_digit}
 use Rattle.gw_base.specs.Lang.{◌▹◌, IsText}
+pub use Rattle.gw_base.specs.Lang.{IsInAnyCase}
 use Rattle.gw_text.specs.Lexical.{is_safe, is_solid, comma, left_brace, right_brace}
 use Rattle.gw_text.specs.Space.{IsSpace}
 use Rattle.gw_text.specs.Runs.{IsRun, begins}
@@ -45,10 +45,6 @@ HasNoNumber most max TooDeep text = ⊥
 -- the sign b, with LWSP on both sides: EQUAL, LBRKT, RBRKT, COMMA
 abbrev pub IsSign : ℕ → List ℕ → Type 0
 IsSign b = IsSpace ▹ IsText (b ∷ []) ▹ IsSpace
-
--- these bytes in any case
-abbrev pub IsInAnyCase : List ℕ → List ℕ → Type 0
-IsInAnyCase bytes text = map to_ascii_lowercase text ≡ map to_ascii_lowercase bytes
 
 -- a word that stands for a value
 pub record IsWordFor {V : Type 0} (of : List ℕ → Option V) (v : V) (text : List ℕ) : Type 0 where

@@ -4,6 +4,7 @@ mod outline;
 mod refusals;
 mod trees;
 
+use crate::fault::ReadFault;
 use outline::told;
 use std::alloc::{AllocError, Global};
 use std::test::Fail;
@@ -162,6 +163,19 @@ fn nothing_but_white_space_at_the_end(rt: HostRuntime) -> Result<(), Fail> {
             TREE,
             "{tail:?}"
         );
+    }
+    Ok(())
+}
+
+#[test]
+fn faults_have_their_texts(rt: HostRuntime) -> Result<(), Fail> {
+    for (fault, text) in [
+        (ReadFault::Version, "version not supported"),
+        (ReadFault::Syntax, "syntax error in message"),
+        (ReadFault::NoMemory, "no memory"),
+    ] {
+        let shown = format!(in rt.alloc(); "{fault}")?;
+        assert_eq!(rt; shown.as_str(), text, "{fault:?}");
     }
     Ok(())
 }

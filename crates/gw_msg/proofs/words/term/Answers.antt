@@ -1,5 +1,5 @@
 use Rattle.std.proofs.Common.{refl}
-use Rattle.gw_msg.proofs.TermLaws.{term_read}
+use Rattle.gw_msg.proofs.WordLemmas.{term_read}
 use Rattle.gw_msg.proofs.words.term.Goals as goal
 
 pub returns : goal.returns
