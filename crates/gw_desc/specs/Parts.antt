@@ -2,7 +2,6 @@
 use Rattle.std.specs.Prelude.{◌≡◌, ◌≤◌, ◌<◌, ◌++◌, length, ℕ, List, Option, Some, None, Result, Ok, Err}
 use Rattle.gw_text.specs.SpaceScan.{skip}
 use Rattle.gw_text.specs.Reader.{Reader}
-use Rattle.gw_text.specs.declared.fault.ScanFault.{ScanFault}
 use Rattle.gw_desc.specs.declared.fault.PartFault.{PartFault}
 use Rattle.gw_desc.specs.declared.fault.PartFault.TheVariants.{Syntax, NoMemory}
 
@@ -12,10 +11,11 @@ Gives (Ok x) new at = at ≡ Some (x, new)
 Gives (Err Syntax) new at = at ≡ None
 Gives (Err NoMemory) new at = Unit {0}
 
--- The same of a scan, whose answer is seen by view. It takes no memory.
-abbrev pub Finds : {X V : Type 0} → (X → V) → Result X ScanFault → List ℕ → Option (V × List ℕ) → Type 0
+-- The same, whose answer is seen by view, of a function that takes no memory.
+abbrev pub Finds : {X V : Type 0} → (X → V) → Result X PartFault → List ℕ → Option (V × List ℕ) → Type 0
 Finds view (Ok x) new at = at ≡ Some (view x, new)
-Finds view (Err e) new at = at ≡ None
+Finds view (Err Syntax) new at = at ≡ None
+Finds view (Err NoMemory) new at = ⊥
 
 -- what is left is no longer than what there was
 abbrev pub Shrinks : {V : Type 0} → Reader V → Type 0

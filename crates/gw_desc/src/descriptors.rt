@@ -9,12 +9,12 @@ use crate::fault::PartFault;
 use crate::lists::{Part, braced, braced_or_empty};
 use crate::spans::copied;
 use crate::tails::{TailSpans, tail, tail_spans};
-use gw_text::{Cursor, ScanFault, Token, token_of};
+use gw_text::{Cursor, Token, token_of};
 use std::alloc::Global;
 
 /// What follows another word, which is dropped: a bracket perhaps, and the tail that is answered. It takes no memory.
 #[tactic(auto, unfolding(crate::specs::Reading::dropped_at, gw_text::specs::SpaceScan::skip))]
-fn dropped<'a>(cursor: &mut Cursor<'a>) -> Result<TailSpans<'a>, ScanFault>
+fn dropped<'a>(cursor: &mut Cursor<'a>) -> Result<TailSpans<'a>, PartFault>
     ensures { Finds kept_tail result cursor.new (dropped_at cursor.old) }
 {
     if cursor.is_ahead(b'[') {

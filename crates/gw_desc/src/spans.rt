@@ -10,7 +10,7 @@ ghost use Rattle.gw_desc.specs.Parts.{Finds};
 use crate::fault::PartFault;
 use crate::lists::Part;
 use gw_base::Items;
-use gw_text::{Cursor, ScanFault};
+use gw_text::Cursor;
 use std::alloc::{AllocError, Global};
 
 /// How deep braces may lie in a request (own to this profile).
@@ -51,8 +51,8 @@ pub fn copied_if(alloc: Global, span: Option<&[u8]>) -> Result<Option<Items<u8>>
 }
 
 /// A group as it may stand in a request, its braces included.
-pub fn group<'a>(cursor: &mut Cursor<'a>) -> Result<&'a [u8], ScanFault>
+pub fn group<'a>(cursor: &mut Cursor<'a>) -> Result<&'a [u8], PartFault>
     ensures { Finds (λ span. span.now) result cursor.new (group_read request_depth cursor.old) }
 {
-    cursor.balanced(REQUEST_DEPTH)
+    Ok(cursor.balanced(REQUEST_DEPTH)?)
 }

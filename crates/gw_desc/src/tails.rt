@@ -8,7 +8,7 @@ ghost use Rattle.gw_desc.specs.Spans.{kept_tail};
 use crate::descriptor::Tail;
 use crate::fault::PartFault;
 use crate::spans::{copied_if, group};
-use gw_text::{Cursor, ScanFault};
+use gw_text::Cursor;
 use std::alloc::Global;
 
 /// The parts of a tail, where they stand in a text. Where `equals` holds a word or a group stands behind it.
@@ -23,13 +23,13 @@ pub struct TailSpans<'a> {
 }
 
 /// Takes the group behind the white space, if a brace comes next there; else nothing. Braces may lie 8 deep (own to
-/// this profile).
+/// this profile). It takes no memory.
 ///
 /// # Errors
 ///
-/// A fault where a brace comes next there and no group stands there. Nothing is then said of the cursor.
+/// `Syntax` where a brace comes next there and no group stands there. After it nothing is said of the cursor.
 #[tactic(auto, unfolding(crate::specs::Reading::optional_group_at, gw_text::specs::SpaceScan::skip))]
-pub fn optional_group<'a>(cursor: &mut Cursor<'a>) -> Result<Option<&'a [u8]>, ScanFault>
+pub fn optional_group<'a>(cursor: &mut Cursor<'a>) -> Result<Option<&'a [u8]>, PartFault>
     ensures { Finds (λ group. option_copied group) result cursor.new (optional_group_at cursor.old) }
 {
     if !cursor.is_ahead(b'{') {
@@ -41,7 +41,7 @@ pub fn optional_group<'a>(cursor: &mut Cursor<'a>) -> Result<Option<&'a [u8]>, S
 }
 
 /// The word behind `=`, and the group behind it, if there is one.
-fn word_tail<'a>(cursor: &mut Cursor<'a>) -> Result<TailSpans<'a>, ScanFault>
+fn word_tail<'a>(cursor: &mut Cursor<'a>) -> Result<TailSpans<'a>, PartFault>
     ensures { Finds kept_tail result cursor.new (word_tail_at cursor.old) }
 {
     let word = cursor.word()?;
@@ -58,9 +58,9 @@ fn word_tail<'a>(cursor: &mut Cursor<'a>) -> Result<TailSpans<'a>, ScanFault>
 ///
 /// # Errors
 ///
-/// A fault where `=` or a brace comes next and no tail stands there. Nothing is then said of the cursor.
+/// `Syntax` where `=` or a brace comes next and no tail stands there. After it nothing is said of the cursor.
 #[tactic(auto, unfolding(crate::specs::Reading::tail_at))]
-pub fn tail_spans<'a>(cursor: &mut Cursor<'a>) -> Result<TailSpans<'a>, ScanFault>
+pub fn tail_spans<'a>(cursor: &mut Cursor<'a>) -> Result<TailSpans<'a>, PartFault>
     ensures { Finds kept_tail result cursor.new (tail_at cursor.old) }
 {
     if !cursor.sign(b'=') {
