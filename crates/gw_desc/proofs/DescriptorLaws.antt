@@ -4,7 +4,7 @@ use Rattle.gw_base.specs.Lang.{Both, ◌▹◌}
 use Rattle.gw_text.specs.Lexical.{is_safe, is_solid, is_space_start, comma, right_brace, left_brace, left_bracket, equals_sign}
 use Rattle.gw_text.specs.Space.{IsSpace}
 use Rattle.gw_text.specs.Runs.{is_byte, NoMore}
-use Rattle.gw_text.specs.Forms.{IsWord, IsSign, Braced, BracedOrEmpty}
+use Rattle.gw_text.specs.Forms.{IsWord, IsSign, IsToken, Braced, BracedOrEmpty}
 use Rattle.gw_text.specs.Bracket.{IsBracket}
 use Rattle.gw_text.specs.Tokens.{token_of}
 use Rattle.gw_text.specs.Reader.{Reader, ◌>>=◌, braced_at, braced_or_empty_at, bracket_read}
@@ -22,7 +22,7 @@ use Rattle.gw_desc.specs.declared.descriptor.MediaPart.{MediaPart}
 use Rattle.gw_desc.specs.declared.descriptor.ServiceParm.{ServiceParm}
 use Rattle.gw_desc.specs.declared.descriptor.Tail.{Tail}
 use Rattle.gw_desc.specs.Parts.{Shrinks}
-use Rattle.gw_desc.specs.Grammar.{Kept, IsToken, SpellsTail, SpellsMediaPart, SpellsServiceParm, kept_token, is_descriptor, IsOtherWord, IsDropped, SpellsDescriptor}
+use Rattle.gw_desc.specs.Grammar.{Kept, SpellsTail, SpellsMediaPart, SpellsServiceParm, kept_token, is_descriptor, IsOtherWord, IsDropped, SpellsDescriptor}
 use Rattle.gw_desc.specs.Reading.{word_read, tail_at, media_part_at, service_parm_at, dropped_at, keep_at, descriptor_rest, descriptor_at, AfterTail, AfterDescriptor}
 use Rattle.gw_desc.proofs.Texts.{ahead_ends, word_reads, kept_solid, kept_begins}
 use Rattle.gw_desc.proofs.TailLaws.{tail_reads, tail_ends, tail_other, sign_after_tail}

@@ -8,7 +8,7 @@ use Rattle.gw_text.specs.Space.{IsSpace}
 use Rattle.gw_text.specs.SpaceScan.{skip}
 use Rattle.gw_text.specs.Runs.{begins, is_byte, NoMore}
 use Rattle.gw_text.specs.Sign.{byte_at}
-use Rattle.gw_text.specs.Forms.{IsSign, Braced}
+use Rattle.gw_text.specs.Forms.{IsToken, IsSign, Braced}
 use Rattle.gw_text.specs.Octets.{IsOctetsOf}
 use Rattle.gw_text.specs.Tokens.{token_of}
 use Rattle.gw_text.specs.Reader.{Reader, ◌>>=◌, word_as, number_up_to, octets_read, braced_at}
@@ -25,7 +25,7 @@ use Rattle.gw_desc.specs.declared.descriptor.MediaPart.TheVariants as media
 use Rattle.gw_desc.specs.declared.descriptor.StreamPart.{StreamPart}
 use Rattle.gw_desc.specs.declared.descriptor.StreamPart.TheVariants as part
 use Rattle.gw_desc.specs.Parts.{Shrinks}
-use Rattle.gw_desc.specs.Grammar.{IsToken, SpellsProperty, SpellsOctets, SpellsStreamPart, stream_digits, stream_max, IsStreamId, SpellsMediaPart}
+use Rattle.gw_desc.specs.Grammar.{SpellsProperty, SpellsOctets, SpellsStreamPart, stream_digits, stream_max, IsStreamId, SpellsMediaPart}
 use Rattle.gw_desc.specs.Reading.{property_at, octets_text_at, stream_rest, stream_part_at, stream_at, media_rest, media_part_at}
 use Rattle.gw_desc.proofs.Texts.{ahead_ends}
 use Rattle.gw_desc.proofs.PropertyLaws.{property_reads, property_braces}

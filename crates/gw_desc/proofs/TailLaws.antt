@@ -26,7 +26,8 @@ AGroup o text = (g : List ℕ) × (Some g ≡ o) × SpellsGroup g text
 abbrev NoGroup : Option (List ℕ) → List ℕ → Type 0
 NoGroup o text = (None ≡ o) × (text ≡ [])
 
-abbrev WithoutGroup : List ℕ → Type 0
+-- no group comes next
+abbrev pub WithoutGroup : List ℕ → Type 0
 WithoutGroup rest = sign_at left_brace rest ≡ None
 
 optional_to : (o : Option (List ℕ)) (text : List ℕ) → (Both IsSpace (AGroup o) text ⊎ NoGroup o text) → SpellsOptionalGroup o text

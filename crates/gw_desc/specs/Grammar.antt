@@ -5,7 +5,7 @@ use Rattle.gw_base.specs.Bytes.{byte}
 use Rattle.gw_base.specs.Lang.{◌▹◌, IsText}
 use Rattle.gw_text.specs.Lexical.{equals_sign, left_brace, right_brace}
 use Rattle.gw_text.specs.Space.{IsSpace}
-use Rattle.gw_text.specs.Forms.{IsWord, IsSign, IsSomeRun, IsNumber, IsWordFor, Braced, BracedOrEmpty}
+use Rattle.gw_text.specs.Forms.{IsWord, IsSign, IsSomeRun, IsNumber, IsToken, Braced, BracedOrEmpty}
 use Rattle.gw_text.specs.Quoted.{IsQuoted}
 use Rattle.gw_text.specs.Octets.{IsOctetsOf}
 use Rattle.gw_text.specs.Bracket.{IsBracket, is_run_byte}
@@ -84,10 +84,6 @@ abbrev pub SpellsProperty : Property → List ℕ → Type 0
 SpellsProperty p = Kept IsWord p.name ▹ IsSign (sign_byte p.sign) ▹ Kept IsValue p.value
 
 -- ---- media
-
--- a token in its long or its short form, in any case: a whole word
-abbrev pub IsToken : Token → List ℕ → Type 0
-IsToken t = IsWordFor token_of t
 
 -- LBRKT octetString RBRKT, of which span is kept
 abbrev pub SpellsOctets : List ℕ → List ℕ → Type 0

@@ -2,6 +2,9 @@
 
 use gw_base::Items;
 
+/// The words of an Audit, in the order sent.
+pub type AuditItems = Items<Items<u8>>;
+
 /// A descriptor of a command.
 #[derive(Debug, Drop)]
 pub enum Descriptor {
@@ -9,8 +12,8 @@ pub enum Descriptor {
     Media(Items<MediaPart>),
     /// `Events`, `Signals`, `DigitMap` or `EventBuffer`: kept and audited, and not looked into.
     Keep(KeptKind, Tail),
-    /// `Audit`: its words in the order sent, perhaps none.
-    Audit(Items<Items<u8>>),
+    /// `Audit`: its words, perhaps none.
+    Audit(AuditItems),
     /// `Services`: its parameters in the order sent, at least one.
     Services(Items<ServiceParm>),
     /// Any other word; what follows it is read and dropped.

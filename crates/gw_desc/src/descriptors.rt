@@ -1,26 +1,27 @@
 //! Descriptors, as they are read. After a fault nothing is said of the cursor.
 
 ghost use Rattle.gw_desc.specs.Reading.{descriptor_at, dropped_at, keep_at};
-ghost use Rattle.gw_desc.specs.Parts.{Gives};
+ghost use Rattle.gw_desc.specs.Parts.{Finds, Gives};
+ghost use Rattle.gw_desc.specs.Spans.{kept_tail};
 
-use crate::descriptor::{Descriptor, KeptKind, Tail};
+use crate::descriptor::{Descriptor, KeptKind};
 use crate::fault::PartFault;
 use crate::lists::{Part, braced, braced_or_empty};
 use crate::spans::copied;
-use crate::tails::tail;
+use crate::tails::{TailSpans, tail, tail_spans};
 use gw_text::{Cursor, Token, token_of};
 use std::alloc::Global;
 
-/// What follows another word, which is dropped: a bracket perhaps, and the tail that is answered.
+/// What follows another word, which is dropped: a bracket perhaps, and the tail that is answered. It takes no memory.
 #[tactic(auto, unfolding(crate::specs::Reading::dropped_at, gw_text::specs::SpaceScan::skip))]
-fn dropped(alloc: Global, cursor: &mut Cursor<'_>) -> Result<Tail, PartFault>
-    ensures { Gives result cursor.new (dropped_at cursor.old) }
+fn dropped<'a>(cursor: &mut Cursor<'a>) -> Result<TailSpans<'a>, PartFault>
+    ensures { Finds kept_tail result cursor.new (dropped_at cursor.old) }
 {
     if cursor.is_ahead(b'[') {
         cursor.lwsp();
         cursor.bracket()?;
     }
-    tail(alloc, cursor)
+    tail_spans(cursor)
 }
 
 /// A descriptor that is kept, behind its word.
@@ -46,9 +47,8 @@ impl Part for Descriptor {
             Some(Token::Audit) => Ok(Descriptor::Audit(braced_or_empty(alloc, cursor)?)),
             Some(Token::Services) => Ok(Descriptor::Services(braced(alloc, cursor)?)),
             _ => {
-                let word = copied(alloc, word)?;
-                dropped(alloc, cursor)?;
-                Ok(Descriptor::Other(word))
+                dropped(cursor)?;
+                Ok(Descriptor::Other(copied(alloc, word)?))
             }
         }
     }

@@ -13,10 +13,11 @@ mod streams;
 mod tails;
 
 pub use descriptor::{
-    Descriptor, KeptKind, MediaPart, Property, ServiceParm, ServiceValue, Sign, StreamPart, Tail,
+    AuditItems, Descriptor, KeptKind, MediaPart, Property, ServiceParm, ServiceValue, Sign,
+    StreamPart, Tail,
 };
 pub use fault::PartFault;
 pub use laws::{descriptors_are_read, tails_are_read};
 pub use lists::{Part, braced, braced_or_empty, closed, items, list, optional_braced, sign};
 pub use spans::copied;
-pub use tails::tail;
+pub use tails::{TailSpans, optional_group, tail, tail_spans};

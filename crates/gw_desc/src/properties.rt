@@ -24,7 +24,7 @@ fn value(alloc: Global, cursor: &mut Cursor<'_>) -> Result<Items<u8>, PartFault>
         return Ok(copied(alloc, cursor.bracket()?)?);
     }
     if cursor.is_at(b'{') {
-        return group(alloc, cursor);
+        return Ok(copied(alloc, group(cursor)?)?);
     }
     Items::<u8>::read(alloc, cursor)
 }

@@ -1,10 +1,11 @@
-//! What is kept as sent, copied out of a text. After a fault nothing is said of the cursor.
+//! What is kept as sent: where it stands in a text, and copied out of it. After a fault nothing is said of the cursor.
 
 ghost use Rattle.std.specs.Prelude.{◌≡◌, IfOk};
+ghost use Rattle.std.specs.Option.{option_copied};
 ghost use Rattle.gw_text.specs.Reader.{group_read};
 ghost use Rattle.gw_desc.specs.Grammar.{request_depth};
 ghost use Rattle.gw_desc.specs.Reading.{word_read};
-ghost use Rattle.gw_desc.specs.Parts.{Gives};
+ghost use Rattle.gw_desc.specs.Parts.{Finds};
 
 use crate::fault::PartFault;
 use crate::lists::Part;
@@ -35,9 +36,23 @@ impl Part for Items<u8> {
     }
 }
 
-/// A group as it may stand in a request, its braces included. It is scanned once, and then copied.
-pub fn group(alloc: Global, cursor: &mut Cursor<'_>) -> Result<Items<u8>, PartFault>
-    ensures { Gives result cursor.new (group_read request_depth cursor.old) }
+/// A copy of the span, if there is one.
+///
+/// # Errors
+///
+/// `AllocError` where memory was refused.
+pub fn copied_if(alloc: Global, span: Option<&[u8]>) -> Result<Option<Items<u8>>, AllocError>
+    ensures { IfOk result (λ items. items ≡ option_copied span.entry) }
 {
-    Ok(copied(alloc, cursor.balanced(REQUEST_DEPTH)?)?)
+    match span {
+        Some(span) => Ok(Some(copied(alloc, span)?)),
+        None => Ok(None),
+    }
+}
+
+/// A group as it may stand in a request, its braces included.
+pub fn group<'a>(cursor: &mut Cursor<'a>) -> Result<&'a [u8], PartFault>
+    ensures { Finds (λ span. span.now) result cursor.new (group_read request_depth cursor.old) }
+{
+    Ok(cursor.balanced(REQUEST_DEPTH)?)
 }

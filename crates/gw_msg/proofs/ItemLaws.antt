@@ -11,7 +11,7 @@ use Rattle.gw_text.specs.SpaceScan.{skip}
 use Rattle.gw_text.specs.Runs.{begins, is_byte, NoMore}
 use Rattle.gw_text.specs.Sign.{sign_at}
 use Rattle.gw_text.specs.Scans.{sep_at}
-use Rattle.gw_text.specs.Forms.{IsSign, IsUint32, IsNumber, Spaced, Braced}
+use Rattle.gw_text.specs.Forms.{IsToken, IsSign, IsUint32, IsNumber, Spaced, Braced}
 use Rattle.gw_text.specs.Quoted.{IsQuoted}
 use Rattle.gw_text.specs.Group.{IsGroup}
 use Rattle.gw_text.specs.Tokens.{token_of}
@@ -34,7 +34,7 @@ use Rattle.gw_msg.specs.declared.message.AckRange.{AckRange}
 use Rattle.gw_msg.specs.declared.message.Item.{Item}
 use Rattle.gw_msg.specs.declared.message.Item.TheVariants as item
 use Rattle.gw_msg.specs.declared.message.Message.{Message}
-use Rattle.gw_msg.specs.Grammar.{IsToken, SpellsAction, SpellsRange, SpellsItem, IsSomeUint32, IsOptionalQuoted, SpellsError, SpellsBody, SpellsMid, SpellsContent, reply_depth, code_digits, code_max}
+use Rattle.gw_msg.specs.Grammar.{SpellsAction, SpellsRange, SpellsItem, IsSomeUint32, IsOptionalQuoted, SpellsError, SpellsBody, SpellsMid, SpellsContent, reply_depth, code_digits, code_max}
 use Rattle.gw_msg.specs.Words.{error_of, is_error_start, mid_of}
 use Rattle.gw_msg.specs.Reading.{nothing_at, action_at, request_at, reply_at, pending_at, last_at, range_at, ack_at, part_at, item_at, quoted_or_nothing, error_at, error_body_at, body_at, content_at}
 use Rattle.gw_msg.proofs.Starts.{error_starts, no_error_start, transaction_starts, reply_starts, pending_starts, ack_starts}

@@ -11,8 +11,8 @@ use Rattle.gw_base.specs.declared.command_words.Verb.{Verb}
 use Rattle.gw_text.specs.Lexical.{is_safe, is_solid, is_space_start, comma, dash, equals_sign, left_brace, right_brace}
 use Rattle.gw_text.specs.Runs.{begins, NoMore}
 use Rattle.gw_text.specs.Sign.{prefix_at, sign_at}
-use Rattle.gw_text.specs.Forms.{IsWord, IsSign, IsInAnyCase, Separated}
-use Rattle.gw_text.specs.Reader.{Reader, ◌>>=◌, word_as, or_else, if_sign, if_ahead, list_at}
+use Rattle.gw_text.specs.Forms.{IsToken, IsWord, IsSign, IsInAnyCase, Separated}
+use Rattle.gw_text.specs.Reader.{Reader, ◌>>=◌, word_as, or_else, if_sign, list_at}
 use Rattle.gw_text.specs.declared.token.Token.TheVariants as token
 use Rattle.gw_text.proofs.Signs.{some_is, sign_ends, sign_other, sign_shrinks}
 use Rattle.gw_text.proofs.TokenWords.{no_mark}
@@ -24,17 +24,17 @@ use Rattle.gw_desc.specs.declared.descriptor.Tail.{Tail}
 use Rattle.gw_desc.specs.declared.fault.PartFault.{PartFault}
 use Rattle.gw_desc.specs.declared.fault.PartFault.TheVariants.{Syntax, NoMemory}
 use Rattle.gw_desc.specs.Parts.{Gives, Shrinks}
-use Rattle.gw_desc.specs.Grammar.{Kept, request_depth, SpellsEquals, SpellsOptionalGroup, SpellsTail, SpellsDescriptor}
-use Rattle.gw_desc.specs.Reading.{tail_at, AfterTail, descriptor_at, AfterDescriptor}
-use Rattle.gw_desc.proofs.TailLaws.{group_ends, tail_reads, comma_after_tail, brace_after_tail}
+use Rattle.gw_desc.specs.Grammar.{Kept, SpellsEquals, SpellsOptionalGroup, SpellsTail, SpellsDescriptor}
+use Rattle.gw_desc.specs.Reading.{optional_group_at, tail_at, AfterTail, descriptor_at, AfterDescriptor}
+use Rattle.gw_desc.proofs.TailLaws.{WithoutGroup, optional_group_reads, group_ends, tail_reads, comma_after_tail, brace_after_tail}
 use Rattle.gw_desc.proofs.DescriptorLaws.{descriptor_reads, descriptor_braces}
 use Rattle.gw_msg.specs.declared.message.Command.{Command}
 use Rattle.gw_msg.specs.declared.message.Action.{Action}
-use Rattle.gw_msg.specs.Grammar.{IsToken, command_token, SpellsVerb, SpellsTerm, SpellsMark, may_be_wild, has_group, IsOptionalGroup, SpellsDetailsOf, SpellsDetails, SpellsCommand, SpellsContextId, IsPropertyToken, SpellsProperty, SpellsPart, parts_of, SpellsAction}
+use Rattle.gw_msg.specs.Grammar.{command_token, SpellsVerb, SpellsTerm, SpellsMark, may_be_wild, has_group, SpellsDetailsOf, SpellsDetails, SpellsCommand, SpellsContextId, IsPropertyToken, SpellsProperty, SpellsPart, parts_of, SpellsAction}
 use Rattle.gw_msg.specs.Words.{verb_of, context_of, property_of, is_property_start, term_of}
-use Rattle.gw_msg.specs.Reading.{mark_at, only_if, nothing_at, group_at, is_allowed, details_of, command_at, context_id_at, property_at, property_then, commands_from, commands_at, contents_at, action_at}
+use Rattle.gw_msg.specs.Reading.{mark_at, only_if, is_allowed, details_of, command_at, context_id_at, property_at, property_then, commands_from, commands_at, contents_at, action_at}
 use Rattle.gw_msg.proofs.Starts.{case_begins, property_starts, no_property_start, verb_starts}
-use Rattle.gw_msg.proofs.Steps.{NoPrefix, NoBrace, Done, Dropped, nothing_more, nothing_behind, mark_reads, mark_begins, up_only_if, optional_group_reads, optional_group_ends}
+use Rattle.gw_msg.proofs.Steps.{NoPrefix, Done, Dropped, nothing_more, nothing_behind, mark_reads, mark_begins, up_only_if}
 use Rattle.gw_msg.proofs.WordLaws.{verb_reads, context_reads, property_word_reads, property_word_solid, token_solid, term_reads, term_solid, context_id_reads, context_id_solid}
 
 -- behind what stands just there, a sign, and then a reader of what begins with no white space
@@ -54,12 +54,12 @@ command_of o w v t ds = record { verb = v; term = t; optional = o; wild = w; des
 details_reads : (g : Bool) → ReadsUp (details_of g) (SpellsDetailsOf g) AfterCommand Same UpTo
 unfolding details_of
 details_reads true =
-    up_to (up_next (up_as (up_last (λ text. if_ahead left_brace (group_at request_depth) nothing_at text) (λ u. []) (Dropped (IsOptionalGroup request_depth)) NoBrace Same Same (optional_group_reads request_depth))
-    (λ ds text h. (sym h.1, h.2)) (λ ds text h. (tt, sym h.0, h.1))) (λ rest n. n.bare)) same_up
+    up_to (up_next (up_as (up_last optional_group_at (λ group. []) SpellsOptionalGroup WithoutGroup Same Same optional_group_reads)
+    (λ ds text h. (sym h.1, (h.0, h.2))) (λ ds text h. (h.1.0, sym h.0, h.1.1))) (λ rest n. n.bare)) same_up
 details_reads false = up_from (up_optional descriptor_at SpellsDescriptor AfterDescriptor (NoMore is_safe) descriptor_reads descriptor_braces) same_up
 
 details_ends : (g : Bool) (ds : List Descriptor) (front rest : List ℕ) → SpellsDetailsOf g ds front → NoMore is_safe rest → NoMore is_safe (front ++ rest)
-details_ends true ds front rest h n = optional_group_ends request_depth front rest h.1 n
+details_ends true ds front rest h n = group_ends is_safe safe_apart refl h.1.0 front rest h.1.1 n
 details_ends false [] front rest h n = ap (λ (x : List ℕ). begins is_safe (x ++ rest)) h ∙ n
 details_ends false (d ∷ ds) front rest h n = both_ends is_safe left_brace _ front rest safe_apart refl h
 

@@ -1,20 +1,16 @@
--- Readers of marks and groups that may be missing, and of what a test allows.
+-- Readers of marks that may be missing, and of what a test allows.
 use Rattle.std.proofs.Common.{◌≡◌, ◌⊎◌, inl, inr, ℕ, Bool, true, false, not, ◌==◌, List, [], ◌∷◌, ◌++◌, Some, None, refl, ap, sym, subst, ◌∙◌}
 use Rattle.std.proofs.lemmas.List.{append-nil}
 use Rattle.std.proofs.lemmas.Bool.{not-true}
 use Rattle.gw_base.specs.Lang.{Both, IsText}
-use Rattle.gw_text.specs.Lexical.{is_safe, left_brace}
-use Rattle.gw_text.specs.Runs.{begins, is_byte, NoMore}
-use Rattle.gw_text.specs.Sign.{prefix_at, sign_at}
+use Rattle.gw_text.specs.Runs.{begins, is_byte}
+use Rattle.gw_text.specs.Sign.{prefix_at}
 use Rattle.gw_text.specs.Forms.{IsInAnyCase}
-use Rattle.gw_text.specs.Group.{IsGroup}
-use Rattle.gw_text.specs.Reader.{Reader, ◌>>=◌, group_read, if_byte, if_ahead}
-use Rattle.gw_text.proofs.Links.{safe_apart, both_begins, begins_ends, no_byte}
-use Rattle.gw_text.proofs.ReadsUp.{ReadsUp, Same, Any, BeginsWith, up_as, up_next, up_last, up_done, up_if_prefix, up_if_byte, up_if_ahead, same_up}
-use Rattle.gw_text.proofs.Spans.{up_group, group_begins}
-use Rattle.gw_desc.proofs.Texts.{ahead_ends}
-use Rattle.gw_msg.specs.Grammar.{SpellsMark, IsOptionalGroup}
-use Rattle.gw_msg.specs.Reading.{mark_at, only_if, nothing_at, group_at}
+use Rattle.gw_text.specs.Reader.{Reader, ◌>>=◌, if_byte}
+use Rattle.gw_text.proofs.Links.{both_begins, begins_ends, no_byte}
+use Rattle.gw_text.proofs.ReadsUp.{ReadsUp, Same, BeginsWith, up_as, up_done, up_if_prefix, up_if_byte}
+use Rattle.gw_msg.specs.Grammar.{SpellsMark}
+use Rattle.gw_msg.specs.Reading.{mark_at, only_if}
 
 -- the value v, of no bytes
 abbrev pub Done : {V : Type 0} → V → V → List ℕ → Type 0
@@ -80,39 +76,7 @@ up_mark b v more Q Next h other =
     up_if_byte b (λ rest. Some (v, rest)) more (Done v) Q Next Same (up_done v Next Same) h
     (λ w front rest q n. no_byte b (front ++ rest) (begins_ends (other_than b) (is_byte b) (λ c is. not-true _ is) front rest (other w front q)))
 
--- ---- groups
+-- ---- what is dropped
 
 abbrev pub Dropped : (List ℕ → Type 0) → Unit {0} → List ℕ → Type 0
 Dropped P u text = P text
-
-group_reads : (depth : ℕ) → ReadsUp (group_at depth) (Dropped (IsGroup depth)) Any Same Same
-group_reads depth =
-    up_as (up_last (group_read depth) (λ span. tt) (λ span text. (span ≡ text) × IsGroup depth text) Any Same Same (up_group depth))
-    (λ u text h. h.2.1) (λ u text h. (text, refl, (refl, h)))
-
--- no brace comes next
-abbrev pub NoBrace : List ℕ → Type 0
-NoBrace rest = sign_at left_brace rest ≡ None
-
-pub optional_group_reads : (depth : ℕ) → ReadsUp (λ text. if_ahead left_brace (group_at depth) nothing_at text) (Dropped (IsOptionalGroup depth)) NoBrace Same Same
-optional_group_reads depth =
-    up_as (up_if_ahead left_brace (group_at depth) nothing_at (Dropped (IsGroup depth)) (Done tt) NoBrace Same Same refl same_up
-    (up_next (group_reads depth) (λ rest n. tt))
-    (up_done tt NoBrace Same)
-    (λ u text h. group_begins depth text h)
-    (λ u front rest q n. ap (λ (x : List ℕ). sign_at left_brace (x ++ rest)) q.1 ∙ n))
-    (λ u text h. elim h [
-      | inl b ↦ inl b
-      | inr n ↦ inr n.1
-    ])
-    (λ u text h. elim h [
-      | inl b ↦ inl b
-      | inr n ↦ inr (refl, n)
-    ])
-
-pub optional_group_ends : (depth : ℕ) (front rest : List ℕ) → IsOptionalGroup depth front → NoMore is_safe rest → NoMore is_safe (front ++ rest)
-optional_group_ends depth front rest h n =
-    elim h [
-      | inl b ↦ ahead_ends is_safe left_brace (IsGroup depth) safe_apart refl (group_begins depth) front rest b
-      | inr e ↦ ap (λ (x : List ℕ). begins is_safe (x ++ rest)) e ∙ n
-    ]

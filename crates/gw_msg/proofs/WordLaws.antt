@@ -18,7 +18,7 @@ use Rattle.gw_base.specs.declared.command_words.Verb.{Verb}
 use Rattle.gw_base.specs.declared.command_words.Verb.TheVariants as verb
 use Rattle.gw_text.specs.Lexical.{is_safe, is_safe_mark, is_solid, is_space_start}
 use Rattle.gw_text.specs.Runs.{begins, NoMore}
-use Rattle.gw_text.specs.Forms.{IsSomeRun, IsWord, IsUint32, IsWordFor}
+use Rattle.gw_text.specs.Forms.{IsToken, IsSomeRun, IsWord, IsUint32, IsWordFor}
 use Rattle.gw_text.specs.Reader.{word_as, solid_as, number_at}
 use Rattle.gw_text.specs.Tokens.{token_of}
 use Rattle.gw_text.specs.declared.token.Token.{Token}
@@ -27,7 +27,7 @@ use Rattle.gw_text.proofs.Signs.{some_is}
 use Rattle.gw_text.proofs.ReadsUp.{ReadsUp, Same, BeginsWith, up_as, up_last, begins_wider}
 use Rattle.gw_text.proofs.Leaves.{up_word, up_solid, up_number}
 use Rattle.gw_text.proofs.Links.{space_bytes, is_solid_by, digit_apart, run_begins, word_solid, number_begins, number_solid, both_begins}
-use Rattle.gw_msg.specs.Grammar.{IsToken, IsPropertyToken, command_token, SpellsVerb, SpellsTerm, SpellsContextId, SpellsMid}
+use Rattle.gw_msg.specs.Grammar.{IsPropertyToken, command_token, SpellsVerb, SpellsTerm, SpellsContextId, SpellsMid}
 use Rattle.gw_msg.specs.Words.{verb_for, verb_of, context_for, context_of, property_for, property_of, error_for, error_of, term_of, mid_of}
 use Rattle.gw_msg.specs.Reading.{if_mark, context_number_at, context_id_at}
 use Rattle.gw_msg.proofs.Starts.{one_of}

@@ -10,15 +10,13 @@ use Rattle.gw_base.specs.declared.command_words.Verb.{Verb}
 use Rattle.gw_base.specs.declared.command_words.Verb.TheVariants as verb
 use Rattle.gw_text.specs.Lexical.{equals_sign, left_brace, right_brace}
 use Rattle.gw_text.specs.Space.{IsSpace, IsSep}
-use Rattle.gw_text.specs.Forms.{IsSign, IsInAnyCase, IsWordFor, IsNumber, IsUint32, Spaced, Braced, OptionalBraced}
+use Rattle.gw_text.specs.Forms.{IsSign, IsInAnyCase, IsToken, IsNumber, IsUint32, Spaced, Braced, OptionalBraced}
 use Rattle.gw_text.specs.Quoted.{IsQuoted}
 use Rattle.gw_text.specs.Group.{IsGroup}
-use Rattle.gw_text.specs.Tokens.{token_of}
 use Rattle.gw_text.specs.declared.token.Token.{Token}
 use Rattle.gw_text.specs.declared.token.Token.TheVariants as token
-use Rattle.gw_desc.specs.Grammar.{request_depth, SpellsTail, SpellsDescriptor}
+use Rattle.gw_desc.specs.Grammar.{SpellsOptionalGroup, IsTail, SpellsDescriptor}
 use Rattle.gw_desc.specs.declared.descriptor.Descriptor.{Descriptor}
-use Rattle.gw_desc.specs.declared.descriptor.Tail.{Tail}
 use Rattle.gw_msg.specs.declared.message.Command.{Command}
 use Rattle.gw_msg.specs.declared.message.Action.{Action}
 use Rattle.gw_msg.specs.declared.message.Request.{Request}
@@ -28,10 +26,6 @@ use Rattle.gw_msg.specs.declared.message.Item.TheVariants as item
 use Rattle.gw_msg.specs.declared.message.Message.{Message}
 use Rattle.gw_msg.specs.declared.fault.ReadFault.{ReadFault}
 use Rattle.gw_msg.specs.declared.fault.ReadFault.TheVariants.{Version, Syntax, NoMemory}
-
--- a token in its long or its short form, in any case: a whole word
-abbrev pub IsToken : Token → List ℕ → Type 0
-IsToken t = IsWordFor token_of t
 
 -- ---- commands
 
@@ -76,13 +70,9 @@ has_group _ = false
 abbrev pub reply_depth : ℕ
 reply_depth = 16
 
--- a group with LWSP in front of it, or nothing
-abbrev pub IsOptionalGroup : ℕ → List ℕ → Type 0
-IsOptionalGroup depth text = (IsSpace ▹ IsGroup depth) text ⊎ (text ≡ [])
-
 -- what stands behind the TerminationID: descriptors in braces, or a group, of which nothing is kept
 abbrev pub SpellsDetailsOf : Bool → List Descriptor → List ℕ → Type 0
-SpellsDetailsOf true descriptors text = (descriptors ≡ []) × IsOptionalGroup request_depth text
+SpellsDetailsOf true descriptors text = (descriptors ≡ []) × ((group : Option (List ℕ)) × SpellsOptionalGroup group text)
 SpellsDetailsOf false descriptors text = OptionalBraced SpellsDescriptor descriptors text
 
 abbrev pub SpellsDetails : Verb → List Descriptor → List ℕ → Type 0
@@ -108,7 +98,7 @@ IsPropertyToken text = IsToken token.Topology text ⊎ (IsToken token.Priority t
 
 -- a contextProperty or a contextAudit: its token and a tail, which is read and dropped (own)
 abbrev pub SpellsProperty : List ℕ → Type 0
-SpellsProperty = IsPropertyToken ▹ (λ text. (t : Tail) × SpellsTail t text)
+SpellsProperty = IsPropertyToken ▹ IsTail
 
 -- a part of an action: a command, or a property, of which nothing is kept
 abbrev pub SpellsPart : Option Command → List ℕ → Type 0

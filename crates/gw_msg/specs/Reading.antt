@@ -12,7 +12,7 @@ use Rattle.gw_text.specs.declared.token.Token.TheVariants as token
 use Rattle.gw_text.specs.SpaceScan.{skip}
 use Rattle.gw_text.specs.Sign.{byte_at, sign_at}
 use Rattle.gw_text.specs.Scans.{sep_at}
-use Rattle.gw_text.specs.Reader.{Reader, ◌>>=◌, found, word_as, solid_as, number_at, number_up_to, group_read, quoted_read, if_byte, if_sign, if_prefix, if_begins, if_ahead, list_at, braced_at, optional_at, items_at, if_end}
+use Rattle.gw_text.specs.Reader.{Reader, ◌>>=◌, found, word_as, solid_as, number_at, number_up_to, group_read, quoted_read, if_byte, if_sign, if_prefix, if_begins, list_at, braced_at, optional_at, items_at, if_end}
 use Rattle.gw_msg.specs.declared.message.Command.{Command}
 use Rattle.gw_msg.specs.declared.message.Action.{Action}
 use Rattle.gw_msg.specs.declared.message.AckRange.{AckRange}
@@ -21,8 +21,7 @@ use Rattle.gw_msg.specs.declared.message.Item.TheVariants as item
 use Rattle.gw_msg.specs.declared.message.Message.{Message}
 use Rattle.gw_msg.specs.declared.fault.ReadFault.{ReadFault}
 use Rattle.gw_msg.specs.declared.fault.ReadFault.TheVariants.{Version, Syntax, NoMemory}
-use Rattle.gw_desc.specs.Grammar.{request_depth}
-use Rattle.gw_desc.specs.Reading.{tail_at, descriptor_at}
+use Rattle.gw_desc.specs.Reading.{optional_group_at, tail_at, descriptor_at}
 use Rattle.gw_desc.specs.declared.descriptor.Descriptor.{Descriptor}
 use Rattle.gw_desc.specs.declared.fault.PartFault.{PartFault}
 use Rattle.gw_desc.specs.declared.fault.PartFault.TheVariants as part
@@ -44,12 +43,6 @@ only_if false = None
 abbrev pub nothing_at : Reader (Unit {0})
 nothing_at text = Some (tt, text)
 
--- a group behind white space, read and dropped
-abbrev pub group_at : ℕ → Reader (Unit {0})
-group_at depth text = do
-  group ← group_read depth text
-  Some (tt, group.1)
-
 -- ---- commands and actions
 
 -- `W-` in front of a command that may have it
@@ -58,7 +51,7 @@ is_allowed wild v = not wild || may_be_wild v
 
 -- descriptors in braces, or a group, read and dropped
 unfoldable pub details_of : Bool → Reader (List Descriptor)
-details_of true text = if_ahead left_brace (group_at request_depth) nothing_at text >>= λ group. Some ([], group.1)
+details_of true text = optional_group_at text >>= λ group. Some ([], group.1)
 details_of false text = optional_at descriptor_at text
 
 unfoldable pub command_at : Reader Command

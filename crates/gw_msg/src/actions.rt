@@ -10,15 +10,14 @@ use crate::words::{
     verb,
 };
 use gw_base::Items;
-use gw_desc::{Descriptor, Part, PartFault, list, optional_braced, sign, tail};
+use gw_desc::{
+    Descriptor, Part, PartFault, list, optional_braced, optional_group, sign, tail_spans,
+};
 use gw_text::Cursor;
 use std::alloc::Global;
 
-/// How deep groups may lie in a request.
-const REQUEST_DEPTH: u32 = 8;
-
 /// What stands behind a TerminationID: the command's descriptors, or a group, which is read and dropped.
-#[tactic(auto, using(gw_desc::proofs::DescriptorLaws::descriptor_shrinks), unfolding(crate::specs::Reading::details_of, gw_text::specs::SpaceScan::skip))]
+#[tactic(auto, using(gw_desc::proofs::DescriptorLaws::descriptor_shrinks), unfolding(crate::specs::Reading::details_of))]
 fn details(
     alloc: Global,
     cursor: &mut Cursor<'_>,
@@ -29,10 +28,7 @@ fn details(
     if !has_group {
         return optional_braced(alloc, cursor);
     }
-    if cursor.is_ahead(b'{') {
-        cursor.lwsp();
-        cursor.balanced(REQUEST_DEPTH)?;
-    }
+    optional_group(cursor)?;
     Ok(Items::new(alloc))
 }
 
@@ -60,13 +56,13 @@ impl Part for Command {
     }
 }
 
-/// A context property, or that they are audited; it is read and dropped.
+/// A context property, or that they are audited; it is read and dropped, and takes no memory.
 #[tactic(auto, unfolding(crate::specs::Reading::property_at))]
-fn property(alloc: Global, cursor: &mut Cursor<'_>) -> Result<(), PartFault>
+fn property(cursor: &mut Cursor<'_>) -> Result<(), PartFault>
     ensures { Gives result cursor.new (property_at cursor.old) }
 {
     property_word(cursor)?;
-    tail(alloc, cursor)?;
+    tail_spans(cursor)?;
     Ok(())
 }
 
@@ -75,7 +71,7 @@ fn commands(alloc: Global, cursor: &mut Cursor<'_>) -> Result<Items<Command>, Pa
     ensures { Gives result cursor.new (commands_at cursor.old) }
 {
     while is_property_next(cursor) {
-        property(alloc, cursor)?;
+        property(cursor)?;
         if !cursor.sign(b',') {
             return Ok(Items::new(alloc));
         }

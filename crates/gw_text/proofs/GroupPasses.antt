@@ -1,5 +1,5 @@
 -- Pieces that may stand in a group are passed one after another.
-use Rattle.std.proofs.Common.{◌≡◌, ℕ, suc, ◌+◌, ◌-◌, ◌≤◌, ◌<◌, Bool, true, false, cond, not, ◌==◌, ◌&&◌, List, [], ◌∷◌, ◌++◌, length, take, drop, Some, Ok, Err, refl, ap, sym, ◌∙◌, append_assoc, length-append, arith}
+use Rattle.std.proofs.Common.{◌≡◌, ℕ, suc, ◌+◌, ◌-◌, ◌≤◌, ◌<◌, Bool, true, false, cond, not, ◌==◌, ◌&&◌, List, [], ◌∷◌, ◌++◌, length, take, drop, Some, Result, Ok, Err, refl, ap, sym, ◌∙◌, append_assoc, length-append, arith}
 use Rattle.std.specs.Prelude.{nat_le}
 use Rattle.std.proofs.lemmas.List.{take_at, drop_at}
 use Rattle.std.proofs.lemmas.Bool.{eqb-true, eqb-false}
@@ -14,6 +14,7 @@ use Rattle.gw_text.specs.Group.{Pieces, nothing, space, quoted, word, mark, octe
 use Rattle.gw_text.specs.GroupScan.{Step, place, passed, octets_passed, step_at, group_rest, group_found, balanced_at}
 use Rattle.gw_text.specs.declared.group.Before.{Before}
 use Rattle.gw_text.specs.declared.group.Before.TheVariants.{Equals, OctetsWord, Other}
+use Rattle.gw_text.specs.declared.fault.ScanFault.{ScanFault}
 use Rattle.gw_text.specs.declared.fault.ScanFault.TheVariants.{TooDeep}
 use Rattle.gw_text.proofs.RunLemmas.{run_again, and_true}
 use Rattle.gw_text.proofs.SpaceLemmas.{space_again}
@@ -264,3 +265,14 @@ too_deep_cases depth (p ∷ ps) rest full valid =
 
 pub too_deep_again : (depth : ℕ) (text : List ℕ) → IsTooDeep depth text → balanced_at depth text ≡ Err TooDeep
 too_deep_again depth text h = ap (balanced_at depth) h.split ∙ too_deep_cases depth h.groups h.rest h.full h.valid
+
+scan_fault : (f g : ScanFault) → let r : Result (List ℕ × List ℕ) ScanFault = Err f in r ≡ Err g → f ≡ g
+scan_fault f g e = cc
+
+-- so a scan that fails there says so, and none succeeds
+pub deep_fault : (depth : ℕ) (text : List ℕ) (f : ScanFault) → IsTooDeep depth text → balanced_at depth text ≡ Err f → f ≡ TooDeep
+deep_fault depth text f deep e = scan_fault f TooDeep (sym e ∙ too_deep_again depth text deep)
+
+pub no_group_deep : (depth : ℕ) (text span rest : List ℕ) → IsTooDeep depth text → balanced_at depth text ≡ Ok (span, rest) → ⊥
+no_group_deep depth text span rest deep e =
+    let clash : ◌≡◌ {A = Result (List ℕ × List ℕ) ScanFault} (Ok (span, rest)) (Err TooDeep) = sym e ∙ too_deep_again depth text deep in absurd cc

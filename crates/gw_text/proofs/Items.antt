@@ -1,4 +1,4 @@
--- Readers of items with white space between them, to the end of the text, and of a whole text.
+-- Readers of items with white space between them, to the end of the text.
 use Rattle.std.proofs.Common.{◌≡◌, ℕ, zero, suc, ◌≤◌, Bool, true, List, [], ◌∷◌, ◌++◌, length, Option, Some, None, refl, ap, sym, subst, ◌∙◌, append_assoc, length-append, arith}
 use Rattle.std.proofs.lemmas.List.{append-nil}
 use Rattle.gw_base.specs.Lang.{◌▹◌}
@@ -7,7 +7,7 @@ use Rattle.gw_text.specs.Space.{IsSpace}
 use Rattle.gw_text.specs.SpaceScan.{skip}
 use Rattle.gw_text.specs.Runs.{begins}
 use Rattle.gw_text.specs.Forms.{Spaced}
-use Rattle.gw_text.specs.Reader.{Reader, ◌>>=◌, with_first, if_more, items_from, items_at, if_end, whole_at}
+use Rattle.gw_text.specs.Reader.{Reader, ◌>>=◌, with_first, if_more, items_from, items_at}
 use Rattle.gw_text.proofs.Skips.{skip_space, skip_is, skip_stays}
 use Rattle.gw_text.proofs.Signs.{some_is}
 use Rattle.gw_text.proofs.Links.{both_begins}
@@ -21,10 +21,6 @@ pub record ItemsUp {V : Type 0} (Form : V → List ℕ → Type 0) (Next : List 
   pub next : (w : V) (between front rest : List ℕ) → IsSpace between → Form w front → Next (between ++ (front ++ rest))
   pub last : (rest : List ℕ) → skip rest ≡ [] → Next rest
   pub begins : BeginsWith is_solid Form
-
--- nothing but white space is left
-abbrev pub AtEnd : List ℕ → Type 0
-AtEnd rest = skip rest ≡ []
 
 -- items begin as the first of them
 pub spaced_begins : {V : Type 0} (p : ℕ → Bool) (Form : V → List ℕ → Type 0) → BeginsWith p Form → BeginsWith p (Spaced Form)
@@ -137,30 +133,3 @@ up_items {V} r Form Next h l = record {
         sym n,
       );
 }
-
--- ---- a whole text
-
-end_is : {V : Type 0} (v w : V) (rest : List ℕ) → if_end v rest ≡ Some w → (rest ≡ []) × (v ≡ w)
-end_is v w [] e = (refl, some_is v w e)
-end_is v w (b ∷ bs) e = absurd cc
-
--- a value is read of a whole text only if the text is of its form, with white space at its end
-pub whole_sound : {V : Type 0} (r : Reader V) (Form : V → List ℕ → Type 0) (Next : List ℕ → Type 0) (From : List ℕ → List ℕ → Type 0) → ReadsUp r Form Next From UpTo → (text : List ℕ) (v : V) → whole_at r text ≡ Some v → ToEnd (Form v) text
-whole_sound {V} r Form Next From h text v e =
-    let b = bind_some (r text) (λ x. if_end x.0 (skip x.1)) v e in
-    let s = h.sound text b.0.0 b.0.1 b.1 in
-    let n = end_is b.0.0 v (skip b.0.1) b.2 in
-    let k = skip_is b.0.1 in
-    let space : IsSpace b.0.1 = subst IsSpace (sym (append-nil k.front) ∙ ap (λ (x : List ℕ). k.front ++ x) (sym (k.second ∙ n.0)) ∙ sym k.split) k.first in
-    record { front = s.0; back = b.0.1; split = s.1; first = subst (λ (w : V). Form w s.0) n.1 s.2; second = space }
-
--- and of each such text
-pub whole_complete : {V : Type 0} (r : Reader V) (Form : V → List ℕ → Type 0) (Next : List ℕ → Type 0) → ReadsUp r Form Next Same UpTo → ((rest : List ℕ) → AtEnd rest → Next rest) → (text : List ℕ) (v : V) → ToEnd (Form v) text → whole_at r text ≡ Some v
-whole_complete {V} r Form Next h last text v t =
-    let e : skip t.back ≡ [] = at_end t.back t.second in
-    let one = h.complete v t.front t.back text t.first (last t.back e) t.split in
-    ap (λ (o : Option (V × List ℕ)). o >>= λ x. if_end x.0 (skip x.1)) one.1 ∙ ap (if_end v) (one.2 ∙ e)
-
--- so a whole text has the form for one value at most
-pub whole_one : {V : Type 0} (r : Reader V) (Form : V → List ℕ → Type 0) (Next : List ℕ → Type 0) → ReadsUp r Form Next Same UpTo → ((rest : List ℕ) → AtEnd rest → Next rest) → (text : List ℕ) (v w : V) → ToEnd (Form v) text → ToEnd (Form w) text → v ≡ w
-whole_one r Form Next h last text v w p q = some_is v w (sym (whole_complete r Form Next h last text v p) ∙ whole_complete r Form Next h last text w q)

@@ -1,9 +1,12 @@
 -- The lengths of runs, from one byte to the next.
-use Rattle.std.proofs.Common.{◌≡◌, ℕ, suc, ◌+◌, ◌<◌, Bool, true, false, cond, List, [], ◌∷◌, length, get_or, take, drop, ◌++◌, ◌≤◌, ◌*◌, ◌-◌, ◌&&◌, refl, arith, add-one, drop-cons}
+use Rattle.std.proofs.Common.{◌≡◌, ℕ, suc, ◌+◌, ◌<◌, Bool, true, false, cond, List, [], ◌∷◌, length, get_or, take, drop, ◌++◌, ◌≤◌, ◌*◌, ◌-◌, ◌&&◌, refl, ap, sym, ◌∙◌, arith, rules, add-one, drop-cons}
 use Rattle.std.specs.List.{list_all}
-use Rattle.gw_text.specs.Lexical.{digit_zero}
+use Rattle.std.specs.Str.Parse.{digits_value_after}
+use Rattle.std.specs.Char.{digit_value}
+use Rattle.std.specs.Int.{IsInRange}
+use Rattle.std.proofs.lemmas.Str.{digit_value_digit}
+use Rattle.gw_base.specs.Bytes.{is_digit}
 use Rattle.gw_text.specs.Runs.{run_len, begins}
-use Rattle.gw_text.specs.Scans.{number_from}
 
 -- the byte at i, and what is behind it
 pub at_byte : (text : List ℕ) (i : ℕ) → i < length text → drop i text ≡ get_or text i 0 ∷ drop (i + 1) text
@@ -50,9 +53,22 @@ run_longest p (b ∷ bs) left all =
     rw h.0 (omega arith)
 
 -- more digits write no smaller number
-pub number_grows : (n : ℕ) (digits : List ℕ) → n ≤ number_from n digits
+pub number_grows : (n : ℕ) (digits : List ℕ) → n ≤ digits_value_after 10 n digits
 number_grows n [] = omega arith
-number_grows n (b ∷ bs) = omega (arith, number_grows (10 * n + (b - digit_zero)) bs)
+number_grows n (b ∷ bs) = omega (arith, number_grows (n * 10 + digit_value b) bs)
+
+digit_range : (b : ℕ) → is_digit b ≡ true → IsInRange 48 57 b
+digit_range b e = search rules
+
+-- the number with the next digit
+pub next_digit : (digits : List ℕ) (i number total : ℕ) → i < length digits → is_digit (get_or digits i 0) ≡ true → digits_value_after 10 number (drop i digits) ≡ total
+    → digits_value_after 10 (number * 10 + (get_or digits i 0 - 48)) (drop (i + 1) digits) ≡ total
+next_digit digits i number total h is so_far =
+    let value = digit_value_digit (get_or digits i 0) (digit_range (get_or digits i 0) is) in
+    let digit : get_or digits i 0 - 48 ≡ digit_value (get_or digits i 0) = omega (arith, value) in
+    ap (λ (d : ℕ). digits_value_after 10 (number * 10 + d) (drop (i + 1) digits)) digit
+    ∙ sym (ap (digits_value_after 10 number) (at_byte digits i h))
+    ∙ so_far
 
 pub all_from : (p : ℕ → Bool) (text : List ℕ) (i : ℕ) → i < length text → list_all p (drop i text) ≡ true → (p (get_or text i 0) ≡ true) × (list_all p (drop (i + 1) text) ≡ true)
 all_from p text i h all = and_true (p (get_or text i 0)) (list_all p (drop (i + 1) text)) (rw at_byte at all)

@@ -1,6 +1,7 @@
 -- The spans that the lengths give are the longest of their form.
 use Rattle.std.proofs.Common.{◌≡◌, ℕ, suc, ◌≤◌, Bool, true, false, List, [], ◌∷◌, ◌++◌, length, take, drop, refl, ap, sym, subst, ◌∙◌, arith, ◌==◌, ◌||◌, ◌<◌, cond, Ok, Err}
 use Rattle.std.specs.Prelude.{nat_lt}
+use Rattle.std.specs.Str.Parse.{digits_value}
 use Rattle.std.proofs.lemmas.List.{take-append-drop, length-take}
 use Rattle.std.proofs.lemmas.Bool.{eqb-false, eqb-true, ltb-false, ltb-true}
 use Rattle.gw_base.specs.Bytes.{is_digit}
@@ -11,7 +12,7 @@ use Rattle.gw_text.specs.Runs.{run_len, IsRun, begins}
 use Rattle.gw_text.specs.Forms.{IsSomeRun, IsNumber, HasNoNumber}
 use Rattle.gw_text.specs.declared.fault.ScanFault.{ScanFault}
 use Rattle.gw_text.specs.declared.fault.ScanFault.TheVariants.{Unexpected, Overflow}
-use Rattle.gw_text.specs.Scans.{some_at, lwsp_at, sep_at, word_at, solid_at, number_within, digits_at, number_of}
+use Rattle.gw_text.specs.Scans.{some_at, lwsp_at, sep_at, word_at, solid_at, number_within, digits_at}
 use Rattle.gw_text.specs.Longest.{IsLongest}
 use Rattle.gw_text.proofs.RunLemmas.{run_is, run_longest, run_len-le}
 use Rattle.gw_text.proofs.SpaceLemmas.{space_is, space_longest, space_len-le}
@@ -147,12 +148,12 @@ unfolding number_within
 number_takes most max text n rest e =
     let len = run_len is_digit text in
     let span = take len text in
-    let a = guard2_ok (len == 0) (nat_lt most len || nat_lt max (number_of span)) Unexpected Overflow (number_of span, drop len text) (n, rest) e in
-    let o = or_false (nat_lt most len) (nat_lt max (number_of span)) a.1 in
-    let n-is : number_of span ≡ n = ap (λ (p : ℕ × List ℕ). p.0) a.2 in
+    let a = guard2_ok (len == 0) (nat_lt most len || nat_lt max (digits_value 10 span)) Unexpected Overflow (digits_value 10 span, drop len text) (n, rest) e in
+    let o = or_false (nat_lt most len) (nat_lt max (digits_value 10 span)) a.1 in
+    let n-is : digits_value 10 span ≡ n = ap (λ (p : ℕ × List ℕ). p.0) a.2 in
     let rest-is : drop len text ≡ rest = ap (λ (p : ℕ × List ℕ). p.1) a.2 in
     let short : len ≤ most = ltb-false _ _ o.0 in
-    let small : number_of span ≤ max = ltb-false _ _ o.1 in
+    let small : digits_value 10 span ≤ max = ltb-false _ _ o.1 in
     let some : 0 < len = omega (arith, eqb-false len 0 a.0) in
     let s = run_scanned is_digit text span rest refl rest-is in
     let some-span : 0 < length span = omega (arith, length-take len text, run_len-le is_digit text) in
@@ -181,7 +182,7 @@ unfolding number_within
 no_number most max text f e =
     let len = run_len is_digit text in
     let span = take len text in
-    fault_cases (λ f. HasNoNumber most max f text) (len == 0) (nat_lt most len || nat_lt max (number_of span)) (number_of span, drop len text) f e
+    fault_cases (λ f. HasNoNumber most max f text) (len == 0) (nat_lt most len || nat_lt max (digits_value 10 span)) (digits_value 10 span, drop len text) f e
     (λ none. run_none is_digit text (eqb-true len 0 none))
     (λ some-is over.
     let some : 0 < len = omega (arith, eqb-false len 0 some-is) in
@@ -192,9 +193,9 @@ no_number most max text f e =
       record { split = s.split; inside = record { run = s.inside; some = some-span }; longest = λ other left e run. s.longest other left e run.run },
       λ n h.
           let short = h.short in let small = h.small in let value = h.value in
-          too_much (nat_lt most len) (nat_lt max (number_of span)) over ⊥
+          too_much (nat_lt most len) (nat_lt max (digits_value 10 span)) over ⊥
           (λ t. let lt : most < len = ltb-true _ _ t in omega (arith, lt, short, length-take len text, run_len-le is_digit text))
-          (λ t. let lt : max < number_of span = ltb-true _ _ t in omega (arith, lt, small, value)),
+          (λ t. let lt : max < digits_value 10 span = ltb-true _ _ t in omega (arith, lt, small, value)),
     ))
 
 pub number_found : (most max : ℕ) (text span rest : List ℕ) (n : ℕ) → digits_at text ≡ span → number_within most max text ≡ Ok (n, rest) → IsLongest (IsSomeRun is_digit) text span rest × IsNumber most max n span

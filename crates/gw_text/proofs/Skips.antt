@@ -5,9 +5,9 @@ use Rattle.std.proofs.Math.Seq.{drop-append-add}
 use Rattle.gw_base.specs.Lang.{Both}
 use Rattle.gw_text.specs.Lexical.{nul, semicolon, is_blank, is_eol, is_space_start}
 use Rattle.gw_text.specs.Space.{IsSpace}
-use Rattle.gw_text.specs.SpaceScan.{is_space, space_len_from, space_len, skip}
+use Rattle.gw_text.specs.SpaceScan.{space_len_from, space_len, skip}
 use Rattle.gw_text.specs.Runs.{begins}
-use Rattle.gw_text.proofs.SpaceLemmas.{space_again, space_is}
+use Rattle.gw_text.proofs.SpaceLemmas.{is_space, space_again, space_is}
 use Rattle.gw_text.proofs.SpacePieces.{space_scans, space_pieces}
 
 shift_step : (w c : Bool) (n lb lc kb kc best : ℕ) → lb ≡ n + kb → lc ≡ n + kc → cond w lb (cond c lc (n + best)) ≡ n + cond w kb (cond c kc best)

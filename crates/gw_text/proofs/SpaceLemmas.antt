@@ -2,8 +2,15 @@
 use Rattle.std.proofs.Common.{◌≡◌, ℕ, ◌+◌, ◌≤◌, Bool, true, false, cond, not, ◌&&◌, ◌||◌, ◌==◌, List, [], ◌∷◌, ◌++◌, length, take, refl, ap, sym, ◌∙◌, append_assoc, length-append, arith}
 use Rattle.std.proofs.lemmas.List.{append-nil, take_at}
 use Rattle.gw_text.specs.Lexical.{nul, semicolon, is_blank, is_eol, is_space_start}
-use Rattle.gw_text.specs.SpaceScan.{is_space, space_len_from, space_len}
+use Rattle.gw_text.specs.SpaceScan.{space_len_from, space_len}
 use Rattle.gw_text.specs.Runs.{begins}
+
+-- the text is white space; with inside, it begins within a comment
+abbrev pub is_space : (inside : Bool) → List ℕ → Bool
+is_space false [] = true
+is_space true [] = false
+is_space false (b ∷ bs) = cond (is_blank b) (is_space false bs) (b == semicolon && is_space true bs)
+is_space true (b ∷ bs) = cond (is_eol b) (is_space false bs) (not (b == nul) && is_space true bs)
 
 or_false : (a b : Bool) → a || b ≡ false → (a ≡ false) × (b ≡ false)
 or_false false b h = (refl, h)

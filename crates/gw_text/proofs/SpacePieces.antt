@@ -6,8 +6,8 @@ use Rattle.gw_base.specs.Lang.{◌▹◌}
 use Rattle.gw_text.specs.Lexical.{nul, semicolon, is_blank, is_eol, is_comment_byte}
 use Rattle.gw_text.specs.Runs.{IsRun}
 use Rattle.gw_text.specs.Space.{IsByte, IsComment, IsSpacePiece, Each, IsSpace}
-use Rattle.gw_text.specs.SpaceScan.{is_space}
 use Rattle.gw_text.proofs.RunLemmas.{and_true}
+use Rattle.gw_text.proofs.SpaceLemmas.{is_space}
 
 -- ---- pieces are scanned
 

@@ -1,5 +1,6 @@
 -- The forms of words and numbers, of signs, and of lists (RFC 3525, Annex B.2).
 use Rattle.std.specs.Prelude.{◌≡◌, ℕ, ◌<◌, ◌≤◌, false, Bool, List, [], ◌∷◌, length, Option, Some}
+use Rattle.std.specs.Str.Parse.{digits_value}
 use Rattle.gw_base.specs.Bytes.{is_digit}
 use Rattle.gw_base.specs.Lang.{◌▹◌, IsText}
 pub use Rattle.gw_base.specs.Lang.{IsInAnyCase}
@@ -7,7 +8,9 @@ use Rattle.gw_text.specs.Lexical.{is_safe, is_solid, comma, left_brace, right_br
 use Rattle.gw_text.specs.Space.{IsSpace}
 use Rattle.gw_text.specs.Runs.{IsRun, begins}
 use Rattle.gw_text.specs.Longest.{IsLongest}
-use Rattle.gw_text.specs.Scans.{number_of, uint32_max, uint32_digits}
+use Rattle.gw_text.specs.Scans.{uint32_max, uint32_digits}
+use Rattle.gw_text.specs.Tokens.{token_of}
+use Rattle.gw_text.specs.declared.token.Token.{Token}
 use Rattle.gw_text.specs.declared.fault.ScanFault.{ScanFault}
 use Rattle.gw_text.specs.declared.fault.ScanFault.TheVariants.{Unexpected, Overflow, TooDeep}
 
@@ -29,7 +32,7 @@ pub record IsNumber (most max n : ℕ) (text : List ℕ) : Type 0 where
   pub digits : IsRun is_digit text
   pub some : 0 < length text
   pub short : length text ≤ most
-  pub value : number_of text ≡ n
+  pub value : digits_value 10 text ≡ n
   pub small : n ≤ max
 
 -- UINT32: 1 to 10 digits, of a number of 32 bits
@@ -50,6 +53,10 @@ IsSign b = IsSpace ▹ IsText (b ∷ []) ▹ IsSpace
 pub record IsWordFor {V : Type 0} (of : List ℕ → Option V) (v : V) (text : List ℕ) : Type 0 where
   pub word : IsWord text
   pub stands : of text ≡ Some v
+
+-- a token in its long or its short form, in any case: a whole word
+abbrev pub IsToken : Token → List ℕ → Type 0
+IsToken t = IsWordFor token_of t
 
 -- one or more, with COMMA between them
 abbrev pub Separated : {V : Type 0} → (V → List ℕ → Type 0) → List V → List ℕ → Type 0

@@ -1,13 +1,15 @@
 -- Groups in braces, which are kept as sent (own reading). A group is `{`, pieces and `}`: white space, quoted texts,
 -- words, marks, octets and groups within it. Octets stand in braces behind a word Local or Remote that does not follow
 -- `=`, white space aside.
-use Rattle.std.specs.Prelude.{◌≡◌, ◌<◌, ◌-◌, ◌==◌, ◌||◌, ◌&&◌, not, ℕ, Bool, true, false, if◌then◌else◌, List, [], ◌∷◌, ◌++◌, length, codes}
+use Rattle.std.specs.Prelude.{◌≡◌, ◌<◌, ◌-◌, ◌==◌, ◌&&◌, not, ℕ, Bool, true, false, if◌then◌else◌, List, [], ◌∷◌, ◌++◌, length, Option, Some}
 use Rattle.gw_text.specs.Lexical.{nul, quote_mark, left_brace, right_brace, equals_sign, is_safe, is_solid}
 use Rattle.gw_text.specs.Space.{IsSep}
 use Rattle.gw_text.specs.Forms.{IsWord}
 use Rattle.gw_text.specs.Quoted.{IsQuoted}
 use Rattle.gw_text.specs.Octets.{IsOctets}
-use Rattle.gw_text.specs.Tokens.{is_spelling}
+use Rattle.gw_text.specs.Tokens.{token_of}
+use Rattle.gw_text.specs.declared.token.Token.{Token}
+use Rattle.gw_text.specs.declared.token.Token.TheVariants.{Local, Remote}
 use Rattle.gw_text.specs.declared.fault.ScanFault.{ScanFault}
 use Rattle.gw_text.specs.declared.fault.ScanFault.TheVariants.{Unexpected, TooDeep, Overflow}
 use Rattle.gw_text.specs.declared.group.Before.{Before}
@@ -41,9 +43,15 @@ text_of (group inside rest) = left_brace ∷ (text_of inside ++ right_brace ∷ 
 abbrev pub is_mark : ℕ → Bool
 is_mark b = not (is_safe b) && is_solid b && not (b == nul) && not (b == quote_mark) && not (b == left_brace) && not (b == right_brace)
 
--- Local, L, Remote or R in any case
+-- the tokens behind which braces enclose octets
+abbrev pub is_octets_token : Option Token → Bool
+is_octets_token (Some Local) = true
+is_octets_token (Some Remote) = true
+is_octets_token _ = false
+
+-- Local or Remote, in either form
 abbrev pub is_octets_word : List ℕ → Bool
-is_octets_word w = is_spelling (codes "Local") (codes "L") w || is_spelling (codes "Remote") (codes "R") w
+is_octets_word w = is_octets_token (token_of w)
 
 -- ---- what stands before a piece, white space aside
 

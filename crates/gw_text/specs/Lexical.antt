@@ -29,10 +29,6 @@ comma = 44
 abbrev pub dash : ℕ
 dash = 45
 
--- `0`
-abbrev pub digit_zero : ℕ
-digit_zero = 48
-
 -- `:`
 abbrev pub colon : ℕ
 colon = 58

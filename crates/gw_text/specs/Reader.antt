@@ -159,7 +159,3 @@ items_at read text = items_from read (suc (length text)) text
 abbrev pub if_end : {V : Type 0} → V → List ℕ → Option V
 if_end v [] = Some v
 if_end v (b ∷ bs) = None
-
--- the value of which the text is the form, with LWSP at its end
-abbrev pub whole_at : {V : Type 0} → Reader V → List ℕ → Option V
-whole_at read text = read text >>= λ x. if_end x.0 (skip x.1)

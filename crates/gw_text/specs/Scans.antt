@@ -1,7 +1,8 @@
 -- What each scan takes from the front of a text, or why it takes nothing.
-use Rattle.std.specs.Prelude.{◌≡◌, ℕ, ◌+◌, ◌*◌, ◌-◌, ◌||◌, nat_lt, ◌==◌, if◌then◌else◌, List, [], ◌∷◌, take, drop, Result, Ok, Err}
+use Rattle.std.specs.Prelude.{◌≡◌, ℕ, ◌||◌, nat_lt, ◌==◌, if◌then◌else◌, List, take, drop, Result, Ok, Err}
+use Rattle.std.specs.Str.Parse.{digits_value}
 use Rattle.gw_base.specs.Bytes.{is_digit}
-use Rattle.gw_text.specs.Lexical.{digit_zero, is_safe, is_solid}
+use Rattle.gw_text.specs.Lexical.{is_safe, is_solid}
 use Rattle.gw_text.specs.SpaceScan.{space_len}
 use Rattle.gw_text.specs.Runs.{run_len}
 use Rattle.gw_text.specs.declared.fault.ScanFault.{ScanFault}
@@ -10,15 +11,6 @@ use Rattle.gw_text.specs.declared.fault.ScanFault.TheVariants.{Unexpected, Overf
 -- a value, and what is left of the text
 abbrev pub Scan : Type 0 → Type 0
 Scan V = List ℕ → Result (V × List ℕ) ScanFault
-
--- the number that digits write behind those that wrote n
-abbrev pub number_from : ℕ → List ℕ → ℕ
-number_from n [] = n
-number_from n (b ∷ bs) = number_from (10 * n + (b - digit_zero)) bs
-
--- the number that digits write
-abbrev pub number_of : List ℕ → ℕ
-number_of digits = number_from 0 digits
 
 -- the greatest UINT32
 abbrev pub uint32_max : ℕ
@@ -51,8 +43,8 @@ digits_at text = take (run_len is_digit text) text
 unfoldable pub number_within : (most max : ℕ) → Scan ℕ
 number_within most max text =
     if run_len is_digit text == 0 then Err Unexpected
-    else if nat_lt most (run_len is_digit text) || nat_lt max (number_of (digits_at text)) then Err Overflow
-    else Ok (number_of (digits_at text), drop (run_len is_digit text) text)
+    else if nat_lt most (run_len is_digit text) || nat_lt max (digits_value 10 (digits_at text)) then Err Overflow
+    else Ok (digits_value 10 (digits_at text), drop (run_len is_digit text) text)
 
 abbrev pub uint32_at : Scan ℕ
 uint32_at = number_within uint32_digits uint32_max

@@ -1,13 +1,7 @@
--- White space as it is scanned, byte by byte, with one flag: whether a comment was begun. That this is LWSP is proved.
-use Rattle.std.specs.Prelude.{ℕ, ◌+◌, Bool, true, false, ◌&&◌, ◌==◌, not, if◌then◌else◌, List, [], ◌∷◌, drop}
+-- White space as it is scanned, byte by byte, with one flag: whether a comment was begun. That this is the longest LWSP
+-- is what `Cursor::lwsp` promises.
+use Rattle.std.specs.Prelude.{ℕ, ◌+◌, Bool, true, false, ◌==◌, if◌then◌else◌, List, [], ◌∷◌, drop}
 use Rattle.gw_text.specs.Lexical.{nul, semicolon, is_blank, is_eol}
-
--- the text is white space; with inside, it begins within a comment
-abbrev pub is_space : (inside : Bool) → List ℕ → Bool
-is_space false [] = true
-is_space true [] = false
-is_space false (b ∷ bs) = if is_blank b then is_space false bs else (b == semicolon && is_space true bs)
-is_space true (b ∷ bs) = if is_eol b then is_space false bs else (not (b == nul) && is_space true bs)
 
 -- The length of the longest white space at the front of a text, of which passed bytes lie behind, and best is the
 -- length of the longest found there.

@@ -1,6 +1,6 @@
 //! A place in a text, and the scans of what stands there (RFC 3525, Annex B.2).
 
-ghost use Rattle.std.specs.Prelude.{◌≡◌, ◌≤◌, ◌<◌, ℕ, List, [], ◌∷◌, ◌++◌, true, false, length, take, drop, Some, None, MatchBool, IfOk, IfErr, IsTrue, ◌↔◌, OnErr};
+ghost use Rattle.std.specs.Prelude.{◌≡◌, ◌≤◌, ◌<◌, ℕ, List, [], ◌∷◌, ◌++◌, true, false, length, take, drop, Some, None, Err, MatchBool, IfOk, IfErr, IsTrue, ◌↔◌, OnErr};
 ghost use Rattle.std.specs.Bool.{OnTrue, OnFalse};
 ghost use Rattle.gw_base.specs.Bytes.{is_digit};
 ghost use Rattle.gw_text.specs.Lexical.{is_safe, is_solid, right_brace};
@@ -11,7 +11,7 @@ ghost use Rattle.gw_text.specs.Forms.{IsWord, IsSolid, IsSomeRun, IsNumber, IsUi
 ghost use Rattle.gw_text.specs.Octets.{IsOctets, IsOctetsOf, octets_at};
 ghost use Rattle.gw_text.specs.Quoted.{IsQuoted, quoted_at};
 ghost use Rattle.gw_text.specs.Bracket.{IsBracket, is_run_byte, run_at, bracket_at};
-ghost use Rattle.gw_text.specs.Group.{IsGroup, HasNoGroup};
+ghost use Rattle.gw_text.specs.Group.{IsGroup, IsTooDeep, HasNoGroup};
 ghost use Rattle.gw_text.specs.GroupScan.{balanced_at};
 ghost use Rattle.gw_text.specs.Longest.{IsLongest};
 ghost use Rattle.gw_text.specs.Sign.{byte_at, sign_at, prefix_at};
@@ -284,6 +284,7 @@ impl<'a> Cursor<'a> {
         ensures exact { Gives (λ span. span.now) self.old result self.new (balanced_at depth self.old) }
         ensures span { IfOk result (λ span. (self.old ≡ span.now ++ self.new) × IsGroup depth span.now) }
         ensures fault { IfErr result (λ e. HasNoGroup depth e self.old) }
+        ensures deep { IsTooDeep depth self.old → result ≡ Err ScanFault.TooDeep }
         ensures stays { OnErr result (self.new ≡ self.old) }
     {
         let len = group_len(depth, self.rest)?;

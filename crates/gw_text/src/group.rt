@@ -10,7 +10,7 @@ use crate::class::{is_safe, is_solid};
 use crate::fault::ScanFault;
 use crate::lengths::{space_len, word_len};
 use crate::octets::{octets_ends, quoted_len};
-use crate::token::is_either;
+use crate::token::{Token, token_of};
 
 /// What stands before a place in a group, white space aside.
 #[derive(Clone, Copy)]
@@ -40,7 +40,7 @@ impl Place {
 fn is_octets_word(word: &[u8]) -> bool
     ensures { result ≡ is_octets_word word.now }
 {
-    is_either(b"Local", b"L", word) || is_either(b"Remote", b"R", word)
+    matches!(token_of(word), Some(Token::Local | Token::Remote))
 }
 
 fn after_word(before: Before, word: &[u8]) -> Before

@@ -14,5 +14,5 @@ mod token;
 
 pub use cursor::{Cursor, Uint32};
 pub use fault::ScanFault;
-pub use laws::{spans_are_one, tokens_read_back, white_space_is_pieces};
+pub use laws::{spans_are_one, tokens_read_back};
 pub use token::{Token, token_of};

@@ -128,7 +128,7 @@ static TABLE: [Spelling; 53] = [
 
 /// Whether a word is one of the two, in any case.
 #[tactic(auto, unfolding(crate::specs::Tokens::is_spelling))]
-pub fn is_either(long: &[u8], short: &[u8], word: &[u8]) -> bool
+fn is_either(long: &[u8], short: &[u8], word: &[u8]) -> bool
     ensures { result ≡ is_spelling long.now short.now word.now }
 {
     word.eq_ignore_ascii_case(long) || word.eq_ignore_ascii_case(short)
