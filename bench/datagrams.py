@@ -46,6 +46,9 @@ KINDS = {
     "groups 8 deep side by side": lambda n: in_events(b"{{{{{{{}}}}}}}" * ((n - 90) // 14)),
     "a brace too deep at the end": lambda n: in_events(b"{{{{{{{}}}}}}}" * ((n - 110) // 14) + b"{{{{{{{{"),
     "one quoted text": lambda n: in_events(b'"' + b"q" * (n - 100) + b'"'),
+    "words of one letter in a group": lambda n: in_events(b"w " * ((n - 90) // 2)),
+    "words of six letters in a group": lambda n: in_events(b"signal " * ((n - 90) // 7)),
+    "descriptors without a meaning": lambda n: repeated(HEAD + b"Transaction=1{Context=-{Modify=T/1{X", b",X", b"}}}", n),
     "a Reply with a long group": lambda n: HEAD + b"Reply=1{" + b"x" * (n - len(HEAD) - 9) + b"}",
     "a word of many letters": lambda n: HEAD + b"w" * (n - len(HEAD)),
 }
