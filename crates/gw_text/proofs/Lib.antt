@@ -1,4 +1,5 @@
 pub mod TokenLemmas
+pub mod TokenLetters
 pub mod TokenTable
 pub mod TokenWords
 pub mod RunLemmas
