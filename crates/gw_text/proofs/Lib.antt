@@ -1,3 +1,4 @@
+pub mod Fronts
 pub mod TokenLemmas
 pub mod TokenLetters
 pub mod TokenTable
