@@ -1,4 +1,4 @@
--- The code's tables of tokens, as the definition of the words has them (own).
+-- The tokens as the code has them, by their first letters (own).
 use Rattle.std.specs.Prelude.{ℕ, Bool, ◌||◌, List, [], ◌∷◌, map}
 use Rattle.std.specs.Char.{to_ascii_lowercase}
 use Rattle.std.specs.List.{filter}
@@ -6,6 +6,7 @@ use Rattle.gw_text.specs.Runs.{begins, is_byte}
 use Rattle.gw_text.specs.Tokens.{Spelling}
 use Rattle.gw_text.specs.declared.token.Spelling as code
 
+-- the code's rows, as those of the definition
 abbrev pub entries : List code.Spelling → List Spelling
 entries [] = []
 entries (s ∷ rest) = (record { long = s.0.now; short = s.1.now; token = s.2 }) ∷ entries rest
