@@ -1,4 +1,6 @@
+pub mod Fronts
 pub mod TokenLemmas
+pub mod TokenLetters
 pub mod TokenTable
 pub mod TokenWords
 pub mod RunLemmas

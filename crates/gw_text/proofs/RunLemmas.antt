@@ -16,16 +16,6 @@ pub and_true : (a b : Bool) → a && b ≡ true → (a ≡ true) × (b ≡ true)
 and_true true b h = (refl, h)
 and_true false b h = absurd cc
 
-pub run_goes_on : (p : ℕ → Bool) (text : List ℕ) (i total : ℕ) → i < length text → p (get_or text i 0) ≡ true → i + run_len p (drop i text) ≡ total → (i + 1) + run_len p (drop (i + 1) text) ≡ total
-run_goes_on p text i total h is so_far =
-    let one : run_len p (drop i text) ≡ suc (run_len p (drop (i + 1) text)) = rw (at_byte text i h, is) refl in
-    omega (arith, one)
-
-pub run_stops : (p : ℕ → Bool) (text : List ℕ) (i total : ℕ) → i < length text → p (get_or text i 0) ≡ false → i + run_len p (drop i text) ≡ total → i ≡ total
-run_stops p text i total h is so_far =
-    let one : run_len p (drop i text) ≡ 0 = rw (at_byte text i h, is) refl in
-    omega (arith, one)
-
 -- what a run is made of
 run_is_step : (p : ℕ → Bool) (b : ℕ) (bs : List ℕ) (t : Bool) → p b ≡ t → list_all p (take (run_len p bs) bs) ≡ true → list_all p (take (cond t (suc (run_len p bs)) 0) (b ∷ bs)) ≡ true
 run_is_step p b bs true is all = rw is all

@@ -1,4 +1,4 @@
--- The longest front of a text that has a form.
+-- The longest front of a text that has a form (own).
 use Rattle.std.specs.Prelude.{◌≡◌, ℕ, ◌≤◌, List, ◌++◌, length}
 
 pub record IsLongest (IsForm : List ℕ → Type 0) (text span rest : List ℕ) : Type 0 where

@@ -1,4 +1,4 @@
--- Readers: each takes a value from the front of a text, or there is none.
+-- Readers (own): each takes a value from the front of a text, or there is none.
 use Rattle.std.specs.Prelude.{ℕ, Bool, zero, suc, if◌then◌else◌, List, [], ◌∷◌, length, Option, Some, None, Result, Ok, Err}
 use Rattle.gw_text.specs.Lexical.{comma, left_brace, right_brace}
 use Rattle.gw_text.specs.Runs.{begins, is_byte}

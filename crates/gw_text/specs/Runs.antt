@@ -1,4 +1,4 @@
--- Runs of bytes of a class, and what a text begins with.
+-- Runs of bytes of a class, and what a text begins with (own).
 use Rattle.std.specs.Prelude.{◌≡◌, ◌==◌, true, ℕ, suc, Bool, false, if◌then◌else◌, List, [], ◌∷◌}
 use Rattle.std.specs.List.{list_all}
 

@@ -1,4 +1,4 @@
--- What each scan takes from the front of a text, or why it takes nothing.
+-- What each scan takes from the front of a text, or why it takes nothing (own): the forms themselves stand in `Forms`.
 use Rattle.std.specs.Prelude.{◌≡◌, ℕ, ◌||◌, nat_lt, ◌==◌, if◌then◌else◌, List, take, drop, Result, Ok, Err}
 use Rattle.std.specs.Str.Parse.{digits_value}
 use Rattle.gw_base.specs.Bytes.{is_digit}

@@ -22,17 +22,11 @@ fn is_run_byte(b: u8) -> bool
 }
 
 /// The length of the run at the front.
-#[tactic(auto, using(crate::proofs::RunLemmas::run_goes_on, crate::proofs::RunLemmas::run_stops))]
 pub fn run_len(text: &[u8]) -> usize
     ensures value { result ≡ run_len is_run_byte text.now }
     ensures within { result ≤ length text.now }
 {
-    for (i, b) in text.iter().enumerate() {
-        if !is_run_byte(*b) {
-            return i;
-        }
-    }
-    text.len()
+    text.iter().take_while(|b| is_run_byte(**b)).count()
 }
 
 fn is_bracket_byte(b: u8) -> bool

@@ -272,7 +272,8 @@ impl<'a> Cursor<'a> {
     }
 
     /// Takes a group: from its `{` to the matching `}`, both among it, with braces at most `depth` deep, its own
-    /// counted. Quoted texts, comments and octets are passed whole.
+    /// counted. Quoted texts, comments and octets are passed whole. A depth is at most 16 in this profile: it is 8 in a
+    /// request and 16 in a reply.
     ///
     /// # Errors
     ///

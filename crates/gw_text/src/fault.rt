@@ -11,7 +11,8 @@ pub enum ScanFault {
     /// A `{` lies deeper than is allowed.
     #[error("braces lie too deep")]
     TooDeep,
-    /// The digits at the cursor write no 32-bit number, or are more than ten.
+    /// The digits at the cursor are too many, or write too large a number: for `uint32` more than ten digits or no 32-bit
+    /// number, for `number` more than its own limits on the two.
     #[error("the number is too large")]
     Overflow,
 }

@@ -37,43 +37,25 @@ pub fn space_len(text: &[u8]) -> usize
 }
 
 /// The length of the safe bytes.
-#[tactic(auto, using(crate::proofs::RunLemmas::run_goes_on, crate::proofs::RunLemmas::run_stops))]
 pub fn word_len(text: &[u8]) -> usize
     ensures value { result ≡ run_len is_safe text.now }
     ensures within { result ≤ length text.now }
 {
-    for (i, b) in text.iter().enumerate() {
-        if !is_safe(*b) {
-            return i;
-        }
-    }
-    text.len()
+    text.iter().take_while(|b| is_safe(**b)).count()
 }
 
 /// The length of the digits.
-#[tactic(auto, using(crate::proofs::RunLemmas::run_goes_on, crate::proofs::RunLemmas::run_stops))]
 pub fn digits_len(text: &[u8]) -> usize
     ensures value { result ≡ run_len is_digit text.now }
     ensures within { result ≤ length text.now }
 {
-    for (i, b) in text.iter().enumerate() {
-        if !is_digit(*b) {
-            return i;
-        }
-    }
-    text.len()
+    text.iter().take_while(|b| is_digit(**b)).count()
 }
 
 /// The length of the bytes before the first with which white space begins.
-#[tactic(auto, using(crate::proofs::RunLemmas::run_goes_on, crate::proofs::RunLemmas::run_stops))]
 pub fn solid_len(text: &[u8]) -> usize
     ensures value { result ≡ run_len is_solid text.now }
     ensures within { result ≤ length text.now }
 {
-    for (i, b) in text.iter().enumerate() {
-        if !is_solid(*b) {
-            return i;
-        }
-    }
-    text.len()
+    text.iter().take_while(|b| is_solid(**b)).count()
 }

@@ -31,17 +31,11 @@ pub fn octets_ends(text: &[u8]) -> Option<(usize, usize)>
     None
 }
 
-#[tactic(auto, using(crate::proofs::RunLemmas::run_goes_on, crate::proofs::RunLemmas::run_stops))]
 fn blank_len(text: &[u8]) -> usize
     ensures value { result ≡ run_len is_blank text.now }
     ensures within { result ≤ length text.now }
 {
-    for (i, b) in text.iter().enumerate() {
-        if !is_blank(*b) {
-            return i;
-        }
-    }
-    text.len()
+    text.iter().take_while(|b| is_blank(**b)).count()
 }
 
 /// The text without the white space at its front.
@@ -57,17 +51,11 @@ fn is_quotable(b: u8) -> bool
     b != b'"' && (b == b'\t' || (b >= b' ' && b <= b'~'))
 }
 
-#[tactic(auto, using(crate::proofs::RunLemmas::run_goes_on, crate::proofs::RunLemmas::run_stops))]
 fn quotable_len(text: &[u8]) -> usize
     ensures value { result ≡ run_len is_quotable text.now }
     ensures within { result ≤ length text.now }
 {
-    for (i, b) in text.iter().enumerate() {
-        if !is_quotable(*b) {
-            return i;
-        }
-    }
-    text.len()
+    text.iter().take_while(|b| is_quotable(**b)).count()
 }
 
 /// The length of the quoted text at the front, its quotes among it.

@@ -1,8 +1,8 @@
 //! The words of the grammar, in their long and their short form (RFC 3525, Annex B.2).
 
 ghost use Rattle.std.specs.Prelude.{◌≡◌};
-ghost use Rattle.gw_text.specs.Tokens.{is_spelling, find_token, token_of};
-ghost use Rattle.gw_text.specs.TokenTable.{entries};
+ghost use Rattle.gw_text.specs.Tokens.{table, is_spelling, find_token, token_of};
+ghost use Rattle.gw_text.specs.TokenTable.{entries, rows_in};
 
 /// A word that the grammar knows.
 #[derive(Clone, Copy, Debug, PartialEq, Eq)]
@@ -66,65 +66,105 @@ pub enum Token {
 #[derive(Clone, Copy)]
 struct Spelling(&'static [u8], &'static [u8], Token);
 
-static TABLE: [Spelling; 53] = [
-    Spelling(b"Add", b"A", Token::Add),
-    Spelling(b"Audit", b"AT", Token::Audit),
-    Spelling(b"AuditCapability", b"AC", Token::AuditCapability),
-    Spelling(b"AuditValue", b"AV", Token::AuditValue),
-    Spelling(b"Bothway", b"BW", Token::Bothway),
-    Spelling(b"Context", b"C", Token::Context),
-    Spelling(b"ContextAudit", b"CA", Token::ContextAudit),
-    Spelling(b"Delay", b"DL", Token::Delay),
-    Spelling(b"DigitMap", b"DM", Token::DigitMap),
-    Spelling(b"Emergency", b"EG", Token::Emergency),
-    Spelling(b"Error", b"ER", Token::Error),
-    Spelling(b"EventBuffer", b"EB", Token::EventBuffer),
-    Spelling(b"Events", b"E", Token::Events),
-    Spelling(b"Forced", b"FO", Token::Forced),
-    Spelling(b"Inactive", b"IN", Token::Inactive),
-    Spelling(b"InService", b"IV", Token::InService),
-    Spelling(b"Isolate", b"IS", Token::Isolate),
-    Spelling(b"Local", b"L", Token::Local),
-    Spelling(b"LocalControl", b"O", Token::LocalControl),
-    Spelling(b"Loopback", b"LB", Token::Loopback),
-    Spelling(b"Media", b"M", Token::Media),
-    Spelling(b"Method", b"MT", Token::Method),
-    Spelling(b"Mode", b"MO", Token::Mode),
-    Spelling(b"Modem", b"MD", Token::Modem),
-    Spelling(b"Modify", b"MF", Token::Modify),
-    Spelling(b"Move", b"MV", Token::Move),
-    Spelling(b"Mux", b"MX", Token::Mux),
-    Spelling(b"Notify", b"N", Token::Notify),
-    Spelling(b"ObservedEvents", b"OE", Token::ObservedEvents),
-    Spelling(b"Oneway", b"OW", Token::Oneway),
-    Spelling(b"OutOfService", b"OS", Token::OutOfService),
-    Spelling(b"Packages", b"PG", Token::Packages),
-    Spelling(b"Pending", b"PN", Token::Pending),
-    Spelling(b"Priority", b"PR", Token::Priority),
-    Spelling(b"Reason", b"RE", Token::Reason),
-    Spelling(b"ReceiveOnly", b"RC", Token::ReceiveOnly),
-    Spelling(b"Remote", b"R", Token::Remote),
-    Spelling(b"Reply", b"P", Token::Reply),
-    Spelling(b"Restart", b"RS", Token::Restart),
-    Spelling(b"SendOnly", b"SO", Token::SendOnly),
-    Spelling(b"SendReceive", b"SR", Token::SendReceive),
-    Spelling(b"ServiceChange", b"SC", Token::ServiceChange),
-    Spelling(b"ServiceStates", b"SI", Token::ServiceStates),
-    Spelling(b"Services", b"SV", Token::Services),
-    Spelling(b"Signals", b"SG", Token::Signals),
-    Spelling(b"Statistics", b"SA", Token::Statistics),
-    Spelling(b"Stream", b"ST", Token::Stream),
-    Spelling(b"Subtract", b"S", Token::Subtract),
-    Spelling(b"TerminationState", b"TS", Token::TerminationState),
-    Spelling(b"Test", b"TE", Token::Test),
-    Spelling(b"Topology", b"TP", Token::Topology),
-    Spelling(b"Transaction", b"T", Token::Transaction),
-    Spelling(
-        b"TransactionResponseAck",
-        b"K",
-        Token::TransactionResponseAck,
-    ),
-];
+// The two forms of each of these three begin with different letters: they stand with the tokens of both.
+const LOCAL_CONTROL: Spelling = Spelling(b"LocalControl", b"O", Token::LocalControl);
+
+const REPLY: Spelling = Spelling(b"Reply", b"P", Token::Reply);
+
+const RESPONSE_ACK: Spelling = Spelling(
+    b"TransactionResponseAck",
+    b"K",
+    Token::TransactionResponseAck,
+);
+
+/// The tokens with a form that begins with the letter, which is in lower case: a word is looked up among these alone.
+fn tokens_in(letter: u8) -> &'static [Spelling]
+    ensures { entries result.now ≡ rows_in letter table }
+{
+    match letter {
+        b'a' => &[
+            Spelling(b"Add", b"A", Token::Add),
+            Spelling(b"Audit", b"AT", Token::Audit),
+            Spelling(b"AuditCapability", b"AC", Token::AuditCapability),
+            Spelling(b"AuditValue", b"AV", Token::AuditValue),
+        ],
+        b'b' => &[Spelling(b"Bothway", b"BW", Token::Bothway)],
+        b'c' => &[
+            Spelling(b"Context", b"C", Token::Context),
+            Spelling(b"ContextAudit", b"CA", Token::ContextAudit),
+        ],
+        b'd' => &[
+            Spelling(b"Delay", b"DL", Token::Delay),
+            Spelling(b"DigitMap", b"DM", Token::DigitMap),
+        ],
+        b'e' => &[
+            Spelling(b"Emergency", b"EG", Token::Emergency),
+            Spelling(b"Error", b"ER", Token::Error),
+            Spelling(b"EventBuffer", b"EB", Token::EventBuffer),
+            Spelling(b"Events", b"E", Token::Events),
+        ],
+        b'f' => &[Spelling(b"Forced", b"FO", Token::Forced)],
+        b'i' => &[
+            Spelling(b"Inactive", b"IN", Token::Inactive),
+            Spelling(b"InService", b"IV", Token::InService),
+            Spelling(b"Isolate", b"IS", Token::Isolate),
+        ],
+        b'k' => &[RESPONSE_ACK],
+        b'l' => &[
+            Spelling(b"Local", b"L", Token::Local),
+            LOCAL_CONTROL,
+            Spelling(b"Loopback", b"LB", Token::Loopback),
+        ],
+        b'm' => &[
+            Spelling(b"Media", b"M", Token::Media),
+            Spelling(b"Method", b"MT", Token::Method),
+            Spelling(b"Mode", b"MO", Token::Mode),
+            Spelling(b"Modem", b"MD", Token::Modem),
+            Spelling(b"Modify", b"MF", Token::Modify),
+            Spelling(b"Move", b"MV", Token::Move),
+            Spelling(b"Mux", b"MX", Token::Mux),
+        ],
+        b'n' => &[Spelling(b"Notify", b"N", Token::Notify)],
+        b'o' => &[
+            LOCAL_CONTROL,
+            Spelling(b"ObservedEvents", b"OE", Token::ObservedEvents),
+            Spelling(b"Oneway", b"OW", Token::Oneway),
+            Spelling(b"OutOfService", b"OS", Token::OutOfService),
+        ],
+        b'p' => &[
+            Spelling(b"Packages", b"PG", Token::Packages),
+            Spelling(b"Pending", b"PN", Token::Pending),
+            Spelling(b"Priority", b"PR", Token::Priority),
+            REPLY,
+        ],
+        b'r' => &[
+            Spelling(b"Reason", b"RE", Token::Reason),
+            Spelling(b"ReceiveOnly", b"RC", Token::ReceiveOnly),
+            Spelling(b"Remote", b"R", Token::Remote),
+            REPLY,
+            Spelling(b"Restart", b"RS", Token::Restart),
+        ],
+        b's' => &[
+            Spelling(b"SendOnly", b"SO", Token::SendOnly),
+            Spelling(b"SendReceive", b"SR", Token::SendReceive),
+            Spelling(b"ServiceChange", b"SC", Token::ServiceChange),
+            Spelling(b"ServiceStates", b"SI", Token::ServiceStates),
+            Spelling(b"Services", b"SV", Token::Services),
+            Spelling(b"Signals", b"SG", Token::Signals),
+            Spelling(b"Statistics", b"SA", Token::Statistics),
+            Spelling(b"Stream", b"ST", Token::Stream),
+            Spelling(b"Subtract", b"S", Token::Subtract),
+        ],
+        b't' => &[
+            Spelling(b"TerminationState", b"TS", Token::TerminationState),
+            Spelling(b"Test", b"TE", Token::Test),
+            Spelling(b"Topology", b"TP", Token::Topology),
+            Spelling(b"Transaction", b"T", Token::Transaction),
+            RESPONSE_ACK,
+        ],
+        _ => &[],
+    }
+}
 
 /// Whether a word is one of the two, in any case.
 #[tactic(auto, unfolding(crate::specs::Tokens::is_spelling))]
@@ -146,12 +186,15 @@ fn find(table: &[Spelling], word: &[u8]) -> Option<Token>
     None
 }
 
-/// The token that a word is, in its long or its short form, in any case.
-#[tactic(auto, unfolding(crate::specs::Tokens::token_of))]
+/// The token that a word is, in its long or its short form, in any case. The word is laid beside nine tokens at most,
+/// those in its first letter.
 pub fn token_of(word: &[u8]) -> Option<Token>
     ensures { result ≡ token_of word.now }
 {
-    find(&TABLE, word)
+    let [first, ..] = word else {
+        return None;
+    };
+    find(tokens_in(first.to_ascii_lowercase()), word)
 }
 
 #[cfg(test)]

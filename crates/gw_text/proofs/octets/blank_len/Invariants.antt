@@ -1,7 +1,0 @@
-use Rattle.std.proofs.Common.{◌≡◌, ◌+◌, drop}
-use Rattle.gw_text.specs.Lexical.{is_blank}
-use Rattle.gw_text.specs.Runs.{run_len}
-use Rattle.gw_text.proofs.octets.blank_len.Given as goal
-
-abbrev pub invariant-loop-i : goal.invariant-loop-i
-invariant-loop-i l = l.i + run_len is_blank (drop l.i l.text) ≡ run_len is_blank l.text
