@@ -5,7 +5,7 @@ use Rattle.std.specs.List.{list_all}
 use Rattle.std.proofs.lemmas.List.Folds.{list_all-append}
 use Rattle.std.proofs.lemmas.Bool.{and_parts, and_from, or_cases, or_left}
 use Rattle.gw_base.specs.Bytes.{byte, is_letter, is_digit, is_name_mark, is_name_byte}
-use Rattle.gw_base.proofs.Tests.{other_byte}
+use Rattle.gw_base.proofs.Booleans.{other_byte}
 use Rattle.gw_base.proofs.NameForms.{some_mid}
 use Rattle.gw_base.specs.Lang.{Both, ◌▹◌, IsText}
 use Rattle.gw_base.specs.Addresses.{is_address_byte, IsAddress}
