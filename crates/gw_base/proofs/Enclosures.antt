@@ -2,7 +2,7 @@
 use Rattle.std.proofs.Common.{◌≡◌, ℕ, true, false, ◌==◌, List, [], ◌∷◌, ◌++◌, refl, sym, ap, ◌∙◌, subst, eq-eqb}
 use Rattle.std.specs.List.{list_any}
 use Rattle.gw_base.specs.Lang.{◌▹◌, IsText}
-use Rattle.gw_base.proofs.Tests.{neither}
+use Rattle.gw_base.proofs.Booleans.{neither}
 
 -- a text has one first byte of a kind
 pub split_once : (c : ℕ) (a b x y : List ℕ) → a ++ c ∷ x ≡ b ++ c ∷ y → list_any (λ z. z == c) a ≡ false → list_any (λ z. z == c) b ≡ false → (a ≡ b) × (x ≡ y)

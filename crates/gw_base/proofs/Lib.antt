@@ -1,3 +1,4 @@
+pub mod Booleans
 pub mod Enclosures
 pub mod Known
 pub mod NameForms
@@ -6,5 +7,4 @@ pub mod Ports
 pub mod SpelledLaws
 pub mod TermClasses
 pub mod TermNames
-pub mod Tests
 pub mod Views

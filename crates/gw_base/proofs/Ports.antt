@@ -9,7 +9,7 @@ use Rattle.std.proofs.lemmas.Str.Parse.{digits_value-take-le}
 use Rattle.std.proofs.lemmas.Bool.{leb-true}
 use Rattle.gw_base.specs.Bytes.{is_digit}
 use Rattle.gw_base.specs.Mids.{port_max}
-use Rattle.gw_base.proofs.Tests.{each_at, refuted}
+use Rattle.gw_base.proofs.Booleans.{each_at, refuted}
 
 digit_range : (b : ℕ) → is_digit b ≡ true → IsInRange 48 57 b
 digit_range b e = search rules

@@ -7,7 +7,7 @@ use Rattle.gw_base.specs.Reads.{ReadsAs}
 use Rattle.gw_base.specs.Wildcards.{is_wildcard, is_term_byte, IsTermText}
 use Rattle.gw_base.specs.declared.fault.NameFault.{NameFault}
 use Rattle.gw_base.specs.declared.fault.NameFault.TheVariants.{Empty, TooLong, BadByte}
-use Rattle.gw_base.proofs.Tests.{both, neither}
+use Rattle.gw_base.proofs.Booleans.{both, neither}
 
 -- one of two that is not the second is the first
 pub the_first : (a b : Bool) → a || b ≡ true → b ≡ false → a ≡ true

@@ -22,14 +22,15 @@ pub record IsDomain (bytes : List ℕ) : Type 0 where
   pub first : is_letter (slice_index bytes 0) || is_digit (slice_index bytes 0) ≡ true
   pub each : list_all is_domain_byte bytes ≡ true
 
--- the most digits of a port, and the greatest number that they write
+-- the most digits of a port
 abbrev pub port_digits : ℕ
 port_digits = 5
 
+-- the greatest number of a port
 abbrev pub port_max : ℕ
 port_max = 65535
 
--- digits, one at least
+-- portNumber: digits, one at least, which write a number of a port
 pub record IsPort (bytes : List ℕ) : Type 0 where
   pub some : 0 < length bytes
   pub short : length bytes ≤ port_digits

@@ -1,4 +1,4 @@
--- The cells come back from the text that lies in them.
+-- The cells come back from the text that lies in them (own).
 use Rattle.std.proofs.Common.{◌≡◌, ℕ, ◌-◌, List, ◌++◌, length, take, replicate, ap, sym, ◌∙◌}
 use Rattle.gw_base.specs.Padding.{IsPadded}
 use Rattle.gw_base.specs.declared.inline.Inline.TheInside.{Inside}

@@ -1,4 +1,4 @@
--- What a text is read as, and when it is refused.
+-- What a text is read as, and when it is refused (own).
 use Rattle.std.specs.Prelude.{◌≡◌, ◌≢◌, ℕ, ◌<◌, ◌≤◌, List, [], length, Result, Ok, Err}
 use Rattle.gw_base.specs.declared.fault.NameFault.{NameFault}
 use Rattle.gw_base.specs.declared.fault.NameFault.TheVariants.{Empty, TooLong, BadByte}

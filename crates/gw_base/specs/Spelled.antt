@@ -1,4 +1,4 @@
--- The value that a text spells, where it is known whether there is one.
+-- The value that a text spells, where it is known whether there is one (own).
 use Rattle.std.specs.Prelude.{ℕ, ◌⊎◌, List, Option, Some, None}
 use Rattle.std.proofs.Common.{inl, inr}
 

@@ -1,4 +1,4 @@
--- What a TerminationID is, by its text.
+-- What a TerminationID is, by its text (RFC 3525, section 6.2.2 and Annex B.2, TerminationID; the classes are own).
 use Rattle.std.specs.Prelude.{◌≡◌, ◌≢◌, ℕ, true, false, ◌⊎◌, List, codes, Result, Ok, Err}
 use Rattle.std.specs.List.{list_any}
 use Rattle.gw_base.specs.Names.{name_max}

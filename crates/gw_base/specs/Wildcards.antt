@@ -9,6 +9,7 @@ use Rattle.gw_base.specs.Names.{IsName, name_max}
 abbrev pub is_wildcard : ℕ → Bool
 is_wildcard b = is_one_of (codes "*$") b
 
+-- a byte of a TerminationID
 abbrev pub is_term_byte : ℕ → Bool
 is_term_byte b = is_name_byte b || is_wildcard b
 

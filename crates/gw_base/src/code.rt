@@ -41,7 +41,7 @@ pub enum Code {
     DescriptorTwice,
     /// 456: a property stands twice in a descriptor.
     PropertyTwice,
-    /// 501: the profile leaves the function out.
+    /// 501: the profile leaves the function out, or the message is not carried out yet.
     NotImplemented,
     /// 510: a limit of the gateway is reached.
     InsufficientResources,

@@ -19,21 +19,32 @@ pub enum CtxRef {
 /// A command (RFC 3525, section 7.2).
 #[derive(Clone, Copy, Debug, PartialEq, Eq, Hash)]
 pub enum Verb {
+    /// Puts a termination into the action's context.
     Add,
+    /// Changes the properties of a termination.
     Modify,
+    /// Takes a termination out of its context and puts it into the action's.
     Move,
+    /// Takes a termination out of its context.
     Subtract,
+    /// Asks for the values that a termination has.
     AuditValue,
+    /// Asks for the values that a termination may have.
     AuditCapability,
+    /// Tells of events.
     Notify,
+    /// Tells of a change of service.
     ServiceChange,
 }
 
 /// The service state of a termination (RFC 3525, section 7.1.5).
 #[derive(Clone, Copy, Debug, PartialEq, Eq, Hash)]
 pub enum Service {
+    /// `Test`: it is being tested.
     Test,
+    /// `OutOfService`: it cannot carry media.
     OutOfService,
+    /// `InService`: it can.
     InService,
 }
 

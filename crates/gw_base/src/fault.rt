@@ -1,7 +1,5 @@
 //! Why a call of this crate, or of one above it, gives no value.
 
-ghost use Rattle.std.specs.Prelude.{◌≡◌};
-
 use std::alloc::{AllocError, AllocFailed};
 use thiserror::Error;
 

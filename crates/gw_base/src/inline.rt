@@ -1,6 +1,6 @@
 //! Short texts kept inline, at the front of an array, with zeros behind them.
 
-ghost use Rattle.std.specs.Prelude.{◌≡◌, ◌≤◌, ◌<◌, ◌^◌, ◌-◌, ◌++◌, length, replicate};
+ghost use Rattle.std.specs.Prelude.{◌≡◌, ◌≤◌, ◌<◌, ◌-◌, ◌++◌, length, replicate};
 
 use std::fmt;
 use std::fmt::Write;
@@ -35,9 +35,7 @@ fn padded<const N: usize>(text: &[u8]) -> [u8; N]
     ensures { result ≡ text.now ++ replicate (N - length text.now) 0 }
 {
     let mut cells = [0; N];
-    for (i, b) in text.iter().enumerate() {
-        cells[i] = *b;
-    }
+    cells[..text.len()].copy_from_slice(text);
     cells
 }
 

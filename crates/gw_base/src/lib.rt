@@ -17,13 +17,12 @@ mod mid;
 mod name;
 mod term_ref;
 
-pub use bytes::{is_digit, is_hex_digit, is_letter, is_name_byte};
+pub use bytes::{is_digit, is_letter};
 pub use code::Code;
 pub use command_words::{CtxRef, Rules, Service, Verb};
 pub use config::Config;
 pub use fault::{NameFault, NoMemory};
 pub use ids::{CtxNum, Ids, TxId};
-pub use inline::Inline;
 pub use items::Items;
 pub use media::MediaAddr;
 pub use mid::Mid;

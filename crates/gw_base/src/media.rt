@@ -1,6 +1,6 @@
 //! The address of a gateway's media.
 
-ghost use Rattle.std.specs.Prelude.{◌≡◌, ◌≤◌, ◌↔◌, IsTrue, length};
+ghost use Rattle.std.specs.Prelude.{◌≡◌, ◌↔◌, IsTrue};
 ghost use Rattle.std.specs.List.{list_all};
 ghost use Rattle.gw_base.specs.Addresses.{is_address_byte, IsAddress, address_max};
 ghost use Rattle.gw_base.specs.Reads.{ReadsAs};

@@ -1,6 +1,6 @@
 //! What a gateway or a controller calls itself (RFC 3525, Annex B.2, `mId`).
 
-ghost use Rattle.std.specs.Prelude.{◌≡◌, ◌≤◌, ◌↔◌, ◌++◌, ◌∷◌, ◌==◌, nat_le, IsTrue, IfNone, IfSome, length, true, false, codes};
+ghost use Rattle.std.specs.Prelude.{◌≡◌, ◌↔◌, ◌++◌, ◌∷◌, ◌==◌, nat_le, IsTrue, IfNone, IfSome, true, false, codes};
 ghost use Rattle.std.specs.List.{list_all, list_any};
 ghost use Rattle.std.specs.Str.Parse.{digits_value};
 ghost use Rattle.gw_base.specs.Bytes.{is_digit};
@@ -69,7 +69,7 @@ fn are_digits(text: &[u8]) -> bool
 fn is_domain(text: &[u8]) -> bool
     ensures { IsTrue result ↔ IsDomain text.now }
 {
-    text.len() > 0
+    !text.is_empty()
         && text.len() <= 64
         && (is_letter(text[0]) || is_digit(text[0]))
         && are_domain_bytes(text)
@@ -78,7 +78,7 @@ fn is_domain(text: &[u8]) -> bool
 fn is_device(text: &[u8]) -> bool
     ensures { IsTrue result ↔ IsDevice text.now }
 {
-    text.len() > 0
+    !text.is_empty()
         && text.len() <= 64
         && (is_letter(text[0]) || text[0] == b'*')
         && are_device_bytes(text)

@@ -42,7 +42,7 @@ fn is_name(text: &[u8]) -> bool
     requires { length text.now ≤ name_max }
     ensures { IsTrue result ↔ IsName text.now }
 {
-    text.len() > 0 && is_letter(text[0]) && are_name_bytes(text)
+    !text.is_empty() && is_letter(text[0]) && are_name_bytes(text)
 }
 
 impl TermName {

@@ -1,6 +1,6 @@
 //! What a command names (RFC 3525, section 6.2.2 and Annex B.2, `TerminationID`).
 
-ghost use Rattle.std.specs.Prelude.{◌≡◌, ◌≤◌, ◌↔◌, ℕ, List, true, length, IsTrue, MatchOption};
+ghost use Rattle.std.specs.Prelude.{◌≡◌, ◌≤◌, ◌↔◌, ℕ, List, length, IsTrue, MatchOption};
 ghost use Rattle.std.specs.List.{list_all, list_any};
 ghost use Rattle.gw_base.specs.Names.{name_max};
 ghost use Rattle.gw_base.specs.Wildcards.{is_wildcard, is_term_byte, IsTermText, IsRoot, IsUnder};
@@ -65,7 +65,7 @@ fn is_term(text: &[u8]) -> bool
     requires { length text.now ≤ name_max }
     ensures { IsTrue result ↔ IsTermText text.now }
 {
-    text.len() > 0 && (is_letter(text[0]) || is_wildcard(text[0])) && are_term_bytes(text)
+    !text.is_empty() && (is_letter(text[0]) || is_wildcard(text[0])) && are_term_bytes(text)
 }
 
 fn is_root(text: &[u8]) -> bool
@@ -84,9 +84,7 @@ fn has_wildcard(text: &[u8]) -> bool
 fn under(text: &[u8]) -> Option<TermName>
     ensures { MatchOption result ((prefix : List ℕ) → ¬ IsUnder prefix text.now) (λ prefix. IsUnder prefix text.now) }
 {
-    let Some((last, front)) = text.split_last() else {
-        return None;
-    };
+    let (last, front) = text.split_last()?;
     if *last != b'*' || front.is_empty() || front[front.len() - 1] != b'/' {
         return None;
     }

@@ -95,10 +95,11 @@ SpellsStreamPart (part.Local span) = IsToken token.Local ▹ SpellsOctets span
 SpellsStreamPart (part.Remote span) = IsToken token.Remote ▹ SpellsOctets span
 SpellsStreamPart (part.LocalControl properties) = IsToken token.LocalControl ▹ Braced SpellsProperty properties
 
--- the most digits of a StreamID, and the greatest number that they write
+-- the most digits of a StreamID
 abbrev pub stream_digits : ℕ
 stream_digits = 5
 
+-- the greatest StreamID
 abbrev pub stream_max : ℕ
 stream_max = 65535
 
@@ -130,6 +131,7 @@ SpellsServiceParm p = Kept IsWord p.name ▹ SpellsOptionalValue p.value
 
 -- ---- descriptors
 
+-- the token of each descriptor that is kept as sent
 abbrev pub kept_token : KeptKind → Token
 kept_token kept.Events = token.Events
 kept_token kept.Signals = token.Signals

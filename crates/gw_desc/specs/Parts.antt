@@ -1,4 +1,4 @@
--- What reading a part of a message answers.
+-- What reading a part of a message answers (own).
 use Rattle.std.specs.Prelude.{◌≡◌, ◌≤◌, ◌<◌, ◌++◌, length, ℕ, List, Option, Some, None, Result, Ok, Err}
 use Rattle.gw_text.specs.SpaceScan.{skip}
 use Rattle.gw_text.specs.Reader.{Reader}

@@ -1,4 +1,4 @@
--- Descriptors as they are read, from left to right. That this is the grammar is proved.
+-- Descriptors as they are read, from left to right (own). That this is the grammar (RFC 3525, Annex B.2) is proved.
 use Rattle.std.specs.Prelude.{◌≡◌, ℕ, true, false, List, Option, Some, None}
 use Rattle.gw_text.specs.Lexical.{is_safe, equals_sign, left_brace, right_brace, left_bracket, quote_mark}
 use Rattle.gw_text.specs.SpaceScan.{skip}
@@ -35,18 +35,20 @@ run_read = run_as (λ run. Some run)
 
 -- ---- tails
 
+-- a group behind white space, if a brace comes next there; else nothing is taken
 unfoldable pub optional_group_at : Reader (Option (List ℕ))
 optional_group_at =
     if_ahead left_brace (λ text. do
       group ← group_read request_depth text
       Some (Some group.0, group.1)) (λ text. Some (None, text))
 
--- behind `=`
+-- behind `=`, a group
 abbrev pub group_tail_at : Reader Tail
 group_tail_at text = do
   group ← group_read request_depth text
   Some (record { equals = true; word = None; group = Some group.0 }, group.1)
 
+-- behind `=`, a word, and perhaps a group
 abbrev pub word_tail_at : Reader Tail
 word_tail_at text = do
   word ← word_read text
@@ -59,6 +61,7 @@ bare_tail_at text = do
   group ← optional_group_at text
   Some (record { equals = false; word = None; group = group.0 }, group.1)
 
+-- what follows the word of a descriptor that is kept as sent
 unfoldable pub tail_at : Reader Tail
 tail_at = if_sign equals_sign (if_begins (is_byte left_brace) group_tail_at word_tail_at) bare_tail_at
 
@@ -70,12 +73,14 @@ pub record AfterTail (rest : List ℕ) : Type 0 where
 
 -- ---- properties
 
+-- which value it is, its first byte tells
 unfoldable pub value_at : Reader (List ℕ)
 value_at =
     if_begins (is_byte quote_mark) quoted_read
     (if_begins (is_byte left_bracket) bracket_read
     (if_begins (is_byte left_brace) (group_read request_depth) word_read))
 
+-- the sign between name and value
 unfoldable pub relation_at : Reader Sign
 relation_at =
     if_sign (sign_byte Equal) (λ rest. Some (Equal, rest))
@@ -85,6 +90,7 @@ relation_at =
       rest ← sign_at (sign_byte Greater) text
       Some (Greater, rest))))
 
+-- a name, a sign and a value
 unfoldable pub property_at : Reader Property
 property_at text = do
   name ← word_read text
@@ -102,18 +108,20 @@ octets_text_at text = do
   close ← byte_at right_brace span.1
   Some (span.0, skip close)
 
--- behind the word of a part
+-- behind the word of a part of a stream
 abbrev pub stream_rest : Token → Reader StreamPart
 stream_rest token.Local text = octets_text_at text >>= λ span. Some (part.Local span.0, span.1)
 stream_rest token.Remote text = octets_text_at text >>= λ span. Some (part.Remote span.0, span.1)
 stream_rest token.LocalControl text = braced_at property_at text >>= λ list. Some (part.LocalControl list.0, list.1)
 stream_rest _ text = None
 
+-- the word, and what is behind it
 unfoldable pub stream_part_at : Reader StreamPart
 stream_part_at text = do
   word ← word_as token_of text
   stream_rest word.0 word.1
 
+-- behind the word Stream
 unfoldable pub stream_at : Reader MediaPart
 stream_at text = do
   equals ← sign_at equals_sign text
@@ -121,11 +129,13 @@ stream_at text = do
   parts ← braced_at stream_part_at id.1
   Some (media.Stream id.0 parts.0, parts.1)
 
+-- behind the word of a part of a Media
 abbrev pub media_rest : Token → Reader MediaPart
 media_rest token.Stream text = stream_at text
 media_rest token.TerminationState text = braced_at property_at text >>= λ list. Some (media.TerminationState list.0, list.1)
 media_rest word text = stream_rest word text >>= λ p. Some (media.Outside p.0, p.1)
 
+-- the word, and what is behind it
 unfoldable pub media_part_at : Reader MediaPart
 media_part_at text = do
   word ← word_as token_of text
@@ -133,6 +143,7 @@ media_part_at text = do
 
 -- ---- Services
 
+-- a quoted text where a quotation mark comes next, else a run
 unfoldable pub service_value_at : Reader ServiceValue
 service_value_at =
     if_begins (is_byte quote_mark) (λ text. do
@@ -141,12 +152,14 @@ service_value_at =
         span ← run_read text
         Some (value.Run span.0, span.1))
 
+-- behind the name of a parameter
 abbrev pub service_rest : List ℕ → Reader ServiceParm
 service_rest name =
     if_sign equals_sign (λ text. do
       value ← service_value_at text
       Some (record { name = name; value = Some value.0 }, value.1)) (λ text. Some (record { name = name; value = None }, text))
 
+-- a name, and perhaps a value
 unfoldable pub service_parm_at : Reader ServiceParm
 service_parm_at text = do
   name ← word_read text
@@ -161,6 +174,7 @@ dropped_at =
       bracket ← bracket_read text
       tail_at bracket.1) tail_at
 
+-- behind the word of a descriptor that is kept
 abbrev pub keep_at : KeptKind → Reader Descriptor
 keep_at kind text = tail_at text >>= λ tail. Some (descriptor.Keep kind tail.0, tail.1)
 
@@ -175,6 +189,7 @@ descriptor_rest word (Some token.Audit) text = braced_or_empty_at word_read text
 descriptor_rest word (Some token.Services) text = braced_at service_parm_at text >>= λ list. Some (descriptor.Services list.0, list.1)
 descriptor_rest word _ text = dropped_at text >>= λ rest. Some (descriptor.Other word, rest.1)
 
+-- the word, and what is behind it
 unfoldable pub descriptor_at : Reader Descriptor
 descriptor_at text = do
   word ← word_read text

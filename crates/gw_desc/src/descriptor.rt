@@ -23,9 +23,13 @@ pub enum Descriptor {
 /// Which descriptor is kept as sent.
 #[derive(Clone, Copy, Debug, PartialEq, Eq, Hash)]
 pub enum KeptKind {
+    /// `Events` (RFC 3525, section 7.1.9): which events are to be told of.
     Events,
+    /// `Signals` (section 7.1.11): what is to be played.
     Signals,
+    /// `DigitMap` (section 7.1.14): which digits are to be collected.
     DigitMap,
+    /// `EventBuffer` (section 7.1.10): which events are kept for later.
     EventBuffer,
 }
 

@@ -2,12 +2,13 @@
 
 ghost use Rattle.std.specs.Prelude.{◌≡◌, ℕ, List, Option, Some, None, MatchResult};
 ghost use Rattle.gw_text.specs.Sign.{sign_at};
-ghost use Rattle.gw_text.specs.Reader.{list_at, closed_list_at, braced_at, optional_at, braced_or_empty_at, items_at};
+ghost use Rattle.gw_text.specs.Reader.{word_as, list_at, closed_list_at, braced_at, optional_at, braced_or_empty_at, items_at};
+ghost use Rattle.gw_text.specs.Tokens.{token_of};
 ghost use Rattle.gw_desc.specs.Parts.{Gives, Shrinks, ShrinksMore};
 
 use crate::fault::PartFault;
 use gw_base::Items;
-use gw_text::Cursor;
+use gw_text::{Cursor, Token, token_of};
 use std::alloc::Global;
 
 /// A part of a message.
@@ -39,6 +40,20 @@ pub fn sign(cursor: &mut Cursor<'_>, b: u8) -> Result<(), PartFault>
     }
 }
 
+/// Takes the word that comes next, which must be a token, in its long form or its short form and in any case.
+///
+/// # Errors
+///
+/// `Syntax` where no word comes next, or one that is no token.
+pub fn token(cursor: &mut Cursor<'_>) -> Result<Token, PartFault>
+    ensures { Gives result cursor.new (word_as token_of cursor.old) }
+{
+    match token_of(cursor.word()?) {
+        Some(token) => Ok(token),
+        None => Err(PartFault::Syntax),
+    }
+}
+
 /// Reads one part or more, with commas between them. Each part is read once.
 ///
 /// # Errors
@@ -63,7 +78,7 @@ pub fn list<T: Part>(alloc: Global, cursor: &mut Cursor<'_>) -> Result<Items<T>,
 /// # Errors
 ///
 /// `Syntax` where there are none; `NoMemory` where a growth was refused.
-pub fn closed<T: Part>(alloc: Global, cursor: &mut Cursor<'_>) -> Result<Items<T>, PartFault>
+fn closed<T: Part>(alloc: Global, cursor: &mut Cursor<'_>) -> Result<Items<T>, PartFault>
     requires { Shrinks T.read_at }
     ensures { Gives result cursor.new (closed_list_at T.read_at cursor.old) }
 {

@@ -1,6 +1,5 @@
 //! Properties: a name, a sign and a value, which is kept as sent. After a fault nothing is said of the cursor.
 
-ghost use Rattle.std.specs.Prelude.{◌≡◌};
 ghost use Rattle.gw_desc.specs.Reading.{property_at, relation_at, value_at};
 ghost use Rattle.gw_desc.specs.Parts.{Gives};
 

@@ -1,16 +1,14 @@
 //! The parts of a Media descriptor, as they are read. After a fault nothing is said of the cursor.
 
-ghost use Rattle.gw_text.specs.Reader.{word_as};
-ghost use Rattle.gw_text.specs.Tokens.{token_of};
 ghost use Rattle.gw_desc.specs.Reading.{media_part_at, octets_text_at, stream_at, stream_part_at, stream_rest};
 ghost use Rattle.gw_desc.specs.Parts.{Gives};
 
 use crate::descriptor::{MediaPart, StreamPart};
 use crate::fault::PartFault;
-use crate::lists::{Part, braced, sign};
+use crate::lists::{Part, braced, sign, token};
 use crate::spans::copied;
 use gw_base::Items;
-use gw_text::{Cursor, Token, token_of};
+use gw_text::{Cursor, Token};
 use std::alloc::Global;
 
 /// The most digits of a stream's number (RFC 3525, section 7.1.6).
@@ -18,16 +16,6 @@ const STREAM_DIGITS: usize = 5;
 
 /// The greatest number of a stream.
 const STREAM_MAX: u32 = 65_535;
-
-/// The token that comes next.
-fn token(cursor: &mut Cursor<'_>) -> Result<Token, PartFault>
-    ensures { Gives result cursor.new (word_as token_of cursor.old) }
-{
-    match token_of(cursor.word()?) {
-        Some(token) => Ok(token),
-        None => Err(PartFault::Syntax),
-    }
-}
 
 /// Octets in braces, with the white space round them.
 #[tactic(auto, unfolding(crate::specs::Reading::octets_text_at, gw_text::specs::SpaceScan::skip))]

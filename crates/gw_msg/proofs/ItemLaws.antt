@@ -35,8 +35,8 @@ use Rattle.gw_msg.specs.declared.message.Item.{Item}
 use Rattle.gw_msg.specs.declared.message.Item.TheVariants as item
 use Rattle.gw_msg.specs.declared.message.Message.{Message}
 use Rattle.gw_msg.specs.Grammar.{SpellsAction, SpellsRange, SpellsItem, IsSomeUint32, IsOptionalQuoted, SpellsError, SpellsBody, SpellsMid, SpellsContent, reply_depth, code_digits, code_max}
-use Rattle.gw_msg.specs.Words.{error_of, is_error_start, mid_of}
-use Rattle.gw_msg.specs.Reading.{nothing_at, action_at, request_at, reply_at, pending_at, last_at, range_at, ack_at, part_at, item_at, quoted_or_nothing, error_at, error_body_at, body_at, content_at}
+use Rattle.gw_msg.specs.Words.{is_error, is_error_start, mid_of}
+use Rattle.gw_msg.specs.Reading.{token_in, nothing_at, action_at, request_at, reply_at, pending_at, last_at, range_at, ack_at, part_at, item_at, quoted_or_nothing, error_at, error_body_at, body_at, content_at}
 use Rattle.gw_msg.proofs.Starts.{error_starts, no_error_start, transaction_starts, reply_starts, pending_starts, ack_starts}
 use Rattle.gw_msg.proofs.Steps.{Done, Dropped, nothing_more, nothing_behind}
 use Rattle.gw_msg.proofs.WordLaws.{any_token_reads, error_word_reads, token_solid, mid_reads, mid_begins}
@@ -346,7 +346,7 @@ code_reads =
 error_reads : ReadsUp error_at (Dropped SpellsError) Any Same Skipped
 unfolding error_at
 error_reads =
-    up_as (up_then (word_as error_of) (λ u text. sign_at equals_sign text >>= code_at) (λ u. IsToken token.Error) (λ u v. IsSign equals_sign ▹ CodePart v) (NoMore is_safe) Any Same Same Skipped
+    up_as (up_then (token_in is_error) (λ u text. sign_at equals_sign text >>= code_at) (λ u. IsToken token.Error) (λ u v. IsSign equals_sign ▹ CodePart v) (NoMore is_safe) Any Same Same Skipped
     error_word_reads
     (λ u. behind_sign equals_sign code_at CodePart Any Skipped refl (λ v text h. both_begins is_solid (IsNumber code_digits code_max h.0) (ErrorText v) (number_solid _ _ h.0) text h.1) code_reads)
     (λ u v front rest q n. both_ends is_safe equals_sign (CodePart v) front rest safe_apart refl q))

@@ -30,9 +30,9 @@ use Rattle.gw_desc.proofs.TailLaws.{WithoutGroup, optional_group_reads, group_en
 use Rattle.gw_desc.proofs.DescriptorLaws.{descriptor_reads, descriptor_braces}
 use Rattle.gw_msg.specs.declared.message.Command.{Command}
 use Rattle.gw_msg.specs.declared.message.Action.{Action}
-use Rattle.gw_msg.specs.Grammar.{command_token, SpellsVerb, SpellsTerm, SpellsMark, may_be_wild, has_group, SpellsDetailsOf, SpellsDetails, SpellsCommand, SpellsContextId, IsPropertyToken, SpellsProperty, SpellsPart, parts_of, SpellsAction}
-use Rattle.gw_msg.specs.Words.{verb_of, context_of, property_of, is_property_start, term_of}
-use Rattle.gw_msg.specs.Reading.{mark_at, only_if, is_allowed, details_of, command_at, context_id_at, property_at, property_then, commands_from, commands_at, contents_at, action_at}
+use Rattle.gw_msg.specs.Grammar.{command_token, SpellsVerb, SpellsTerm, SpellsMark, may_be_wild, has_group, SpellsDetailsOf, SpellsDetails, SpellsCommand, SpellsContextId, IsPropertyToken, SpellsContextProperty, SpellsPart, parts_of, SpellsAction}
+use Rattle.gw_msg.specs.Words.{verb_of, is_context, is_property, is_property_start, term_of}
+use Rattle.gw_msg.specs.Reading.{mark_at, only_if, token_in, is_allowed, details_of, command_at, context_id_at, context_property_at, property_then, commands_from, commands_at, contents_at, action_at}
 use Rattle.gw_msg.proofs.Starts.{case_begins, property_starts, no_property_start, verb_starts}
 use Rattle.gw_msg.proofs.Steps.{NoPrefix, Done, Dropped, nothing_more, nothing_behind, mark_reads, mark_begins, up_only_if}
 use Rattle.gw_msg.proofs.WordLaws.{verb_reads, context_reads, property_word_reads, property_word_solid, token_solid, term_reads, term_solid, context_id_reads, context_id_solid}
@@ -215,24 +215,24 @@ equals_parts_end true (Some w) group front rest b n =
 abbrev SomeTail : Unit {0} → List ℕ → Type 0
 SomeTail u text = (t : Tail) × (tt ≡ u) × SpellsTail t text
 
-property_reads : ReadsUp property_at (Dropped SpellsProperty) AfterTail Same Same
-unfolding property_at
-property_reads =
-    up_as (up_then (word_as property_of) (λ u text. tail_at text >>= λ t. Some (tt, t.1)) (Dropped IsPropertyToken) (λ u. SomeTail) (NoMore is_safe) AfterTail Same Same Same
+context_property_reads : ReadsUp context_property_at (Dropped SpellsContextProperty) AfterTail Same Same
+unfolding context_property_at
+context_property_reads =
+    up_as (up_then (token_in is_property) (λ u text. tail_at text >>= λ t. Some (tt, t.1)) (Dropped IsPropertyToken) (λ u. SomeTail) (NoMore is_safe) AfterTail Same Same Same
     property_word_reads
     (λ u. up_last tail_at (λ t. tt) SpellsTail AfterTail Same Same tail_reads)
     (λ u v front rest q n. equals_parts_end q.0.equals q.0.word q.0.group front rest q.2.words n.word))
     (λ u text h. with_second h.1 (h.1.second.0, h.1.second.2))
     (λ u text b. (tt, with_second b (b.second.0, refl, b.second.1)))
 
-pub property_shrinks : Shrinks property_at
-property_shrinks = up_shrinks property_reads
+pub context_property_shrinks : Shrinks context_property_at
+context_property_shrinks = up_shrinks context_property_reads
 
-property_solid : (text : List ℕ) → SpellsProperty text → begins is_solid text ≡ true
-property_solid text h = both_begins is_solid IsPropertyToken _ property_word_solid text h
+context_property_solid : (text : List ℕ) → SpellsContextProperty text → begins is_solid text ≡ true
+context_property_solid text h = both_begins is_solid IsPropertyToken _ property_word_solid text h
 
-property_begins : (text : List ℕ) → SpellsProperty text → begins is_property_start text ≡ true
-property_begins text h = both_begins is_property_start IsPropertyToken _ property_starts text h
+context_property_begins : (text : List ℕ) → SpellsContextProperty text → begins is_property_start text ≡ true
+context_property_begins text h = both_begins is_property_start IsPropertyToken _ property_starts text h
 
 -- ---- properties and commands
 
@@ -246,7 +246,7 @@ abbrev Behind : (List Command → List ℕ → Type 0) → List Command → List
 Behind Form commands text = Both (IsSign comma) (Form commands) text ⊎ Done [] commands text
 
 abbrev PropertyThen : (List Command → List ℕ → Type 0) → List Command → List ℕ → Type 0
-PropertyThen Form commands text = (u : Unit {0}) × Both SpellsProperty (Behind Form commands) text
+PropertyThen Form commands text = (u : Unit {0}) × Both SpellsContextProperty (Behind Form commands) text
 
 abbrev Commands : ℕ → List Command → List ℕ → Type 0
 Commands zero commands text = ⊥
@@ -256,7 +256,7 @@ commands_solid : (fuel : ℕ) → BeginsWith is_solid (Commands fuel)
 commands_solid zero commands text h = absurd h
 commands_solid (suc fuel) commands text h =
     elim h [
-      | inl p ↦ both_begins is_solid SpellsProperty (Behind (Commands fuel) commands) property_solid text p.1
+      | inl p ↦ both_begins is_solid SpellsContextProperty (Behind (Commands fuel) commands) context_property_solid text p.1
       | inr s ↦ separated_begins is_solid SpellsCommand command_solid commands text s
     ]
 
@@ -275,15 +275,15 @@ commands_reads zero = record {
 }
 commands_reads (suc fuel) =
     up_if_begins is_property_start (property_then (commands_from fuel)) (list_at command_at) (PropertyThen (Commands fuel)) (Separated SpellsCommand) AfterContents UpTo
-    (up_then property_at (λ u. if_sign comma (commands_from fuel) (λ rest. Some ([], rest))) (Dropped SpellsProperty) (λ u. Behind (Commands fuel)) AfterTail AfterContents Same Same UpTo
-    property_reads
+    (up_then context_property_at (λ u. if_sign comma (commands_from fuel) (λ rest. Some ([], rest))) (Dropped SpellsContextProperty) (λ u. Behind (Commands fuel)) AfterTail AfterContents Same Same UpTo
+    context_property_reads
     (λ u. up_if_sign comma (commands_from fuel) (λ rest. Some ([], rest)) (Commands fuel) (Done []) AfterContents Same UpTo refl same_up
     (up_skipped (commands_solid fuel) (commands_reads fuel))
     (up_to (up_done [] AfterContents Same) same_up)
     (λ v front rest q n. ap (λ (x : List ℕ). sign_at comma (x ++ rest)) q.1 ∙ n.comma))
     (λ u v front rest q n. behind_after (Commands fuel) v front rest q n))
     (up_next (up_list command_at SpellsCommand AfterCommand command_reads command_lists) (λ rest n. record { next = record { next = n.tail.word; bare = n.tail.group }; bare = n.comma }))
-    (λ v text p. both_begins is_property_start SpellsProperty (Behind (Commands fuel) v) property_begins text p.1)
+    (λ v text p. both_begins is_property_start SpellsContextProperty (Behind (Commands fuel) v) context_property_begins text p.1)
     (λ v front rest q n. begins_ends no_property_start is_property_start (λ c is. not-true _ is) front rest (separated_begins no_property_start SpellsCommand command_no_property v front q))
 
 -- ---- in the grammar's words
@@ -299,7 +299,7 @@ some_commands (c ∷ []) text h = h
 some_commands (c ∷ (d ∷ ds)) text h = with_second h (with_second h.second (some_commands (d ∷ ds) h.second.back h.second.second))
 
 -- a property in front of other parts
-more_parts : (parts : List (Option Command)) (text : List ℕ) → (SpellsProperty ▹ IsSign comma ▹ Separated SpellsPart parts) text → Separated SpellsPart (None ∷ parts) text
+more_parts : (parts : List (Option Command)) (text : List ℕ) → (SpellsContextProperty ▹ IsSign comma ▹ Separated SpellsPart parts) text → Separated SpellsPart (None ∷ parts) text
 more_parts [] text h = absurd (h.second.second)
 more_parts (p ∷ ps) text h = h
 
@@ -312,7 +312,7 @@ commands_to (suc fuel) commands text (inr s) = (0, some_parts commands text s)
 commands_to (suc fuel) commands text (inl p) =
     elim p.1.second [
       | inl d ↦ let q = commands_to fuel commands d.back d.second in (suc q.0, more_parts (parts_of q.0 commands) text (with_second p.1 (with_second d q.1)))
-      | inr d ↦ subst (λ (cs : List Command). Parts cs text) d.0 (1, nothing_behind SpellsProperty (Behind (Commands fuel) commands) text p.1 d.1)
+      | inr d ↦ subst (λ (cs : List Command). Parts cs text) d.0 (1, nothing_behind SpellsContextProperty (Behind (Commands fuel) commands) text p.1 d.1)
     ]
 
 commands_of : (n fuel : ℕ) (commands : List Command) (text : List ℕ) → n < fuel → Separated SpellsPart (parts_of n commands) text → Commands fuel commands text
@@ -324,19 +324,19 @@ commands_of (suc (suc n)) (suc fuel) commands text less h = inl (tt, with_second
 
 -- a property in front of other parts begins as a property, and is a byte at least
 abbrev FrontProperty : (List ℕ → Type 0) → List ℕ → Type 0
-FrontProperty Q text = Both SpellsProperty Q text
+FrontProperty Q text = Both SpellsContextProperty Q text
 
 front_begins : (Q : List ℕ → Type 0) (text : List ℕ) → FrontProperty Q text → begins is_property_start text ≡ true
-front_begins Q text b = both_begins is_property_start SpellsProperty Q property_begins text b
+front_begins Q text b = both_begins is_property_start SpellsContextProperty Q context_property_begins text b
 
 -- there are no more properties than bytes
 parts_len : (n : ℕ) (commands : List Command) (text : List ℕ) → Separated SpellsPart (parts_of n commands) text → n ≤ length text
 parts_len zero commands text h = omega arith
-parts_len (suc zero) [] text h = begins_some is_solid text (property_solid text h)
+parts_len (suc zero) [] text h = begins_some is_solid text (context_property_solid text h)
 parts_len (suc zero) (c ∷ cs) text h = omega (arith, begins_some is_property_start text (front_begins _ text h))
 parts_len (suc (suc n)) commands text h =
     let d = h.second in
-    omega (arith, begins_some is_solid h.front (property_solid h.front h.first), parts_len (suc n) commands d.back d.second, ap length h.split, length-append h.front h.back, ap length d.split, length-append d.front d.back)
+    omega (arith, begins_some is_solid h.front (context_property_solid h.front h.first), parts_len (suc n) commands d.back d.second, ap length h.split, length-append h.front h.back, ap length d.split, length-append d.front d.back)
 
 commands_at_reads : ReadsUp commands_at Parts AfterContents Same UpTo
 commands_at_reads = record {
@@ -351,7 +351,7 @@ one_more n = lt-ltb _ _ (omega arith)
 
 parts_begin : (n : ℕ) (commands : List Command) (front rest : List ℕ) → Separated SpellsPart (parts_of n commands) front → begins is_property_start (front ++ rest) ≡ nat_lt 0 n
 parts_begin zero commands front rest h = begins_ends no_property_start is_property_start (λ c is. not-true _ is) front rest (separated_begins no_property_start SpellsCommand command_no_property commands front (some_commands commands front h))
-parts_begin (suc zero) [] front rest h = begins_append is_property_start front rest (property_begins front h) ∙ sym (one_more 0)
+parts_begin (suc zero) [] front rest h = begins_append is_property_start front rest (context_property_begins front h) ∙ sym (one_more 0)
 parts_begin (suc zero) (c ∷ cs) front rest h = begins_append is_property_start front rest (front_begins _ front h) ∙ sym (one_more 0)
 parts_begin (suc (suc n)) commands front rest h = begins_append is_property_start front rest (front_begins _ front h) ∙ sym (one_more (suc n))
 
@@ -440,7 +440,7 @@ action_from a text h =
 pub action_reads : ReadsUp action_at SpellsAction Any Same Skipped
 unfolding action_at
 action_reads =
-    up_as (up_then (word_as context_of) (λ u text. sign_at equals_sign text >>= action_ctx) (λ u. IsToken token.Context) (λ u a. IsSign equals_sign ▹ ActionCtx a) (NoMore is_safe) Any Same Same Skipped
+    up_as (up_then (token_in is_context) (λ u text. sign_at equals_sign text >>= action_ctx) (λ u. IsToken token.Context) (λ u a. IsSign equals_sign ▹ ActionCtx a) (NoMore is_safe) Any Same Same Skipped
     context_reads
     (λ u. behind_sign equals_sign action_ctx ActionCtx Any Skipped refl action_ctx_solid action_ctx_reads)
     (λ u a front rest q n. both_ends is_safe equals_sign (ActionCtx a) front rest safe_apart refl q))
@@ -476,42 +476,42 @@ commands_enough zero m text p q = absurd (omega arith)
 commands_enough (suc n) zero text p q = absurd (omega arith)
 commands_enough (suc n) (suc m) text p q =
     ap (λ (o : Option (List Command × List ℕ)). cond (begins is_property_start text) o (list_at command_at text))
-    (same_bind (property_at text) (λ x. if_sign comma (commands_from n) (λ rest. Some ([], rest)) x.1) (λ x. if_sign comma (commands_from m) (λ rest. Some ([], rest)) x.1)
+    (same_bind (context_property_at text) (λ x. if_sign comma (commands_from n) (λ rest. Some ([], rest)) x.1) (λ x. if_sign comma (commands_from m) (λ rest. Some ([], rest)) x.1)
     (λ x e. same_else (sign_at comma x.1) (commands_from n) (commands_from m) (Some ([], x.1))
-    (λ more c. commands_enough n m more (omega (arith, property_shrinks text x.0 x.1 e, sign_shrinks comma x.1 more c)) (omega (arith, property_shrinks text x.0 x.1 e, sign_shrinks comma x.1 more c)))))
+    (λ more c. commands_enough n m more (omega (arith, context_property_shrinks text x.0 x.1 e, sign_shrinks comma x.1 more c)) (omega (arith, context_property_shrinks text x.0 x.1 e, sign_shrinks comma x.1 more c)))))
 
 abbrev on_property : ℕ → Option (Unit {0} × List ℕ) → Option (List Command × List ℕ)
 on_property fuel o = o >>= λ x. if_sign comma (commands_from fuel) (λ rest. Some ([], rest)) x.1
 
-property_step : (text : List ℕ) → begins is_property_start text ≡ true → commands_at text ≡ on_property (length text) (property_at text)
+property_step : (text : List ℕ) → begins is_property_start text ≡ true → commands_at text ≡ on_property (length text) (context_property_at text)
 unfolding commands_from
-property_step text is = ap (λ (t : Bool). cond t (on_property (length text) (property_at text)) (list_at command_at text)) is
+property_step text is = ap (λ (t : Bool). cond t (on_property (length text) (context_property_at text)) (list_at command_at text)) is
 
 -- a property was read, and a comma behind it
-pub property_goes_on : (text rest more : List ℕ) (u : Unit {0}) (total : Option (List Command × List ℕ)) → begins is_property_start text ≡ true → property_at text ≡ Some (u, rest) → sign_at comma rest ≡ Some more → commands_at text ≡ total → commands_at more ≡ total
+pub property_goes_on : (text rest more : List ℕ) (u : Unit {0}) (total : Option (List Command × List ℕ)) → begins is_property_start text ≡ true → context_property_at text ≡ Some (u, rest) → sign_at comma rest ≡ Some more → commands_at text ≡ total → commands_at more ≡ total
 property_goes_on text rest more u total is e c so_far =
-    let less : length more < length text = omega (arith, property_shrinks text u rest e, sign_shrinks comma rest more c) in
+    let less : length more < length text = omega (arith, context_property_shrinks text u rest e, sign_shrinks comma rest more c) in
     commands_enough (suc (length more)) (length text) more (omega arith) less
     ∙ sym (property_step text is ∙ ap (on_property (length text)) e ∙ ap (λ (o : Option (List ℕ)). or_else o (commands_from (length text)) (Some ([], rest))) c)
     ∙ so_far
 
 -- a property was read, and no comma behind it
-pub property_ends : (text rest : List ℕ) (u : Unit {0}) (total : Option (List Command × List ℕ)) → begins is_property_start text ≡ true → property_at text ≡ Some (u, rest) → sign_at comma rest ≡ None → commands_at text ≡ total → total ≡ Some ([], rest)
+pub property_ends : (text rest : List ℕ) (u : Unit {0}) (total : Option (List Command × List ℕ)) → begins is_property_start text ≡ true → context_property_at text ≡ Some (u, rest) → sign_at comma rest ≡ None → commands_at text ≡ total → total ≡ Some ([], rest)
 property_ends text rest u total is e c so_far =
     sym so_far ∙ property_step text is ∙ ap (on_property (length text)) e ∙ ap (λ (o : Option (List ℕ)). or_else o (commands_from (length text)) (Some ([], rest))) c
 
 -- no property was read
-pub property_fails : (fault : PartFault) (text after end : List ℕ) (total : Option (List Command × List ℕ)) → begins is_property_start text ≡ true → Gives {V = Unit {0}} (Err fault) after (property_at text) → commands_at text ≡ total → Gives {V = List Command} (Err fault) end total
+pub property_fails : (fault : PartFault) (text after end : List ℕ) (total : Option (List Command × List ℕ)) → begins is_property_start text ≡ true → Gives {V = Unit {0}} (Err fault) after (context_property_at text) → commands_at text ≡ total → Gives {V = List Command} (Err fault) end total
 property_fails Syntax text after end total is e so_far = sym so_far ∙ property_step text is ∙ ap (on_property (length text)) e
 property_fails NoMemory text after end total is e so_far = tt
 
 -- there are no more properties
 pub no_property : (text : List ℕ) (total : Option (List Command × List ℕ)) → begins is_property_start text ≡ false → commands_at text ≡ total → total ≡ list_at command_at text
 unfolding commands_from
-no_property text total is so_far = sym so_far ∙ ap (λ (t : Bool). cond t (on_property (length text) (property_at text)) (list_at command_at text)) is
+no_property text total is so_far = sym so_far ∙ ap (λ (t : Bool). cond t (on_property (length text) (context_property_at text)) (list_at command_at text)) is
 
 pub commands_are : (result : Result (List Command) PartFault) (text after : List ℕ) (total : Option (List Command × List ℕ)) → begins is_property_start text ≡ false → Gives result after (list_at command_at text) → commands_at text ≡ total → Gives result after total
 commands_are result text after total is e so_far = subst (Gives result after) (sym (no_property text total is so_far)) e
 
-pub property_read : (text rest more : List ℕ) (u : Unit {0}) → property_at text ≡ Some (u, rest) → sign_at comma rest ≡ Some more → length more < length text
-property_read text rest more u e c = omega (arith, property_shrinks text u rest e, sign_shrinks comma rest more c)
+pub property_read : (text rest more : List ℕ) (u : Unit {0}) → context_property_at text ≡ Some (u, rest) → sign_at comma rest ≡ Some more → length more < length text
+property_read text rest more u e c = omega (arith, context_property_shrinks text u rest e, sign_shrinks comma rest more c)

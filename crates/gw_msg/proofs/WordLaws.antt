@@ -1,37 +1,36 @@
 -- The readers of single words, numbers and names read their forms.
-use Rattle.std.proofs.Common.{◌≡◌, ◌⊎◌, inl, inr, ℕ, ◌<◌, Bool, true, false, not, ◌||◌, List, [], ◌∷◌, length, Option, Some, None, refl, ap, sym, subst, ◌∙◌, arith}
+use Rattle.std.proofs.Common.{◌≡◌, ◌⊎◌, inl, inr, ℕ, ◌<◌, Bool, true, false, not, ◌||◌, List, [], ◌∷◌, ◌++◌, length, Option, Some, None, refl, ap, sym, subst, ◌∙◌, arith}
 use Rattle.std.specs.Prelude.{codes}
 use Rattle.std.specs.List.{list_all}
 use Rattle.std.proofs.lemmas.List.Folds.{list_all-append}
 use Rattle.std.proofs.lemmas.Bool.{and_parts, and_from, or_cases, or_left}
 use Rattle.gw_base.specs.Bytes.{byte, is_letter, is_digit, is_name_mark, is_name_byte}
-use Rattle.gw_base.proofs.Tests.{other_byte}
+use Rattle.gw_base.proofs.Booleans.{other_byte}
 use Rattle.gw_base.proofs.NameForms.{some_mid}
 use Rattle.gw_base.specs.Lang.{Both, ◌▹◌, IsText}
 use Rattle.gw_base.specs.Addresses.{is_address_byte, IsAddress}
 use Rattle.gw_base.specs.Mids.{is_domain_byte, is_device_byte, IsDomain, IsPort, IsOptionalPort, IsMid}
 use Rattle.gw_base.specs.Wildcards.{is_wildcard, is_term_byte, IsTermText}
-use Rattle.gw_base.specs.declared.term_ref.TermRef.{TermRef}
 use Rattle.gw_base.specs.declared.command_words.CtxRef.{CtxRef}
 use Rattle.gw_base.specs.declared.command_words.CtxRef.TheVariants as ctx
 use Rattle.gw_base.specs.declared.command_words.Verb.{Verb}
 use Rattle.gw_base.specs.declared.command_words.Verb.TheVariants as verb
 use Rattle.gw_text.specs.Lexical.{is_safe, is_safe_mark, is_solid, is_space_start}
 use Rattle.gw_text.specs.Runs.{begins, NoMore}
-use Rattle.gw_text.specs.Forms.{IsToken, IsSomeRun, IsWord, IsUint32, IsWordFor}
-use Rattle.gw_text.specs.Reader.{word_as, solid_as, number_at}
+use Rattle.gw_text.specs.Forms.{IsToken, IsSomeRun, IsWord, IsUint32}
+use Rattle.gw_text.specs.Reader.{◌>>=◌, word_as, solid_as, number_at}
 use Rattle.gw_text.specs.Tokens.{token_of}
 use Rattle.gw_text.specs.declared.token.Token.{Token}
 use Rattle.gw_text.specs.declared.token.Token.TheVariants as token
 use Rattle.gw_text.proofs.Signs.{some_is}
-use Rattle.gw_text.proofs.ReadsUp.{ReadsUp, Same, BeginsWith, up_as, up_last, begins_wider}
+use Rattle.gw_text.proofs.ReadsUp.{ReadsUp, Same, BeginsWith, up_as, up_last, up_then, up_done, begins_wider}
 use Rattle.gw_text.proofs.Leaves.{up_word, up_solid, up_number}
 use Rattle.gw_text.proofs.Links.{space_bytes, is_solid_by, digit_apart, run_begins, word_solid, number_begins, number_solid, both_begins}
 use Rattle.gw_msg.specs.Grammar.{IsPropertyToken, command_token, SpellsVerb, SpellsTerm, SpellsContextId, SpellsMid}
-use Rattle.gw_msg.specs.Words.{verb_for, verb_of, context_for, context_of, property_for, property_of, error_for, error_of, term_of, mid_of}
-use Rattle.gw_msg.specs.Reading.{if_mark, context_number_at, context_id_at}
+use Rattle.gw_msg.specs.Words.{verb_for, verb_of, is_context, is_property, is_error, term_of, mid_of}
+use Rattle.gw_msg.specs.Reading.{only_if, token_in, if_mark, context_number_at, context_id_at}
 use Rattle.gw_msg.proofs.Starts.{one_of}
-use Rattle.gw_msg.proofs.Steps.{Done, Dropped, nothing_behind, nothing_more, other_than, up_mark}
+use Rattle.gw_msg.proofs.Steps.{Done, Dropped, nothing_behind, nothing_more, other_than, up_mark, up_only_if}
 use Rattle.gw_msg.proofs.WordLemmas.{term_is, term_again, mid_is, mid_again}
 
 -- ---- tokens
@@ -64,50 +63,54 @@ verb_reads =
     (λ v text h. record { word = h.word; stands = verb_stands (token_of text) v h.stands })
     (λ v text h. record { word = h.word; stands = ap verb_for h.stands ∙ verb_again v })
 
-context_stands : (o : Option Token) (u : Unit {0}) → context_for o ≡ Some u → o ≡ Some token.Context
-context_stands (Some token.Context) u e = refl
-context_stands (Some _) u e = absurd cc
-context_stands None u e = absurd cc
-
-pub context_reads : ReadsUp (word_as context_of) (λ u. IsToken token.Context) (NoMore is_safe) Same Same
-context_reads = up_as (up_word context_of) (λ u text h. record { word = h.word; stands = context_stands (token_of text) u h.stands }) (λ u text h. record { word = h.word; stands = ap context_for h.stands })
-
-property_stands : (o : Option Token) (u : Unit {0}) → property_for o ≡ Some u → (o ≡ Some token.Topology) ⊎ ((o ≡ Some token.Priority) ⊎ ((o ≡ Some token.Emergency) ⊎ (o ≡ Some token.ContextAudit)))
-property_stands (Some token.Topology) u e = inl refl
-property_stands (Some token.Priority) u e = inr (inl refl)
-property_stands (Some token.Emergency) u e = inr (inr (inl refl))
-property_stands (Some token.ContextAudit) u e = inr (inr (inr refl))
-property_stands (Some _) u e = absurd cc
-property_stands None u e = absurd cc
-
-property_to : (text : List ℕ) → IsWord text → (token_of text ≡ Some token.Topology) ⊎ ((token_of text ≡ Some token.Priority) ⊎ ((token_of text ≡ Some token.Emergency) ⊎ (token_of text ≡ Some token.ContextAudit))) → IsPropertyToken text
-property_to text w (inl e) = inl (record { word = w; stands = e })
-property_to text w (inr (inl e)) = inr (inl (record { word = w; stands = e }))
-property_to text w (inr (inr (inl e))) = inr (inr (inl (record { word = w; stands = e })))
-property_to text w (inr (inr (inr e))) = inr (inr (inr (record { word = w; stands = e })))
-
-property_from : (u : Unit {0}) (text : List ℕ) → IsPropertyToken text → IsWordFor property_of u text
-property_from u text (inl h) = record { word = h.word; stands = ap property_for h.stands }
-property_from u text (inr (inl h)) = record { word = h.word; stands = ap property_for h.stands }
-property_from u text (inr (inr (inl h))) = record { word = h.word; stands = ap property_for h.stands }
-property_from u text (inr (inr (inr h))) = record { word = h.word; stands = ap property_for h.stands }
-
-pub property_word_reads : ReadsUp (word_as property_of) (Dropped IsPropertyToken) (NoMore is_safe) Same Same
-property_word_reads = up_as (up_word property_of) (λ u text h. property_to text h.word (property_stands (token_of text) u h.stands)) property_from
-
-pub property_word_solid : (text : List ℕ) → IsPropertyToken text → begins is_solid text ≡ true
-property_word_solid text h = word_solid text (property_from tt text h).word
-
-error_stands : (o : Option Token) (u : Unit {0}) → error_for o ≡ Some u → o ≡ Some token.Error
-error_stands (Some token.Error) u e = refl
-error_stands (Some _) u e = absurd cc
-error_stands None u e = absurd cc
-
-pub error_word_reads : ReadsUp (word_as error_of) (λ u. IsToken token.Error) (NoMore is_safe) Same Same
-error_word_reads = up_as (up_word error_of) (λ u text h. record { word = h.word; stands = error_stands (token_of text) u h.stands }) (λ u text h. record { word = h.word; stands = ap error_for h.stands })
-
 pub any_token_reads : ReadsUp (word_as token_of) (λ t. IsToken t) (NoMore is_safe) Same Same
 any_token_reads = up_word token_of
+
+-- a token of the class
+abbrev TokenIn : (Token → Bool) → Unit {0} → List ℕ → Type 0
+TokenIn class u text = (t : Token) × (class t ≡ true) × IsToken t text
+
+token_in_reads : (class : Token → Bool) → ReadsUp (token_in class) (TokenIn class) (NoMore is_safe) Same Same
+token_in_reads class =
+    up_as (up_then (word_as token_of) (λ t text. only_if (class t) >>= λ u. Some (tt, text)) (λ t. IsToken t) (λ t u text. (class t ≡ true) × Done tt u text) (NoMore is_safe) (NoMore is_safe) Same Same Same
+    any_token_reads
+    (λ t. up_only_if (class t) (λ text. Some (tt, text)) (Done tt) (NoMore is_safe) Same Same (up_done tt (NoMore is_safe) Same))
+    (λ t u front rest q n. ap (λ (x : List ℕ). begins is_safe (x ++ rest)) q.1.1 ∙ n))
+    (λ u text h. let b = h.1 in (h.0, b.second.0, nothing_behind (IsToken h.0) _ text b b.second.1.1))
+    (λ u text h. (h.0, nothing_more text h.2 (h.1, (refl, refl))))
+
+context_to : (t : Token) (text : List ℕ) → is_context t ≡ true → IsToken t text → IsToken token.Context text
+context_to token.Context text e h = h
+context_to _ text e h = absurd cc
+
+pub context_reads : ReadsUp (token_in is_context) (λ u. IsToken token.Context) (NoMore is_safe) Same Same
+context_reads = up_as (token_in_reads is_context) (λ u text h. context_to h.0 text h.1 h.2) (λ u text h. (token.Context, refl, h))
+
+property_to : (t : Token) (text : List ℕ) → is_property t ≡ true → IsToken t text → IsPropertyToken text
+property_to token.Topology text e h = inl h
+property_to token.Priority text e h = inr (inl h)
+property_to token.Emergency text e h = inr (inr (inl h))
+property_to token.ContextAudit text e h = inr (inr (inr h))
+property_to _ text e h = absurd cc
+
+property_from : (text : List ℕ) → IsPropertyToken text → TokenIn is_property tt text
+property_from text (inl h) = (token.Topology, refl, h)
+property_from text (inr (inl h)) = (token.Priority, refl, h)
+property_from text (inr (inr (inl h))) = (token.Emergency, refl, h)
+property_from text (inr (inr (inr h))) = (token.ContextAudit, refl, h)
+
+pub property_word_reads : ReadsUp (token_in is_property) (Dropped IsPropertyToken) (NoMore is_safe) Same Same
+property_word_reads = up_as (token_in_reads is_property) (λ u text h. property_to h.0 text h.1 h.2) (λ u text h. property_from text h)
+
+pub property_word_solid : (text : List ℕ) → IsPropertyToken text → begins is_solid text ≡ true
+property_word_solid text h = let p = property_from text h in word_solid text p.2.word
+
+error_to : (t : Token) (text : List ℕ) → is_error t ≡ true → IsToken t text → IsToken token.Error text
+error_to token.Error text e h = h
+error_to _ text e h = absurd cc
+
+pub error_word_reads : ReadsUp (token_in is_error) (λ u. IsToken token.Error) (NoMore is_safe) Same Same
+error_word_reads = up_as (token_in_reads is_error) (λ u text h. error_to h.0 text h.1 h.2) (λ u text h. (token.Error, refl, h))
 
 pub token_solid : (t : Token) (text : List ℕ) → IsToken t text → begins is_solid text ≡ true
 token_solid t text h = word_solid text h.word

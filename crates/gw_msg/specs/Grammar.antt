@@ -75,6 +75,7 @@ abbrev pub SpellsDetailsOf : Bool → List Descriptor → List ℕ → Type 0
 SpellsDetailsOf true descriptors text = (descriptors ≡ []) × ((group : Option (List ℕ)) × SpellsOptionalGroup group text)
 SpellsDetailsOf false descriptors text = OptionalBraced SpellsDescriptor descriptors text
 
+-- descriptors, or a group behind a command that is not carried out
 abbrev pub SpellsDetails : Verb → List Descriptor → List ℕ → Type 0
 SpellsDetails v = SpellsDetailsOf (has_group v)
 
@@ -97,12 +98,12 @@ abbrev pub IsPropertyToken : List ℕ → Type 0
 IsPropertyToken text = IsToken token.Topology text ⊎ (IsToken token.Priority text ⊎ (IsToken token.Emergency text ⊎ IsToken token.ContextAudit text))
 
 -- a contextProperty or a contextAudit: its token and a tail, which is read and dropped (own)
-abbrev pub SpellsProperty : List ℕ → Type 0
-SpellsProperty = IsPropertyToken ▹ IsTail
+abbrev pub SpellsContextProperty : List ℕ → Type 0
+SpellsContextProperty = IsPropertyToken ▹ IsTail
 
 -- a part of an action: a command, or a property, of which nothing is kept
 abbrev pub SpellsPart : Option Command → List ℕ → Type 0
-SpellsPart None text = SpellsProperty text
+SpellsPart None text = SpellsContextProperty text
 SpellsPart (Some c) text = SpellsCommand c text
 
 -- the parts of an action: so many properties, and then the commands
@@ -148,13 +149,15 @@ SpellsItem (item.Request r) text = SpellsRequest r text
 SpellsItem (item.Ack ranges) text = SpellsAck ranges text
 SpellsItem item.Ignored text = SpellsReply text ⊎ SpellsPending text
 
--- the most digits of an error code, and the greatest number that they write
+-- the most digits of an error code
 abbrev pub code_digits : ℕ
 code_digits = 4
 
+-- the greatest error code
 abbrev pub code_max : ℕ
 code_max = 9999
 
+-- errorCode
 abbrev pub IsCode : List ℕ → Type 0
 IsCode text = (n : ℕ) × IsNumber code_digits code_max n text
 
@@ -179,10 +182,11 @@ SpellsMid mid text = (mid ≡ text) × IsMid text
 abbrev pub spoken_version : ℕ
 spoken_version = 1
 
--- the most digits of a version, and the greatest number that they write
+-- the most digits of a version
 abbrev pub version_digits : ℕ
 version_digits = 2
 
+-- the greatest version
 abbrev pub version_max : ℕ
 version_max = 99
 

@@ -1,4 +1,4 @@
--- Messages as they are read, from left to right. That this is the grammar is proved.
+-- Messages as they are read, from left to right (own). That this is the grammar (RFC 3525, Annex B.2) is proved.
 use Rattle.std.specs.Prelude.{◌≡◌, ◌≢◌, ◌==◌, ◌||◌, not, ℕ, zero, suc, length, true, false, Bool, List, [], if◌then◌else◌, Option, Some, None, Result, Ok, Err, codes}
 use Rattle.gw_base.specs.Bytes.{byte}
 use Rattle.gw_base.specs.declared.command_words.CtxRef.{CtxRef}
@@ -26,7 +26,7 @@ use Rattle.gw_desc.specs.declared.descriptor.Descriptor.{Descriptor}
 use Rattle.gw_desc.specs.declared.fault.PartFault.{PartFault}
 use Rattle.gw_desc.specs.declared.fault.PartFault.TheVariants as part
 use Rattle.gw_msg.specs.Grammar.{may_be_wild, has_group, reply_depth, code_digits, code_max, spoken_version, version_digits, version_max}
-use Rattle.gw_msg.specs.Words.{verb_of, context_of, property_of, is_property_start, error_of, is_error_start, term_of, mid_of}
+use Rattle.gw_msg.specs.Words.{verb_of, is_context, is_property, is_property_start, is_error, is_error_start, term_of, mid_of}
 
 -- ---- steps
 
@@ -38,6 +38,13 @@ mark_at mark = if_prefix mark (λ rest. Some (true, rest)) (λ text. Some (false
 abbrev pub only_if : Bool → Option (Unit {0})
 only_if true = Some tt
 only_if false = None
+
+-- a word that is a token of the class
+abbrev pub token_in : (Token → Bool) → Reader (Unit {0})
+token_in class text = do
+  word ← word_as token_of text
+  allowed ← only_if (class word.0)
+  Some (tt, word.1)
 
 -- nothing is read, and nothing is kept
 abbrev pub nothing_at : Reader (Unit {0})
@@ -54,6 +61,7 @@ unfoldable pub details_of : Bool → Reader (List Descriptor)
 details_of true text = optional_group_at text >>= λ group. Some ([], group.1)
 details_of false text = optional_at descriptor_at text
 
+-- marks, a command's token, `=`, a TerminationID, and what stands behind it
 unfoldable pub command_at : Reader Command
 command_at text = do
   optional ← mark_at (codes "O-") text
@@ -69,24 +77,27 @@ command_at text = do
 abbrev pub if_mark : List ℕ → CtxRef → Reader CtxRef → Reader CtxRef
 if_mark mark ctx more = if_byte (byte mark) (λ rest. Some (ctx, rest)) more
 
+-- the context of a number
 abbrev pub context_number_at : Reader CtxRef
 context_number_at text = do
   number ← number_at text
   Some (Num (record { 0 = number.0 }), number.1)
 
+-- `$`, `*`, `-` or a number
 unfoldable pub context_id_at : Reader CtxRef
 context_id_at = if_mark (codes "$") Choose (if_mark (codes "*") All (if_mark (codes "-") Null context_number_at))
 
-unfoldable pub property_at : Reader (Unit {0})
-property_at text = do
-  word ← word_as property_of text
+-- a context property or a contextAudit: its token and a tail, which is dropped
+unfoldable pub context_property_at : Reader (Unit {0})
+context_property_at text = do
+  word ← token_in is_property text
   tail ← tail_at word.1
   Some (tt, tail.1)
 
 -- a property, and what others read behind a comma
 abbrev pub property_then : Reader (List Command) → Reader (List Command)
 property_then others text = do
-  property ← property_at text
+  property ← context_property_at text
   if_sign comma others (λ rest. Some ([], rest)) property.1
 
 -- the commands behind the properties, which are fewer than fuel
@@ -104,9 +115,10 @@ contents_at text = do
   commands ← commands_at text
   Some ((begins is_property_start text, commands.0), commands.1)
 
+-- the token of an action, `=`, a ContextID, and its contents in braces
 unfoldable pub action_at : Reader Action
 action_at text = do
-  word ← word_as context_of text
+  word ← token_in is_context text
   equals ← sign_at equals_sign word.1
   ctx ← context_id_at equals
   left ← sign_at left_brace ctx.1
@@ -116,6 +128,7 @@ action_at text = do
 
 -- ---- messages
 
+-- behind the token of a transaction: `=`, its number, and its actions in braces
 unfoldable pub request_at : Reader Item
 request_at text = do
   equals ← sign_at equals_sign text
@@ -123,6 +136,7 @@ request_at text = do
   actions ← braced_at action_at id.1
   Some (item.Request (record { id = record { 0 = id.0 }; actions = actions.0 }), actions.1)
 
+-- behind the token of a reply: `=`, its number, and its body, a group that is dropped
 unfoldable pub reply_at : Reader Item
 reply_at text = do
   equals ← sign_at equals_sign text
@@ -130,6 +144,7 @@ reply_at text = do
   group ← group_read reply_depth (skip id.1)
   Some (item.Ignored, group.1)
 
+-- behind the token of a pending transaction: `=`, its number, and empty braces
 unfoldable pub pending_at : Reader Item
 pending_at text = do
   equals ← sign_at equals_sign text
@@ -144,11 +159,13 @@ last_at first = if_byte dash (λ text. do
   last ← number_at text
   Some (record { first = first; last = last.0 }, last.1)) (λ text. Some (record { first = first; last = first }, text))
 
+-- one number, or the first and the last of a range
 unfoldable pub range_at : Reader AckRange
 range_at text = do
   first ← number_at text
   last_at first.0 first.1
 
+-- behind the token of an acknowledgement: its ranges in braces
 unfoldable pub ack_at : Reader Item
 ack_at text = do
   ranges ← braced_at range_at text
@@ -162,6 +179,7 @@ part_at token.Pending text = pending_at text
 part_at token.TransactionResponseAck text = ack_at text
 part_at _ text = None
 
+-- a part of a transactionList: its token, and what is behind it
 unfoldable pub item_at : Reader Item
 item_at text = do
   word ← word_as token_of text
@@ -173,9 +191,10 @@ quoted_or_nothing = if_begins (is_byte quote_mark) (λ text. do
   quoted ← quoted_read text
   Some (tt, quoted.1)) nothing_at
 
+-- an errorDescriptor, which is dropped
 unfoldable pub error_at : Reader (Unit {0})
 error_at text = do
-  word ← word_as error_of text
+  word ← token_in is_error text
   equals ← sign_at equals_sign word.1
   code ← number_up_to code_digits code_max equals
   left ← sign_at left_brace code.1
@@ -224,6 +243,7 @@ header_at text = if_prefix (codes "MEGACO") version_at (λ rest. byte_at (byte (
 abbrev pub all_at : {V : Type 0} → Reader V → List ℕ → Option V
 all_at read text = read text >>= λ x. if_end x.0 x.1
 
+-- the message that was read, if there is one
 abbrev pub or_syntax : Option Message → Result Message ReadFault
 or_syntax (Some m) = Ok m
 or_syntax None = Err Syntax

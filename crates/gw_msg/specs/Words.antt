@@ -1,5 +1,5 @@
--- What the words of a message stand for, as they are read one by one.
-use Rattle.std.specs.Prelude.{ℕ, Bool, List, Option, Some, None, codes}
+-- What the words of a message stand for, as they are read one by one (own; tokens and names: RFC 3525, Annex B.2).
+use Rattle.std.specs.Prelude.{ℕ, Bool, true, false, List, Option, Some, None, codes}
 use Rattle.gw_base.specs.Bytes.{is_one_of}
 use Rattle.gw_base.specs.Spelled.{value_in}
 use Rattle.gw_base.specs.declared.term_ref.TermRef.{TermRef}
@@ -14,6 +14,7 @@ use Rattle.gw_msg.specs.Grammar.{SpellsTerm, SpellsMid}
 
 -- ---- tokens
 
+-- the command that a token names
 abbrev pub verb_for : Option Token → Option Verb
 verb_for (Some token.Add) = Some verb.Add
 verb_for (Some token.Modify) = Some verb.Modify
@@ -25,32 +26,27 @@ verb_for (Some token.Notify) = Some verb.Notify
 verb_for (Some token.ServiceChange) = Some verb.ServiceChange
 verb_for _ = None
 
-abbrev pub context_for : Option Token → Option (Unit {0})
-context_for (Some token.Context) = Some tt
-context_for _ = None
-
-abbrev pub error_for : Option Token → Option (Unit {0})
-error_for (Some token.Error) = Some tt
-error_for _ = None
-
-abbrev pub property_for : Option Token → Option (Unit {0})
-property_for (Some token.Topology) = Some tt
-property_for (Some token.Priority) = Some tt
-property_for (Some token.Emergency) = Some tt
-property_for (Some token.ContextAudit) = Some tt
-property_for _ = None
-
+-- the command that a word names
 abbrev pub verb_of : List ℕ → Option Verb
 verb_of word = verb_for (token_of word)
 
-abbrev pub context_of : List ℕ → Option (Unit {0})
-context_of word = context_for (token_of word)
+-- the token of an action
+abbrev pub is_context : Token → Bool
+is_context token.Context = true
+is_context _ = false
 
-abbrev pub error_of : List ℕ → Option (Unit {0})
-error_of word = error_for (token_of word)
+-- the token of an error
+abbrev pub is_error : Token → Bool
+is_error token.Error = true
+is_error _ = false
 
-abbrev pub property_of : List ℕ → Option (Unit {0})
-property_of word = property_for (token_of word)
+-- the tokens of context properties
+abbrev pub is_property : Token → Bool
+is_property token.Topology = true
+is_property token.Priority = true
+is_property token.Emergency = true
+is_property token.ContextAudit = true
+is_property _ = false
 
 -- of what may stand in an action, context properties alone begin with one of these letters
 abbrev pub is_property_start : ℕ → Bool

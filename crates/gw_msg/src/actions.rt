@@ -1,19 +1,17 @@
 //! The actions of a transaction and their commands, as they are read.
 
-ghost use Rattle.std.specs.Prelude.{◌≡◌};
 ghost use Rattle.gw_desc.specs.Parts.{Gives};
-ghost use Rattle.gw_msg.specs.Reading.{details_of, command_at, property_at, commands_at, action_at};
+ghost use Rattle.gw_msg.specs.Reading.{details_of, command_at, context_property_at, commands_at, action_at};
 
 use crate::message::{Action, Command};
 use crate::words::{
-    context_id, context_word, has_group, is_property_next, mark, may_be_wild, property_word, term,
-    verb,
+    context_id, has_group, is_property, is_property_next, mark, may_be_wild, term, verb,
 };
 use gw_base::Items;
 use gw_desc::{
-    Descriptor, Part, PartFault, list, optional_braced, optional_group, sign, tail_spans,
+    Descriptor, Part, PartFault, list, optional_braced, optional_group, sign, tail_spans, token,
 };
-use gw_text::Cursor;
+use gw_text::{Cursor, Token};
 use std::alloc::Global;
 
 /// What stands behind a TerminationID: the command's descriptors, or a group, which is read and dropped.
@@ -57,11 +55,13 @@ impl Part for Command {
 }
 
 /// A context property, or that they are audited; it is read and dropped, and takes no memory.
-#[tactic(auto, unfolding(crate::specs::Reading::property_at))]
-fn property(cursor: &mut Cursor<'_>) -> Result<(), PartFault>
-    ensures { Gives result cursor.new (property_at cursor.old) }
+#[tactic(auto, unfolding(crate::specs::Reading::context_property_at))]
+fn context_property(cursor: &mut Cursor<'_>) -> Result<(), PartFault>
+    ensures { Gives result cursor.new (context_property_at cursor.old) }
 {
-    property_word(cursor)?;
+    if !is_property(token(cursor)?) {
+        return Err(PartFault::Syntax);
+    }
     tail_spans(cursor)?;
     Ok(())
 }
@@ -71,7 +71,7 @@ fn commands(alloc: Global, cursor: &mut Cursor<'_>) -> Result<Items<Command>, Pa
     ensures { Gives result cursor.new (commands_at cursor.old) }
 {
     while is_property_next(cursor) {
-        property(cursor)?;
+        context_property(cursor)?;
         if !cursor.sign(b',') {
             return Ok(Items::new(alloc));
         }
@@ -84,7 +84,9 @@ impl Part for Action {
 
     #[tactic(auto, unfolding(crate::specs::Reading::action_at))]
     fn read(alloc: Global, cursor: &mut Cursor<'_>) -> Result<Action, PartFault> {
-        context_word(cursor)?;
+        let Token::Context = token(cursor)? else {
+            return Err(PartFault::Syntax);
+        };
         sign(cursor, b'=')?;
         let ctx = context_id(cursor)?;
         sign(cursor, b'{')?;

@@ -1,14 +1,13 @@
 //! The body of a message: its items, or an error.
 
-ghost use Rattle.std.specs.Prelude.{◌≡◌};
 ghost use Rattle.gw_desc.specs.Parts.{Gives};
 ghost use Rattle.gw_msg.specs.Reading.{request_at, reply_at, pending_at, last_at, range_at, ack_at, item_at, quoted_or_nothing, error_at, error_body_at, body_at, content_at};
 
 use crate::message::{AckRange, Item, Message, Request};
-use crate::words::{error_word, is_error_next, mid};
+use crate::words::{is_error_next, mid};
 use gw_base::{Items, TxId};
-use gw_desc::{Part, PartFault, braced, items, sign};
-use gw_text::{Cursor, Token, token_of};
+use gw_desc::{Part, PartFault, braced, items, sign, token};
+use gw_text::{Cursor, Token};
 use std::alloc::Global;
 
 /// How deep groups may lie in a reply.
@@ -95,11 +94,11 @@ impl Part for Item {
 
     #[tactic(auto, unfolding(crate::specs::Reading::item_at))]
     fn read(alloc: Global, cursor: &mut Cursor<'_>) -> Result<Item, PartFault> {
-        match token_of(cursor.word()?) {
-            Some(Token::Transaction) => request(alloc, cursor),
-            Some(Token::Reply) => reply(cursor),
-            Some(Token::Pending) => pending(cursor),
-            Some(Token::TransactionResponseAck) => ack(alloc, cursor),
+        match token(cursor)? {
+            Token::Transaction => request(alloc, cursor),
+            Token::Reply => reply(cursor),
+            Token::Pending => pending(cursor),
+            Token::TransactionResponseAck => ack(alloc, cursor),
             _ => Err(PartFault::Syntax),
         }
     }
@@ -121,7 +120,9 @@ fn error_text(cursor: &mut Cursor<'_>) -> Result<(), PartFault>
 fn error(cursor: &mut Cursor<'_>) -> Result<(), PartFault>
     ensures { Gives result cursor.new (error_at cursor.old) }
 {
-    error_word(cursor)?;
+    let Token::Error = token(cursor)? else {
+        return Err(PartFault::Syntax);
+    };
     sign(cursor, b'=')?;
     cursor.number(CODE_DIGITS, CODE_MAX)?;
     sign(cursor, b'{')?;

@@ -1,12 +1,12 @@
 //! Reading the single words of a message. After a fault nothing is said of the cursor.
 
-ghost use Rattle.std.specs.Prelude.{◌≡◌, ◌||◌, not, Some};
+ghost use Rattle.std.specs.Prelude.{◌≡◌, Some};
 ghost use Rattle.std.specs.List.{list_any};
 ghost use Rattle.gw_text.specs.Runs.{begins, is_byte};
 ghost use Rattle.gw_text.specs.Reader.{word_as, solid_as};
 ghost use Rattle.gw_desc.specs.Parts.{Gives};
 ghost use Rattle.gw_msg.specs.Grammar.{may_be_wild, has_group};
-ghost use Rattle.gw_msg.specs.Words.{verb_of, context_of, property_of, is_property_start, error_of, is_error_start, term_of, mid_of};
+ghost use Rattle.gw_msg.specs.Words.{verb_of, is_property, is_property_start, is_error_start, term_of, mid_of};
 ghost use Rattle.gw_msg.specs.Reading.{mark_at, context_id_at};
 
 use gw_base::{CtxNum, CtxRef, Mid, TermRef, Verb};
@@ -79,34 +79,14 @@ pub fn has_group(verb: Verb) -> bool
     matches!(verb, Verb::AuditCapability | Verb::Notify)
 }
 
-/// The token of an action.
-pub fn context_word(cursor: &mut Cursor<'_>) -> Result<(), PartFault>
-    ensures { Gives result cursor.new (word_as context_of cursor.old) }
+/// Whether the token is a context property's.
+pub fn is_property(token: Token) -> bool
+    ensures { result ≡ is_property token }
 {
-    match token_of(cursor.word()?) {
-        Some(Token::Context) => Ok(()),
-        _ => Err(PartFault::Syntax),
-    }
-}
-
-/// The token of a context property.
-pub fn property_word(cursor: &mut Cursor<'_>) -> Result<(), PartFault>
-    ensures { Gives result cursor.new (word_as property_of cursor.old) }
-{
-    match token_of(cursor.word()?) {
-        Some(Token::Topology | Token::Priority | Token::Emergency | Token::ContextAudit) => Ok(()),
-        _ => Err(PartFault::Syntax),
-    }
-}
-
-/// The token of an error.
-pub fn error_word(cursor: &mut Cursor<'_>) -> Result<(), PartFault>
-    ensures { Gives result cursor.new (word_as error_of cursor.old) }
-{
-    match token_of(cursor.word()?) {
-        Some(Token::Error) => Ok(()),
-        _ => Err(PartFault::Syntax),
-    }
+    matches!(
+        token,
+        Token::Topology | Token::Priority | Token::Emergency | Token::ContextAudit
+    )
 }
 
 /// The ContextID of an action.

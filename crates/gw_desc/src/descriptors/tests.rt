@@ -161,7 +161,7 @@ const LARGE: &[u8] =
 
 #[test]
 fn media_descriptors(rt: HostRuntime) -> Result<(), Fail> {
-    let cases: [(&[u8], &[u8]); 16] = [
+    let cases: [(&[u8], &[u8]); 26] = [
         (
             b"Media{Local{\nv=0\nc=IN IP4 $\nm=audio $ RTP/AVP 0\n}}",
             b"Media Local<v=0\nc=IN IP4 $\nm=audio $ RTP/AVP 0>",
@@ -199,6 +199,34 @@ fn media_descriptors(rt: HostRuntime) -> Result<(), Fail> {
         (b"Media{LocalControl{a=[]}}", b"syntax"),
         (b"Media{LocalControl{a!=1}}", b"Media Control(a!=1)"),
         (b"Media{Local{a\\}}}", b"Media Local<a\\}>"),
+        (
+            b"Media{Local{ v=0\r\nc=IN IP4 $\r\nm=audio $ RTP/AVP 4\r\n }}",
+            b"Media Local<v=0\r\nc=IN IP4 $\r\nm=audio $ RTP/AVP 4>",
+        ),
+        (b"Media{Local{\\}\\}}}", b"Media Local<\\}\\}>"),
+        (b"Media { Remote { x\"y;z } }", b"Media Remote<x\"y;z>"),
+        (b"M{R{{},Local{a}}", b"Media Remote<{> Local<a>"),
+        (
+            b"M{O{MO=SR,tdmc/ec = on,tdmc/gain#2}}",
+            b"Media Control(MO=SR)(tdmc/ec=on)(tdmc/gain#2)",
+        ),
+        (
+            b"Media{LocalControl{a/b<[1:2],c/d>{x{y}},e/f=\"g}\",h/i = [ 1 , \"2\" ;c\n]}}",
+            b"Media Control(a/b<[1:2])(c/d>{x{y}})(e/f=\"g}\")(h/i=[ 1 , \"2\" ;c\n])",
+        ),
+        (b"M{TS{SI=OS,BF=OF}}", b"Media State(SI=OS)(BF=OF)"),
+        (
+            b"Media{Stream=1{Local{a},Remote{b},LocalControl{Mode=Inactive}}}",
+            b"Media Stream 1 .Local<a> .Remote<b> .Control(Mode=Inactive)",
+        ),
+        (
+            b"M{ST=65535{L{a}},ST=00001{R{b}},L{c}}",
+            b"Media Stream 65535 .Local<a> Stream 1 .Remote<b> Local<c>",
+        ),
+        (
+            b"Media{Stream=0{Local{a}},TerminationState{x=y}}",
+            b"Media Stream 0 .Local<a> State(x=y)",
+        ),
     ];
     for (text, tree) in cases {
         assert_eq!(rt; told(rt.alloc(), text)?.as_slice(), tree, "{text:?}");
@@ -207,8 +235,39 @@ fn media_descriptors(rt: HostRuntime) -> Result<(), Fail> {
 }
 
 #[test]
+fn texts_that_are_no_media_descriptors(rt: HostRuntime) -> Result<(), Fail> {
+    let texts: [&[u8]; 17] = [
+        b"Media",
+        b"Media{Local}",
+        b"Media{Local{a\\}}",
+        b"Media{Local{a\x00}}",
+        b"Media{Locals{a}}",
+        b"Media{LocalControl{}}",
+        b"Media{LocalControl{Mode}}",
+        b"Media{LocalControl{Mode=}}",
+        b"Media{LocalControl{Mode~Inactive}}",
+        b"Media{LocalControl{=Inactive}}",
+        b"Media{LocalControl{a/b=[=]}}",
+        b"Media{LocalControl{a/b=[1}}",
+        b"Media{LocalControl{a/b=\"c}}",
+        b"Media{Stream{Local{a}}}",
+        b"Media{Stream=1{TerminationState{x=y}}}",
+        b"Media{Stream=1{Stream=1{Local{a}}}}",
+        b"Media{TerminationState{}}",
+    ];
+    for text in texts {
+        assert_eq!(rt;
+            told(rt.alloc(), text)?.as_slice(),
+            b"syntax".as_slice(),
+            "{text:?}"
+        );
+    }
+    Ok(())
+}
+
+#[test]
 fn kept_descriptors(rt: HostRuntime) -> Result<(), Fail> {
-    let cases: [(&[u8], &[u8]); 20] = [
+    let cases: [(&[u8], &[u8]); 33] = [
         (b"Signals { cg/dt }", b"Signals group { cg/dt }"),
         (b"Events=7{al/of}", b"Events = word 7 group {al/of}"),
         (b"Events={}", b"Events = group {}"),
@@ -235,6 +294,28 @@ fn kept_descriptors(rt: HostRuntime) -> Result<(), Fail> {
             b"Signals group {{{{{{{L{\"}}}}}}}}",
         ),
         (b"SG{{{{{{{{L{\"}}}}}}}}}", b"syntax"),
+        (b"Events{}", b"Events group {}"),
+        (
+            b"Events=2222{al/on{strict=state},al/fl {x}}",
+            b"Events = word 2222 group {al/on{strict=state},al/fl {x}}",
+        ),
+        (b"Events = 1 ;c\n{ a }", b"Events = word 1 group { a }"),
+        (b"Events=L{a}", b"Events = word L group {a}"),
+        (
+            b"E=1{x{Local{\"}}}",
+            b"Events = word 1 group {x{Local{\"}}}",
+        ),
+        (b"SG=1", b"Signals = word 1"),
+        (
+            b"DigitMap=Dialplan0{(0| 00|[1-7]xxx)}",
+            b"DigitMap = word Dialplan0 group {(0| 00|[1-7]xxx)}",
+        ),
+        (b"DM={(0S)}", b"DigitMap = group {(0S)}"),
+        (b"EventBuffer={al/on}", b"EventBuffer = group {al/on}"),
+        (b"EB{\";}\" ;}\n}", b"EventBuffer group {\";}\" ;}\n}"),
+        (b"Events=1 2", b"Events = word 1 .."),
+        (b"Events{a}{b}", b"Events group {a} .."),
+        (b"Events{\"}", b"syntax"),
     ];
     for (text, tree) in cases {
         assert_eq!(rt; told(rt.alloc(), text)?.as_slice(), tree, "{text:?}");
@@ -244,7 +325,7 @@ fn kept_descriptors(rt: HostRuntime) -> Result<(), Fail> {
 
 #[test]
 fn other_descriptors(rt: HostRuntime) -> Result<(), Fail> {
-    let cases: [(&[u8], &[u8]); 17] = [
+    let cases: [(&[u8], &[u8]); 26] = [
         (b"Audit{}", b"Audit"),
         (b"Audit{Media,Events}", b"Audit Media Events"),
         (b"at { ;c\n }", b"Audit"),
@@ -268,6 +349,24 @@ fn other_descriptors(rt: HostRuntime) -> Result<(), Fail> {
         (b"Local{x}", b"Other Local"),
         (b"Local{\"}", b"syntax"),
         (b"{x}", b"syntax"),
+        (
+            b"AT { Media , Events,anything }",
+            b"Audit Media Events anything",
+        ),
+        (
+            b"Services{Method=Forced,Reason=\"900 Service Restored\",Delay=0}",
+            b"Services Method run Forced Reason quoted \"900 Service Restored\" Delay run 0",
+        ),
+        (
+            b"SV{MT=RS,ServiceChangeAddress=[10.0.0.1]:2944,PF=x/1,Version}",
+            b"Services MT run RS ServiceChangeAddress run [10.0.0.1]:2944 PF run x/1 Version",
+        ),
+        (b"Services{a=<b>:#}", b"Services a run <b>:#"),
+        (b"Packages{x}", b"Other Packages"),
+        (b"X-Y [ \"z\" ] = w {v},Audit{}", b"Other X-Y .."),
+        (b"Mediax{a}", b"Other Mediax"),
+        (b"Event=1", b"Other Event"),
+        (b"", b"syntax"),
     ];
     for (text, tree) in cases {
         assert_eq!(rt; told(rt.alloc(), text)?.as_slice(), tree, "{text:?}");

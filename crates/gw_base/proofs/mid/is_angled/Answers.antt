@@ -1,7 +1,7 @@
 use Rattle.std.proofs.Common.{◌≡◌, ◌==◌, false, List, ℕ, refl}
 use Rattle.std.specs.List.{list_any}
 use Rattle.gw_base.specs.Mids.{is_domain_byte, IsDomain, IsOptionalPort}
-use Rattle.gw_base.proofs.Tests.{not_among}
+use Rattle.gw_base.proofs.Booleans.{not_among}
 use Rattle.gw_base.proofs.Enclosures.{enclosed, parts_of}
 use Rattle.gw_base.proofs.mid.is_angled.Goals as goal
 

@@ -2,7 +2,7 @@ use Rattle.std.proofs.Common.{◌≡◌, ◌==◌, false, List, ℕ, refl}
 use Rattle.std.specs.List.{list_any}
 use Rattle.gw_base.specs.Addresses.{is_address_byte, IsAddress}
 use Rattle.gw_base.specs.Mids.{IsOptionalPort}
-use Rattle.gw_base.proofs.Tests.{not_among}
+use Rattle.gw_base.proofs.Booleans.{not_among}
 use Rattle.gw_base.proofs.Enclosures.{enclosed, parts_of}
 use Rattle.gw_base.proofs.mid.is_bracketed.Goals as goal
 

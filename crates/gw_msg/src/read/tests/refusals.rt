@@ -144,40 +144,14 @@ fn actions_that_are_none(rt: HostRuntime) -> Result<(), Fail> {
     Ok(())
 }
 
+/// That what is no descriptor, or no list of them, is no message; gw_desc's own tables have more of them.
 #[test]
 fn descriptors_that_are_none(rt: HostRuntime) -> Result<(), Fail> {
-    let texts: [&str; 32] = [
+    let texts: [&str; 5] = [
         "",
-        "Media",
-        "Media{}",
-        "Media{Local}",
         "Media{Local{a}",
-        "Media{Local{a\\}}",
-        "Media{Local{a\u{0}}}",
-        "Media{Locals{a}}",
-        "Media{LocalControl{}}",
-        "Media{LocalControl{Mode}}",
-        "Media{LocalControl{Mode=}}",
-        "Media{LocalControl{Mode~Inactive}}",
-        "Media{LocalControl{=Inactive}}",
-        "Media{LocalControl{a/b=[]}}",
-        "Media{LocalControl{a/b=[=]}}",
-        "Media{LocalControl{a/b=[1}}",
-        "Media{LocalControl{a/b=\"c}}",
-        "Media{Stream{Local{a}}}",
-        "Media{Stream=65536{Local{a}}}",
-        "Media{Stream=000001{Local{a}}}",
-        "Media{Stream=1{}}",
-        "Media{Stream=1{TerminationState{x=y}}}",
-        "Media{Stream=1{Stream=1{Local{a}}}}",
-        "Media{TerminationState{}}",
-        "Events=",
         "Events=1 2",
         "Events{a}{b}",
-        "Events{\"}",
-        "Events{{{{{{{{{}}}}}}}}}",
-        "Audit",
-        "Services{}",
         "Services{Method=}",
     ];
     for text in texts {

@@ -275,70 +275,24 @@ fn properties(rt: HostRuntime) -> Result<(), Fail> {
     Ok(())
 }
 
+/// That descriptors are handed on as gw_desc reads them; its own tables have more of them.
 #[test]
 fn descriptors(rt: HostRuntime) -> Result<(), Fail> {
-    let table: [(&str, &str); 42] = [
-        ("Media{Local{}}", "media( local<>)"),
-        ("M{L{ }}", "media( local<>)"),
-        (
-            "Media{Local{ v=0\r\nc=IN IP4 $\r\nm=audio $ RTP/AVP 4\r\n }}",
-            "media( local<v=0\r\nc=IN IP4 $\r\nm=audio $ RTP/AVP 4>)",
-        ),
-        ("Media{Local{ a\\ }}", "media( local<a\\ >)"),
-        ("Media{Local{\\}\\}}}", "media( local<\\}\\}>)"),
-        ("Media { Remote { x\"y;z } }", "media( remote<x\"y;z>)"),
-        ("M{R{{},Local{a}}", "media( remote<{> local<a>)"),
-        (
-            "Media{LocalControl{Mode=SendReceive}}",
-            "media( control( Mode=SendReceive))",
-        ),
-        (
-            "M{O{MO=SR,tdmc/ec = on,tdmc/gain#2}}",
-            "media( control( MO=SR tdmc/ec=on tdmc/gain#2))",
-        ),
+    let table: [(&str, &str); 9] = [
         (
             "Media{LocalControl{a/b<[1:2],c/d>{x{y}},e/f=\"g}\",h/i = [ 1 , \"2\" ;c\n]}}",
             "media( control( a/b<[1:2] c/d>{x{y}} e/f=\"g}\" h/i=[ 1 , \"2\" ;c\n]))",
         ),
         (
-            "Media{TerminationState{ServiceStates=InService}}",
-            "media( state( ServiceStates=InService))",
-        ),
-        ("M{TS{SI=OS,BF=OF}}", "media( state( SI=OS BF=OF))"),
-        (
             "Media{Stream=1{Local{a},Remote{b},LocalControl{Mode=Inactive}}}",
             "media( stream1( local<a> remote<b> control( Mode=Inactive)))",
-        ),
-        (
-            "M{ST=65535{L{a}},ST=00001{R{b}},L{c}}",
-            "media( stream65535( local<a>) stream1( remote<b>) local<c>)",
         ),
         (
             "Media{Stream=0{Local{a}},TerminationState{x=y}}",
             "media( stream0( local<a>) state( x=y))",
         ),
-        ("Events", "Events"),
-        ("E", "Events"),
-        ("Events{}", "Events{}"),
-        ("Events={}", "Events={}"),
-        (
-            "Events=2222{al/on{strict=state},al/fl {x}}",
-            "Events=2222{al/on{strict=state},al/fl {x}}",
-        ),
         ("Events = 1 ;c\n{ a }", "Events=1{ a }"),
-        ("Events=L{a}", "Events=L{a}"),
-        ("E=1{x{Local{\"}}}", "Events=1{x{Local{\"}}}"),
-        ("Signals { cg/dt }", "Signals{ cg/dt }"),
-        ("SG=1", "Signals=1"),
         ("Signals,DigitMap", "Signals DigitMap"),
-        (
-            "DigitMap=Dialplan0{(0| 00|[1-7]xxx)}",
-            "DigitMap=Dialplan0{(0| 00|[1-7]xxx)}",
-        ),
-        ("DM={(0S)}", "DigitMap={(0S)}"),
-        ("EventBuffer={al/on}", "EventBuffer={al/on}"),
-        ("EB{\";}\" ;}\n}", "EventBuffer{\";}\" ;}\n}"),
-        ("Audit{}", "audit()"),
         (
             "AT { Media , Events,anything }",
             "audit( Media Events anything)",
@@ -347,17 +301,7 @@ fn descriptors(rt: HostRuntime) -> Result<(), Fail> {
             "Services{Method=Forced,Reason=\"900 Service Restored\",Delay=0}",
             "services( Method=Forced Reason=quoted\"900 Service Restored\" Delay=0)",
         ),
-        (
-            "SV{MT=RS,ServiceChangeAddress=[10.0.0.1]:2944,PF=x/1,Version}",
-            "services( MT=RS ServiceChangeAddress=[10.0.0.1]:2944 PF=x/1 Version)",
-        ),
-        ("Services{a=<b>:#}", "services( a=<b>:#)"),
-        ("Packages{x}", "other Packages"),
-        ("Modem[V32]{mdm/x}", "other Modem"),
-        ("Mux=H221{T/1,T/2}", "other Mux"),
-        ("Local{a}", "other Local"),
         ("X-Y [ \"z\" ] = w {v},Audit{}", "other X-Y audit()"),
-        ("Mediax{a},Event=1", "other Mediax other Event"),
         (
             "Media{Local{a}},Events=1{b},Signals{c},Media{Remote{d}}",
             "media( local<a>) Events=1{b} Signals{c} media( remote<d>)",
