@@ -400,3 +400,15 @@ fn what_is_cut_off_is_no_descriptor(rt: HostRuntime) -> Result<(), Fail> {
     }
     Ok(())
 }
+
+#[test]
+fn faults_have_their_texts(rt: HostRuntime) -> Result<(), Fail> {
+    for (fault, text) in [
+        (PartFault::Syntax, "syntax error in a part of a message"),
+        (PartFault::NoMemory, "no memory"),
+    ] {
+        let shown = format!(in rt.alloc(); "{fault}")?;
+        assert_eq!(rt; shown.as_str(), text, "{fault:?}");
+    }
+    Ok(())
+}

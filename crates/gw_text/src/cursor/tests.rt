@@ -5,6 +5,7 @@ ghost use Rattle.std.specs.Prelude.{◌≤◌};
 use super::{Cursor, Uint32};
 use crate::fault::ScanFault;
 use std::process::Abort;
+use std::test::Fail;
 
 const UNEXPECTED: ScanFault = ScanFault::Unexpected;
 
@@ -304,4 +305,17 @@ fn runs_and_brackets(rt: HostRuntime) {
         let got = cursor.bracket();
         expect_span(&rt, text, got, cursor.rest, span, left);
     }
+}
+
+#[test]
+fn faults_have_their_texts(rt: HostRuntime) -> Result<(), Fail> {
+    for (fault, text) in [
+        (ScanFault::Unexpected, "something else is expected here"),
+        (ScanFault::TooDeep, "braces lie too deep"),
+        (ScanFault::Overflow, "the number is too large"),
+    ] {
+        let shown = format!(in rt.alloc(); "{fault}")?;
+        assert_eq!(rt; shown.as_str(), text, "{fault:?}");
+    }
+    Ok(())
 }
