@@ -53,6 +53,3 @@ impl Part for Descriptor {
         }
     }
 }
-
-#[cfg(test)]
-mod tests;
