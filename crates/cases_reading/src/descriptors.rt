@@ -1,6 +1,7 @@
 //! A descriptor as one line: what is kept as sent stands in it as sent.
 
 use cases_text::{CaseFault, decoded, write_encoded};
+use gw_base::Span;
 use gw_desc::{
     Descriptor, KeptKind, MediaPart, Part, PartFault, Property, ServiceParm, ServiceValue, Sign,
     StreamPart, Tail,
@@ -12,16 +13,20 @@ fn put(out: &mut Vec<u8>, text: &[u8]) -> Result<(), AllocError> {
     out.extend_from_slice(text)
 }
 
-fn property(alloc: Global, out: &mut Vec<u8>, property: &Property) -> Result<(), AllocError> {
+fn property(
+    alloc: Global,
+    out: &mut Vec<u8>,
+    property: &Property<Span<'_>>,
+) -> Result<(), AllocError> {
     put(out, b"(")?;
-    write_encoded(alloc, out, property.name.as_slice())?;
+    write_encoded(alloc, out, property.name.as_bytes())?;
     match property.sign {
         Sign::Equal => put(out, b"=")?,
         Sign::NotEqual => put(out, b"#")?,
         Sign::Less => put(out, b"<")?,
         Sign::Greater => put(out, b">")?,
     }
-    write_encoded(alloc, out, property.value.as_slice())?;
+    write_encoded(alloc, out, property.value.as_bytes())?;
     put(out, b")")
 }
 
@@ -31,15 +36,15 @@ fn octets(alloc: Global, out: &mut Vec<u8>, octets: &[u8]) -> Result<(), AllocEr
     put(out, b">")
 }
 
-fn stream_part(alloc: Global, out: &mut Vec<u8>, part: &StreamPart) -> Result<(), AllocError> {
+fn stream_part(alloc: Global, out: &mut Vec<u8>, part: &StreamPart<'_>) -> Result<(), AllocError> {
     match part {
         StreamPart::Local(span) => {
             put(out, b"Local")?;
-            octets(alloc, out, span.as_slice())
+            octets(alloc, out, span.as_bytes())
         }
         StreamPart::Remote(span) => {
             put(out, b"Remote")?;
-            octets(alloc, out, span.as_slice())
+            octets(alloc, out, span.as_bytes())
         }
         StreamPart::LocalControl(properties) => {
             put(out, b"Control")?;
@@ -51,7 +56,7 @@ fn stream_part(alloc: Global, out: &mut Vec<u8>, part: &StreamPart) -> Result<()
     }
 }
 
-fn media_part(alloc: Global, out: &mut Vec<u8>, part: &MediaPart) -> Result<(), AllocError> {
+fn media_part(alloc: Global, out: &mut Vec<u8>, part: &MediaPart<'_>) -> Result<(), AllocError> {
     put(out, b" ")?;
     match part {
         MediaPart::Outside(part) => stream_part(alloc, out, part),
@@ -74,7 +79,12 @@ fn media_part(alloc: Global, out: &mut Vec<u8>, part: &MediaPart) -> Result<(), 
     }
 }
 
-fn tail(alloc: Global, out: &mut Vec<u8>, kind: KeptKind, tail: &Tail) -> Result<(), AllocError> {
+fn tail(
+    alloc: Global,
+    out: &mut Vec<u8>,
+    kind: KeptKind,
+    tail: &Tail<Span<'_>>,
+) -> Result<(), AllocError> {
     match kind {
         KeptKind::Events => put(out, b"Events")?,
         KeptKind::Signals => put(out, b"Signals")?,
@@ -86,26 +96,30 @@ fn tail(alloc: Global, out: &mut Vec<u8>, kind: KeptKind, tail: &Tail) -> Result
     }
     if let Some(word) = &tail.word {
         put(out, b" word ")?;
-        write_encoded(alloc, out, word.as_slice())?;
+        write_encoded(alloc, out, word.as_bytes())?;
     }
     if let Some(group) = &tail.group {
         put(out, b" group ")?;
-        write_encoded(alloc, out, group.as_slice())?;
+        write_encoded(alloc, out, group.as_bytes())?;
     }
     Ok(())
 }
 
-fn service_parm(alloc: Global, out: &mut Vec<u8>, parm: &ServiceParm) -> Result<(), AllocError> {
+fn service_parm(
+    alloc: Global,
+    out: &mut Vec<u8>,
+    parm: &ServiceParm<'_>,
+) -> Result<(), AllocError> {
     put(out, b" ")?;
-    write_encoded(alloc, out, parm.name.as_slice())?;
+    write_encoded(alloc, out, parm.name.as_bytes())?;
     match &parm.value {
         Some(ServiceValue::Quoted(span)) => {
             put(out, b" quoted ")?;
-            write_encoded(alloc, out, span.as_slice())
+            write_encoded(alloc, out, span.as_bytes())
         }
         Some(ServiceValue::Run(span)) => {
             put(out, b" run ")?;
-            write_encoded(alloc, out, span.as_slice())
+            write_encoded(alloc, out, span.as_bytes())
         }
         None => Ok(()),
     }
@@ -119,7 +133,7 @@ fn service_parm(alloc: Global, out: &mut Vec<u8>, parm: &ServiceParm) -> Result<
 pub fn write_descriptor(
     alloc: Global,
     out: &mut Vec<u8>,
-    descriptor: &Descriptor,
+    descriptor: &Descriptor<'_>,
 ) -> Result<(), AllocError> {
     match descriptor {
         Descriptor::Media(parts) => {
@@ -134,7 +148,7 @@ pub fn write_descriptor(
             put(out, b"Audit")?;
             for word in words.as_slice() {
                 put(out, b" ")?;
-                write_encoded(alloc, out, word.as_slice())?;
+                write_encoded(alloc, out, word.as_bytes())?;
             }
             Ok(())
         }
@@ -147,7 +161,7 @@ pub fn write_descriptor(
         }
         Descriptor::Other(word) => {
             put(out, b"Other ")?;
-            write_encoded(alloc, out, word.as_slice())
+            write_encoded(alloc, out, word.as_bytes())
         }
     }
 }

@@ -23,7 +23,7 @@ impl Outline {
         self.put(digits.as_bytes())
     }
 
-    fn command(&mut self, command: &Command) -> Result<(), AllocError> {
+    fn command(&mut self, command: &Command<'_>) -> Result<(), AllocError> {
         let word = format!(in self.alloc; "; {:?}", command.verb)?;
         self.put(word.as_bytes())?;
         if command.optional {
@@ -41,7 +41,7 @@ impl Outline {
         Ok(())
     }
 
-    fn action(&mut self, action: &Action) -> Result<(), AllocError> {
+    fn action(&mut self, action: &Action<'_>) -> Result<(), AllocError> {
         match action.ctx {
             CtxRef::Null => self.put(b" in -")?,
             CtxRef::All => self.put(b" in *")?,
@@ -60,7 +60,7 @@ impl Outline {
         Ok(())
     }
 
-    fn request(&mut self, request: &Request) -> Result<(), AllocError> {
+    fn request(&mut self, request: &Request<'_>) -> Result<(), AllocError> {
         self.put(b"request ")?;
         self.number(request.id.0)?;
         for action in request.actions.as_slice() {
@@ -80,7 +80,7 @@ impl Outline {
         Ok(())
     }
 
-    fn message(&mut self, message: &Message) -> Result<(), AllocError> {
+    fn message(&mut self, message: &Message<'_>) -> Result<(), AllocError> {
         write_encoded(self.alloc, &mut self.text, message.mid.as_bytes())?;
         self.put(b": ")?;
         for item in message.items.as_slice() {

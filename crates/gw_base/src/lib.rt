@@ -13,6 +13,7 @@ mod items;
 mod media;
 mod mid;
 mod name;
+mod span;
 mod term_ref;
 
 pub use bytes::{is_digit, is_letter};
@@ -25,4 +26,5 @@ pub use items::Items;
 pub use media::MediaAddr;
 pub use mid::Mid;
 pub use name::TermName;
+pub use span::Span;
 pub use term_ref::{Pattern, TermRef};
