@@ -5,8 +5,6 @@ mod error;
 mod identifiers;
 mod message;
 mod reply;
-#[cfg(test)]
-mod tests;
 mod tree_text;
 mod wire;
 
