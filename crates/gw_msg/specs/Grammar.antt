@@ -212,16 +212,20 @@ Spells m = IsHeader spoken_version ▹ SpellsContent m
 
 -- ---- what is answered
 
+-- a header of the version, whatever follows
+abbrev pub HasHeader : ℕ → List ℕ → Type 0
+HasHeader version = IsHeader version ▹ (λ rest. Unit {0})
+
 -- a header of another version, whatever follows
 pub record HasVersionFault (text : List ℕ) : Type 0 where
   pub version : ℕ
   pub other : version ≢ spoken_version
-  pub header : (IsHeader version ▹ (λ rest. Unit {0})) text
+  pub header : HasHeader version text
 
 -- What reading a text may answer: the message that it spells; Version where the header has another; Syntax where it is
--- neither. Memory may run out at any text whose header has no other version.
+-- neither. Memory is taken, and may run out, behind a header of the version that is spoken alone.
 abbrev pub IsReadingOf : List ℕ → Result Message ReadFault → Type 0
 IsReadingOf text (Ok m) = Spells m text
 IsReadingOf text (Err Version) = HasVersionFault text
 IsReadingOf text (Err Syntax) = (¬ HasVersionFault text) × ((m : Message) → ¬ Spells m text)
-IsReadingOf text (Err NoMemory) = ¬ HasVersionFault text
+IsReadingOf text (Err NoMemory) = HasHeader spoken_version text
