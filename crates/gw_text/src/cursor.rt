@@ -6,7 +6,7 @@ ghost use Rattle.gw_base.specs.Bytes.{is_digit};
 ghost use Rattle.gw_text.specs.Lexical.{is_safe, is_solid, right_brace};
 ghost use Rattle.gw_text.specs.Space.{IsSpace, IsSep};
 ghost use Rattle.gw_text.specs.SpaceScan.{skip};
-ghost use Rattle.gw_text.specs.Runs.{begins, is_byte};
+ghost use Rattle.gw_text.specs.Runs.{begins, first, is_byte};
 ghost use Rattle.gw_text.specs.Forms.{IsWord, IsSolid, IsSomeRun, IsNumber, IsUint32, HasNoNumber, IsSign, IsInAnyCase};
 ghost use Rattle.gw_text.specs.Octets.{IsOctets, IsOctetsOf, octets_at};
 ghost use Rattle.gw_text.specs.Quoted.{IsQuoted, quoted_at};
@@ -61,6 +61,16 @@ impl<'a> Cursor<'a> {
         ensures { IsTrue result ↔ (self.now ≡ []) }
     {
         self.rest.is_empty()
+    }
+
+    /// The byte that comes next, if there is one. It is not taken.
+    pub fn peek(&self) -> Option<u8>
+        ensures { result ≡ first self.now }
+    {
+        match self.rest {
+            [b, ..] => Some(*b),
+            [] => None,
+        }
     }
 
     /// Whether the byte comes next. It is not taken.
