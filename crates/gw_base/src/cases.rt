@@ -247,10 +247,7 @@ fn faults_have_their_texts(rt: HostRuntime) -> Result<(), Fail> {
     for (fault, text) in [
         (NameFault::Empty, "the text is empty"),
         (NameFault::TooLong, "the text is too long"),
-        (
-            NameFault::BadByte,
-            "the text has a byte that its form does not allow there",
-        ),
+        (NameFault::BadByte, "the text is not of its form"),
     ] {
         let shown = format!(in rt.alloc(); "{fault}")?;
         assert_eq!(rt; shown.as_str(), text, "{fault:?}");
