@@ -92,6 +92,3 @@ pub fn one_answer()
     ensures version { (text : List ℕ) (answer : Result SpelledMessage Fault) → IsReadingOf text answer → HasVersionFault text → answer ≡ Err Version }
     ensures only { (text : List ℕ) (answer : Result SpelledMessage Fault) → IsReadingOf text answer → (answer ≡ message_of text) ⊎ (answer ≡ Err NoMemory) }
 {}
-
-#[cfg(test)]
-mod tests;

@@ -363,6 +363,3 @@ impl<'a> Cursor<'a> {
         span
     }
 }
-
-#[cfg(test)]
-mod tests;

@@ -197,6 +197,3 @@ pub fn token_of(word: &[u8]) -> Option<Token>
     };
     find(tokens_in(first.to_ascii_lowercase()), word)
 }
-
-#[cfg(test)]
-mod tests;
