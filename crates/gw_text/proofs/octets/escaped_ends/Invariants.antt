@@ -1,6 +1,6 @@
 use Rattle.std.proofs.Common.{◌≡◌, ◌≤◌, false, drop}
 use Rattle.gw_text.specs.Octets.{octets_from}
-use Rattle.gw_text.proofs.octets.octets_ends.Given as goal
+use Rattle.gw_text.proofs.octets.escaped_ends.Given as goal
 
 abbrev pub invariant-loop-i : goal.invariant-loop-i
 invariant-loop-i l = record {

@@ -1,6 +1,6 @@
 use Rattle.std.proofs.Common.{◌≡◌, ◌≤◌, false, drop}
 use Rattle.gw_text.specs.SpaceScan.{space_len_from}
-use Rattle.gw_text.proofs.lengths.space_len.Given as goal
+use Rattle.gw_text.proofs.lengths.some_space_len.Given as goal
 
 abbrev pub invariant-loop-i : goal.invariant-loop-i
 invariant-loop-i l = record {
