@@ -5,3 +5,5 @@ pub mod PropertyLaws
 pub mod MediaLaws
 pub mod ServiceLaws
 pub mod DescriptorLaws
+pub mod Fills
+pub mod FillLines

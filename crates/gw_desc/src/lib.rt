@@ -4,6 +4,7 @@
 mod descriptor;
 mod descriptors;
 mod fault;
+mod fill;
 mod laws;
 mod lists;
 mod properties;
@@ -17,6 +18,7 @@ pub use descriptor::{
     StreamPart, Tail,
 };
 pub use fault::PartFault;
+pub use fill::fill_local;
 pub use laws::{descriptors_are_read, tails_are_read};
 pub use lists::{Part, braced, items, list, optional_braced, sign, token};
 pub use tails::{TailSpans, optional_group, tail, tail_spans};
