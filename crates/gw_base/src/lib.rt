@@ -15,6 +15,7 @@ mod items;
 mod media;
 mod mid;
 mod name;
+mod span;
 mod term_ref;
 
 pub use bytes::{is_digit, is_letter};
@@ -27,4 +28,5 @@ pub use items::Items;
 pub use media::MediaAddr;
 pub use mid::Mid;
 pub use name::TermName;
+pub use span::Span;
 pub use term_ref::{Pattern, TermRef};

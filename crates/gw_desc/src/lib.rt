@@ -21,4 +21,4 @@ pub use fault::PartFault;
 pub use fill::fill_local;
 pub use laws::{descriptors_are_read, tails_are_read};
 pub use lists::{Part, braced, items, list, optional_braced, sign, token};
-pub use tails::{TailSpans, optional_group, tail, tail_spans};
+pub use tails::{optional_group, tail};
