@@ -7,3 +7,6 @@ pub mod ServiceLaws
 pub mod DescriptorLaws
 pub mod Fills
 pub mod FillLines
+pub mod NamePlaces
+pub mod Marking
+pub mod Counting
