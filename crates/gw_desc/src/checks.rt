@@ -15,6 +15,8 @@ mod unfit;
 use crate::descriptor::Descriptor;
 use gw_base::{Code, Verb};
 
+pub use kinds::same_kept;
+
 /// What is wrong with the descriptors of a command, the first of these that applies to the whole list: `IllegalDescriptor`
 /// (one of the seven kinds that the command may not have), `UnknownDescriptor` (another one, or another item of an Audit),
 /// `DescriptorTwice` (two of a kind; in a Media two of what stands there once), `PropertyTwice` (a property, an item or a

@@ -112,8 +112,8 @@ fn write_lines(
 
 /// A Local's text in which the `$` of an ephemeral termination are filled, and whether there was one: the third field of
 /// each line that begins with `c=` becomes the address of the gateway's media, and the second of each that begins with `m=`
-/// the port `16384 + 8 * slot + 2 * (stream - 1)`. Fields stand between single spaces; all else stays. The caller knows that
-/// the slot is one of a gateway, below 4,096, and that the stream is 1 to 4. The work is linear in the text.
+/// the port `16384 + 8 * slot + 2 * (stream - 1)`. Fields stand between single spaces; all else stays. A gateway's slots are below
+/// 4,096; the caller knows that the stream is 1 to 4. The work is linear in the text.
 ///
 /// # Errors
 ///
@@ -126,7 +126,6 @@ pub fn fill_local(
     slot: u16,
     stream: u8,
 ) -> Result<(Vec<u8>, bool), NoMemory>
-    requires slot { slot < 4096 }
     requires first { 1 ≤ stream }
     requires last { stream ≤ 4 }
     ensures text { IfOk result (λ r. r.0.items ≡ filled media.now slot stream text.now) }

@@ -15,7 +15,7 @@ mod streams;
 mod tails;
 mod values;
 
-pub use checks::check;
+pub use checks::{check, same_kept};
 pub use descriptor::{
     AuditItems, Descriptor, KeptKind, MediaPart, Property, ServiceParm, ServiceValue, Sign,
     StreamPart, Tail,

@@ -17,7 +17,7 @@ use Rattle.gw_reply.specs.declared.parts.ReplyPart.TheVariants as part
 use Rattle.gw_reply.specs.declared.parts.FilledStream.{FilledStream}
 use Rattle.gw_reply.specs.declared.parts.MediaReply.{MediaReply}
 use Rattle.gw_reply.specs.declared.parts.StreamReply.{StreamReply}
-use Rattle.gw_reply.specs.Lists.{in_braces, joined}
+use Rattle.gw_reply.specs.Lists.{in_braces, joined, later}
 
 -- ---- words
 
@@ -65,11 +65,6 @@ equals_text false = []
 abbrev pub tail_text : Tail (List ℕ) → List ℕ
 tail_text t = equals_text t.equals ++ text_if t.word ++ text_if t.group
 
--- properties, each behind a comma
-abbrev pub later_properties : List (Property (List ℕ)) → List ℕ
-later_properties [] = []
-later_properties (p ∷ ps) = codes "," ++ property_text p ++ later_properties ps
-
 -- ---- streams
 
 -- ,Local{..} and ,Remote{..}, if it is there
@@ -79,14 +74,18 @@ later_octets word (Some text) = codes "," ++ word ++ in_braces text
 
 -- LocalControl{Mode=<mode>[,properties]}
 abbrev pub control_text : Mode → List (Property (List ℕ)) → List ℕ
-control_text mode properties = codes "LocalControl" ++ in_braces (codes "Mode=" ++ mode_word mode ++ later_properties properties)
+control_text mode properties = codes "LocalControl" ++ in_braces (codes "Mode=" ++ mode_word mode ++ later property_text properties)
 
 -- Stream=<number>{..}
 abbrev pub numbered : ℕ → List ℕ → List ℕ
 numbered number text = codes "Stream=" ++ decimal number ++ in_braces text
 
+unfoldable pub stream_parts : StreamReply → List ℕ
+stream_parts s = control_text s.mode s.properties ++ later_octets (codes "Local") s.local ++ later_octets (codes "Remote") s.remote
+
+-- Stream=<number>{LocalControl{..}[,Local{..}][,Remote{..}]}
 abbrev pub stream_text : StreamReply → List ℕ
-stream_text s = numbered s.number (control_text s.mode s.properties ++ later_octets (codes "Local") s.local ++ later_octets (codes "Remote") s.remote)
+stream_text s = numbered s.number (stream_parts s)
 
 abbrev pub filled_text : FilledStream → List ℕ
 filled_text s = numbered s.number (codes "Local" ++ in_braces s.local)
@@ -95,15 +94,14 @@ filled_text s = numbered s.number (codes "Local" ++ in_braces s.local)
 
 -- TerminationState{ServiceStates=<state>[,properties]}
 abbrev pub state_text : Service → List (Property (List ℕ)) → List ℕ
-state_text service properties = codes "TerminationState" ++ in_braces (codes "ServiceStates=" ++ service_word service ++ later_properties properties)
+state_text service properties = codes "TerminationState" ++ in_braces (codes "ServiceStates=" ++ service_word service ++ later property_text properties)
 
--- streams, each behind a comma
-abbrev pub later_streams : List StreamReply → List ℕ
-later_streams [] = []
-later_streams (s ∷ ss) = codes "," ++ stream_text s ++ later_streams ss
+-- Media{TerminationState{..}[,Stream=k{..}]..}
+abbrev pub media_text : MediaReply → List ℕ
+media_text m = codes "Media" ++ in_braces (state_text m.service m.properties ++ later stream_text m.streams)
 
 abbrev pub part_text : ReplyPart → List ℕ
 part_text (part.Filled streams) = codes "Media" ++ in_braces (joined (map filled_text streams))
-part_text (part.Media m) = codes "Media" ++ in_braces (state_text m.service m.properties ++ later_streams m.streams)
+part_text (part.Media media) = media_text media
 part_text (part.Kept kind tail) = kind_word kind ++ tail_text tail
 part_text (part.Bare item) = item_word item

@@ -6,11 +6,11 @@ use std::alloc::Global;
 use std::process::Abort;
 use std::test::Fail;
 
-fn carried_out(verb: Verb, term: TermRef) -> CommandReply {
+fn carried_out(alloc: Global, verb: Verb, term: TermRef) -> CommandReply {
     CommandReply {
         verb,
         term,
-        result: Ok(()),
+        result: Ok(Items::new(alloc)),
     }
 }
 
@@ -52,7 +52,7 @@ fn expect_command(
     term: &[u8],
     text: &str,
 ) -> Result<(), Fail> {
-    let commands = vec![in rt.alloc(); carried_out(verb, TermRef::read(term)?)]?;
+    let commands = vec![in rt.alloc(); carried_out(rt.alloc(), verb, TermRef::read(term)?)]?;
     let tree = reply(1, vec![in rt.alloc(); action(CtxRef::Null, commands)]?);
     let body = format!(in rt.alloc(); "Reply=1{{Context=-{{{text}}}}}")?;
     expect_body(rt, &tree, body.as_str())
@@ -62,14 +62,14 @@ fn expect_command(
 fn replies_of_two_commands_and_of_two_actions(rt: HostRuntime) -> Result<(), Fail> {
     let first = CtxRef::Num(CtxNum(1));
     let commands = vec![in rt.alloc();
-        carried_out(Verb::Add, TermRef::read(b"T/1")?),
-        carried_out(Verb::Add, TermRef::read(b"T/2")?),
+        carried_out(rt.alloc(), Verb::Add, TermRef::read(b"T/1")?),
+        carried_out(rt.alloc(), Verb::Add, TermRef::read(b"T/2")?),
     ]?;
     let tree = reply(1, vec![in rt.alloc(); action(first, commands)]?);
     expect_body(&rt, &tree, "Reply=1{Context=1{Add=T/1,Add=T/2}}")?;
 
-    let one = vec![in rt.alloc(); carried_out(Verb::Subtract, TermRef::read(b"*")?)]?;
-    let other = vec![in rt.alloc(); carried_out(Verb::Subtract, TermRef::read(b"*")?)]?;
+    let one = vec![in rt.alloc(); carried_out(rt.alloc(), Verb::Subtract, TermRef::read(b"*")?)]?;
+    let other = vec![in rt.alloc(); carried_out(rt.alloc(), Verb::Subtract, TermRef::read(b"*")?)]?;
     let actions = vec![in rt.alloc(); action(first, one), action(CtxRef::Num(CtxNum(2)), other)]?;
     expect_body(
         &rt,
@@ -82,7 +82,7 @@ fn replies_of_two_commands_and_of_two_actions(rt: HostRuntime) -> Result<(), Fai
 fn an_error_stands_for_a_command_an_action_or_a_transaction(rt: HostRuntime) -> Result<(), Fail> {
     let commands = vec![in rt.alloc();
         refused(Verb::Add, TermRef::read(b"T/9")?, Code::UnknownTermination),
-        carried_out(Verb::Add, TermRef::read(b"T/1")?),
+        carried_out(rt.alloc(), Verb::Add, TermRef::read(b"T/1")?),
     ]?;
     let tree = reply(
         4,
@@ -188,8 +188,11 @@ fn an_error_as_the_body(rt: HostRuntime) -> Result<(), Fail> {
 /// As many Adds of 64 letters, and one of another text.
 fn long_action(alloc: Global, count: usize, last: &[u8]) -> Result<TxReply, Fail> {
     let longest = TermRef::read(&[b'T'; 64])?;
-    let mut commands = vec![in alloc; carried_out(Verb::Add, longest); count]?;
-    commands.push(carried_out(Verb::Add, TermRef::read(last)?))?;
+    let mut commands = Vec::new(alloc);
+    for _ in 0..count {
+        commands.push(carried_out(alloc, Verb::Add, longest))?;
+    }
+    commands.push(carried_out(alloc, Verb::Add, TermRef::read(last)?))?;
     Ok(reply(1, vec![in alloc; action(CtxRef::Num(CtxNum(1)), commands)]?))
 }
 

@@ -30,7 +30,7 @@ pub(crate) fn is_services(descriptor: &Descriptor<'_>) -> bool
 }
 
 /// Whether they are one kind.
-pub(crate) fn same_kept(a: KeptKind, b: KeptKind) -> bool
+pub fn same_kept(a: KeptKind, b: KeptKind) -> bool
     ensures { result ≡ same_kept a b }
 {
     matches!(
