@@ -41,7 +41,7 @@ fn verb_of(word: &[u8]) -> Option<Verb> {
 }
 
 /// A command reply.
-fn command_of(word: &[u8]) -> Result<CommandReply, CaseFault> {
+fn command_of(alloc: Global, word: &[u8]) -> Result<CommandReply, CaseFault> {
     let (front, code) = split_code(word)?;
     let (verb, Some(term)) = split_at(front, b'=') else {
         return Err(CaseFault::Form);
@@ -51,7 +51,7 @@ fn command_of(word: &[u8]) -> Result<CommandReply, CaseFault> {
     };
     let result = match code {
         Some(code) => Err(code),
-        None => Ok(()),
+        None => Ok(Items::new(alloc)),
     };
     Ok(CommandReply { verb, term, result })
 }
@@ -107,7 +107,7 @@ fn actions_of(alloc: Global, words: &[u8]) -> Result<Vec<ActionReply>, CaseFault
             return Err(CaseFault::Form);
         };
         for _ in 0..times {
-            action.commands.push(command_of(word)?)?;
+            action.commands.push(command_of(alloc, word)?)?;
         }
         times = 1;
     }
