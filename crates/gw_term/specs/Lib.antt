@@ -1,0 +1,4 @@
+pub mod Record
+pub mod Merge
+pub mod Audit
+pub mod Applies

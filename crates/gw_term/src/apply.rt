@@ -1,0 +1,159 @@
+//! What descriptors do to a termination: all of it, or nothing.
+
+ghost use Rattle.std.specs.Prelude.{◌≡◌, ◌≤◌, ◌++◌, IfOk, OnOk, Some};
+ghost use Rattle.gw_term.specs.Merge.{filled_in, filled_of, merged_media, stream_in, local_if};
+ghost use Rattle.gw_term.specs.Applies.{Gives};
+
+use crate::copies::copied;
+use crate::fault::ApplyFault;
+use crate::properties::{merged_properties, merged_service};
+use crate::record::{Stream, Termination};
+use crate::streams::{Merging, Target, merged_stream};
+use crate::tails::merged_tail;
+use gw_base::{Items, NoMemory, Rules};
+use gw_desc::{Descriptor, KeptKind};
+use gw_reply::{FilledStream, KeptProperty};
+use std::alloc::Global;
+
+/// The streams whose Local was filled, in rising order.
+pub type Filled = Items<FilledStream>;
+
+/// What of a merge can be too much.
+#[derive(Debug, Drop)]
+pub(crate) struct Media {
+    pub properties: Items<KeptProperty>,
+    pub first: Option<Merging>,
+    pub second: Option<Merging>,
+    pub third: Option<Merging>,
+    pub fourth: Option<Merging>,
+}
+
+/// The properties and the streams after the descriptors.
+#[tactic(auto, unfolding(crate::specs::Merge::merged_media))]
+fn merged_media(
+    alloc: Global,
+    rules: &Rules,
+    descriptors: &[Descriptor<'_>],
+    old: &Termination,
+) -> Result<Media, ApplyFault>
+    ensures { Gives result (merged_media rules.now descriptors.now old.now) }
+{
+    let target = |number| Target {
+        rules: *rules,
+        slot: old.slot,
+        number,
+    };
+    let properties = merged_properties(alloc, descriptors, old.properties.as_slice())?;
+    let first = merged_stream(alloc, &target(1), descriptors, &old.first)?;
+    let second = merged_stream(alloc, &target(2), descriptors, &old.second)?;
+    let third = merged_stream(alloc, &target(3), descriptors, &old.third)?;
+    let fourth = merged_stream(alloc, &target(4), descriptors, &old.fourth)?;
+    Ok(Media {
+        properties,
+        first,
+        second,
+        third,
+        fourth,
+    })
+}
+
+/// The stream's Local goes last, if it was filled.
+fn push_filled(
+    alloc: Global,
+    number: u8,
+    merging: &Option<Merging>,
+    filled: &mut Filled,
+) -> Result<(), NoMemory>
+    ensures { OnOk result (filled.new ≡ filled.old ++ filled_in number merging.now) }
+{
+    let Some(merging) = merging else {
+        return Ok(());
+    };
+    if !merging.filled {
+        return Ok(());
+    }
+    if let Some(text) = &merging.stream.local {
+        let local = copied(alloc, text.as_slice())?;
+        filled.push(FilledStream { number, local })?;
+    }
+    Ok(())
+}
+
+/// The streams whose Local was filled.
+fn filled_of(alloc: Global, media: &Media) -> Result<Filled, NoMemory>
+    ensures { IfOk result (λ filled. filled ≡ filled_of (Some media.now)) }
+{
+    let mut filled = Items::new(alloc);
+    push_filled(alloc, 1, &media.first, &mut filled)?;
+    push_filled(alloc, 2, &media.second, &mut filled)?;
+    push_filled(alloc, 3, &media.third, &mut filled)?;
+    push_filled(alloc, 4, &media.fourth, &mut filled)?;
+    Ok(filled)
+}
+
+/// The stream without what was noted of it.
+fn stream_in(merging: Option<Merging>) -> Option<Stream>
+    ensures { result ≡ stream_in merging }
+{
+    match merging {
+        Some(merging) => Some(merging.stream),
+        None => None,
+    }
+}
+
+impl Termination {
+    ghost use Rattle.std.specs.Prelude.{None};
+    ghost use Rattle.gw_base.specs.declared.command_words.Verb.TheVariants.{Add as add_verb};
+    ghost use Rattle.gw_desc.specs.Checks.{check_code};
+    ghost use Rattle.gw_term.specs.Merge.{merged, filled_by};
+    ghost use Rattle.gw_term.specs.Applies.{IsApplied};
+
+    /// What the descriptors set, it keeps; what they do not name stays. A stream that is named and missing comes with mode
+    /// Inactive and nothing else; Mode, ServiceStates, Local and Remote take the place of the old ones; a property takes
+    /// the place of the one of its name, in any case, or goes last; a tail takes the place of the old one, and one without
+    /// `=` whose group is missing or blank removes it. The `$` of a Local are filled where the termination has a slot.
+    /// Answers the streams whose Local was filled, in rising order, with their Locals. The caller knows that no code of
+    /// `check` applies to the descriptors, taken as those of an Add. The work is linear in the descriptors and the record.
+    ///
+    /// # Errors
+    ///
+    /// `Code(InsufficientResources)` where a list would hold more than 32 properties; `NoMemory`. After either the
+    /// termination is as it was.
+    #[tactic(auto, unfolding(crate::specs::Merge::merged, crate::specs::Merge::filled_by))]
+    pub fn apply(
+        &mut self,
+        alloc: Global,
+        rules: &Rules,
+        descriptors: &[Descriptor<'_>],
+    ) -> Result<Filled, ApplyFault>
+        requires { check_code add_verb descriptors.now ≡ None }
+        ensures applied { IsApplied rules.now descriptors.now self.old self.new result }
+    {
+        let media = merged_media(alloc, rules, descriptors, self)?;
+        let filled = filled_of(alloc, &media)?;
+        let events = merged_tail(alloc, KeptKind::Events, descriptors, &self.events)?;
+        let signals = merged_tail(alloc, KeptKind::Signals, descriptors, &self.signals)?;
+        let digit_map = merged_tail(alloc, KeptKind::DigitMap, descriptors, &self.digit_map)?;
+        let event_buffer = merged_tail(
+            alloc,
+            KeptKind::EventBuffer,
+            descriptors,
+            &self.event_buffer,
+        )?;
+        *self = Termination {
+            place: self.place,
+            service: merged_service(descriptors, self.service),
+            slot: self.slot,
+            properties: media.properties,
+            first: stream_in(media.first),
+            second: stream_in(media.second),
+            third: stream_in(media.third),
+            fourth: stream_in(media.fourth),
+            events,
+            signals,
+            digit_map,
+            event_buffer,
+        };
+        Ok(filled)
+    }
+}

@@ -1,0 +1,135 @@
+//! What a termination answers to an Audit.
+
+ghost use Rattle.std.specs.Prelude.{◌≡◌, ◌++◌, IfOk, OnOk};
+ghost use Rattle.gw_term.specs.Audit.{stream_told, streams_told, media_told, tail_told, item_told, word_told};
+
+use crate::copies::{copied_if, copied_properties, copied_tail_if};
+use crate::record::{Stream, Termination};
+use gw_base::{Items, NoMemory};
+use gw_desc::{AuditItem, AuditItems, KeptKind, item_of};
+use gw_reply::{AuditReply, KeptTail, MediaReply, ReplyPart, StreamReply};
+use std::alloc::Global;
+
+/// The stream goes last, if it is there.
+fn push_stream(
+    alloc: Global,
+    number: u8,
+    stream: &Option<Stream>,
+    streams: &mut Items<StreamReply>,
+) -> Result<(), NoMemory>
+    ensures { OnOk result (streams.new ≡ streams.old ++ stream_told number stream.now) }
+{
+    let Some(stream) = stream else {
+        return Ok(());
+    };
+    let properties = copied_properties(alloc, stream.properties.as_slice())?;
+    let local = copied_if(alloc, &stream.local)?;
+    let remote = copied_if(alloc, &stream.remote)?;
+    streams.push(StreamReply {
+        number,
+        mode: stream.mode,
+        properties,
+        local,
+        remote,
+    })?;
+    Ok(())
+}
+
+fn streams_told(alloc: Global, termination: &Termination) -> Result<Items<StreamReply>, NoMemory>
+    ensures { IfOk result (λ streams. streams ≡ streams_told termination.now) }
+{
+    let mut streams = Items::new(alloc);
+    push_stream(alloc, 1, &termination.first, &mut streams)?;
+    push_stream(alloc, 2, &termination.second, &mut streams)?;
+    push_stream(alloc, 3, &termination.third, &mut streams)?;
+    push_stream(alloc, 4, &termination.fourth, &mut streams)?;
+    Ok(streams)
+}
+
+fn media_told(alloc: Global, termination: &Termination) -> Result<MediaReply, NoMemory>
+    ensures { IfOk result (λ media. media ≡ media_told termination.now) }
+{
+    let properties = copied_properties(alloc, termination.properties.as_slice())?;
+    let streams = streams_told(alloc, termination)?;
+    Ok(MediaReply {
+        service: termination.service,
+        properties,
+        streams,
+    })
+}
+
+/// The tail, or the bare word where there is none.
+fn tail_told(alloc: Global, kind: KeptKind, tail: &Option<KeptTail>) -> Result<ReplyPart, NoMemory>
+    ensures { IfOk result (λ part. part ≡ tail_told kind tail.now) }
+{
+    match copied_tail_if(alloc, tail)? {
+        Some(tail) => Ok(ReplyPart::Kept(kind, tail)),
+        None => Ok(ReplyPart::Bare(AuditItem::Kept(kind))),
+    }
+}
+
+fn item_told(
+    alloc: Global,
+    termination: &Termination,
+    item: AuditItem,
+) -> Result<ReplyPart, NoMemory>
+    ensures { IfOk result (λ part. part ≡ item_told termination.now item) }
+{
+    match item {
+        AuditItem::Media => Ok(ReplyPart::Media(media_told(alloc, termination)?)),
+        AuditItem::Kept(KeptKind::Events) => tail_told(
+            alloc,
+            KeptKind::Events,
+            &termination.events,
+        ),
+        AuditItem::Kept(KeptKind::Signals) => {
+            tail_told(alloc, KeptKind::Signals, &termination.signals)
+        }
+        AuditItem::Kept(KeptKind::DigitMap) => {
+            tail_told(alloc, KeptKind::DigitMap, &termination.digit_map)
+        }
+        AuditItem::Kept(KeptKind::EventBuffer) => {
+            tail_told(alloc, KeptKind::EventBuffer, &termination.event_buffer)
+        }
+        AuditItem::Statistics => Ok(ReplyPart::Bare(AuditItem::Statistics)),
+        AuditItem::ObservedEvents => Ok(ReplyPart::Bare(AuditItem::ObservedEvents)),
+        AuditItem::Packages => Ok(ReplyPart::Bare(AuditItem::Packages)),
+    }
+}
+
+/// What the word asks for goes last.
+fn push_told(
+    alloc: Global,
+    termination: &Termination,
+    word: &[u8],
+    parts: &mut AuditReply,
+) -> Result<(), NoMemory>
+    ensures { OnOk result (parts.new ≡ parts.old ++ word_told termination.now word.now) }
+{
+    if let Some(item) = item_of(word) {
+        parts.push(item_told(alloc, termination, item)?)?;
+    }
+    Ok(())
+}
+
+impl Termination {
+    ghost use Rattle.gw_term.specs.Audit.{audit_parts};
+
+    /// The items that an Audit asks for, in the order asked, as the termination is now: of Media its service state, its
+    /// properties and its streams; of a descriptor that is kept as sent its tail, or the bare word; of what the gateway
+    /// does not gather the bare word. The caller knows that each word is an item, as `check` finds it.
+    ///
+    /// # Errors
+    ///
+    /// Want of memory.
+    #[tactic(auto, unfolding(crate::specs::Audit::audit_parts))]
+    pub fn audit(&self, alloc: Global, words: &AuditItems<'_>) -> Result<AuditReply, NoMemory>
+        ensures { IfOk result (λ parts. parts ≡ audit_parts words.now self.now) }
+    {
+        let mut parts = Items::new(alloc);
+        for word in words.as_slice() {
+            push_told(alloc, self, word.as_bytes(), &mut parts)?;
+        }
+        Ok(parts)
+    }
+}

@@ -1,0 +1,179 @@
+//! Copies of what is kept: of texts that stand in a datagram, and of texts of a record.
+
+ghost use Rattle.std.specs.Prelude.{◌≡◌, IfOk};
+
+use crate::record::{Stream, Termination};
+use gw_base::{Items, NoMemory, Span};
+use gw_desc::{Property, Tail};
+use gw_reply::{KeptProperty, KeptTail};
+use std::alloc::Global;
+
+/// A copy of the text.
+pub(crate) fn copied(alloc: Global, text: &[u8]) -> Result<Items<u8>, NoMemory>
+    ensures { IfOk result (λ copy. copy ≡ text.now) }
+{
+    Ok(Items::from(Vec::from_slice(alloc, text)?))
+}
+
+/// A text of its own, if it is there.
+fn owned_if(alloc: Global, text: &Option<Span<'_>>) -> Result<Option<Items<u8>>, NoMemory>
+    ensures { IfOk result (λ copy. copy ≡ text.now) }
+{
+    match text {
+        Some(text) => Ok(Some(copied(alloc, text.as_bytes())?)),
+        None => Ok(None),
+    }
+}
+
+/// A property with texts of its own.
+pub(crate) fn owned_property(
+    alloc: Global,
+    property: &Property<Span<'_>>,
+) -> Result<KeptProperty, NoMemory>
+    ensures { IfOk result (λ copy. copy ≡ property.now) }
+{
+    let name = copied(alloc, property.name.as_bytes())?;
+    let value = copied(alloc, property.value.as_bytes())?;
+    Ok(Property {
+        name,
+        sign: property.sign,
+        value,
+    })
+}
+
+/// A tail with texts of its own.
+pub(crate) fn owned_tail(alloc: Global, tail: &Tail<Span<'_>>) -> Result<KeptTail, NoMemory>
+    ensures { IfOk result (λ copy. copy ≡ tail.now) }
+{
+    let word = owned_if(alloc, &tail.word)?;
+    let group = owned_if(alloc, &tail.group)?;
+    Ok(Tail {
+        equals: tail.equals,
+        word,
+        group,
+    })
+}
+
+/// A copy of the text, if it is there.
+pub(crate) fn copied_if(
+    alloc: Global,
+    text: &Option<Items<u8>>,
+) -> Result<Option<Items<u8>>, NoMemory>
+    ensures { IfOk result (λ copy. copy ≡ text.now) }
+{
+    match text {
+        Some(text) => Ok(Some(copied(alloc, text.as_slice())?)),
+        None => Ok(None),
+    }
+}
+
+fn copied_property(alloc: Global, property: &KeptProperty) -> Result<KeptProperty, NoMemory>
+    ensures { IfOk result (λ copy. copy ≡ property.now) }
+{
+    let name = copied(alloc, property.name.as_slice())?;
+    let value = copied(alloc, property.value.as_slice())?;
+    Ok(Property {
+        name,
+        sign: property.sign,
+        value,
+    })
+}
+
+/// A copy of the properties.
+pub(crate) fn copied_properties(
+    alloc: Global,
+    properties: &[KeptProperty],
+) -> Result<Items<KeptProperty>, NoMemory>
+    ensures { IfOk result (λ copy. copy ≡ properties.now) }
+{
+    let mut copy = Items::new(alloc);
+    for property in properties {
+        copy.push(copied_property(alloc, property)?)?;
+    }
+    Ok(copy)
+}
+
+fn copied_tail(alloc: Global, tail: &KeptTail) -> Result<KeptTail, NoMemory>
+    ensures { IfOk result (λ copy. copy ≡ tail.now) }
+{
+    let word = copied_if(alloc, &tail.word)?;
+    let group = copied_if(alloc, &tail.group)?;
+    Ok(Tail {
+        equals: tail.equals,
+        word,
+        group,
+    })
+}
+
+/// A copy of the tail, if it is there.
+pub(crate) fn copied_tail_if(
+    alloc: Global,
+    tail: &Option<KeptTail>,
+) -> Result<Option<KeptTail>, NoMemory>
+    ensures { IfOk result (λ copy. copy ≡ tail.now) }
+{
+    match tail {
+        Some(tail) => Ok(Some(copied_tail(alloc, tail)?)),
+        None => Ok(None),
+    }
+}
+
+/// A copy of the stream.
+pub(crate) fn copied_stream(alloc: Global, stream: &Stream) -> Result<Stream, NoMemory>
+    ensures { IfOk result (λ copy. copy ≡ stream.now) }
+{
+    let properties = copied_properties(alloc, stream.properties.as_slice())?;
+    let local = copied_if(alloc, &stream.local)?;
+    let remote = copied_if(alloc, &stream.remote)?;
+    Ok(Stream {
+        mode: stream.mode,
+        properties,
+        local,
+        remote,
+    })
+}
+
+/// A copy of the stream, if it is there.
+fn copied_stream_if(alloc: Global, stream: &Option<Stream>) -> Result<Option<Stream>, NoMemory>
+    ensures { IfOk result (λ copy. copy ≡ stream.now) }
+{
+    match stream {
+        Some(stream) => Ok(Some(copied_stream(alloc, stream)?)),
+        None => Ok(None),
+    }
+}
+
+impl Termination {
+    /// A copy, equal to it.
+    ///
+    /// # Errors
+    ///
+    /// Want of memory.
+    pub fn copy(&self, alloc: Global) -> Result<Termination, NoMemory>
+        ensures { IfOk result (λ copy. copy ≡ self.now) }
+    {
+        let properties = copied_properties(alloc, self.properties.as_slice())?;
+        let first = copied_stream_if(alloc, &self.first)?;
+        let second = copied_stream_if(alloc, &self.second)?;
+        let third = copied_stream_if(alloc, &self.third)?;
+        let fourth = copied_stream_if(alloc, &self.fourth)?;
+        let events = copied_tail_if(alloc, &self.events)?;
+        let signals = copied_tail_if(alloc, &self.signals)?;
+        let digit_map = copied_tail_if(alloc, &self.digit_map)?;
+        let event_buffer = copied_tail_if(alloc, &self.event_buffer)?;
+        Ok(Termination {
+            place: self.place,
+            service: self.service,
+            slot: self.slot,
+            properties,
+            first,
+            second,
+            third,
+            fourth,
+            events,
+            signals,
+            digit_map,
+            event_buffer,
+        })
+    }
+}

@@ -1,0 +1,15 @@
+//! Terminations: what is kept of one, what descriptors do to it, and what it answers to an Audit.
+#![tactic(auto)]
+
+mod apply;
+mod audit;
+mod copies;
+mod fault;
+mod properties;
+mod record;
+mod streams;
+mod tails;
+
+pub use apply::Filled;
+pub use fault::ApplyFault;
+pub use record::{Stream, Termination};

@@ -1,0 +1,180 @@
+//! Properties: how one takes its place in a list, and what the TerminationStates of descriptors set.
+
+ghost use Rattle.std.specs.Prelude.{◌≡◌, ◌≤◌, length};
+ghost use Rattle.std.specs.List.{flat_map};
+ghost use Rattle.gw_term.specs.Merge.{place_of, put_property, put_state, service_after, last_service, merged_service, merged_properties, states_in, states_in_part, media_parts, each};
+ghost use Rattle.gw_term.specs.Applies.{Becomes, Gives};
+
+use crate::copies::{copied_properties, owned_property};
+use crate::fault::ApplyFault;
+use gw_base::{Code, Items, Service, Span};
+use gw_desc::{Descriptor, MediaPart, Property, is_service_states, service_set_by};
+use gw_reply::KeptProperty;
+use std::alloc::Global;
+
+/// How many properties a list may hold (own to this profile).
+const MOST_PROPERTIES: usize = 32;
+
+/// The place of the property of this name, in any case, or the length of the list.
+fn place_of(name: &[u8], list: &[KeptProperty]) -> usize
+    ensures value { result ≡ place_of name.now list.now }
+    ensures within { result ≤ length list.now }
+{
+    for (i, property) in list.iter().enumerate() {
+        if property.name.as_slice().eq_ignore_ascii_case(name) {
+            return i;
+        }
+    }
+    list.len()
+}
+
+/// The property takes the place of the one of its name, or goes last.
+pub(crate) fn put_property(
+    alloc: Global,
+    property: &Property<Span<'_>>,
+    list: &mut Items<KeptProperty>,
+) -> Result<(), ApplyFault>
+    ensures { Becomes result list.new (put_property property.now list.old) }
+{
+    let place = place_of(property.name.as_bytes(), list.as_slice());
+    if place < list.len() {
+        let kept = owned_property(alloc, property)?;
+        list.set(place, kept);
+        return Ok(());
+    }
+    if list.len() >= MOST_PROPERTIES {
+        return Err(ApplyFault::Code(Code::InsufficientResources));
+    }
+    list.push(owned_property(alloc, property)?)?;
+    Ok(())
+}
+
+/// So does a property of a TerminationState; ServiceStates is none of the list.
+fn put_state(
+    alloc: Global,
+    property: &Property<Span<'_>>,
+    list: &mut Items<KeptProperty>,
+) -> Result<(), ApplyFault>
+    ensures { Becomes result list.new (put_state property.now list.old) }
+{
+    if is_service_states(property.name.as_bytes()) {
+        return Ok(());
+    }
+    put_property(alloc, property, list)
+}
+
+fn put_states(
+    alloc: Global,
+    properties: &[Property<Span<'_>>],
+    list: &mut Items<KeptProperty>,
+) -> Result<(), ApplyFault>
+    ensures { Becomes result list.new (each put_state properties.now list.old) }
+{
+    for property in properties {
+        put_state(alloc, property, list)?;
+    }
+    Ok(())
+}
+
+/// The properties of a part of a Media, if it is a TerminationState.
+fn states_in_part<'a, 'b>(part: &'b MediaPart<'a>) -> &'b [Property<Span<'a>>]
+    ensures { result.now ≡ states_in_part part.now }
+{
+    match part {
+        MediaPart::TerminationState(properties) => properties.as_slice(),
+        _ => &[],
+    }
+}
+
+/// The parts of a Media.
+pub(crate) fn media_parts<'a, 'b>(descriptor: &'b Descriptor<'a>) -> &'b [MediaPart<'a>]
+    ensures { result.now ≡ media_parts descriptor.now }
+{
+    match descriptor {
+        Descriptor::Media(parts) => parts.as_slice(),
+        _ => &[],
+    }
+}
+
+fn put_states_of(
+    alloc: Global,
+    parts: &[MediaPart<'_>],
+    list: &mut Items<KeptProperty>,
+) -> Result<(), ApplyFault>
+    ensures { Becomes result list.new (each put_state (flat_map states_in_part parts.now) list.old) }
+{
+    for part in parts {
+        put_states(alloc, states_in_part(part), list)?;
+    }
+    Ok(())
+}
+
+fn put_all_states(
+    alloc: Global,
+    descriptors: &[Descriptor<'_>],
+    list: &mut Items<KeptProperty>,
+) -> Result<(), ApplyFault>
+    ensures { Becomes result list.new (each put_state (flat_map states_in descriptors.now) list.old) }
+{
+    for descriptor in descriptors {
+        put_states_of(alloc, media_parts(descriptor), list)?;
+    }
+    Ok(())
+}
+
+/// The properties after the descriptors.
+#[tactic(auto, unfolding(crate::specs::Merge::merged_properties))]
+pub(crate) fn merged_properties(
+    alloc: Global,
+    descriptors: &[Descriptor<'_>],
+    old: &[KeptProperty],
+) -> Result<Items<KeptProperty>, ApplyFault>
+    ensures { Gives result (merged_properties descriptors.now old.now) }
+{
+    let mut list = copied_properties(alloc, old)?;
+    put_all_states(alloc, descriptors, &mut list)?;
+    Ok(list)
+}
+
+/// The service state after a property.
+fn service_after(property: &Property<Span<'_>>, old: Service) -> Service
+    ensures { result ≡ service_after property.now old }
+{
+    if is_service_states(property.name.as_bytes()) {
+        service_set_by(property).unwrap_or(old)
+    } else {
+        old
+    }
+}
+
+fn last_service(properties: &[Property<Span<'_>>], old: Service) -> Service
+    ensures { result ≡ last_service properties.now old }
+{
+    let mut service = old;
+    for property in properties {
+        service = service_after(property, service);
+    }
+    service
+}
+
+fn last_service_of(parts: &[MediaPart<'_>], old: Service) -> Service
+    ensures { result ≡ last_service (flat_map states_in_part parts.now) old }
+{
+    let mut service = old;
+    for part in parts {
+        service = last_service(states_in_part(part), service);
+    }
+    service
+}
+
+/// The service state after the descriptors.
+#[tactic(auto, unfolding(crate::specs::Merge::merged_service))]
+pub(crate) fn merged_service(descriptors: &[Descriptor<'_>], old: Service) -> Service
+    ensures { result ≡ merged_service descriptors.now old }
+{
+    let mut service = old;
+    for descriptor in descriptors {
+        service = last_service_of(media_parts(descriptor), service);
+    }
+    service
+}

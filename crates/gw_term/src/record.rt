@@ -1,0 +1,137 @@
+//! The record of a termination.
+
+ghost use Rattle.std.specs.Prelude.{◌≡◌};
+
+use gw_base::{CtxNum, Items, Service};
+use gw_desc::Mode;
+use gw_reply::{KeptProperty, KeptTail};
+use std::alloc::Global;
+
+/// A stream of a termination (RFC 3525, sections 7.1.6 and 7.1.7).
+#[derive(Debug, Drop)]
+pub struct Stream {
+    /// Its mode.
+    pub mode: Mode,
+    /// The properties of its LocalControl but Mode: at most 32.
+    pub properties: Items<KeptProperty>,
+    /// Its Local, if there is one.
+    pub local: Option<Items<u8>>,
+    /// Its Remote, if there is one.
+    pub remote: Option<Items<u8>>,
+}
+
+/// What is kept of a termination (RFC 3525, section 6.2).
+#[derive(Debug, Drop)]
+pub struct Termination {
+    /// The context that it is in, or none for the null context.
+    pub place: Option<CtxNum>,
+    /// Its service state.
+    pub service: Service,
+    /// Its slot, below 4,096, if it is an ephemeral one.
+    pub slot: Option<u16>,
+    /// The properties of its TerminationState but ServiceStates: at most 32.
+    pub properties: Items<KeptProperty>,
+    /// Stream 1, if it has one.
+    pub first: Option<Stream>,
+    /// Stream 2, if it has one.
+    pub second: Option<Stream>,
+    /// Stream 3, if it has one.
+    pub third: Option<Stream>,
+    /// Stream 4, if it has one.
+    pub fourth: Option<Stream>,
+    /// What it keeps of Events, if anything.
+    pub events: Option<KeptTail>,
+    /// What it keeps of Signals, if anything.
+    pub signals: Option<KeptTail>,
+    /// What it keeps of a DigitMap, if anything.
+    pub digit_map: Option<KeptTail>,
+    /// What it keeps of an EventBuffer, if anything.
+    pub event_buffer: Option<KeptTail>,
+}
+
+impl Termination {
+    ghost use Rattle.gw_term.specs.Record.{unset, provisioned, ephemeral, placed, serviced, reset};
+
+    /// A termination of which nothing was set.
+    fn unset(
+        alloc: Global,
+        place: Option<CtxNum>,
+        service: Service,
+        slot: Option<u16>,
+    ) -> Termination
+        ensures { result ≡ unset place service slot }
+    {
+        Termination {
+            place,
+            service,
+            slot,
+            properties: Items::new(alloc),
+            first: None,
+            second: None,
+            third: None,
+            fourth: None,
+            events: None,
+            signals: None,
+            digit_map: None,
+            event_buffer: None,
+        }
+    }
+
+    /// A termination that was configured: in the null context and in service. It takes no memory.
+    pub fn provisioned(alloc: Global) -> Termination
+        ensures { result ≡ provisioned }
+    {
+        Termination::unset(alloc, None, Service::InService, None)
+    }
+
+    /// One that is made for this slot, below 4,096, in the null context and in service. It takes no memory.
+    pub fn ephemeral(alloc: Global, slot: u16) -> Termination
+        ensures { result ≡ ephemeral slot }
+    {
+        Termination::unset(alloc, None, Service::InService, Some(slot))
+    }
+
+    /// The context that it is in, or none for the null context.
+    pub fn place(&self) -> Option<CtxNum>
+        ensures { result ≡ self.now.place }
+    {
+        self.place
+    }
+
+    /// Its service state.
+    pub fn service(&self) -> Service
+        ensures { result ≡ self.now.service }
+    {
+        self.service
+    }
+
+    /// It is in another context, or in the null context.
+    pub fn set_place(&mut self, place: Option<CtxNum>)
+        ensures { self.new ≡ placed self.old place }
+    {
+        self.place = place;
+    }
+
+    /// It has another service state.
+    pub fn set_service(&mut self, service: Service)
+        ensures { self.new ≡ serviced self.old service }
+    {
+        self.service = service;
+    }
+
+    /// It goes to the null context without streams, properties and tails; its service state and its slot stay.
+    pub fn reset(&mut self)
+        ensures { self.new ≡ reset self.old }
+    {
+        self.place = None;
+        self.properties.clear();
+        self.first = None;
+        self.second = None;
+        self.third = None;
+        self.fourth = None;
+        self.events = None;
+        self.signals = None;
+        self.digit_map = None;
+        self.event_buffer = None;
+    }
+}

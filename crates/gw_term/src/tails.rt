@@ -1,0 +1,84 @@
+//! Tails: what is kept of Events, Signals, DigitMap and EventBuffer.
+
+ghost use Rattle.std.specs.Prelude.{◌≡◌, bytes_eq, codes, IfOk, OnOk};
+ghost use Rattle.gw_text.specs.SpaceScan.{skip};
+ghost use Rattle.gw_term.specs.Merge.{is_blank, is_blank_group, kept_tail, merged_tail, tail_after};
+
+use crate::copies::{copied_tail_if, owned_tail};
+use gw_base::{NoMemory, Span};
+use gw_desc::{Descriptor, KeptKind, Tail, same_kept};
+use gw_reply::KeptTail;
+use gw_text::Cursor;
+use std::alloc::Global;
+
+/// Whether what stands behind a group's first brace is white space and the brace that closes it.
+fn is_closed(inside: &[u8]) -> bool
+    ensures { result ≡ bytes_eq (skip inside.now) (codes "}") }
+{
+    let mut cursor = Cursor::new(inside);
+    cursor.lwsp();
+    cursor.byte(b'}') && cursor.is_empty()
+}
+
+/// Whether nothing but white space stands between the braces of the group.
+fn is_blank(group: &[u8]) -> bool
+    ensures { result ≡ is_blank group.now }
+{
+    match group {
+        [_, inside @ ..] => is_closed(inside),
+        [] => false,
+    }
+}
+
+/// Whether there is no group, or nothing but white space between its braces.
+fn is_blank_group(group: &Option<Span<'_>>) -> bool
+    ensures { result ≡ is_blank_group group.now }
+{
+    match group {
+        Some(group) => is_blank(group.as_bytes()),
+        None => true,
+    }
+}
+
+/// What is kept of a tail: nothing of one without `=` that has no group, or a blank one.
+fn kept_tail(alloc: Global, tail: &Tail<Span<'_>>) -> Result<Option<KeptTail>, NoMemory>
+    ensures { IfOk result (λ kept. kept ≡ kept_tail tail.now) }
+{
+    if !tail.equals && is_blank_group(&tail.group) {
+        return Ok(None);
+    }
+    Ok(Some(owned_tail(alloc, tail)?))
+}
+
+/// The tail after a descriptor.
+fn put_tail(
+    alloc: Global,
+    kind: KeptKind,
+    descriptor: &Descriptor<'_>,
+    tail: &mut Option<KeptTail>,
+) -> Result<(), NoMemory>
+    ensures { OnOk result (tail.new ≡ tail_after kind descriptor.now tail.old) }
+{
+    if let Descriptor::Keep(other, sent) = descriptor {
+        if same_kept(kind, *other) {
+            *tail = kept_tail(alloc, sent)?;
+        }
+    }
+    Ok(())
+}
+
+/// The tail of this kind after the descriptors.
+pub(crate) fn merged_tail(
+    alloc: Global,
+    kind: KeptKind,
+    descriptors: &[Descriptor<'_>],
+    old: &Option<KeptTail>,
+) -> Result<Option<KeptTail>, NoMemory>
+    ensures { IfOk result (λ tail. tail ≡ merged_tail kind descriptors.now old.now) }
+{
+    let mut tail = copied_tail_if(alloc, old)?;
+    for descriptor in descriptors {
+        put_tail(alloc, kind, descriptor, &mut tail)?;
+    }
+    Ok(tail)
+}
