@@ -21,7 +21,7 @@ impl Desk for Record {
 }
 
 fn main(rt: HostRuntime) -> io::Result<()> {
-    match Record::new() {
+    match Record::new(rt.alloc()) {
         Some(mut record) => transcript(&rt, &mut record),
         None => Err(io::Error::from(io::ErrorKind::InvalidData)),
     }

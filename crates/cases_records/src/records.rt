@@ -82,13 +82,13 @@ impl Asks for Record {
 
 impl Record {
     /// A provisioned termination of the gateway `[10.0.0.1]:2944` with media 10.0.0.1.
-    pub fn new() -> Option<Record> {
+    pub fn new(alloc: Global) -> Option<Record> {
         let mid = Mid::read(b"[10.0.0.1]:2944").ok()?;
         let media = MediaAddr::read(b"10.0.0.1").ok()?;
         Some(Record {
             mid,
             rules: Rules { media, members: 3 },
-            termination: Termination::provisioned(),
+            termination: Termination::provisioned(alloc),
             is_audit: false,
         })
     }
@@ -108,9 +108,12 @@ impl Record {
         let asked = decoded(alloc, rest)?;
         let asked = asked.as_slice();
         match call {
-            b"provisioned" => self.termination = Termination::provisioned(),
+            b"provisioned" => self.termination = Termination::provisioned(alloc),
             b"ephemeral" => match number_of(asked) {
-                Some(slot) if slot < 4_096 => self.termination = Termination::ephemeral(slot as u16),
+                Some(slot) if slot < 4_096 => self.termination = Termination::ephemeral(
+                    alloc,
+                    slot as u16,
+                ),
                 _ => return Err(CaseFault::Form),
             },
             b"reset" => self.termination.reset(),
