@@ -29,17 +29,19 @@ fn some_space_len(text: &[u8]) -> usize
     ensures within { result ≤ length text.now }
 {
     let mut inside = false;
+    let mut passed = 0;
     let mut best = 0;
-    for (i, b) in text.iter().enumerate() {
+    for b in text {
+        passed += 1;
         if inside {
             if is_eol(*b) {
                 inside = false;
-                best = i + 1;
+                best = passed;
             } else if *b == 0 {
                 return best;
             }
         } else if is_blank(*b) {
-            best = i + 1;
+            best = passed;
         } else if *b == b';' {
             inside = true;
         } else {
