@@ -1,5 +1,6 @@
 -- The replies that are kept for repeats (own): pairs of a key, who asked under which number, and the bytes that were sent.
 use Rattle.std.specs.Prelude.{◌==◌, ◌&&◌, nat_lt, ℕ, Bool, if◌then◌else◌, bytes_eq, List, [], ◌∷◌, ◌++◌, length, slice_get, Option, Some, None, refl}
+use Rattle.std.specs.Option.{option_map}
 use Rattle.std.specs.Coded.{Coded, code_by, coded×, coded_list, coded_ℕ}
 use Rattle.circular_buffer.specs.Buffer.{keep_last}
 use Rattle.gw_kept.specs.declared.entry.Entry.{Entry}
@@ -21,6 +22,10 @@ is_same a b = a.id == b.id && bytes_eq a.mid b.mid
 abbrev pub bytes_for : RequestKey → List Entry → Option (List ℕ)
 bytes_for key [] = None
 bytes_for key (e ∷ es) = if is_same key (key_of e) then Some e.bytes else bytes_for key es
+
+-- the bytes of the pair at a place, from the oldest on
+abbrev pub bytes_at : ℕ → List Entry → Option (List ℕ)
+bytes_at place pairs = option_map (λ e. e.bytes) (slice_get pairs place)
 
 -- nothing kept yet
 abbrev pub none_kept : ℕ → KeptList

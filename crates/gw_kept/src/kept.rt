@@ -2,7 +2,7 @@
 
 ghost use Rattle.std.specs.Prelude.{◌≡◌, length, IfOk, option_copied};
 ghost use Rattle.gw_kept.specs.Classes.{asked, classes_of};
-ghost use Rattle.gw_kept.specs.Pairs.{bytes_for, none_kept, with_pair, dropped_by};
+ghost use Rattle.gw_kept.specs.Pairs.{bytes_for, bytes_at, none_kept, with_pair, dropped_by};
 
 use crate::class::Class;
 use crate::entry::{Entry, RequestKey};
@@ -73,6 +73,16 @@ impl Kept {
             }
         }
         None
+    }
+
+    /// The reply at a place, counted from the oldest pair, as a `Source` of `classify` tells it.
+    pub fn reply_at(&self, place: usize) -> Option<&[u8]>
+        ensures { option_copied result ≡ bytes_at place self.now.pairs }
+    {
+        match self.ring.get(place) {
+            Some(entry) => Some(entry.bytes.as_slice()),
+            None => None,
+        }
     }
 
     /// The classes of a burst's items, each with its message's mId, in order of arrival: told from the keys alone, before
