@@ -1,35 +1,11 @@
 //! Names, mIds, addresses, TerminationIDs, and the table of error codes.
 
-use cases_text::{CaseFault, decoded, split_word, write_encoded};
-use gw_base::{Code, MediaAddr, Mid, NameFault, NoMemory, TermName, TermRef};
+use cases_text::{CaseFault, code_of, decoded, split_word, write_encoded};
+use gw_base::{MediaAddr, Mid, NameFault, NoMemory, TermName, TermRef};
 use gw_desc::PartFault;
 use gw_msg::ReadFault;
 use std::alloc::Global;
 use std::cmp::Ordering;
-
-/// Every error code.
-const CODES: [Code; 20] = [
-    Code::SyntaxError,
-    Code::VersionNotSupported,
-    Code::UnknownContext,
-    Code::NoContextLeft,
-    Code::IllegalCombination,
-    Code::UnknownTermination,
-    Code::NoWildcardMatch,
-    Code::NoTerminationLeft,
-    Code::AlreadyInContext,
-    Code::ContextFull,
-    Code::NotInContext,
-    Code::CommandSyntax,
-    Code::UnknownCommand,
-    Code::UnknownDescriptor,
-    Code::IllegalDescriptor,
-    Code::DescriptorTwice,
-    Code::PropertyTwice,
-    Code::NotImplemented,
-    Code::InsufficientResources,
-    Code::ReplyTooLong,
-];
 
 /// What was read, as it is shown.
 fn read_back(alloc: Global, shown: &str) -> Result<Vec<u8>, CaseFault> {
@@ -98,12 +74,10 @@ fn senders(alloc: Global, text: &[u8]) -> Result<Vec<u8>, CaseFault> {
 
 /// The text of the code with a number.
 fn code(alloc: Global, number: &[u8]) -> Result<Vec<u8>, CaseFault> {
-    for code in CODES {
-        if format!(in alloc; "{}", code.number())?.as_bytes() == number {
-            return words(alloc, code.text());
-        }
+    match code_of(number) {
+        Some(code) => words(alloc, code.text()),
+        None => words(alloc, "no code"),
     }
-    words(alloc, "no code")
 }
 
 /// The texts of want of memory, by the crate that tells it.

@@ -4,7 +4,9 @@
 mod escape;
 mod fault;
 mod lines;
+mod words;
 
 pub use escape::{decoded, write_encoded};
 pub use fault::CaseFault;
 pub use lines::{Desk, split_word, transcript};
+pub use words::{code_of, context_of, number_of, write_message};

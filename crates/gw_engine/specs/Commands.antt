@@ -6,6 +6,7 @@ use Rattle.gw_base.specs.declared.code.Code.TheVariants.{UnknownContext, Illegal
 use Rattle.gw_base.specs.declared.ids.CtxNum.{CtxNum}
 use Rattle.gw_base.specs.declared.command_words.Rules.{Rules}
 use Rattle.gw_msg.specs.declared.message.Command.{Command}
+use Rattle.gw_reply.specs.declared.parts.ReplyPart.{ReplyPart}
 use Rattle.gw_reply.specs.declared.reply.CommandReply.{CommandReply}
 use Rattle.gw_engine.specs.declared.termination.Termination.{Termination}
 use Rattle.gw_engine.specs.declared.at.At.{At}
@@ -75,9 +76,14 @@ abbrev pub attempted : Rules → At → Option Change → Maps → Outcome (Resu
 attempted rules at None m = refused NotImplemented m
 attempted rules at (Some change) m = changed rules at change m
 
+-- what is told of a command: nothing of one that was carried out, or why it was not
+abbrev pub told : Result Unit Code → Result (List ReplyPart) Code
+told (Ok done) = Ok []
+told (Err code) = Err code
+
 -- the reply has the command's word and TerminationID
 abbrev pub reply_to : Command → Result Unit Code → CommandReply
-reply_to c r = record { verb = c.verb; term = c.term; result = r }
+reply_to c r = record { verb = c.verb; term = c.term; result = told r }
 
 abbrev pub answered_by : At → Command → Outcome (Result Unit Code) → Outcome CommandDone
 answered_by at c o = record { maps = o.maps; answer = record { reply = reply_to c o.answer; made = is_unmade at && is_ok o.answer } }

@@ -3,7 +3,7 @@
 ghost use Rattle.std.specs.Prelude.{◌≡◌, IfOk, OnOk, true, false, length};
 ghost use Rattle.gw_engine.specs.Maps.{term, ctx, members_of};
 ghost use Rattle.gw_engine.specs.Members.{is_in};
-ghost use Rattle.gw_engine.specs.Commands.{joined, left, subtracted, add_to, subtract_from, changed, command as command_done};
+ghost use Rattle.gw_engine.specs.Commands.{told, joined, left, subtracted, add_to, subtract_from, changed, command as command_done};
 ghost use Rattle.gw_engine.specs.Transactions.{commands as commands_done, action as action_done, actions as actions_done, next_owned, owned_later, is_choose, transaction as transaction_done};
 ghost use Rattle.gw_engine.specs.Places.{answered};
 ghost use Rattle.gw_engine.specs.WellFormed.{IsSound};
@@ -16,7 +16,7 @@ use crate::tables::Tables;
 use crate::termination::Termination;
 use gw_base::{Code, CtxNum, CtxRef, Ids, Items, NoMemory, Rules, TermName};
 use gw_msg::{Action, Command, Request};
-use gw_reply::{ActionReply, CommandReply, TxReply};
+use gw_reply::{ActionReply, CommandReply, ReplyPart, TxReply};
 use std::alloc::Global;
 
 /// The termination joins the context as its last member. A context comes into being with its first.
@@ -146,6 +146,16 @@ fn change(
     }
 }
 
+/// What is told of a command: nothing of one that was carried out, or why it was not.
+fn told(alloc: Global, outcome: Result<(), Code>) -> Result<Items<ReplyPart>, Code>
+    ensures { result ≡ told outcome }
+{
+    match outcome {
+        Ok(()) => Ok(Items::new(alloc)),
+        Err(code) => Err(code),
+    }
+}
+
 /// Carries one command out.
 fn command(
     alloc: Global,
@@ -162,12 +172,12 @@ fn command(
         Some(asked) => change(alloc, rules, tables, at, asked)?,
         None => Err(Code::NotImplemented),
     };
+    let made = at.is_unmade() && result.is_ok();
     let reply = CommandReply {
         verb: command.verb,
         term: command.term,
-        result,
+        result: told(alloc, result),
     };
-    let made = at.is_unmade() && result.is_ok();
     Ok(CommandDone { reply, made })
 }
 

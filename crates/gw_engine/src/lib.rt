@@ -22,5 +22,3 @@ pub use gateway::Gateway;
 pub use gw_base::Config;
 pub use laws::commands_keep_to_their_keys;
 
-#[cfg(test)]
-mod tests;

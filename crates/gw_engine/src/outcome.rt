@@ -5,7 +5,7 @@ use gw_base::Items;
 use gw_reply::{ActionReply, CommandReply};
 
 /// What a command gave.
-#[derive(Clone, Copy, Debug)]
+#[derive(Debug, Drop)]
 pub(crate) struct CommandDone {
     /// Its reply.
     pub reply: CommandReply,
