@@ -1,9 +1,9 @@
 -- What a gateway or a controller calls itself (RFC 3525, Annex B.2, mId, domainName, domainAddress, deviceName, portNumber).
-use Rattle.std.specs.Prelude.{◌≡◌, ℕ, ◌+◌, Bool, true, ◌||◌, ◌<◌, ◌≤◌, ◌⊎◌, List, [], length, slice_index, codes, if◌then◌else◌}
+use Rattle.std.specs.Prelude.{◌≡◌, ℕ, ◌+◌, Bool, true, ◌||◌, ◌<◌, ◌≤◌, ◌⊎◌, List, length, slice_index, codes, if◌then◌else◌}
 use Rattle.std.specs.List.{list_all}
 use Rattle.std.specs.Str.Parse.{digits_value}
 use Rattle.gw_base.specs.Bytes.{is_letter, is_digit, is_name_byte, is_one_of}
-use Rattle.gw_base.specs.Lang.{◌▹◌, IsText}
+use Rattle.gw_base.specs.Lang.{◌▹◌, Optional, IsText}
 use Rattle.gw_base.specs.Addresses.{IsAddress}
 use Rattle.gw_base.specs.Names.{name_max}
 
@@ -39,7 +39,7 @@ pub record IsPort (bytes : List ℕ) : Type 0 where
 
 -- a colon and a port, or nothing
 abbrev pub IsOptionalPort : List ℕ → Type 0
-IsOptionalPort text = (text ≡ []) ⊎ (IsText (codes ":") ▹ IsPort) text
+IsOptionalPort = Optional (IsText (codes ":") ▹ IsPort)
 
 -- letters, digits and _ / * $ @ . -, of which the first is a letter or *: as many as a name may have
 pub record IsDevice (bytes : List ℕ) : Type 0 where

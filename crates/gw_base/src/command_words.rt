@@ -3,7 +3,7 @@
 use crate::ids::CtxNum;
 use crate::media::MediaAddr;
 
-/// A ContextID as an action has it (RFC 3525, section 6.1.1).
+/// A ContextID as an action has it (RFC 3525, section 8.1.2 and Annex B.2, `ContextID`).
 #[derive(Clone, Copy, Debug, PartialEq, Eq, Hash)]
 pub enum CtxRef {
     /// `-`: the null context.

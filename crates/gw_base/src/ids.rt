@@ -2,11 +2,11 @@
 
 use crate::items::Items;
 
-/// A TransactionID (RFC 3525, section 8): any 32-bit number that the sender chose.
+/// A TransactionID (RFC 3525, section 8.1.1): any 32-bit number that the sender chose.
 #[derive(Clone, Copy, Debug, PartialEq, Eq, PartialOrd, Ord, Hash)]
 pub struct TxId(pub u32);
 
-/// A ContextID that stands for one context (RFC 3525, section 6.1.1). Numbers of a gateway run from 1; one that arrives may
+/// A ContextID that stands for one context (RFC 3525, section 8.1.2). Numbers of a gateway run from 1; one that arrives may
 /// be any 32-bit number.
 #[derive(Clone, Copy, Debug, PartialEq, Eq, PartialOrd, Ord, Hash)]
 pub struct CtxNum(pub u32);

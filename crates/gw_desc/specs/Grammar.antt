@@ -2,7 +2,7 @@
 -- on both sides. What is kept as sent is not looked into (own).
 use Rattle.std.specs.Prelude.{◌≡◌, ◌⊎◌, ℕ, Bool, true, false, List, [], ◌∷◌, Option, Some, None, codes}
 use Rattle.gw_base.specs.Bytes.{byte}
-use Rattle.gw_base.specs.Lang.{◌▹◌, IsText}
+use Rattle.gw_base.specs.Lang.{◌▹◌, OptionalOf, IsText}
 use Rattle.gw_text.specs.Lexical.{equals_sign, left_brace, right_brace}
 use Rattle.gw_text.specs.Space.{IsSpace}
 use Rattle.gw_text.specs.Forms.{IsWord, IsSign, IsSomeRun, IsNumber, IsToken, Braced, BracedOrEmpty}
@@ -52,8 +52,7 @@ SpellsEquals true (Some word) text = (IsSign equals_sign ▹ Kept IsWord word) t
 
 -- [LWSP group]
 abbrev pub SpellsOptionalGroup : Option (List ℕ) → List ℕ → Type 0
-SpellsOptionalGroup None text = text ≡ []
-SpellsOptionalGroup (Some group) text = (IsSpace ▹ SpellsGroup group) text
+SpellsOptionalGroup = OptionalOf (λ group. IsSpace ▹ SpellsGroup group)
 
 -- there is one
 abbrev pub IsThere : Option (List ℕ) → Type 0
@@ -122,10 +121,9 @@ SpellsServiceValue (value.Run span) = Kept (IsSomeRun is_run_byte) span
 
 -- [EQUAL value]
 abbrev pub SpellsOptionalValue : Option ServiceValue → List ℕ → Type 0
-SpellsOptionalValue None text = text ≡ []
-SpellsOptionalValue (Some v) text = (IsSign equals_sign ▹ SpellsServiceValue v) text
+SpellsOptionalValue = OptionalOf (λ v. IsSign equals_sign ▹ SpellsServiceValue v)
 
--- serviceChangeParm (own: any word is a name)
+-- serviceChangeParm (own: any word is a name, and any quoted text or run a value)
 abbrev pub SpellsServiceParm : ServiceParm → List ℕ → Type 0
 SpellsServiceParm p = Kept IsWord p.name ▹ SpellsOptionalValue p.value
 
@@ -161,7 +159,7 @@ IsTail text = (t : Tail (List ℕ)) × SpellsTail t text
 abbrev pub IsDropped : List ℕ → Type 0
 IsDropped text = (IsSpace ▹ IsBracket ▹ IsTail) text ⊎ IsTail text
 
--- ammParameter, auditDescriptor, servicesDescriptor
+-- ammParameter, auditDescriptor, serviceChangeDescriptor; any other word is own
 abbrev pub SpellsDescriptor : Descriptor → List ℕ → Type 0
 SpellsDescriptor (descriptor.Media parts) = IsToken token.Media ▹ Braced SpellsMediaPart parts
 SpellsDescriptor (descriptor.Keep kind tail) = IsToken (kept_token kind) ▹ SpellsTail tail

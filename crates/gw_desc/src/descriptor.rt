@@ -92,7 +92,7 @@ pub struct Tail<T> {
     pub group: Option<T>,
 }
 
-/// A parameter of a Services descriptor (RFC 3525, section 7.2.8).
+/// A parameter of a Services descriptor (RFC 3525, sections 7.1.13 and 7.2.8; Annex B.2, `serviceChangeParm`).
 #[derive(Debug, Drop)]
 pub struct ServiceParm<'a> {
     /// A word.

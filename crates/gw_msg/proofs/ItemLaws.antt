@@ -36,7 +36,7 @@ use Rattle.gw_msg.specs.declared.message.Item.TheVariants as item
 use Rattle.gw_msg.specs.declared.message.Message.{Message}
 use Rattle.gw_msg.specs.Grammar.{SpellsAction, SpellsRange, SpellsItem, IsSomeUint32, IsOptionalQuoted, SpellsError, SpellsBody, SpellsMid, SpellsContent, reply_depth, code_digits, code_max}
 use Rattle.gw_msg.specs.Words.{is_error, is_error_start, mid_of}
-use Rattle.gw_msg.specs.Reading.{token_in, nothing_at, action_at, request_at, reply_at, pending_at, last_at, range_at, ack_at, part_at, item_at, quoted_or_nothing, error_at, error_body_at, body_at, content_at}
+use Rattle.gw_msg.specs.Reading.{token_in, nothing_at, action_at, request_at, reply_at, pending_at, last_at, range_at, ack_at, item_behind, item_at, quoted_or_nothing, error_at, error_body_at, body_at, content_at}
 use Rattle.gw_msg.proofs.Starts.{error_starts, no_error_start, transaction_starts, reply_starts, pending_starts, ack_starts}
 use Rattle.gw_msg.proofs.Steps.{Done, Dropped, nothing_more, nothing_behind}
 use Rattle.gw_msg.proofs.WordLaws.{any_token_reads, error_word_reads, token_solid, mid_reads, mid_begins}
@@ -203,7 +203,7 @@ nothing_reads = record {
   complete = λ v front rest start q n e. absurd q;
 }
 
-part_reads : (t : Token) → ReadsUp (part_at t) (Part t) Any Same UpTo
+part_reads : (t : Token) → ReadsUp (item_behind t) (Part t) Any Same UpTo
 part_reads token.Transaction = up_to request_reads skipped_up
 part_reads token.Reply = up_to reply_reads same_up
 part_reads token.Pending = up_to pending_reads skipped_up
@@ -257,7 +257,7 @@ item_from item.Ignored text h =
 pub item_reads : ReadsUp item_at SpellsItem Any Same UpTo
 unfolding item_at
 item_reads =
-    up_as (up_then (word_as token_of) part_at (λ t. IsToken t) Part (NoMore is_safe) Any Same Same UpTo any_token_reads part_reads (λ t i front rest q n. part_ends t i front rest q))
+    up_as (up_then (word_as token_of) item_behind (λ t. IsToken t) Part (NoMore is_safe) Any Same Same UpTo any_token_reads part_reads (λ t i front rest q n. part_ends t i front rest q))
     (λ i text h. item_to i text h.0 h.1) item_from
 
 -- an item begins as its token
@@ -309,12 +309,12 @@ quoted_or_reads =
     (λ u front rest start q n e. ap (begins (is_byte quote_mark)) (e ∙ skip_solid (front ++ rest) (begins_append is_solid front rest (quoted_solid u front q))) ∙ begins_append (is_byte quote_mark) front rest (quoted_begins front q.2.1))
     (λ u front rest start q n e. ap (begins (is_byte quote_mark)) (e ∙ ap (λ (x : List ℕ). skip (x ++ rest)) q.1) ∙ sign_none quote_mark rest n))
     (λ u text h. elim h [
-      | inl q ↦ inl q.2.1
-      | inr n ↦ inr n.1
+      | inl q ↦ inr q.2.1
+      | inr n ↦ inl n.1
     ])
     (λ u text h. elim h [
-      | inl q ↦ inl (text, refl, (refl, q))
-      | inr n ↦ inr (refl, n)
+      | inl n ↦ inr (refl, n)
+      | inr q ↦ inl (text, refl, (refl, q))
     ])
 
 -- behind the code

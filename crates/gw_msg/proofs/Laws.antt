@@ -32,9 +32,9 @@ use Rattle.gw_msg.specs.declared.message.Command.{Command}
 use Rattle.gw_msg.specs.declared.message.Action.{Action}
 use Rattle.gw_msg.specs.Grammar.{command_token, SpellsVerb, SpellsTerm, SpellsMark, may_be_wild, has_group, SpellsDetailsOf, SpellsDetails, SpellsCommand, SpellsContextId, IsPropertyToken, SpellsContextProperty, SpellsAction}
 use Rattle.gw_msg.proofs.ActionParts.{SpellsPart, parts_of, some_parts, some_commands, to_parts, of_parts, so_many, so_many-length}
-use Rattle.gw_msg.specs.Words.{verb_of, is_context, is_property, is_property_start, term_of}
+use Rattle.gw_msg.specs.Words.{verb_of, is_context, is_context_property, is_context_property_start, term_of}
 use Rattle.gw_msg.specs.Reading.{mark_at, only_if, token_in, is_allowed, details_of, command_at, context_id_at, context_property_at, property_then, commands_from, commands_at, contents_at, action_at}
-use Rattle.gw_msg.proofs.Starts.{case_begins, property_starts, no_property_start, verb_starts}
+use Rattle.gw_msg.proofs.Starts.{case_begins, property_starts, no_context_property_start, verb_starts}
 use Rattle.gw_msg.proofs.Steps.{NoPrefix, Done, Dropped, nothing_more, nothing_behind, mark_reads, mark_begins, up_only_if}
 use Rattle.gw_msg.proofs.WordLaws.{verb_reads, context_reads, property_word_reads, property_word_solid, token_solid, term_reads, term_solid, context_id_reads, context_id_solid}
 
@@ -198,8 +198,8 @@ sign_after_command b solid safe brace front more h = record { next = sign_ends i
 command_lists : ListsUp SpellsCommand AfterCommand
 command_lists = record { next = sign_after_command comma refl refl refl; begins = command_solid }
 
-command_no_property : BeginsWith no_property_start SpellsCommand
-command_no_property = command_begins no_property_start refl refl refl refl verb_starts
+command_no_property : BeginsWith no_context_property_start SpellsCommand
+command_no_property = command_begins no_context_property_start refl refl refl refl verb_starts
 
 -- ---- properties
 
@@ -219,7 +219,7 @@ SomeTail u text = (t : Tail (List ℕ)) × (tt ≡ u) × SpellsTail t text
 context_property_reads : ReadsUp context_property_at (Dropped SpellsContextProperty) AfterTail Same Same
 unfolding context_property_at
 context_property_reads =
-    up_as (up_then (token_in is_property) (λ u text. tail_at text >>= λ t. Some (tt, t.1)) (Dropped IsPropertyToken) (λ u. SomeTail) (NoMore is_safe) AfterTail Same Same Same
+    up_as (up_then (token_in is_context_property) (λ u text. tail_at text >>= λ t. Some (tt, t.1)) (Dropped IsPropertyToken) (λ u. SomeTail) (NoMore is_safe) AfterTail Same Same Same
     property_word_reads
     (λ u. up_last tail_at (λ t. tt) SpellsTail AfterTail Same Same tail_reads)
     (λ u v front rest q n. equals_parts_end q.0.equals q.0.word q.0.group front rest q.2.words n.word))
@@ -232,8 +232,8 @@ context_property_shrinks = up_shrinks context_property_reads
 context_property_solid : (text : List ℕ) → SpellsContextProperty text → begins is_solid text ≡ true
 context_property_solid text h = both_begins is_solid IsPropertyToken _ property_word_solid text h
 
-context_property_begins : (text : List ℕ) → SpellsContextProperty text → begins is_property_start text ≡ true
-context_property_begins text h = both_begins is_property_start IsPropertyToken _ property_starts text h
+context_property_begins : (text : List ℕ) → SpellsContextProperty text → begins is_context_property_start text ≡ true
+context_property_begins text h = both_begins is_context_property_start IsPropertyToken _ property_starts text h
 
 -- ---- properties and commands
 
@@ -275,7 +275,7 @@ commands_reads zero = record {
   complete = λ v front rest start q n e. absurd q;
 }
 commands_reads (suc fuel) =
-    up_if_begins is_property_start (property_then (commands_from fuel)) (list_at command_at) (PropertyThen (Commands fuel)) (Separated SpellsCommand) AfterContents UpTo
+    up_if_begins is_context_property_start (property_then (commands_from fuel)) (list_at command_at) (PropertyThen (Commands fuel)) (Separated SpellsCommand) AfterContents UpTo
     (up_then context_property_at (λ u. if_sign comma (commands_from fuel) (λ rest. Some ([], rest))) (Dropped SpellsContextProperty) (λ u. Behind (Commands fuel)) AfterTail AfterContents Same Same UpTo
     context_property_reads
     (λ u. up_if_sign comma (commands_from fuel) (λ rest. Some ([], rest)) (Commands fuel) (Done []) AfterContents Same UpTo refl same_up
@@ -284,8 +284,8 @@ commands_reads (suc fuel) =
     (λ v front rest q n. ap (λ (x : List ℕ). sign_at comma (x ++ rest)) q.1 ∙ n.comma))
     (λ u v front rest q n. behind_after (Commands fuel) v front rest q n))
     (up_next (up_list command_at SpellsCommand AfterCommand command_reads command_lists) (λ rest n. record { next = record { next = n.tail.word; bare = n.tail.group }; bare = n.comma }))
-    (λ v text p. both_begins is_property_start SpellsContextProperty (Behind (Commands fuel) v) context_property_begins text p.1)
-    (λ v front rest q n. begins_ends no_property_start is_property_start (λ c is. not-true _ is) front rest (separated_begins no_property_start SpellsCommand command_no_property v front q))
+    (λ v text p. both_begins is_context_property_start SpellsContextProperty (Behind (Commands fuel) v) context_property_begins text p.1)
+    (λ v front rest q n. begins_ends no_context_property_start is_context_property_start (λ c is. not-true _ is) front rest (separated_begins no_context_property_start SpellsCommand command_no_property v front q))
 
 -- ---- in the grammar's words
 
@@ -317,14 +317,14 @@ commands_of (suc (suc n)) (suc fuel) commands text less h = inl (tt, with_second
 abbrev FrontProperty : (List ℕ → Type 0) → List ℕ → Type 0
 FrontProperty Q text = Both SpellsContextProperty Q text
 
-front_begins : (Q : List ℕ → Type 0) (text : List ℕ) → FrontProperty Q text → begins is_property_start text ≡ true
-front_begins Q text b = both_begins is_property_start SpellsContextProperty Q context_property_begins text b
+front_begins : (Q : List ℕ → Type 0) (text : List ℕ) → FrontProperty Q text → begins is_context_property_start text ≡ true
+front_begins Q text b = both_begins is_context_property_start SpellsContextProperty Q context_property_begins text b
 
 -- there are no more properties than bytes
 parts_len : (n : ℕ) (commands : List Command) (text : List ℕ) → Separated SpellsPart (parts_of n commands) text → n ≤ length text
 parts_len zero commands text h = omega arith
 parts_len (suc zero) [] text h = begins_some is_solid text (context_property_solid text h)
-parts_len (suc zero) (c ∷ cs) text h = omega (arith, begins_some is_property_start text (front_begins _ text h))
+parts_len (suc zero) (c ∷ cs) text h = omega (arith, begins_some is_context_property_start text (front_begins _ text h))
 parts_len (suc (suc n)) commands text h =
     let d = h.second in
     omega (arith, begins_some is_solid h.front (context_property_solid h.front h.first), parts_len (suc n) commands d.back d.second, ap length h.split, length-append h.front h.back, ap length d.split, length-append d.front d.back)
@@ -340,11 +340,11 @@ commands_at_reads = record {
 one_more : (n : ℕ) → nat_lt 0 (suc n) ≡ true
 one_more n = lt-ltb _ _ (omega arith)
 
-parts_begin : (n : ℕ) (commands : List Command) (front rest : List ℕ) → Separated SpellsPart (parts_of n commands) front → begins is_property_start (front ++ rest) ≡ nat_lt 0 n
-parts_begin zero commands front rest h = begins_ends no_property_start is_property_start (λ c is. not-true _ is) front rest (separated_begins no_property_start SpellsCommand command_no_property commands front (some_commands commands front h))
-parts_begin (suc zero) [] front rest h = begins_append is_property_start front rest (context_property_begins front h) ∙ sym (one_more 0)
-parts_begin (suc zero) (c ∷ cs) front rest h = begins_append is_property_start front rest (front_begins _ front h) ∙ sym (one_more 0)
-parts_begin (suc (suc n)) commands front rest h = begins_append is_property_start front rest (front_begins _ front h) ∙ sym (one_more (suc n))
+parts_begin : (n : ℕ) (commands : List Command) (front rest : List ℕ) → Separated SpellsPart (parts_of n commands) front → begins is_context_property_start (front ++ rest) ≡ nat_lt 0 n
+parts_begin zero commands front rest h = begins_ends no_context_property_start is_context_property_start (λ c is. not-true _ is) front rest (separated_begins no_context_property_start SpellsCommand command_no_property commands front (some_commands commands front h))
+parts_begin (suc zero) [] front rest h = begins_append is_context_property_start front rest (context_property_begins front h) ∙ sym (one_more 0)
+parts_begin (suc zero) (c ∷ cs) front rest h = begins_append is_context_property_start front rest (front_begins _ front h) ∙ sym (one_more 0)
+parts_begin (suc (suc n)) commands front rest h = begins_append is_context_property_start front rest (front_begins _ front h) ∙ sym (one_more (suc n))
 
 abbrev Contents : Bool × List Command → List ℕ → Type 0
 Contents x text = (n : ℕ) × (x.0 ≡ nat_lt 0 n) × Separated SpellsPart (parts_of n x.1) text
@@ -352,17 +352,17 @@ Contents x text = (n : ℕ) × (x.0 ≡ nat_lt 0 n) × Separated SpellsPart (par
 contents_reads : ReadsUp contents_at Contents AfterContents Same UpTo
 contents_reads = record {
   sound = λ text x rest e.
-      let b = bind_some (commands_at text) (λ y. Some ((begins is_property_start text, y.0), y.1)) (x, rest) e in
-      let made : (Bool × List Command) × List ℕ = ((begins is_property_start text, b.0.0), b.0.1) in
+      let b = bind_some (commands_at text) (λ y. Some ((begins is_context_property_start text, y.0), y.1)) (x, rest) e in
+      let made : (Bool × List Command) × List ℕ = ((begins is_context_property_start text, b.0.0), b.0.1) in
       let same = some_is made (x, rest) b.2 in
       let s = commands_at_reads.sound text b.0.0 b.0.1 b.1 in
-      let is : Contents (begins is_property_start text, b.0.0) s.0 = (s.2.0, ap (begins is_property_start) s.1 ∙ parts_begin s.2.0 b.0.0 s.0 b.0.1 s.2.1, s.2.1) in
+      let is : Contents (begins is_context_property_start text, b.0.0) s.0 = (s.2.0, ap (begins is_context_property_start) s.1 ∙ parts_begin s.2.0 b.0.0 s.0 b.0.1 s.2.1, s.2.1) in
       (s.0, s.1 ∙ ap (λ (p : (Bool × List Command) × List ℕ). s.0 ++ p.1) same, subst (λ (p : (Bool × List Command) × List ℕ). Contents p.0 s.0) same is);
   complete = λ x front rest start q n e.
       let one = commands_at_reads.complete x.1 front rest start (q.0, q.2) n e in
-      let flag : begins is_property_start start ≡ x.0 = ap (begins is_property_start) e ∙ parts_begin q.0 x.1 front rest q.2 ∙ sym q.1 in (
+      let flag : begins is_context_property_start start ≡ x.0 = ap (begins is_context_property_start) e ∙ parts_begin q.0 x.1 front rest q.2 ∙ sym q.1 in (
         one.0,
-        ap (λ (o : Option (List Command × List ℕ)). o >>= λ y. Some ((begins is_property_start start, y.0), y.1)) one.1
+        ap (λ (o : Option (List Command × List ℕ)). o >>= λ y. Some ((begins is_context_property_start start, y.0), y.1)) one.1
             ∙ ap (λ (p : Bool). Some ((p, x.1), one.0)) flag,
         one.2,
       );
@@ -466,7 +466,7 @@ unfolding commands_from
 commands_enough zero m text p q = absurd (omega arith)
 commands_enough (suc n) zero text p q = absurd (omega arith)
 commands_enough (suc n) (suc m) text p q =
-    ap (λ (o : Option (List Command × List ℕ)). cond (begins is_property_start text) o (list_at command_at text))
+    ap (λ (o : Option (List Command × List ℕ)). cond (begins is_context_property_start text) o (list_at command_at text))
     (same_bind (context_property_at text) (λ x. if_sign comma (commands_from n) (λ rest. Some ([], rest)) x.1) (λ x. if_sign comma (commands_from m) (λ rest. Some ([], rest)) x.1)
     (λ x e. same_else (sign_at comma x.1) (commands_from n) (commands_from m) (Some ([], x.1))
     (λ more c. commands_enough n m more (omega (arith, context_property_shrinks text x.0 x.1 e, sign_shrinks comma x.1 more c)) (omega (arith, context_property_shrinks text x.0 x.1 e, sign_shrinks comma x.1 more c)))))
@@ -474,12 +474,12 @@ commands_enough (suc n) (suc m) text p q =
 abbrev on_property : ℕ → Option (Unit {0} × List ℕ) → Option (List Command × List ℕ)
 on_property fuel o = o >>= λ x. if_sign comma (commands_from fuel) (λ rest. Some ([], rest)) x.1
 
-property_step : (text : List ℕ) → begins is_property_start text ≡ true → commands_at text ≡ on_property (length text) (context_property_at text)
+property_step : (text : List ℕ) → begins is_context_property_start text ≡ true → commands_at text ≡ on_property (length text) (context_property_at text)
 unfolding commands_from
 property_step text is = ap (λ (t : Bool). cond t (on_property (length text) (context_property_at text)) (list_at command_at text)) is
 
 -- a property was read, and a comma behind it
-pub property_goes_on : (text rest more : List ℕ) (u : Unit {0}) (total : Option (List Command × List ℕ)) → begins is_property_start text ≡ true → context_property_at text ≡ Some (u, rest) → sign_at comma rest ≡ Some more → commands_at text ≡ total → commands_at more ≡ total
+pub property_goes_on : (text rest more : List ℕ) (u : Unit {0}) (total : Option (List Command × List ℕ)) → begins is_context_property_start text ≡ true → context_property_at text ≡ Some (u, rest) → sign_at comma rest ≡ Some more → commands_at text ≡ total → commands_at more ≡ total
 property_goes_on text rest more u total is e c so_far =
     let less : length more < length text = omega (arith, context_property_shrinks text u rest e, sign_shrinks comma rest more c) in
     commands_enough (suc (length more)) (length text) more (omega arith) less
@@ -487,21 +487,21 @@ property_goes_on text rest more u total is e c so_far =
     ∙ so_far
 
 -- a property was read, and no comma behind it
-pub property_ends : (text rest : List ℕ) (u : Unit {0}) (total : Option (List Command × List ℕ)) → begins is_property_start text ≡ true → context_property_at text ≡ Some (u, rest) → sign_at comma rest ≡ None → commands_at text ≡ total → total ≡ Some ([], rest)
+pub property_ends : (text rest : List ℕ) (u : Unit {0}) (total : Option (List Command × List ℕ)) → begins is_context_property_start text ≡ true → context_property_at text ≡ Some (u, rest) → sign_at comma rest ≡ None → commands_at text ≡ total → total ≡ Some ([], rest)
 property_ends text rest u total is e c so_far =
     sym so_far ∙ property_step text is ∙ ap (on_property (length text)) e ∙ ap (λ (o : Option (List ℕ)). or_else o (commands_from (length text)) (Some ([], rest))) c
 
 -- no property was read
-pub property_fails : (fault : PartFault) (text after end : List ℕ) (total : Option (List Command × List ℕ)) → begins is_property_start text ≡ true → Finds {V = Unit {0}} (Err fault) after (context_property_at text) → commands_at text ≡ total → Gives {V = List Command} (Err fault) end total
+pub property_fails : (fault : PartFault) (text after end : List ℕ) (total : Option (List Command × List ℕ)) → begins is_context_property_start text ≡ true → Finds {V = Unit {0}} (Err fault) after (context_property_at text) → commands_at text ≡ total → Gives {V = List Command} (Err fault) end total
 property_fails Syntax text after end total is e so_far = sym so_far ∙ property_step text is ∙ ap (on_property (length text)) e
 property_fails NoMemory text after end total is e so_far = absurd e
 
 -- there are no more properties
-pub no_property : (text : List ℕ) (total : Option (List Command × List ℕ)) → begins is_property_start text ≡ false → commands_at text ≡ total → total ≡ list_at command_at text
+pub no_property : (text : List ℕ) (total : Option (List Command × List ℕ)) → begins is_context_property_start text ≡ false → commands_at text ≡ total → total ≡ list_at command_at text
 unfolding commands_from
 no_property text total is so_far = sym so_far ∙ ap (λ (t : Bool). cond t (on_property (length text) (context_property_at text)) (list_at command_at text)) is
 
-pub commands_are : (result : Result (List Command) PartFault) (text after : List ℕ) (total : Option (List Command × List ℕ)) → begins is_property_start text ≡ false → Gives result after (list_at command_at text) → commands_at text ≡ total → Gives result after total
+pub commands_are : (result : Result (List Command) PartFault) (text after : List ℕ) (total : Option (List Command × List ℕ)) → begins is_context_property_start text ≡ false → Gives result after (list_at command_at text) → commands_at text ≡ total → Gives result after total
 commands_are result text after total is e so_far = subst (Gives result after) (sym (no_property text total is so_far)) e
 
 pub property_read : (text rest more : List ℕ) (u : Unit {0}) → context_property_at text ≡ Some (u, rest) → sign_at comma rest ≡ Some more → length more < length text

@@ -14,7 +14,7 @@ use Rattle.gw_text.specs.declared.token.Token.TheVariants as token
 use Rattle.gw_text.proofs.Signs.{some_is}
 use Rattle.gw_base.specs.declared.command_words.Verb.{Verb}
 use Rattle.gw_base.specs.declared.command_words.Verb.TheVariants as verb
-use Rattle.gw_msg.specs.Words.{is_error_start, is_property_start}
+use Rattle.gw_msg.specs.Words.{is_error_start, is_context_property_start}
 use Rattle.gw_msg.specs.Grammar.{IsPropertyToken, SpellsVerb}
 
 -- ---- the next byte
@@ -157,22 +157,22 @@ ack_starts word e = small_e word (token_fits word token.TransactionResponseAck e
 
 -- ---- properties and commands
 
-small_property : (word : List ℕ) → begins (is_one_of (codes "tpec")) (map to_ascii_lowercase word) ≡ true → begins is_property_start word ≡ true
-small_property word h = begins_with is_property_start (codes "tpec") word refl refl h
+small_property : (word : List ℕ) → begins (is_one_of (codes "tpec")) (map to_ascii_lowercase word) ≡ true → begins is_context_property_start word ≡ true
+small_property word h = begins_with is_context_property_start (codes "tpec") word refl refl h
 
-pub property_starts : (word : List ℕ) → IsPropertyToken word → begins is_property_start word ≡ true
+pub property_starts : (word : List ℕ) → IsPropertyToken word → begins is_context_property_start word ≡ true
 property_starts word (inl h) = small_property word (token_fits word token.Topology h.stands)
 property_starts word (inr (inl h)) = small_property word (token_fits word token.Priority h.stands)
 property_starts word (inr (inr (inl h))) = small_property word (token_fits word token.Emergency h.stands)
 property_starts word (inr (inr (inr h))) = small_property word (token_fits word token.ContextAudit h.stands)
 
-abbrev pub no_property_start : ℕ → Bool
-no_property_start b = not (is_property_start b)
+abbrev pub no_context_property_start : ℕ → Bool
+no_context_property_start b = not (is_context_property_start b)
 
-small_verb : (word : List ℕ) → begins (λ b. not (is_one_of (codes "tpec") b)) (map to_ascii_lowercase word) ≡ true → begins no_property_start word ≡ true
+small_verb : (word : List ℕ) → begins (λ b. not (is_one_of (codes "tpec") b)) (map to_ascii_lowercase word) ≡ true → begins no_context_property_start word ≡ true
 small_verb word h = begins_without (codes "tpec") (codes "TtPpEeCc") word refl h
 
-pub verb_starts : (v : Verb) (word : List ℕ) → SpellsVerb v word → begins no_property_start word ≡ true
+pub verb_starts : (v : Verb) (word : List ℕ) → SpellsVerb v word → begins no_context_property_start word ≡ true
 verb_starts verb.Add word h = small_verb word (token_fits word token.Add h.stands)
 verb_starts verb.Modify word h = small_verb word (token_fits word token.Modify h.stands)
 verb_starts verb.Move word h = small_verb word (token_fits word token.Move h.stands)

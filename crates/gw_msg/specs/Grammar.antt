@@ -1,6 +1,6 @@
 -- Which texts spell a message (RFC 3525, Annex B.2). EQUAL, LBRKT, RBRKT and COMMA are signs, with LWSP on both sides.
 use Rattle.std.specs.Prelude.{◌≡◌, ◌≢◌, ◌⊎◌, ℕ, nat_lt, true, false, Bool, List, [], ◌∷◌, length, Option, Result, Ok, Err, codes}
-use Rattle.gw_base.specs.Lang.{◌▹◌, IsText}
+use Rattle.gw_base.specs.Lang.{◌▹◌, Optional, IsText}
 use Rattle.gw_base.specs.Mids.{IsMid}
 use Rattle.gw_base.specs.TermRefs.{IsTerm}
 use Rattle.gw_base.specs.declared.term_ref.TermRef.{TermRef}
@@ -169,9 +169,9 @@ code_max = 9999
 abbrev pub IsCode : List ℕ → Type 0
 IsCode text = (n : ℕ) × IsNumber code_digits code_max n text
 
--- a quoted text, or nothing
+-- [quotedString]
 abbrev pub IsOptionalQuoted : List ℕ → Type 0
-IsOptionalQuoted text = IsQuoted text ⊎ (text ≡ [])
+IsOptionalQuoted = Optional IsQuoted
 
 -- errorDescriptor, which is read and dropped
 abbrev pub SpellsError : List ℕ → Type 0

@@ -26,7 +26,7 @@ use Rattle.gw_desc.specs.declared.descriptor.Descriptor.{Descriptor}
 use Rattle.gw_desc.specs.declared.fault.PartFault.{PartFault}
 use Rattle.gw_desc.specs.declared.fault.PartFault.TheVariants as part
 use Rattle.gw_msg.specs.Grammar.{may_be_wild, has_group, reply_depth, code_digits, code_max, spoken_version, version_digits, version_max}
-use Rattle.gw_msg.specs.Words.{verb_of, is_context, is_property, is_property_start, is_error, is_error_start, term_of, mid_of}
+use Rattle.gw_msg.specs.Words.{verb_of, is_context, is_context_property, is_context_property_start, is_error, is_error_start, term_of, mid_of}
 
 -- ---- steps
 
@@ -90,7 +90,7 @@ context_id_at = if_mark (codes "$") Choose (if_mark (codes "*") All (if_mark (co
 -- a context property or a contextAudit: its token and a tail, which is dropped
 unfoldable pub context_property_at : Reader (Unit {0})
 context_property_at text = do
-  word ← token_in is_property text
+  word ← token_in is_context_property text
   tail ← tail_at word.1
   Some (tt, tail.1)
 
@@ -103,7 +103,7 @@ property_then others text = do
 -- the commands behind the properties, which are fewer than fuel
 unfoldable pub commands_from : ℕ → Reader (List Command)
 commands_from zero text = None
-commands_from (suc fuel) text = if_begins is_property_start (property_then (commands_from fuel)) (list_at command_at) text
+commands_from (suc fuel) text = if_begins is_context_property_start (property_then (commands_from fuel)) (list_at command_at) text
 
 -- each property is a byte at least, so the text has fewer than this
 abbrev pub commands_at : Reader (List Command)
@@ -113,7 +113,7 @@ commands_at text = commands_from (suc (length text)) text
 abbrev pub contents_at : Reader (Bool × List Command)
 contents_at text = do
   commands ← commands_at text
-  Some ((begins is_property_start text, commands.0), commands.1)
+  Some ((begins is_context_property_start text, commands.0), commands.1)
 
 -- the token of an action, `=`, a ContextID, and its contents in braces
 unfoldable pub action_at : Reader Action
@@ -172,18 +172,18 @@ ack_at text = do
   Some (item.Ack ranges.0, ranges.1)
 
 -- behind the token of a part
-abbrev pub part_at : Token → Reader Item
-part_at token.Transaction text = request_at text
-part_at token.Reply text = reply_at text
-part_at token.Pending text = pending_at text
-part_at token.TransactionResponseAck text = ack_at text
-part_at _ text = None
+abbrev pub item_behind : Token → Reader Item
+item_behind token.Transaction text = request_at text
+item_behind token.Reply text = reply_at text
+item_behind token.Pending text = pending_at text
+item_behind token.TransactionResponseAck text = ack_at text
+item_behind _ text = None
 
 -- a part of a transactionList: its token, and what is behind it
 unfoldable pub item_at : Reader Item
 item_at text = do
   word ← word_as token_of text
-  part_at word.0 word.1
+  item_behind word.0 word.1
 
 -- a quoted text, or nothing
 unfoldable pub quoted_or_nothing : Reader (Unit {0})

@@ -41,16 +41,16 @@ is_error token.Error = true
 is_error _ = false
 
 -- the tokens of context properties
-abbrev pub is_property : Token → Bool
-is_property token.Topology = true
-is_property token.Priority = true
-is_property token.Emergency = true
-is_property token.ContextAudit = true
-is_property _ = false
+abbrev pub is_context_property : Token → Bool
+is_context_property token.Topology = true
+is_context_property token.Priority = true
+is_context_property token.Emergency = true
+is_context_property token.ContextAudit = true
+is_context_property _ = false
 
 -- of what may stand in an action, context properties alone begin with one of these letters
-abbrev pub is_property_start : ℕ → Bool
-is_property_start b = is_one_of (codes "TtPpEeCc") b
+abbrev pub is_context_property_start : ℕ → Bool
+is_context_property_start b = is_one_of (codes "TtPpEeCc") b
 
 -- of the tokens that may begin a body, Error alone begins with an E
 abbrev pub is_error_start : ℕ → Bool

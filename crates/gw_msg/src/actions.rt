@@ -5,7 +5,8 @@ ghost use Rattle.gw_msg.specs.Reading.{details_of, command_at, context_property_
 
 use crate::message::{Action, Command};
 use crate::words::{
-    context_id, has_group, is_property, is_property_next, mark, may_be_wild, term, verb,
+    context_id, has_group, is_context_property, is_context_property_next, mark, may_be_wild, term,
+    verb,
 };
 use gw_base::Items;
 use gw_desc::{
@@ -59,7 +60,7 @@ impl<'a> Part<'a> for Command<'a> {
 fn context_property(cursor: &mut Cursor<'_>) -> Result<(), PartFault>
     ensures { Finds result cursor.new (context_property_at cursor.old) }
 {
-    if !is_property(token(cursor)?) {
+    if !is_context_property(token(cursor)?) {
         return Err(PartFault::Syntax);
     }
     tail(cursor)?;
@@ -70,7 +71,7 @@ fn context_property(cursor: &mut Cursor<'_>) -> Result<(), PartFault>
 fn commands<'a>(alloc: Global, cursor: &mut Cursor<'a>) -> Result<Items<Command<'a>>, PartFault>
     ensures { Gives result cursor.new (commands_at cursor.old) }
 {
-    while is_property_next(cursor) {
+    while is_context_property_next(cursor) {
         context_property(cursor)?;
         if !cursor.sign(b',') {
             return Ok(Items::new(alloc));
@@ -90,7 +91,7 @@ impl<'a> Part<'a> for Action<'a> {
         sign(cursor, b'=')?;
         let ctx = context_id(cursor)?;
         sign(cursor, b'{')?;
-        let props = is_property_next(cursor);
+        let props = is_context_property_next(cursor);
         let commands = commands(alloc, cursor)?;
         sign(cursor, b'}')?;
         Ok(Action {

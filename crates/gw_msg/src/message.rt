@@ -43,10 +43,10 @@ pub struct Request<'a> {
     pub actions: Items<Action<'a>>,
 }
 
-/// An action: what is asked of one context (RFC 3525, section 8.1).
+/// An action: what is asked of one context (RFC 3525, section 8 and Annex B.2, `actionRequest`).
 #[derive(Debug, Drop)]
 pub struct Action<'a> {
-    /// The context that the commands are for.
+    /// The context that the commands are for (section 8.1.2).
     pub ctx: CtxRef,
     /// Whether context properties or a ContextAudit stand in it.
     pub props: bool,

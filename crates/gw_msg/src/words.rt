@@ -5,7 +5,7 @@ ghost use Rattle.gw_text.specs.Runs.{begins};
 ghost use Rattle.gw_text.specs.Reader.{word_as, solid_as};
 ghost use Rattle.gw_desc.specs.Parts.{Finds};
 ghost use Rattle.gw_msg.specs.Grammar.{may_be_wild, has_group};
-ghost use Rattle.gw_msg.specs.Words.{verb_of, is_property, is_property_start, is_error_start, term_of, mid_of};
+ghost use Rattle.gw_msg.specs.Words.{verb_of, is_context_property, is_context_property_start, is_error_start, term_of, mid_of};
 ghost use Rattle.gw_msg.specs.Reading.{mark_at, context_id_at};
 
 use gw_base::{CtxNum, CtxRef, Mid, TermRef, Verb};
@@ -23,8 +23,8 @@ pub fn mark(cursor: &mut Cursor<'_>, bytes: &[u8]) -> bool
 /// Whether a context property comes next: of what may stand in an action, properties alone begin with one of these
 /// letters.
 #[tactic(auto, using(crate::proofs::Starts::begins_none, crate::proofs::Starts::begins_some))]
-pub fn is_property_next(cursor: &Cursor<'_>) -> bool
-    ensures { result ≡ begins is_property_start cursor.now }
+pub fn is_context_property_next(cursor: &Cursor<'_>) -> bool
+    ensures { result ≡ begins is_context_property_start cursor.now }
 {
     match cursor.peek() {
         Some(b) => b"TtPpEeCc".contains(&b),
@@ -78,8 +78,8 @@ pub fn has_group(verb: Verb) -> bool
 }
 
 /// Whether the token is a context property's.
-pub fn is_property(token: Token) -> bool
-    ensures { result ≡ is_property token }
+pub fn is_context_property(token: Token) -> bool
+    ensures { result ≡ is_context_property token }
 {
     matches!(
         token,

@@ -1,0 +1,3 @@
+pub mod Places
+pub mod Indexes
+pub mod Bursts

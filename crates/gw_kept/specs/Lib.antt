@@ -1,0 +1,5 @@
+pub use Rattle.gw_msg.specs.Grammar
+pub use Rattle.circular_buffer.specs.Buffer
+pub mod Pairs
+pub mod Classes
+pub mod Index

@@ -1,0 +1,53 @@
+-- The replies that are kept for repeats (own): pairs of a key, who asked under which number, and the bytes that were sent.
+use Rattle.std.specs.Prelude.{◌==◌, ◌&&◌, nat_lt, ℕ, Bool, if◌then◌else◌, bytes_eq, List, [], ◌∷◌, ◌++◌, length, slice_get, Option, Some, None, refl}
+use Rattle.std.specs.Option.{option_map}
+use Rattle.std.specs.Coded.{Coded, code_by, coded×, coded_list, coded_ℕ}
+use Rattle.circular_buffer.specs.Buffer.{keep_last}
+use Rattle.gw_kept.specs.declared.entry.Entry.{Entry}
+use Rattle.gw_kept.specs.declared.entry.RequestKey.{RequestKey}
+
+-- the pairs, oldest first, and how many are kept at most
+pub record KeptList : Type 0 where
+  pub pairs : List Entry
+  pub most : ℕ
+
+abbrev pub key_of : Entry → RequestKey
+key_of e = record { id = e.id.0; mid = e.mid }
+
+-- the same sender, byte for byte, and the same number
+abbrev pub is_same : RequestKey → RequestKey → Bool
+is_same a b = a.id == b.id && bytes_eq a.mid b.mid
+
+-- the bytes of the key's pair
+abbrev pub bytes_for : RequestKey → List Entry → Option (List ℕ)
+bytes_for key [] = None
+bytes_for key (e ∷ es) = if is_same key (key_of e) then Some e.bytes else bytes_for key es
+
+-- the bytes of the pair at a place, from the oldest on
+abbrev pub bytes_at : ℕ → List Entry → Option (List ℕ)
+bytes_at place pairs = option_map (λ e. e.bytes) (slice_get pairs place)
+
+-- nothing kept yet
+abbrev pub none_kept : ℕ → KeptList
+none_kept most = record { pairs = []; most = most }
+
+-- the pair goes last, and the last so many are kept
+abbrev pub with_pair : KeptList → Entry → KeptList
+with_pair k e = record { pairs = keep_last k.most (k.pairs ++ e ∷ []); most = k.most }
+
+-- the pair that is dropped then, the oldest
+abbrev pub dropped_by : KeptList → Entry → Option Entry
+dropped_by k e = if nat_lt (length k.pairs) k.most then None else slice_get (k.pairs ++ e ∷ []) 0
+
+-- ---- codes, by which values of models are told apart
+
+abbrev coded_bytes : Coded (List ℕ)
+coded_bytes = coded_list coded_ℕ
+
+abbrev pub coded_entry : Coded Entry
+coded_entry =
+    code_by (List ℕ × (ℕ × List ℕ)) (coded× coded_bytes (coded× coded_ℕ coded_bytes))
+    (λ e. (e.mid, (e.id.0, e.bytes))) (λ p. record { mid = p.0; id = record { 0 = p.1.0 }; bytes = p.1.1 }) (λ _. refl)
+
+abbrev pub coded_kept : Coded KeptList
+coded_kept = code_by (List Entry × ℕ) (coded× (coded_list coded_entry) coded_ℕ) (λ k. (k.pairs, k.most)) (λ p. record { pairs = p.0; most = p.1 }) (λ _. refl)

@@ -1,0 +1,36 @@
+//! A reply that is kept, and the key by which a repeat finds it.
+
+ghost use Rattle.std.specs.Prelude.{◌≡◌};
+ghost use Rattle.gw_kept.specs.Pairs.{key_of, is_same};
+
+use gw_base::{Items, Mid, TxId};
+
+/// A reply that is kept for repeats (own to this profile; RFC 3525, Annex D.1, asks that a repeat is not carried out again).
+#[derive(Debug, Drop)]
+pub struct Entry {
+    /// Who asked, as sent.
+    pub mid: Mid,
+    /// The number of the transaction.
+    pub id: TxId,
+    /// The message that was sent, whole.
+    pub bytes: Items<u8>,
+}
+
+/// Who asked, and under which number. Ordered by the number first, which tells most keys apart.
+#[derive(Clone, Copy, Debug, PartialEq, Eq, PartialOrd, Ord)]
+pub struct RequestKey {
+    pub id: u32,
+    pub mid: Mid,
+}
+
+impl Entry {
+    /// The key of the pair.
+    pub(crate) fn key(&self) -> RequestKey
+        ensures { result ≡ key_of self.now }
+    {
+        RequestKey {
+            id: self.id.0,
+            mid: self.mid,
+        }
+    }
+}

@@ -1,0 +1,114 @@
+//! The kept replies: the last so many, in a ring.
+
+ghost use Rattle.std.specs.Prelude.{◌≡◌, length, IfOk, option_copied};
+ghost use Rattle.gw_kept.specs.Classes.{asked, classes_of};
+ghost use Rattle.gw_kept.specs.Pairs.{bytes_for, bytes_at, none_kept, with_pair, dropped_by};
+
+use crate::class::Class;
+use crate::entry::{Entry, RequestKey};
+use crate::index::{Index, key_in};
+use circular_buffer::HeapCircularBuffer;
+use gw_base::{Items, Mid, NoMemory, TxId};
+use gw_msg::Item;
+use std::alloc::Global;
+use std::marker::Model;
+
+/// The last replies, for requests that are sent again. Contracts see the pairs, oldest first, and how many are kept at most.
+#[derive(Drop)]
+pub struct Kept {
+    ring: HeapCircularBuffer<Entry>,
+}
+
+impl Model for Kept {
+    ghost use Rattle.gw_kept.specs.Pairs.{KeptList, coded_kept};
+
+    ghost Value = { KeptList };
+
+    ghost coded = { coded_kept };
+
+    ghost view = { λ a. record { pairs = a.ring.items; most = a.ring.capacity } };
+}
+
+impl Kept {
+    /// A list that holds nothing yet, and keeps the last `most` pairs: 1 to 4,096. All its room is made here.
+    ///
+    /// # Errors
+    ///
+    /// Want of memory.
+    pub fn new(alloc: Global, most: u32) -> Result<Kept, NoMemory>
+        ensures { IfOk result (λ kept. kept ≡ none_kept most) }
+    {
+        Ok(Kept {
+            ring: HeapCircularBuffer::with_capacity(alloc, most as usize)?,
+        })
+    }
+
+    /// How many pairs there are.
+    pub fn len(&self) -> usize
+        ensures { result ≡ length self.now.pairs }
+    {
+        self.ring.len()
+    }
+
+    /// Keeps a pair, whose key no kept pair has: the caller knows that. A full list hands back its oldest pair. It takes no
+    /// memory.
+    pub fn push(&mut self, entry: Entry) -> Option<Entry>
+        ensures pairs { self.new ≡ with_pair self.old entry }
+        ensures dropped { result ≡ dropped_by self.old entry }
+    {
+        self.ring.push_back(entry)
+    }
+
+    /// The reply that was sent to this sender under this number, if it is kept. The pairs are looked through in turn.
+    pub fn find(&self, mid: &Mid, id: TxId) -> Option<&[u8]>
+        ensures { option_copied result ≡ bytes_for (record { id = id.0; mid = mid.now }) self.now.pairs }
+    {
+        let key = RequestKey {
+            id: id.0,
+            mid: *mid,
+        };
+        for entry in self.ring.iter() {
+            if entry.key() == key {
+                return Some(entry.bytes.as_slice());
+            }
+        }
+        None
+    }
+
+    /// The reply at a place, counted from the oldest pair, as a `Source` of `classify` tells it.
+    pub fn reply_at(&self, place: usize) -> Option<&[u8]>
+        ensures { option_copied result ≡ bytes_at place self.now.pairs }
+    {
+        match self.ring.get(place) {
+            Some(entry) => Some(entry.bytes.as_slice()),
+            None => None,
+        }
+    }
+
+    /// The classes of a burst's items, each with its message's mId, in order of arrival: told from the keys alone, before
+    /// anything is carried out. A request is a repeat where its reply is among the last kept ones at that point, those of
+    /// the burst's new requests included. An index of the kept pairs is made first, and each request is looked up in it:
+    /// k log k steps for k pairs, and n log (k + n) for n requests.
+    ///
+    /// # Errors
+    ///
+    /// Want of memory.
+    pub fn classify(
+        &self,
+        alloc: Global,
+        items: &[(Mid, &Item<'_>)],
+    ) -> Result<Items<Class>, NoMemory>
+        ensures { IfOk result (λ classes. classes ≡ classes_of self.now (asked items.now)) }
+    {
+        let mut index = Index::of(alloc, &self.ring)?;
+        let mut classes = Items::new(alloc);
+        for (mid, item) in items {
+            let class = match key_in(*mid, item) {
+                Some(key) => index.class(key)?,
+                None => Class::Nothing,
+            };
+            classes.push(class)?;
+        }
+        Ok(classes)
+    }
+}
