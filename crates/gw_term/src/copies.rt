@@ -6,17 +6,17 @@ use crate::record::{Stream, Termination};
 use gw_base::{Items, NoMemory, Span};
 use gw_desc::{Property, Tail};
 use gw_reply::{KeptProperty, KeptTail};
-use std::alloc::Global;
+use std::alloc::{AllocError, Global};
 
 /// A copy of the text.
-pub(crate) fn copied(alloc: Global, text: &[u8]) -> Result<Items<u8>, NoMemory>
+pub(crate) fn copied(alloc: Global, text: &[u8]) -> Result<Items<u8>, AllocError>
     ensures { IfOk result (λ copy. copy ≡ text.now) }
 {
     Ok(Items::from(Vec::from_slice(alloc, text)?))
 }
 
 /// A text of its own, if it is there.
-fn owned_if(alloc: Global, text: &Option<Span<'_>>) -> Result<Option<Items<u8>>, NoMemory>
+fn owned_if(alloc: Global, text: &Option<Span<'_>>) -> Result<Option<Items<u8>>, AllocError>
     ensures { IfOk result (λ copy. copy ≡ text.now) }
 {
     match text {
@@ -29,7 +29,7 @@ fn owned_if(alloc: Global, text: &Option<Span<'_>>) -> Result<Option<Items<u8>>,
 pub(crate) fn owned_property(
     alloc: Global,
     property: &Property<Span<'_>>,
-) -> Result<KeptProperty, NoMemory>
+) -> Result<KeptProperty, AllocError>
     ensures { IfOk result (λ copy. copy ≡ property.now) }
 {
     let name = copied(alloc, property.name.as_bytes())?;
@@ -42,7 +42,7 @@ pub(crate) fn owned_property(
 }
 
 /// A tail with texts of its own.
-pub(crate) fn owned_tail(alloc: Global, tail: &Tail<Span<'_>>) -> Result<KeptTail, NoMemory>
+pub(crate) fn owned_tail(alloc: Global, tail: &Tail<Span<'_>>) -> Result<KeptTail, AllocError>
     ensures { IfOk result (λ copy. copy ≡ tail.now) }
 {
     let word = owned_if(alloc, &tail.word)?;
@@ -58,7 +58,7 @@ pub(crate) fn owned_tail(alloc: Global, tail: &Tail<Span<'_>>) -> Result<KeptTai
 pub(crate) fn copied_if(
     alloc: Global,
     text: &Option<Items<u8>>,
-) -> Result<Option<Items<u8>>, NoMemory>
+) -> Result<Option<Items<u8>>, AllocError>
     ensures { IfOk result (λ copy. copy ≡ text.now) }
 {
     match text {
@@ -67,7 +67,7 @@ pub(crate) fn copied_if(
     }
 }
 
-fn copied_property(alloc: Global, property: &KeptProperty) -> Result<KeptProperty, NoMemory>
+fn copied_property(alloc: Global, property: &KeptProperty) -> Result<KeptProperty, AllocError>
     ensures { IfOk result (λ copy. copy ≡ property.now) }
 {
     let name = copied(alloc, property.name.as_slice())?;
@@ -83,7 +83,7 @@ fn copied_property(alloc: Global, property: &KeptProperty) -> Result<KeptPropert
 pub(crate) fn copied_properties(
     alloc: Global,
     properties: &[KeptProperty],
-) -> Result<Items<KeptProperty>, NoMemory>
+) -> Result<Items<KeptProperty>, AllocError>
     ensures { IfOk result (λ copy. copy ≡ properties.now) }
 {
     let mut copy = Items::new(alloc);
@@ -93,7 +93,7 @@ pub(crate) fn copied_properties(
     Ok(copy)
 }
 
-fn copied_tail(alloc: Global, tail: &KeptTail) -> Result<KeptTail, NoMemory>
+fn copied_tail(alloc: Global, tail: &KeptTail) -> Result<KeptTail, AllocError>
     ensures { IfOk result (λ copy. copy ≡ tail.now) }
 {
     let word = copied_if(alloc, &tail.word)?;
@@ -109,7 +109,7 @@ fn copied_tail(alloc: Global, tail: &KeptTail) -> Result<KeptTail, NoMemory>
 pub(crate) fn copied_tail_if(
     alloc: Global,
     tail: &Option<KeptTail>,
-) -> Result<Option<KeptTail>, NoMemory>
+) -> Result<Option<KeptTail>, AllocError>
     ensures { IfOk result (λ copy. copy ≡ tail.now) }
 {
     match tail {
@@ -119,7 +119,7 @@ pub(crate) fn copied_tail_if(
 }
 
 /// A copy of the stream.
-pub(crate) fn copied_stream(alloc: Global, stream: &Stream) -> Result<Stream, NoMemory>
+pub(crate) fn copied_stream(alloc: Global, stream: &Stream) -> Result<Stream, AllocError>
     ensures { IfOk result (λ copy. copy ≡ stream.now) }
 {
     let properties = copied_properties(alloc, stream.properties.as_slice())?;
@@ -134,12 +134,50 @@ pub(crate) fn copied_stream(alloc: Global, stream: &Stream) -> Result<Stream, No
 }
 
 /// A copy of the stream, if it is there.
-fn copied_stream_if(alloc: Global, stream: &Option<Stream>) -> Result<Option<Stream>, NoMemory>
+fn copied_stream_if(alloc: Global, stream: &Option<Stream>) -> Result<Option<Stream>, AllocError>
     ensures { IfOk result (λ copy. copy ≡ stream.now) }
 {
     match stream {
         Some(stream) => Ok(Some(copied_stream(alloc, stream)?)),
         None => Ok(None),
+    }
+}
+
+/// A copy of all that is kept of a termination.
+fn copied_termination(alloc: Global, old: &Termination) -> Result<Termination, AllocError>
+    ensures { IfOk result (λ copy. copy ≡ old.now) }
+{
+    let properties = copied_properties(alloc, old.properties.as_slice())?;
+    let first = copied_stream_if(alloc, &old.first)?;
+    let second = copied_stream_if(alloc, &old.second)?;
+    let third = copied_stream_if(alloc, &old.third)?;
+    let fourth = copied_stream_if(alloc, &old.fourth)?;
+    let events = copied_tail_if(alloc, &old.events)?;
+    let signals = copied_tail_if(alloc, &old.signals)?;
+    let digit_map = copied_tail_if(alloc, &old.digit_map)?;
+    let event_buffer = copied_tail_if(alloc, &old.event_buffer)?;
+    Ok(Termination {
+        place: old.place,
+        service: old.service,
+        slot: old.slot,
+        properties,
+        first,
+        second,
+        third,
+        fourth,
+        events,
+        signals,
+        digit_map,
+        event_buffer,
+    })
+}
+
+// As the maps of tables copy it: the copy lies where the termination does.
+impl Clone for Termination {
+    ghost is_clone = { λ a b. b ≡ a };
+
+    fn clone(&self) -> Result<Self, AllocError> {
+        copied_termination(self.properties.allocator(), self)
     }
 }
 
@@ -152,28 +190,6 @@ impl Termination {
     pub fn copy(&self, alloc: Global) -> Result<Termination, NoMemory>
         ensures { IfOk result (λ copy. copy ≡ self.now) }
     {
-        let properties = copied_properties(alloc, self.properties.as_slice())?;
-        let first = copied_stream_if(alloc, &self.first)?;
-        let second = copied_stream_if(alloc, &self.second)?;
-        let third = copied_stream_if(alloc, &self.third)?;
-        let fourth = copied_stream_if(alloc, &self.fourth)?;
-        let events = copied_tail_if(alloc, &self.events)?;
-        let signals = copied_tail_if(alloc, &self.signals)?;
-        let digit_map = copied_tail_if(alloc, &self.digit_map)?;
-        let event_buffer = copied_tail_if(alloc, &self.event_buffer)?;
-        Ok(Termination {
-            place: self.place,
-            service: self.service,
-            slot: self.slot,
-            properties,
-            first,
-            second,
-            third,
-            fourth,
-            events,
-            signals,
-            digit_map,
-            event_buffer,
-        })
+        Ok(copied_termination(alloc, self)?)
     }
 }

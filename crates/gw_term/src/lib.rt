@@ -5,6 +5,7 @@ mod apply;
 mod audit;
 mod copies;
 mod fault;
+mod laws;
 mod properties;
 mod record;
 mod streams;
@@ -12,4 +13,5 @@ mod tails;
 
 pub use apply::Filled;
 pub use fault::ApplyFault;
+pub use laws::merges_go_by_field;
 pub use record::{Stream, Termination};
