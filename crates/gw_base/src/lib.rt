@@ -4,6 +4,7 @@
 mod bytes;
 #[cfg(test)]
 mod cases;
+mod choose;
 mod code;
 mod command_words;
 mod config;
@@ -12,6 +13,7 @@ mod ids;
 mod inline;
 mod inline_order;
 mod items;
+mod key;
 mod media;
 mod mid;
 mod name;
@@ -24,6 +26,7 @@ pub use config::Config;
 pub use fault::{NameFault, NoMemory};
 pub use ids::{CtxNum, Ids, TxId};
 pub use items::Items;
+pub use key::Key;
 pub use media::MediaAddr;
 pub use mid::Mid;
 pub use name::TermName;
