@@ -1,5 +1,5 @@
 -- What is read in a part, beside a part and after a part was laid over the maps.
-use Rattle.std.proofs.Common.{nat_eq, ◌≡◌, ℕ, Bool, true, false, cond, not, List, [], ◌∷◌, bytes_eq, Option, None, Some, refl, sym, ap, subst, ◌∙◌}
+use Rattle.std.proofs.Common.{nat_eq, ◌≡◌, ℕ, Bool, true, false, cond, not, List, [], ◌∷◌, bytes_eq, Option, None, refl, sym, ap, subst, ◌∙◌}
 use Rattle.std.specs.Prelude.{◌||◌}
 use Rattle.std.specs.FinMap.{get-retain_keys, nat_cmp-IsAntisymmetric}
 use Rattle.gw_base.specs.declared.ids.CtxNum.{CtxNum}
@@ -8,11 +8,10 @@ use Rattle.gw_base.specs.declared.key.Key.TheVariants.{Term, Ctx, Whole}
 use Rattle.gw_base.specs.Keys.{has}
 use Rattle.gw_base.specs.NameLists.{is_in, NoDoubles}
 use Rattle.gw_base.proofs.NameTests.{names_same, same_name, same_number}
-use Rattle.gw_table.specs.Maps.{Maps, term, ctx, put_term, put_ctx, place_of, members_of}
+use Rattle.gw_table.specs.Maps.{Maps, term, ctx, place_of, members_of}
 use Rattle.gw_table.specs.Parts.{Every, Only, restricted, cut, overlaid}
 use Rattle.gw_table.specs.WellFormed.{IsSound, AreWellFormed}
 use Rattle.gw_table.proofs.Lookups.{term-put_term, ctx-put_term, term-put_ctx, ctx-put_ctx, same_maps}
-
 
 pub term-restricted : (keys : List Key) (m : Maps) (q : List ℕ) → term (restricted keys m) q ≡ cond (has keys (Term q)) (term m q) None
 term-restricted keys m q = get-retain_keys m.terms (λ t. has keys (Term t)) q (λ x e. ap (λ (y : List ℕ). has keys (Term y)) (sym (names_same q x e)))

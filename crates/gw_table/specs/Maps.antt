@@ -1,5 +1,5 @@
 -- The tables of a gateway as two finite maps (RFC 3525, section 6): names to terminations, and numbers to contexts.
-use Rattle.std.specs.Prelude.{◌≡◌, ℕ, List, [], ◌∷◌, map, Option, None, Some, refl}
+use Rattle.std.specs.Prelude.{ℕ, List, map, Option, None, Some, refl}
 use Rattle.std.specs.Ordering.{nat_cmp}
 use Rattle.std.specs.FinMap as finite
 use Rattle.std.specs.Coded.{Coded, code_by, coded×, coded_list, coded_ℕ}
