@@ -17,6 +17,7 @@ mod key;
 mod media;
 mod mid;
 mod name;
+mod span;
 mod term_ref;
 
 pub use bytes::{is_digit, is_letter};
@@ -30,4 +31,5 @@ pub use key::Key;
 pub use media::MediaAddr;
 pub use mid::Mid;
 pub use name::TermName;
+pub use span::Span;
 pub use term_ref::{Pattern, TermRef};

@@ -32,10 +32,10 @@ use Rattle.gw_desc.proofs.ServiceLaws.{service_parm_reads, service_parm_braces, 
 
 -- ---- what follows another word
 
-abbrev behind_bracket : Reader Tail
+abbrev behind_bracket : Reader (Tail (List ℕ))
 behind_bracket text = bracket_read text >>= λ b. tail_at b.1
 
-abbrev BehindBracket : Tail → List ℕ → Type 0
+abbrev BehindBracket : Tail (List ℕ) → List ℕ → Type 0
 BehindBracket t text = (span : List ℕ) × Both (Kept IsBracket span) (SpellsTail t) text
 
 behind_up_bracket : ReadsUp behind_bracket BehindBracket AfterDescriptor Same Same
@@ -43,7 +43,7 @@ behind_up_bracket =
     up_then bracket_read (λ span. tail_at) (Kept IsBracket) (λ span. SpellsTail) Any AfterDescriptor Same Same Same
     up_bracket (λ span. up_next tail_reads (λ rest n. n.tail)) (λ span t front rest q n. tt)
 
-abbrev Dropped : Tail → List ℕ → Type 0
+abbrev Dropped : Tail (List ℕ) → List ℕ → Type 0
 Dropped t text = Both IsSpace (BehindBracket t) text ⊎ SpellsTail t text
 
 behind_begins : BeginsWith (is_byte left_bracket) BehindBracket
@@ -56,21 +56,21 @@ dropped_reads =
     behind_up_bracket (up_next tail_reads (λ rest n. n.tail)) behind_begins
     (λ t front rest q n. tail_other left_bracket refl refl t front rest q n.bracket)
 
-dropped_ends : (t : Tail) (front rest : List ℕ) → Dropped t front → AfterDescriptor rest → NoMore is_safe (front ++ rest)
+dropped_ends : (t : Tail (List ℕ)) (front rest : List ℕ) → Dropped t front → AfterDescriptor rest → NoMore is_safe (front ++ rest)
 dropped_ends t front rest q n =
     elim q [
       | inl b ↦ ahead_ends is_safe left_bracket (BehindBracket t) safe_apart refl (behind_begins t) front rest b
       | inr s ↦ tail_ends t front rest s n.tail
     ]
 
-dropped_to : (t : Tail) (text : List ℕ) → Dropped t text → IsDropped text
+dropped_to : (t : Tail (List ℕ)) (text : List ℕ) → Dropped t text → IsDropped text
 dropped_to t text h =
     elim h [
       | inl b ↦ let c = b.second.1 in inl (with_second b (record { front = c.front; back = c.back; split = c.split; first = c.first.1; second = (t, c.second) }))
       | inr s ↦ inr (t, s)
     ]
 
-dropped_from : (text : List ℕ) → IsDropped text → (t : Tail) × Dropped t text
+dropped_from : (text : List ℕ) → IsDropped text → (t : Tail (List ℕ)) × Dropped t text
 dropped_from text h =
     elim h [
       | inl b ↦ let c = b.second in (c.second.0, inl (with_second b (c.front, record { front = c.front; back = c.back; split = c.split; first = (refl, c.first); second = c.second.1 })))
@@ -89,10 +89,10 @@ abbrev OfAudit : Descriptor → List ℕ → Type 0
 OfAudit d text = (list : List (List ℕ)) × (descriptor.Audit list ≡ d) × BracedOrEmpty (Kept IsWord) list text
 
 abbrev OfKept : KeptKind → Descriptor → List ℕ → Type 0
-OfKept kind d text = (t : Tail) × (descriptor.Keep kind t ≡ d) × SpellsTail t text
+OfKept kind d text = (t : Tail (List ℕ)) × (descriptor.Keep kind t ≡ d) × SpellsTail t text
 
 abbrev OfOther : List ℕ → Descriptor → List ℕ → Type 0
-OfOther word d text = (t : Tail) × (descriptor.Other word ≡ d) × Dropped t text
+OfOther word d text = (t : Tail (List ℕ)) × (descriptor.Other word ≡ d) × Dropped t text
 
 abbrev DescriptorRest : List ℕ → Option Token → Descriptor → List ℕ → Type 0
 DescriptorRest word (Some token.Media) d text = OfMedia d text
@@ -188,13 +188,13 @@ descriptor_to word _ d text e b = other_to word d text (ap is_descriptor e) b
 token_from : (t : Token) (d : Descriptor) (text : List ℕ) (b : Both (IsToken t) (λ back. (front : List ℕ) → DescriptorRest front (Some t) d back) text) → (word : List ℕ) × WordAndRest word (token_of word) d text
 token_from t d text b = (b.front, record { front = b.front; back = b.back; split = b.split; first = (refl, b.first.word); second = subst (λ (o : Option Token). DescriptorRest b.front o d b.back) (sym b.first.stands) (b.second b.front) })
 
-kept_from : (kind : KeptKind) (t : Tail) (text : List ℕ) → (IsToken (kept_token kind) ▹ SpellsTail t) text → (word : List ℕ) × WordAndRest word (token_of word) (descriptor.Keep kind t) text
+kept_from : (kind : KeptKind) (t : Tail (List ℕ)) (text : List ℕ) → (IsToken (kept_token kind) ▹ SpellsTail t) text → (word : List ℕ) × WordAndRest word (token_of word) (descriptor.Keep kind t) text
 kept_from kept.Events t text b = token_from token.Events (descriptor.Keep kept.Events t) text (with_second b (λ w. (t, refl, b.second)))
 kept_from kept.Signals t text b = token_from token.Signals (descriptor.Keep kept.Signals t) text (with_second b (λ w. (t, refl, b.second)))
 kept_from kept.DigitMap t text b = token_from token.DigitMap (descriptor.Keep kept.DigitMap t) text (with_second b (λ w. (t, refl, b.second)))
 kept_from kept.EventBuffer t text b = token_from token.EventBuffer (descriptor.Keep kept.EventBuffer t) text (with_second b (λ w. (t, refl, b.second)))
 
-other_rest : (word : List ℕ) (o : Option Token) (text : List ℕ) → is_descriptor o ≡ false → ((t : Tail) × Dropped t text) → DescriptorRest word o (descriptor.Other word) text
+other_rest : (word : List ℕ) (o : Option Token) (text : List ℕ) → is_descriptor o ≡ false → ((t : Tail (List ℕ)) × Dropped t text) → DescriptorRest word o (descriptor.Other word) text
 other_rest word (Some token.Media) text e s = absurd cc
 other_rest word (Some token.Events) text e s = absurd cc
 other_rest word (Some token.Signals) text e s = absurd cc
@@ -255,7 +255,7 @@ one_value {V} h none text v w p q =
     let first : V × List ℕ = (v, a.0) in
     ap (λ (x : V × List ℕ). x.0) (some_is first (w, b.0) (sym a.1 ∙ b.1))
 
-pub one_tail : (text : List ℕ) (t u : Tail) → SpellsTail t text → SpellsTail u text → t ≡ u
+pub one_tail : (text : List ℕ) (t u : Tail (List ℕ)) → SpellsTail t text → SpellsTail u text → t ≡ u
 one_tail = one_value tail_reads nothing_after_tail
 
 pub one_descriptor : (text : List ℕ) (d e : Descriptor) → SpellsDescriptor d text → SpellsDescriptor e text → d ≡ e

@@ -125,7 +125,7 @@ up_none To Next = record {
 abbrev StreamRest : Token → StreamPart → List ℕ → Type 0
 StreamRest token.Local p text = (span : List ℕ) × (part.Local span ≡ p) × SpellsOctets span text
 StreamRest token.Remote p text = (span : List ℕ) × (part.Remote span ≡ p) × SpellsOctets span text
-StreamRest token.LocalControl p text = (list : List Property) × (part.LocalControl list ≡ p) × Braced SpellsProperty list text
+StreamRest token.LocalControl p text = (list : List (Property (List ℕ))) × (part.LocalControl list ≡ p) × Braced SpellsProperty list text
 StreamRest _ p text = ⊥
 
 stream_rest_reads : (t : Token) → ReadsUp (stream_rest t) (StreamRest t) Any Same Skipped
@@ -205,7 +205,7 @@ stream_reads = up_from (up_sign equals_sign stream_id_at StreamId Any Skipped re
 
 abbrev MediaRest : Token → MediaPart → List ℕ → Type 0
 MediaRest token.Stream m text = AStream m text
-MediaRest token.TerminationState m text = (list : List Property) × (media.TerminationState list ≡ m) × Braced SpellsProperty list text
+MediaRest token.TerminationState m text = (list : List (Property (List ℕ))) × (media.TerminationState list ≡ m) × Braced SpellsProperty list text
 MediaRest t m text = (p : StreamPart) × (media.Outside p ≡ m) × StreamRest t p text
 
 media_rest_reads : (t : Token) → ReadsUp (media_rest t) (MediaRest t) Any Same Skipped

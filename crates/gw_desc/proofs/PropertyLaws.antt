@@ -207,19 +207,19 @@ sign_not_safe Greater = refl
 
 -- ---- properties
 
-abbrev property_of : List ℕ → Sign → List ℕ → Property
+abbrev property_of : List ℕ → Sign → List ℕ → Property (List ℕ)
 property_of name sign value = record { name = name; sign = sign; value = value }
 
-abbrev property_value : List ℕ → Sign → Reader Property
+abbrev property_value : List ℕ → Sign → Reader (Property (List ℕ))
 property_value name sign text = value_at text >>= λ v. Some (property_of name sign v.0, v.1)
 
-abbrev PropertyValue : List ℕ → Sign → Property → List ℕ → Type 0
+abbrev PropertyValue : List ℕ → Sign → Property (List ℕ) → List ℕ → Type 0
 PropertyValue name sign p text = (v : List ℕ) × (property_of name sign v ≡ p) × Kept IsValue v text
 
-abbrev property_rest : List ℕ → Reader Property
+abbrev property_rest : List ℕ → Reader (Property (List ℕ))
 property_rest name text = relation_at text >>= λ s. property_value name s.0 s.1
 
-abbrev PropertyRest : List ℕ → Property → List ℕ → Type 0
+abbrev PropertyRest : List ℕ → Property (List ℕ) → List ℕ → Type 0
 PropertyRest name p text = (s : Sign) × Both (IsSign (sign_byte s)) (PropertyValue name s p) text
 
 property_rest_reads : (name : List ℕ) → ReadsUp (property_rest name) (PropertyRest name) NoMoreSafe UpTo Same
@@ -238,7 +238,7 @@ property_reads =
     (λ name p front rest q n. both_ends is_safe (sign_byte q.0) (PropertyValue name q.0 p) front rest safe_apart (sign_not_safe q.0) q.1))
     (λ p text h.
     let b = h.1 in let s = b.second in let v = s.1.second in
-    subst (λ (d : Property). SpellsProperty d text) v.1 (with_second b (with_second s.1 v.2)))
+    subst (λ (d : Property (List ℕ)). SpellsProperty d text) v.1 (with_second b (with_second s.1 v.2)))
     (λ p text b. let s = b.second in (p.name, with_second b (p.sign, with_second s (p.value, refl, s.second))))
 
 pub property_shrinks : Shrinks property_at

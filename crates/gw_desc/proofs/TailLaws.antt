@@ -62,28 +62,28 @@ group_other b other (Some g) front rest h n = ahead_other left_brace b (SpellsGr
 
 -- ---- tails
 
-abbrev tail_of : Bool → Option (List ℕ) → Option (List ℕ) → Tail
+abbrev tail_of : Bool → Option (List ℕ) → Option (List ℕ) → Tail (List ℕ)
 tail_of equals word group = record { equals = equals; word = word; group = group }
 
-abbrev GroupTail : Tail → List ℕ → Type 0
+abbrev GroupTail : Tail (List ℕ) → List ℕ → Type 0
 GroupTail t text = (g : List ℕ) × (tail_of true None (Some g) ≡ t) × SpellsGroup g text
 
-abbrev WordRest : List ℕ → Tail → List ℕ → Type 0
+abbrev WordRest : List ℕ → Tail (List ℕ) → List ℕ → Type 0
 WordRest w t text = (g : Option (List ℕ)) × (tail_of true (Some w) g ≡ t) × SpellsOptionalGroup g text
 
-abbrev WordTail : Tail → List ℕ → Type 0
+abbrev WordTail : Tail (List ℕ) → List ℕ → Type 0
 WordTail t text = (w : List ℕ) × Both (Kept IsWord w) (WordRest w t) text
 
-abbrev BareTail : Tail → List ℕ → Type 0
+abbrev BareTail : Tail (List ℕ) → List ℕ → Type 0
 BareTail t text = (g : Option (List ℕ)) × (tail_of false None g ≡ t) × SpellsOptionalGroup g text
 
-abbrev BehindEquals : Tail → List ℕ → Type 0
+abbrev BehindEquals : Tail (List ℕ) → List ℕ → Type 0
 BehindEquals t text = GroupTail t text ⊎ WordTail t text
 
 group_tail_reads : ReadsUp group_tail_at GroupTail AfterTail Same Same
 group_tail_reads = up_next (up_last (group_read request_depth) (λ g. tail_of true None (Some g)) SpellsGroup Any Same Same (up_group request_depth)) (λ rest n. tt)
 
-optional_reads : (make : Option (List ℕ) → Tail) → ReadsUp (λ text. optional_group_at text >>= λ g. Some (make g.0, g.1)) (λ t text. (g : Option (List ℕ)) × (make g ≡ t) × SpellsOptionalGroup g text) AfterTail Same Same
+optional_reads : (make : Option (List ℕ) → Tail (List ℕ)) → ReadsUp (λ text. optional_group_at text >>= λ g. Some (make g.0, g.1)) (λ t text. (g : Option (List ℕ)) × (make g ≡ t) × SpellsOptionalGroup g text) AfterTail Same Same
 optional_reads make = up_next (up_last optional_group_at make SpellsOptionalGroup WithoutGroup Same Same optional_group_reads) (λ rest n. n.group)
 
 word_tail_reads : ReadsUp word_tail_at WordTail AfterTail Same Same
@@ -112,14 +112,14 @@ behind_reads =
 
 -- ---- in other words
 
-tail_to : (t : Tail) (text : List ℕ) → (Both (IsSign equals_sign) (BehindEquals t) text ⊎ BareTail t text) → SpellsTail t text
+tail_to : (t : Tail (List ℕ)) (text : List ℕ) → (Both (IsSign equals_sign) (BehindEquals t) text ⊎ BareTail t text) → SpellsTail t text
 tail_to t text h =
     elim h [
       | inl b ↦ elim b.second [
-        | inl g ↦ subst (λ (u : Tail). SpellsTail u text) g.1 (record { words = with_second b (record { front = []; back = b.back; split = refl; first = no_space; second = g.2 }); some = λ e. inr tt })
-        | inr w ↦ let c = w.1 in subst (λ (u : Tail). SpellsTail u text) c.second.1 (record { words = first_two (with_second b (with_second c c.second.2)); some = λ e. inl tt })
+        | inl g ↦ subst (λ (u : Tail (List ℕ)). SpellsTail u text) g.1 (record { words = with_second b (record { front = []; back = b.back; split = refl; first = no_space; second = g.2 }); some = λ e. inr tt })
+        | inr w ↦ let c = w.1 in subst (λ (u : Tail (List ℕ)). SpellsTail u text) c.second.1 (record { words = first_two (with_second b (with_second c c.second.2)); some = λ e. inl tt })
       ]
-      | inr g ↦ subst (λ (u : Tail). SpellsTail u text) g.1 (record { words = record { front = []; back = text; split = refl; first = refl; second = g.2 }; some = λ e. absurd cc })
+      | inr g ↦ subst (λ (u : Tail (List ℕ)). SpellsTail u text) g.1 (record { words = record { front = []; back = text; split = refl; first = refl; second = g.2 }; some = λ e. absurd cc })
     ]
 
 bare_back : (g : Option (List ℕ)) (text front back : List ℕ) → text ≡ front ++ back → front ≡ [] → SpellsOptionalGroup g back → SpellsOptionalGroup g text
@@ -169,7 +169,7 @@ equals_ends false (Some w) front rest h n = absurd h
 equals_ends true None front rest h n = sign_ends is_safe equals_sign front rest safe_apart refl h
 equals_ends true (Some w) front rest h n = both_ends is_safe equals_sign (Kept IsWord w) front rest safe_apart refl h
 
-pub tail_ends : (t : Tail) (front rest : List ℕ) → SpellsTail t front → AfterTail rest → NoMore is_safe (front ++ rest)
+pub tail_ends : (t : Tail (List ℕ)) (front rest : List ℕ) → SpellsTail t front → AfterTail rest → NoMore is_safe (front ++ rest)
 tail_ends t front rest h n =
     let b = h.words in
     ap (begins is_safe) (both_split (SpellsEquals t.equals t.word) (SpellsOptionalGroup t.group) front rest b)
@@ -182,7 +182,7 @@ equals_other b other true None front rest h n = sign_other equals_sign b front r
 equals_other b other true (Some w) front rest h n = both_other equals_sign b (Kept IsWord w) front rest refl other h
 
 -- no tail begins with another sign
-pub tail_other : (b : ℕ) → is_byte b equals_sign ≡ false → is_byte left_brace b ≡ false → (t : Tail) (front rest : List ℕ) → SpellsTail t front → sign_at b rest ≡ None → sign_at b (front ++ rest) ≡ None
+pub tail_other : (b : ℕ) → is_byte b equals_sign ≡ false → is_byte left_brace b ≡ false → (t : Tail (List ℕ)) (front rest : List ℕ) → SpellsTail t front → sign_at b rest ≡ None → sign_at b (front ++ rest) ≡ None
 tail_other b equals brace t front rest h n =
     let w = h.words in
     ap (sign_at b) (both_split (SpellsEquals t.equals t.word) (SpellsOptionalGroup t.group) front rest w)

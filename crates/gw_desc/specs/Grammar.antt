@@ -61,7 +61,7 @@ IsThere None = ⊥
 IsThere (Some span) = Unit {0}
 
 -- what follows the word of a descriptor that is kept (own): [EQUAL [word]] [LWSP group]
-pub record SpellsTail (t : Tail) (text : List ℕ) : Type 0 where
+pub record SpellsTail (t : Tail (List ℕ)) (text : List ℕ) : Type 0 where
   pub words : (SpellsEquals t.equals t.word ▹ SpellsOptionalGroup t.group) text
   -- not `=` alone
   pub some : t.equals ≡ true → IsThere t.word ⊎ IsThere t.group
@@ -80,7 +80,7 @@ sign_byte Less = byte (codes "<")
 sign_byte Greater = byte (codes ">")
 
 -- propertyParm: a name, LWSP, a sign, LWSP, and a value
-abbrev pub SpellsProperty : Property → List ℕ → Type 0
+abbrev pub SpellsProperty : Property (List ℕ) → List ℕ → Type 0
 SpellsProperty p = Kept IsWord p.name ▹ IsSign (sign_byte p.sign) ▹ Kept IsValue p.value
 
 -- ---- media
@@ -155,7 +155,7 @@ IsOtherWord text = IsWord text × (is_descriptor (token_of text) ≡ false)
 
 -- a tail, whichever it is
 abbrev pub IsTail : List ℕ → Type 0
-IsTail text = (t : Tail) × SpellsTail t text
+IsTail text = (t : Tail (List ℕ)) × SpellsTail t text
 
 -- what follows it, which is dropped (own): [LWSP bracket] tail
 abbrev pub IsDropped : List ℕ → Type 0

@@ -11,11 +11,11 @@ Gives (Ok x) new at = at ≡ Some (x, new)
 Gives (Err Syntax) new at = at ≡ None
 Gives (Err NoMemory) new at = Unit {0}
 
--- The same, whose answer is seen by view, of a function that takes no memory.
-abbrev pub Finds : {X V : Type 0} → (X → V) → Result X PartFault → List ℕ → Option (V × List ℕ) → Type 0
-Finds view (Ok x) new at = at ≡ Some (view x, new)
-Finds view (Err Syntax) new at = at ≡ None
-Finds view (Err NoMemory) new at = ⊥
+-- The same of a function that takes no memory.
+abbrev pub Finds : {V : Type 0} → Result V PartFault → List ℕ → Option (V × List ℕ) → Type 0
+Finds (Ok x) new at = at ≡ Some (x, new)
+Finds (Err Syntax) new at = at ≡ None
+Finds (Err NoMemory) new at = ⊥
 
 -- what is left is no longer than what there was
 abbrev pub Shrinks : {V : Type 0} → Reader V → Type 0

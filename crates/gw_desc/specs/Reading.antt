@@ -43,26 +43,26 @@ optional_group_at =
       Some (Some group.0, group.1)) (λ text. Some (None, text))
 
 -- behind `=`, a group
-abbrev pub group_tail_at : Reader Tail
+abbrev pub group_tail_at : Reader (Tail (List ℕ))
 group_tail_at text = do
   group ← group_read request_depth text
   Some (record { equals = true; word = None; group = Some group.0 }, group.1)
 
 -- behind `=`, a word, and perhaps a group
-abbrev pub word_tail_at : Reader Tail
+abbrev pub word_tail_at : Reader (Tail (List ℕ))
 word_tail_at text = do
   word ← word_read text
   group ← optional_group_at word.1
   Some (record { equals = true; word = Some word.0; group = group.0 }, group.1)
 
 -- without `=`
-abbrev pub bare_tail_at : Reader Tail
+abbrev pub bare_tail_at : Reader (Tail (List ℕ))
 bare_tail_at text = do
   group ← optional_group_at text
   Some (record { equals = false; word = None; group = group.0 }, group.1)
 
 -- what follows the word of a descriptor that is kept as sent
-unfoldable pub tail_at : Reader Tail
+unfoldable pub tail_at : Reader (Tail (List ℕ))
 tail_at = if_sign equals_sign (if_begins (is_byte left_brace) group_tail_at word_tail_at) bare_tail_at
 
 -- what may follow a tail: no more of its word, no `=` and no group
@@ -91,7 +91,7 @@ relation_at =
       Some (Greater, rest))))
 
 -- a name, a sign and a value
-unfoldable pub property_at : Reader Property
+unfoldable pub property_at : Reader (Property (List ℕ))
 property_at text = do
   name ← word_read text
   sign ← relation_at name.1
@@ -168,7 +168,7 @@ service_parm_at text = do
 -- ---- descriptors
 
 -- what follows another word, which is dropped
-unfoldable pub dropped_at : Reader Tail
+unfoldable pub dropped_at : Reader (Tail (List ℕ))
 dropped_at =
     if_ahead left_bracket (λ text. do
       bracket ← bracket_read text

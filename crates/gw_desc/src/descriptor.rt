@@ -1,23 +1,23 @@
 //! The tree of a descriptor (RFC 3525, section 7.1 and Annex B.2), as it is read: what is kept is kept as sent.
 
-use gw_base::Items;
+use gw_base::{Items, Span};
 
 /// The words of an Audit, in the order sent.
-pub type AuditItems = Items<Items<u8>>;
+pub type AuditItems<'a> = Items<Span<'a>>;
 
-/// A descriptor of a command.
+/// A descriptor of a command, of a datagram that lives as long as `'a`.
 #[derive(Debug, Drop)]
-pub enum Descriptor {
+pub enum Descriptor<'a> {
     /// `Media`: its parts in the order sent, at least one.
-    Media(Items<MediaPart>),
+    Media(Items<MediaPart<'a>>),
     /// `Events`, `Signals`, `DigitMap` or `EventBuffer`: kept and audited, and not looked into.
-    Keep(KeptKind, Tail),
+    Keep(KeptKind, Tail<Span<'a>>),
     /// `Audit`: its words, perhaps none.
-    Audit(AuditItems),
+    Audit(AuditItems<'a>),
     /// `Services`: its parameters in the order sent, at least one.
-    Services(Items<ServiceParm>),
+    Services(Items<ServiceParm<'a>>),
     /// Any other word; what follows it is read and dropped.
-    Other(Items<u8>),
+    Other(Span<'a>),
 }
 
 /// Which descriptor is kept as sent.
@@ -35,35 +35,36 @@ pub enum KeptKind {
 
 /// A part of a Media descriptor (RFC 3525, section 7.1.4).
 #[derive(Debug, Drop)]
-pub enum MediaPart {
+pub enum MediaPart<'a> {
     /// A stream part outside a Stream, which is of stream 1.
-    Outside(StreamPart),
+    Outside(StreamPart<'a>),
     /// `Stream`: its number, at most 65,535, and its parts, at least one.
-    Stream(u16, Items<StreamPart>),
+    Stream(u16, Items<StreamPart<'a>>),
     /// `TerminationState`: its properties, at least one.
-    TerminationState(Items<Property>),
+    TerminationState(Items<Property<Span<'a>>>),
 }
 
 /// A part of a stream (RFC 3525, sections 7.1.6 to 7.1.8).
 #[derive(Debug, Drop)]
-pub enum StreamPart {
+pub enum StreamPart<'a> {
     /// `Local`: the octets between its braces, without the white space round them.
-    Local(Items<u8>),
+    Local(Span<'a>),
     /// `Remote`: the same.
-    Remote(Items<u8>),
+    Remote(Span<'a>),
     /// `LocalControl`: its properties, at least one.
-    LocalControl(Items<Property>),
+    LocalControl(Items<Property<Span<'a>>>),
 }
 
-/// A property: its name, the sign behind it and its value, as sent.
+/// A property: its name, the sign behind it and its value, as sent. A message has them as spans of its datagram; what keeps a
+/// property has them as texts of its own.
 #[derive(Debug, Drop)]
-pub struct Property {
+pub struct Property<T> {
     /// A word.
-    pub name: Items<u8>,
+    pub name: T,
     /// The sign between name and value.
     pub sign: Sign,
     /// A quoted text, a word, a bracket or a group, with its quotation marks, brackets or braces.
-    pub value: Items<u8>,
+    pub value: T,
 }
 
 /// What stands between a property's name and its value.
@@ -79,31 +80,32 @@ pub enum Sign {
     Greater,
 }
 
-/// What follows the word of a descriptor that is kept as sent. Where `equals` holds a word or a group stands behind it.
+/// What follows the word of a descriptor that is kept as sent. Where `equals` holds a word or a group stands behind it. A
+/// message has it as spans of its datagram; what keeps a tail has it as texts of its own.
 #[derive(Debug, Drop)]
-pub struct Tail {
+pub struct Tail<T> {
     /// Whether `=` stands behind the descriptor's word.
     pub equals: bool,
     /// The word behind `=`.
-    pub word: Option<Items<u8>>,
+    pub word: Option<T>,
     /// The group, its braces included.
-    pub group: Option<Items<u8>>,
+    pub group: Option<T>,
 }
 
 /// A parameter of a Services descriptor (RFC 3525, section 7.2.8).
 #[derive(Debug, Drop)]
-pub struct ServiceParm {
+pub struct ServiceParm<'a> {
     /// A word.
-    pub name: Items<u8>,
+    pub name: Span<'a>,
     /// What stands behind `=`.
-    pub value: Option<ServiceValue>,
+    pub value: Option<ServiceValue<'a>>,
 }
 
 /// The value of a Services parameter.
 #[derive(Debug, Drop)]
-pub enum ServiceValue {
+pub enum ServiceValue<'a> {
     /// A quoted text, its quotation marks included.
-    Quoted(Items<u8>),
+    Quoted(Span<'a>),
     /// A run of safe bytes and `[ ] : < > #`.
-    Run(Items<u8>),
+    Run(Span<'a>),
 }

@@ -19,4 +19,4 @@ pub use descriptor::{
 pub use fault::PartFault;
 pub use laws::{descriptors_are_read, tails_are_read};
 pub use lists::{Part, braced, items, list, optional_braced, sign, token};
-pub use tails::{TailSpans, optional_group, tail, tail_spans};
+pub use tails::{optional_group, tail};

@@ -4,7 +4,7 @@ ghost use Rattle.std.specs.Prelude.{◌≡◌, ℕ, List, Option, Some, None, Ma
 ghost use Rattle.gw_text.specs.Sign.{sign_at};
 ghost use Rattle.gw_text.specs.Reader.{word_as, list_at, closed_list_at, braced_at, optional_at, braced_or_empty_at, items_at};
 ghost use Rattle.gw_text.specs.Tokens.{token_of};
-ghost use Rattle.gw_desc.specs.Parts.{Gives, Shrinks, ShrinksMore};
+ghost use Rattle.gw_desc.specs.Parts.{Gives, Finds, Shrinks, ShrinksMore};
 
 use crate::fault::PartFault;
 use gw_base::Items;
@@ -12,7 +12,7 @@ use gw_text::{Cursor, Token, token_of};
 use std::alloc::Global;
 
 /// A part of a message.
-pub trait Part: Drop {
+pub trait Part<'a>: Drop {
     // what reading gives at the front of a text
     ghost read_at: { List ℕ → Option (Self × List ℕ) };
 
@@ -21,7 +21,7 @@ pub trait Part: Drop {
     /// # Errors
     ///
     /// `Syntax` where there is none; `NoMemory` where a growth was refused.
-    fn read(alloc: Global, cursor: &mut Cursor<'_>) -> Result<Self, PartFault>
+    fn read(alloc: Global, cursor: &mut Cursor<'a>) -> Result<Self, PartFault>
         ensures { Gives result cursor.new (read_at cursor.old) };
 }
 
@@ -46,7 +46,7 @@ pub fn sign(cursor: &mut Cursor<'_>, b: u8) -> Result<(), PartFault>
 ///
 /// `Syntax` where no word comes next, or one that is no token.
 pub fn token(cursor: &mut Cursor<'_>) -> Result<Token, PartFault>
-    ensures { Gives result cursor.new (word_as token_of cursor.old) }
+    ensures { Finds result cursor.new (word_as token_of cursor.old) }
 {
     match token_of(cursor.word()?) {
         Some(token) => Ok(token),
@@ -59,7 +59,7 @@ pub fn token(cursor: &mut Cursor<'_>) -> Result<Token, PartFault>
 /// # Errors
 ///
 /// `Syntax` where there are none; `NoMemory` where a growth was refused.
-pub fn list<T: Part>(alloc: Global, cursor: &mut Cursor<'_>) -> Result<Items<T>, PartFault>
+pub fn list<'a, T: Part<'a>>(alloc: Global, cursor: &mut Cursor<'a>) -> Result<Items<T>, PartFault>
     requires { Shrinks T.read_at }
     ensures { Gives result cursor.new (list_at T.read_at cursor.old) }
 {
@@ -78,7 +78,7 @@ pub fn list<T: Part>(alloc: Global, cursor: &mut Cursor<'_>) -> Result<Items<T>,
 /// # Errors
 ///
 /// `Syntax` where there are none; `NoMemory` where a growth was refused.
-fn closed<T: Part>(alloc: Global, cursor: &mut Cursor<'_>) -> Result<Items<T>, PartFault>
+fn closed<'a, T: Part<'a>>(alloc: Global, cursor: &mut Cursor<'a>) -> Result<Items<T>, PartFault>
     requires { Shrinks T.read_at }
     ensures { Gives result cursor.new (closed_list_at T.read_at cursor.old) }
 {
@@ -92,7 +92,10 @@ fn closed<T: Part>(alloc: Global, cursor: &mut Cursor<'_>) -> Result<Items<T>, P
 /// # Errors
 ///
 /// `Syntax` where there are none; `NoMemory` where a growth was refused.
-pub fn braced<T: Part>(alloc: Global, cursor: &mut Cursor<'_>) -> Result<Items<T>, PartFault>
+pub fn braced<'a, T: Part<'a>>(
+    alloc: Global,
+    cursor: &mut Cursor<'a>,
+) -> Result<Items<T>, PartFault>
     requires { Shrinks T.read_at }
     ensures { Gives result cursor.new (braced_at T.read_at cursor.old) }
 {
@@ -106,9 +109,9 @@ pub fn braced<T: Part>(alloc: Global, cursor: &mut Cursor<'_>) -> Result<Items<T
 ///
 /// `Syntax` where a brace comes next and no such list stands there; `NoMemory` where a growth was refused.
 #[tactic(auto, unfolding(gw_text::specs::Reader::optional_at))]
-pub fn optional_braced<T: Part>(
+pub fn optional_braced<'a, T: Part<'a>>(
     alloc: Global,
-    cursor: &mut Cursor<'_>,
+    cursor: &mut Cursor<'a>,
 ) -> Result<Items<T>, PartFault>
     requires { Shrinks T.read_at }
     ensures { Gives result cursor.new (optional_at T.read_at cursor.old) }
@@ -125,9 +128,9 @@ pub fn optional_braced<T: Part>(
 ///
 /// `Syntax` where there is no such list; `NoMemory` where a growth was refused.
 #[tactic(auto, unfolding(gw_text::specs::Reader::braced_or_empty_at))]
-pub fn braced_or_empty<T: Part>(
+pub fn braced_or_empty<'a, T: Part<'a>>(
     alloc: Global,
-    cursor: &mut Cursor<'_>,
+    cursor: &mut Cursor<'a>,
 ) -> Result<Items<T>, PartFault>
     requires { Shrinks T.read_at }
     ensures { Gives result cursor.new (braced_or_empty_at T.read_at cursor.old) }
@@ -145,7 +148,7 @@ pub fn braced_or_empty<T: Part>(
 /// # Errors
 ///
 /// `Syntax` where anything else stands there; `NoMemory` where a growth was refused.
-pub fn items<T: Part>(alloc: Global, cursor: &mut Cursor<'_>) -> Result<Items<T>, PartFault>
+pub fn items<'a, T: Part<'a>>(alloc: Global, cursor: &mut Cursor<'a>) -> Result<Items<T>, PartFault>
     requires { ShrinksMore T.read_at }
     ensures { Gives result cursor.new (items_at T.read_at cursor.old) }
 {

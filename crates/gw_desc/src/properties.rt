@@ -1,37 +1,37 @@
 //! Properties: a name, a sign and a value, which is kept as sent. After a fault nothing is said of the cursor.
 
 ghost use Rattle.gw_desc.specs.Reading.{property_at, relation_at, value_at};
-ghost use Rattle.gw_desc.specs.Parts.{Gives};
+ghost use Rattle.gw_desc.specs.Parts.{Finds};
 
 use crate::descriptor::{Property, Sign};
 use crate::fault::PartFault;
 use crate::lists::{Part, sign};
-use crate::spans::{copied, group};
-use gw_base::Items;
+use crate::spans::{group, word};
+use gw_base::Span;
 use gw_text::Cursor;
 use std::alloc::Global;
 
 /// The value of a property, as sent.
 #[tactic(auto, unfolding(crate::specs::Reading::value_at))]
-fn value(alloc: Global, cursor: &mut Cursor<'_>) -> Result<Items<u8>, PartFault>
-    ensures { Gives result cursor.new (value_at cursor.old) }
+fn value<'a>(cursor: &mut Cursor<'a>) -> Result<Span<'a>, PartFault>
+    ensures { Finds result cursor.new (value_at cursor.old) }
 {
     if cursor.is_at(b'"') {
-        return Ok(copied(alloc, cursor.quoted()?)?);
+        return Ok(Span::new(cursor.quoted()?));
     }
     if cursor.is_at(b'[') {
-        return Ok(copied(alloc, cursor.bracket()?)?);
+        return Ok(Span::new(cursor.bracket()?));
     }
     if cursor.is_at(b'{') {
-        return Ok(copied(alloc, group(cursor)?)?);
+        return group(cursor);
     }
-    Items::<u8>::read(alloc, cursor)
+    word(cursor)
 }
 
 /// The sign between a property's name and its value.
 #[tactic(auto, unfolding(crate::specs::Reading::relation_at))]
 fn relation(cursor: &mut Cursor<'_>) -> Result<Sign, PartFault>
-    ensures { Gives result cursor.new (relation_at cursor.old) }
+    ensures { Finds result cursor.new (relation_at cursor.old) }
 {
     if cursor.sign(b'=') {
         return Ok(Sign::Equal);
@@ -46,14 +46,14 @@ fn relation(cursor: &mut Cursor<'_>) -> Result<Sign, PartFault>
     Ok(Sign::Greater)
 }
 
-impl Part for Property {
+impl<'a> Part<'a> for Property<Span<'a>> {
     ghost read_at = { property_at };
 
     #[tactic(auto, unfolding(crate::specs::Reading::property_at))]
-    fn read(alloc: Global, cursor: &mut Cursor<'_>) -> Result<Property, PartFault> {
-        let name = Items::<u8>::read(alloc, cursor)?;
+    fn read(_alloc: Global, cursor: &mut Cursor<'a>) -> Result<Property<Span<'a>>, PartFault> {
+        let name = word(cursor)?;
         let sign = relation(cursor)?;
-        let value = value(alloc, cursor)?;
+        let value = value(cursor)?;
         Ok(Property { name, sign, value })
     }
 }

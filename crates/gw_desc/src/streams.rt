@@ -1,13 +1,12 @@
 //! The parts of a Media descriptor, as they are read. After a fault nothing is said of the cursor.
 
 ghost use Rattle.gw_desc.specs.Reading.{media_part_at, octets_text_at, stream_at, stream_part_at, stream_rest};
-ghost use Rattle.gw_desc.specs.Parts.{Gives};
+ghost use Rattle.gw_desc.specs.Parts.{Gives, Finds};
 
 use crate::descriptor::{MediaPart, StreamPart};
 use crate::fault::PartFault;
 use crate::lists::{Part, braced, sign, token};
-use crate::spans::copied;
-use gw_base::Items;
+use gw_base::Span;
 use gw_text::{Cursor, Token};
 use std::alloc::Global;
 
@@ -19,14 +18,14 @@ const STREAM_MAX: u32 = 65_535;
 
 /// Octets in braces, with the white space round them.
 #[tactic(auto, unfolding(crate::specs::Reading::octets_text_at, gw_text::specs::SpaceScan::skip))]
-fn octets(alloc: Global, cursor: &mut Cursor<'_>) -> Result<Items<u8>, PartFault>
-    ensures { Gives result cursor.new (octets_text_at cursor.old) }
+fn octets<'a>(cursor: &mut Cursor<'a>) -> Result<Span<'a>, PartFault>
+    ensures { Finds result cursor.new (octets_text_at cursor.old) }
 {
     cursor.lwsp();
     if !cursor.byte(b'{') {
         return Err(PartFault::Syntax);
     }
-    let octets = copied(alloc, cursor.octets()?)?;
+    let octets = Span::new(cursor.octets()?);
     if !cursor.byte(b'}') {
         return Err(PartFault::Syntax);
     }
@@ -36,22 +35,26 @@ fn octets(alloc: Global, cursor: &mut Cursor<'_>) -> Result<Items<u8>, PartFault
 
 /// What follows the word of a part of a stream.
 #[tactic(auto, using(crate::proofs::PropertyLaws::property_shrinks))]
-fn stream_part(alloc: Global, cursor: &mut Cursor<'_>, word: Token) -> Result<StreamPart, PartFault>
+fn stream_part<'a>(
+    alloc: Global,
+    cursor: &mut Cursor<'a>,
+    word: Token,
+) -> Result<StreamPart<'a>, PartFault>
     ensures { Gives result cursor.new (stream_rest word cursor.old) }
 {
     match word {
-        Token::Local => Ok(StreamPart::Local(octets(alloc, cursor)?)),
-        Token::Remote => Ok(StreamPart::Remote(octets(alloc, cursor)?)),
+        Token::Local => Ok(StreamPart::Local(octets(cursor)?)),
+        Token::Remote => Ok(StreamPart::Remote(octets(cursor)?)),
         Token::LocalControl => Ok(StreamPart::LocalControl(braced(alloc, cursor)?)),
         _ => Err(PartFault::Syntax),
     }
 }
 
-impl Part for StreamPart {
+impl<'a> Part<'a> for StreamPart<'a> {
     ghost read_at = { stream_part_at };
 
     #[tactic(auto, unfolding(crate::specs::Reading::stream_part_at))]
-    fn read(alloc: Global, cursor: &mut Cursor<'_>) -> Result<StreamPart, PartFault> {
+    fn read(alloc: Global, cursor: &mut Cursor<'a>) -> Result<StreamPart<'a>, PartFault> {
         let word = token(cursor)?;
         stream_part(alloc, cursor, word)
     }
@@ -59,7 +62,7 @@ impl Part for StreamPart {
 
 /// What follows the word `Stream`: its number and its parts.
 #[tactic(auto, using(crate::proofs::MediaLaws::stream_part_shrinks), unfolding(crate::specs::Reading::stream_at))]
-fn stream(alloc: Global, cursor: &mut Cursor<'_>) -> Result<MediaPart, PartFault>
+fn stream<'a>(alloc: Global, cursor: &mut Cursor<'a>) -> Result<MediaPart<'a>, PartFault>
     ensures { Gives result cursor.new (stream_at cursor.old) }
 {
     sign(cursor, b'=')?;
@@ -68,11 +71,11 @@ fn stream(alloc: Global, cursor: &mut Cursor<'_>) -> Result<MediaPart, PartFault
     Ok(MediaPart::Stream(id.value as u16, parts))
 }
 
-impl Part for MediaPart {
+impl<'a> Part<'a> for MediaPart<'a> {
     ghost read_at = { media_part_at };
 
     #[tactic(auto, using(crate::proofs::PropertyLaws::property_shrinks), unfolding(crate::specs::Reading::media_part_at))]
-    fn read(alloc: Global, cursor: &mut Cursor<'_>) -> Result<MediaPart, PartFault> {
+    fn read(alloc: Global, cursor: &mut Cursor<'a>) -> Result<MediaPart<'a>, PartFault> {
         match token(cursor)? {
             Token::Stream => stream(alloc, cursor),
             Token::TerminationState => Ok(MediaPart::TerminationState(braced(alloc, cursor)?)),

@@ -152,7 +152,7 @@ fn command(
     rules: &Rules,
     tables: &mut Tables,
     at: At,
-    command: &Command,
+    command: &Command<'_>,
 ) -> Result<CommandDone, NoMemory>
     requires { IsSound tables.old }
     ensures maps { OnOk result (tables.new ≡ (command_done rules.now at command.now tables.old).maps) }
@@ -177,7 +177,7 @@ fn walk(
     rules: &Rules,
     tables: &mut Tables,
     at: At,
-    commands: &[Command],
+    commands: &[Command<'_>],
 ) -> Result<Walk, NoMemory>
     requires { IsSound tables.old }
     ensures maps { OnOk result (tables.new ≡ (commands_done rules.now at commands.now tables.old).maps) }
@@ -241,7 +241,7 @@ fn action(
     rules: &Rules,
     tables: &mut Tables,
     owned: Option<CtxNum>,
-    action: &Action,
+    action: &Action<'_>,
 ) -> Result<ActionDone, NoMemory>
     requires { IsSound tables.old }
     ensures maps { OnOk result (tables.new ≡ (action_done rules.now owned action.now tables.old).maps) }
@@ -273,7 +273,7 @@ fn actions(
     rules: &Rules,
     tables: &mut Tables,
     owned: &[Option<CtxNum>],
-    asked: &[Action],
+    asked: &[Action<'_>],
 ) -> Result<Items<ActionReply>, NoMemory>
     requires { IsSound tables.old }
     ensures maps { OnOk result (tables.new ≡ (actions_done rules.now owned.now asked.now tables.old).maps) }
@@ -318,7 +318,7 @@ pub(crate) fn transaction(
     alloc: Global,
     rules: &Rules,
     tables: &mut Tables,
-    request: &Request,
+    request: &Request<'_>,
     ids: &Ids,
 ) -> Result<TxReply, NoMemory>
     requires { IsSound tables.old }

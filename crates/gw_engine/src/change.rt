@@ -17,7 +17,7 @@ pub(crate) enum Change {
 
 impl Change {
     /// What the command asks, if this gateway carries such commands out.
-    pub fn of(command: &Command) -> Option<Change>
+    pub fn of(command: &Command<'_>) -> Option<Change>
         ensures { result ≡ change_of command.now }
     {
         let TermRef::Name(name) = command.term else {

@@ -56,7 +56,7 @@ fn first_free(tables: &Tables, cursor: u32, contexts: u32, from: u32) -> Option<
 }
 
 /// How many `$` places the actions have.
-fn count_choose(asked: &[Action]) -> usize
+fn count_choose(asked: &[Action<'_>]) -> usize
     ensures { result ≡ choose_count asked.now }
 {
     let mut count = 0;
@@ -75,7 +75,7 @@ pub(crate) fn reserve(
     tables: &Tables,
     contexts: u32,
     cursor: u32,
-    asked: &[Action],
+    asked: &[Action<'_>],
 ) -> Result<(Ids, u32), NoMemory>
     requires cursor { cursor ≤ contexts }
     requires contexts { contexts < 2 ^ 16 }

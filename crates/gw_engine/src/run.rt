@@ -17,7 +17,7 @@ use gw_msg::{Action, Command, Item, ReadFault, Request, read_message};
 use gw_reply::{write_fault, write_reply};
 use std::alloc::Global;
 
-fn is_simple_command(command: &Command) -> bool
+fn is_simple_command(command: &Command<'_>) -> bool
     ensures { result ≡ is_simple_command command.now }
 {
     Change::of(command).is_some()
@@ -31,13 +31,13 @@ fn is_simple_context(sent: CtxRef) -> bool
     matches!(sent, CtxRef::Num(_) | CtxRef::Choose)
 }
 
-fn are_simple_commands(commands: &[Command]) -> bool
+fn are_simple_commands(commands: &[Command<'_>]) -> bool
     ensures { result ≡ list_all is_simple_command commands.now }
 {
     commands.iter().all(is_simple_command)
 }
 
-fn is_simple_action(action: &Action) -> bool
+fn is_simple_action(action: &Action<'_>) -> bool
     ensures { result ≡ is_simple_action action.now }
 {
     !action.props
@@ -45,18 +45,21 @@ fn is_simple_action(action: &Action) -> bool
         && are_simple_commands(action.commands.as_slice())
 }
 
-fn is_simple_request(request: &Request) -> bool
+fn is_simple_request(request: &Request<'_>) -> bool
     ensures { result ≡ is_simple_request request.now }
 {
     request.actions.as_slice().iter().all(is_simple_action)
 }
 
 /// The one request that a message holds, where this gateway carries all of it out.
-fn simple_request(items: &[Item]) -> Option<&Request>
+fn simple_request<'a, 'b>(items: &'b [Item<'a>]) -> Option<&'b Request<'a>>
     ensures { MatchOption result (simple_request items.now ≡ None) (λ request. simple_request items.now ≡ Some request.now) }
 {
-    match items {
-        [Item::Request(request)] if is_simple_request(request) => Some(request),
+    let [item] = items else {
+        return None;
+    };
+    match item {
+        Item::Request(request) if is_simple_request(request) => Some(request),
         _ => None,
     }
 }
@@ -81,7 +84,7 @@ impl Gateway {
     }
 
     /// The reply to a request, which is carried out on a copy of the tables.
-    fn reply(&self, alloc: Global, request: &Request) -> Result<Prepared, NoMemory>
+    fn reply(&self, alloc: Global, request: &Request<'_>) -> Result<Prepared, NoMemory>
         ensures { IfOk result (λ p. Prepares self.now (reply_to self.now request.now) p.bytes.items p.change) }
     {
         let asked = request.actions.as_slice();

@@ -23,7 +23,7 @@ use Rattle.gw_desc.specs.declared.descriptor.Descriptor.{Descriptor}
 use Rattle.gw_desc.specs.declared.descriptor.Tail.{Tail}
 use Rattle.gw_desc.specs.declared.fault.PartFault.{PartFault}
 use Rattle.gw_desc.specs.declared.fault.PartFault.TheVariants.{Syntax, NoMemory}
-use Rattle.gw_desc.specs.Parts.{Gives, Shrinks}
+use Rattle.gw_desc.specs.Parts.{Gives, Finds, Shrinks}
 use Rattle.gw_desc.specs.Grammar.{Kept, SpellsEquals, SpellsOptionalGroup, SpellsTail, SpellsDescriptor}
 use Rattle.gw_desc.specs.Reading.{optional_group_at, tail_at, AfterTail, descriptor_at, AfterDescriptor}
 use Rattle.gw_desc.proofs.TailLaws.{WithoutGroup, optional_group_reads, group_ends, tail_reads, comma_after_tail, brace_after_tail}
@@ -213,7 +213,7 @@ equals_parts_end true (Some w) group front rest b n =
     ∙ both_ends is_safe equals_sign (Kept IsWord w) b.front (b.back ++ rest) safe_apart refl b.first
 
 abbrev SomeTail : Unit {0} → List ℕ → Type 0
-SomeTail u text = (t : Tail) × (tt ≡ u) × SpellsTail t text
+SomeTail u text = (t : Tail (List ℕ)) × (tt ≡ u) × SpellsTail t text
 
 context_property_reads : ReadsUp context_property_at (Dropped SpellsContextProperty) AfterTail Same Same
 unfolding context_property_at
@@ -501,9 +501,9 @@ property_ends text rest u total is e c so_far =
     sym so_far ∙ property_step text is ∙ ap (on_property (length text)) e ∙ ap (λ (o : Option (List ℕ)). or_else o (commands_from (length text)) (Some ([], rest))) c
 
 -- no property was read
-pub property_fails : (fault : PartFault) (text after end : List ℕ) (total : Option (List Command × List ℕ)) → begins is_property_start text ≡ true → Gives {V = Unit {0}} (Err fault) after (context_property_at text) → commands_at text ≡ total → Gives {V = List Command} (Err fault) end total
+pub property_fails : (fault : PartFault) (text after end : List ℕ) (total : Option (List Command × List ℕ)) → begins is_property_start text ≡ true → Finds {V = Unit {0}} (Err fault) after (context_property_at text) → commands_at text ≡ total → Gives {V = List Command} (Err fault) end total
 property_fails Syntax text after end total is e so_far = sym so_far ∙ property_step text is ∙ ap (on_property (length text)) e
-property_fails NoMemory text after end total is e so_far = tt
+property_fails NoMemory text after end total is e so_far = absurd e
 
 -- there are no more properties
 pub no_property : (text : List ℕ) (total : Option (List Command × List ℕ)) → begins is_property_start text ≡ false → commands_at text ≡ total → total ≡ list_at command_at text

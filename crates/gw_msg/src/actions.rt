@@ -1,6 +1,6 @@
 //! The actions of a transaction and their commands, as they are read.
 
-ghost use Rattle.gw_desc.specs.Parts.{Gives};
+ghost use Rattle.gw_desc.specs.Parts.{Gives, Finds};
 ghost use Rattle.gw_msg.specs.Reading.{details_of, command_at, context_property_at, commands_at, action_at};
 
 use crate::message::{Action, Command};
@@ -9,18 +9,18 @@ use crate::words::{
 };
 use gw_base::Items;
 use gw_desc::{
-    Descriptor, Part, PartFault, list, optional_braced, optional_group, sign, tail_spans, token,
+    Descriptor, Part, PartFault, list, optional_braced, optional_group, sign, tail, token,
 };
 use gw_text::{Cursor, Token};
 use std::alloc::Global;
 
 /// What stands behind a TerminationID: the command's descriptors, or a group, which is read and dropped.
 #[tactic(auto, using(gw_desc::proofs::DescriptorLaws::descriptor_shrinks), unfolding(crate::specs::Reading::details_of))]
-fn details(
+fn details<'a>(
     alloc: Global,
-    cursor: &mut Cursor<'_>,
+    cursor: &mut Cursor<'a>,
     has_group: bool,
-) -> Result<Items<Descriptor>, PartFault>
+) -> Result<Items<Descriptor<'a>>, PartFault>
     ensures { Gives result cursor.new (details_of has_group cursor.old) }
 {
     if !has_group {
@@ -30,11 +30,11 @@ fn details(
     Ok(Items::new(alloc))
 }
 
-impl Part for Command {
+impl<'a> Part<'a> for Command<'a> {
     ghost read_at = { command_at };
 
     #[tactic(auto, unfolding(crate::specs::Reading::command_at))]
-    fn read(alloc: Global, cursor: &mut Cursor<'_>) -> Result<Command, PartFault> {
+    fn read(alloc: Global, cursor: &mut Cursor<'a>) -> Result<Command<'a>, PartFault> {
         let optional = mark(cursor, b"O-");
         let wild = mark(cursor, b"W-");
         let verb = verb(cursor)?;
@@ -54,20 +54,20 @@ impl Part for Command {
     }
 }
 
-/// A context property, or that they are audited; it is read and dropped, and takes no memory.
+/// A context property, or that they are audited; it is read and dropped.
 #[tactic(auto, unfolding(crate::specs::Reading::context_property_at))]
 fn context_property(cursor: &mut Cursor<'_>) -> Result<(), PartFault>
-    ensures { Gives result cursor.new (context_property_at cursor.old) }
+    ensures { Finds result cursor.new (context_property_at cursor.old) }
 {
     if !is_property(token(cursor)?) {
         return Err(PartFault::Syntax);
     }
-    tail_spans(cursor)?;
+    tail(cursor)?;
     Ok(())
 }
 
 /// The commands behind the properties, if there are any.
-fn commands(alloc: Global, cursor: &mut Cursor<'_>) -> Result<Items<Command>, PartFault>
+fn commands<'a>(alloc: Global, cursor: &mut Cursor<'a>) -> Result<Items<Command<'a>>, PartFault>
     ensures { Gives result cursor.new (commands_at cursor.old) }
 {
     while is_property_next(cursor) {
@@ -79,11 +79,11 @@ fn commands(alloc: Global, cursor: &mut Cursor<'_>) -> Result<Items<Command>, Pa
     list(alloc, cursor)
 }
 
-impl Part for Action {
+impl<'a> Part<'a> for Action<'a> {
     ghost read_at = { action_at };
 
     #[tactic(auto, unfolding(crate::specs::Reading::action_at))]
-    fn read(alloc: Global, cursor: &mut Cursor<'_>) -> Result<Action, PartFault> {
+    fn read(alloc: Global, cursor: &mut Cursor<'a>) -> Result<Action<'a>, PartFault> {
         let Token::Context = token(cursor)? else {
             return Err(PartFault::Syntax);
         };

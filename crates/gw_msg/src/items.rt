@@ -1,6 +1,6 @@
 //! The body of a message: its items, or an error.
 
-ghost use Rattle.gw_desc.specs.Parts.{Gives};
+ghost use Rattle.gw_desc.specs.Parts.{Gives, Finds};
 ghost use Rattle.gw_msg.specs.Reading.{request_at, reply_at, pending_at, last_at, range_at, ack_at, item_at, quoted_or_nothing, error_at, error_body_at, body_at, content_at};
 
 use crate::message::{AckRange, Item, Message, Request};
@@ -21,7 +21,7 @@ const CODE_MAX: u32 = 9999;
 
 /// A transaction, behind its token: its number and its actions.
 #[tactic(auto, using(crate::proofs::Laws::action_shrinks), unfolding(crate::specs::Reading::request_at))]
-fn request(alloc: Global, cursor: &mut Cursor<'_>) -> Result<Item, PartFault>
+fn request<'a>(alloc: Global, cursor: &mut Cursor<'a>) -> Result<Item<'a>, PartFault>
     ensures { Gives result cursor.new (request_at cursor.old) }
 {
     sign(cursor, b'=')?;
@@ -35,8 +35,8 @@ fn request(alloc: Global, cursor: &mut Cursor<'_>) -> Result<Item, PartFault>
 
 /// A reply, behind its token.
 #[tactic(auto, unfolding(crate::specs::Reading::reply_at, gw_text::specs::SpaceScan::skip))]
-fn reply(cursor: &mut Cursor<'_>) -> Result<Item, PartFault>
-    ensures { Gives result cursor.new (reply_at cursor.old) }
+fn reply<'a>(cursor: &mut Cursor<'a>) -> Result<Item<'a>, PartFault>
+    ensures { Finds result cursor.new (reply_at cursor.old) }
 {
     sign(cursor, b'=')?;
     cursor.uint32()?;
@@ -47,8 +47,8 @@ fn reply(cursor: &mut Cursor<'_>) -> Result<Item, PartFault>
 
 /// A pending transaction, behind its token.
 #[tactic(auto, unfolding(crate::specs::Reading::pending_at))]
-fn pending(cursor: &mut Cursor<'_>) -> Result<Item, PartFault>
-    ensures { Gives result cursor.new (pending_at cursor.old) }
+fn pending<'a>(cursor: &mut Cursor<'a>) -> Result<Item<'a>, PartFault>
+    ensures { Finds result cursor.new (pending_at cursor.old) }
 {
     sign(cursor, b'=')?;
     cursor.uint32()?;
@@ -59,7 +59,7 @@ fn pending(cursor: &mut Cursor<'_>) -> Result<Item, PartFault>
 
 /// What follows the first number of a range.
 fn last(cursor: &mut Cursor<'_>, first: u32) -> Result<AckRange, PartFault>
-    ensures { Gives result cursor.new (last_at first cursor.old) }
+    ensures { Finds result cursor.new (last_at first cursor.old) }
 {
     if !cursor.byte(b'-') {
         return Ok(AckRange { first, last: first });
@@ -71,11 +71,11 @@ fn last(cursor: &mut Cursor<'_>, first: u32) -> Result<AckRange, PartFault>
     })
 }
 
-impl Part for AckRange {
+impl<'a> Part<'a> for AckRange {
     ghost read_at = { range_at };
 
     #[tactic(auto, unfolding(crate::specs::Reading::range_at))]
-    fn read(_alloc: Global, cursor: &mut Cursor<'_>) -> Result<AckRange, PartFault> {
+    fn read(_alloc: Global, cursor: &mut Cursor<'a>) -> Result<AckRange, PartFault> {
         let first = cursor.uint32()?;
         last(cursor, first.value)
     }
@@ -83,17 +83,17 @@ impl Part for AckRange {
 
 /// Acknowledged replies, behind their token.
 #[tactic(auto, using(crate::proofs::ItemLaws::range_shrinks), unfolding(crate::specs::Reading::ack_at))]
-fn ack(alloc: Global, cursor: &mut Cursor<'_>) -> Result<Item, PartFault>
+fn ack<'a>(alloc: Global, cursor: &mut Cursor<'a>) -> Result<Item<'a>, PartFault>
     ensures { Gives result cursor.new (ack_at cursor.old) }
 {
     Ok(Item::Ack(braced(alloc, cursor)?))
 }
 
-impl Part for Item {
+impl<'a> Part<'a> for Item<'a> {
     ghost read_at = { item_at };
 
     #[tactic(auto, unfolding(crate::specs::Reading::item_at))]
-    fn read(alloc: Global, cursor: &mut Cursor<'_>) -> Result<Item, PartFault> {
+    fn read(alloc: Global, cursor: &mut Cursor<'a>) -> Result<Item<'a>, PartFault> {
         match token(cursor)? {
             Token::Transaction => request(alloc, cursor),
             Token::Reply => reply(cursor),
@@ -107,7 +107,7 @@ impl Part for Item {
 /// The text of an error, which may be missing.
 #[tactic(auto, unfolding(crate::specs::Reading::quoted_or_nothing))]
 fn error_text(cursor: &mut Cursor<'_>) -> Result<(), PartFault>
-    ensures { Gives result cursor.new (quoted_or_nothing cursor.old) }
+    ensures { Finds result cursor.new (quoted_or_nothing cursor.old) }
 {
     if cursor.is_at(b'"') {
         cursor.quoted()?;
@@ -118,7 +118,7 @@ fn error_text(cursor: &mut Cursor<'_>) -> Result<(), PartFault>
 /// An error, which stands in place of the parts.
 #[tactic(auto, unfolding(crate::specs::Reading::error_at))]
 fn error(cursor: &mut Cursor<'_>) -> Result<(), PartFault>
-    ensures { Gives result cursor.new (error_at cursor.old) }
+    ensures { Finds result cursor.new (error_at cursor.old) }
 {
     let Token::Error = token(cursor)? else {
         return Err(PartFault::Syntax);
@@ -132,7 +132,7 @@ fn error(cursor: &mut Cursor<'_>) -> Result<(), PartFault>
 
 /// An error, to the end of the text. It gives no items.
 #[tactic(auto, unfolding(crate::specs::Reading::error_body_at, gw_text::specs::SpaceScan::skip))]
-fn error_body(alloc: Global, cursor: &mut Cursor<'_>) -> Result<Items<Item>, PartFault>
+fn error_body<'a>(alloc: Global, cursor: &mut Cursor<'a>) -> Result<Items<Item<'a>>, PartFault>
     ensures { Gives result cursor.new (error_body_at cursor.old) }
 {
     error(cursor)?;
@@ -145,7 +145,7 @@ fn error_body(alloc: Global, cursor: &mut Cursor<'_>) -> Result<Items<Item>, Par
 
 /// The body, to the end of the text.
 #[tactic(auto, using(crate::proofs::ItemLaws::item_shrinks), unfolding(crate::specs::Reading::body_at))]
-fn body(alloc: Global, cursor: &mut Cursor<'_>) -> Result<Items<Item>, PartFault>
+fn body<'a>(alloc: Global, cursor: &mut Cursor<'a>) -> Result<Items<Item<'a>>, PartFault>
     ensures { Gives result cursor.new (body_at cursor.old) }
 {
     if is_error_next(cursor) {
@@ -156,7 +156,7 @@ fn body(alloc: Global, cursor: &mut Cursor<'_>) -> Result<Items<Item>, PartFault
 
 /// What stands behind the header: the sender and the body, to the end of the text.
 #[tactic(auto, unfolding(crate::specs::Reading::content_at))]
-pub fn content(alloc: Global, cursor: &mut Cursor<'_>) -> Result<Message, PartFault>
+pub fn content<'a>(alloc: Global, cursor: &mut Cursor<'a>) -> Result<Message<'a>, PartFault>
     ensures { Gives result cursor.new (content_at cursor.old) }
 {
     let mid = mid(cursor)?;

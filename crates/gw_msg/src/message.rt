@@ -3,20 +3,21 @@
 use gw_base::{CtxRef, Items, Mid, TermRef, TxId, Verb};
 use gw_desc::Descriptor;
 
-/// A message: who sent it, and what it holds in the order sent.
+/// A message: who sent it, and what it holds in the order sent. What is kept as sent are spans of its datagram, which lives as
+/// long as `'a`.
 #[derive(Debug, Drop)]
-pub struct Message {
+pub struct Message<'a> {
     /// The sender's mId, byte for byte.
     pub mid: Mid,
     /// What the body holds; nothing where it is an error.
-    pub items: Items<Item>,
+    pub items: Items<Item<'a>>,
 }
 
 /// One part of a message's body.
 #[derive(Debug, Drop)]
-pub enum Item {
+pub enum Item<'a> {
     /// A transaction to be carried out.
-    Request(Request),
+    Request(Request<'a>),
     /// Replies that have arrived, by the numbers of their transactions.
     Ack(Items<AckRange>),
     /// A reply, or that one is pending: read, and of no effect.
@@ -35,27 +36,27 @@ pub struct AckRange {
 
 /// A transaction request (RFC 3525, section 8.2.1).
 #[derive(Debug, Drop)]
-pub struct Request {
+pub struct Request<'a> {
     /// The number that its reply repeats.
     pub id: TxId,
     /// The actions in the order sent, at least one.
-    pub actions: Items<Action>,
+    pub actions: Items<Action<'a>>,
 }
 
 /// An action: what is asked of one context (RFC 3525, section 8.1).
 #[derive(Debug, Drop)]
-pub struct Action {
+pub struct Action<'a> {
     /// The context that the commands are for.
     pub ctx: CtxRef,
     /// Whether context properties or a ContextAudit stand in it.
     pub props: bool,
     /// The commands in the order sent.
-    pub commands: Items<Command>,
+    pub commands: Items<Command<'a>>,
 }
 
 /// A command (RFC 3525, section 7.2).
 #[derive(Debug, Drop)]
-pub struct Command {
+pub struct Command<'a> {
     /// What is to be done.
     pub verb: Verb,
     /// What it is to be done to.
@@ -65,5 +66,5 @@ pub struct Command {
     /// `W-`: one reply for all that a wildcard matches.
     pub wild: bool,
     /// Its descriptors in the order sent; none for AuditCapability and Notify, of which they are read and dropped.
-    pub descriptors: Items<Descriptor>,
+    pub descriptors: Items<Descriptor<'a>>,
 }

@@ -49,7 +49,7 @@ fn header(cursor: &mut Cursor<'_>) -> Result<u32, PartFault>
 }
 
 #[tactic(auto, unfolding(crate::specs::Reading::message_of))]
-fn answer(alloc: Global, text: &[u8]) -> Result<Message, ReadFault>
+fn answer<'a>(alloc: Global, text: &'a [u8]) -> Result<Message<'a>, ReadFault>
     ensures { IsAnswer result (message_of text.now) }
 {
     let mut cursor = Cursor::new(text);
@@ -71,7 +71,7 @@ fn answer(alloc: Global, text: &[u8]) -> Result<Message, ReadFault>
 ///
 /// `Version` where the text begins as a message of another version than 1, whatever follows; `Syntax` where it does not
 /// and spells no message; `NoMemory` where a growth was refused.
-pub fn read_message(alloc: Global, text: &[u8]) -> Result<Message, ReadFault>
+pub fn read_message<'a>(alloc: Global, text: &'a [u8]) -> Result<Message<'a>, ReadFault>
     ensures { IsReadingOf text.now result }
 {
     answer(alloc, text)

@@ -4,7 +4,7 @@ ghost use Rattle.std.specs.Prelude.{◌≡◌, Some};
 ghost use Rattle.std.specs.List.{list_any};
 ghost use Rattle.gw_text.specs.Runs.{begins, is_byte};
 ghost use Rattle.gw_text.specs.Reader.{word_as, solid_as};
-ghost use Rattle.gw_desc.specs.Parts.{Gives};
+ghost use Rattle.gw_desc.specs.Parts.{Finds};
 ghost use Rattle.gw_msg.specs.Grammar.{may_be_wild, has_group};
 ghost use Rattle.gw_msg.specs.Words.{verb_of, is_property, is_property_start, is_error_start, term_of, mid_of};
 ghost use Rattle.gw_msg.specs.Reading.{mark_at, context_id_at};
@@ -47,7 +47,7 @@ pub fn is_error_next(cursor: &Cursor<'_>) -> bool
 
 /// The command that a token names.
 pub fn verb(cursor: &mut Cursor<'_>) -> Result<Verb, PartFault>
-    ensures { Gives result cursor.new (word_as verb_of cursor.old) }
+    ensures { Finds result cursor.new (word_as verb_of cursor.old) }
 {
     match token_of(cursor.word()?) {
         Some(Token::Add) => Ok(Verb::Add),
@@ -92,7 +92,7 @@ pub fn is_property(token: Token) -> bool
 /// The ContextID of an action.
 #[tactic(auto, unfolding(crate::specs::Reading::context_id_at))]
 pub fn context_id(cursor: &mut Cursor<'_>) -> Result<CtxRef, PartFault>
-    ensures { Gives result cursor.new (context_id_at cursor.old) }
+    ensures { Finds result cursor.new (context_id_at cursor.old) }
 {
     if cursor.byte(b'$') {
         return Ok(CtxRef::Choose);
@@ -110,7 +110,7 @@ pub fn context_id(cursor: &mut Cursor<'_>) -> Result<CtxRef, PartFault>
 /// The TerminationID of a command.
 #[tactic(auto, using(crate::proofs::WordLemmas::term_read, crate::proofs::WordLemmas::term_not_read))]
 pub fn term(cursor: &mut Cursor<'_>) -> Result<TermRef, PartFault>
-    ensures { Gives result cursor.new (word_as term_of cursor.old) }
+    ensures { Finds result cursor.new (word_as term_of cursor.old) }
 {
     Ok(TermRef::read(cursor.word()?)?)
 }
@@ -118,7 +118,7 @@ pub fn term(cursor: &mut Cursor<'_>) -> Result<TermRef, PartFault>
 /// The sender's mId.
 #[tactic(auto, using(crate::proofs::WordLemmas::mid_read, crate::proofs::WordLemmas::mid_not_read))]
 pub fn mid(cursor: &mut Cursor<'_>) -> Result<Mid, PartFault>
-    ensures { Gives result cursor.new (solid_as mid_of cursor.old) }
+    ensures { Finds result cursor.new (solid_as mid_of cursor.old) }
 {
     Ok(Mid::read(cursor.solid()?)?)
 }

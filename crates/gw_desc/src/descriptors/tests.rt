@@ -5,12 +5,12 @@ use crate::descriptor::{
 };
 use crate::fault::PartFault;
 use crate::lists::Part;
-use gw_base::Items;
+use gw_base::Span;
 use gw_text::Cursor;
 use std::alloc::{AllocError, Global};
 use std::test::Fail;
 
-fn property(out: &mut Vec<u8>, property: &Property) -> Result<(), AllocError> {
+fn property(out: &mut Vec<u8>, property: &Property<Span<'_>>) -> Result<(), AllocError> {
     let sign: &[u8] = match property.sign {
         Sign::Equal => b"=",
         Sign::NotEqual => b"#",
@@ -18,22 +18,22 @@ fn property(out: &mut Vec<u8>, property: &Property) -> Result<(), AllocError> {
         Sign::Greater => b">",
     };
     out.extend_from_slice(b"(")?;
-    out.extend_from_slice(property.name.as_slice())?;
+    out.extend_from_slice(property.name.as_bytes())?;
     out.extend_from_slice(sign)?;
-    out.extend_from_slice(property.value.as_slice())?;
+    out.extend_from_slice(property.value.as_bytes())?;
     out.extend_from_slice(b")")
 }
 
-fn stream_part(out: &mut Vec<u8>, part: &StreamPart) -> Result<(), AllocError> {
+fn stream_part(out: &mut Vec<u8>, part: &StreamPart<'_>) -> Result<(), AllocError> {
     match part {
         StreamPart::Local(span) => {
             out.extend_from_slice(b"Local<")?;
-            out.extend_from_slice(span.as_slice())?;
+            out.extend_from_slice(span.as_bytes())?;
             out.extend_from_slice(b">")
         }
         StreamPart::Remote(span) => {
             out.extend_from_slice(b"Remote<")?;
-            out.extend_from_slice(span.as_slice())?;
+            out.extend_from_slice(span.as_bytes())?;
             out.extend_from_slice(b">")
         }
         StreamPart::LocalControl(properties) => {
@@ -46,7 +46,7 @@ fn stream_part(out: &mut Vec<u8>, part: &StreamPart) -> Result<(), AllocError> {
     }
 }
 
-fn media_part(alloc: Global, out: &mut Vec<u8>, part: &MediaPart) -> Result<(), AllocError> {
+fn media_part(alloc: Global, out: &mut Vec<u8>, part: &MediaPart<'_>) -> Result<(), AllocError> {
     out.extend_from_slice(b" ")?;
     match part {
         MediaPart::Outside(part) => stream_part(out, part),
@@ -69,7 +69,7 @@ fn media_part(alloc: Global, out: &mut Vec<u8>, part: &MediaPart) -> Result<(), 
     }
 }
 
-fn tail(out: &mut Vec<u8>, kind: KeptKind, tail: &Tail) -> Result<(), AllocError> {
+fn tail(out: &mut Vec<u8>, kind: KeptKind, tail: &Tail<Span<'_>>) -> Result<(), AllocError> {
     let name: &[u8] = match kind {
         KeptKind::Events => b"Events",
         KeptKind::Signals => b"Signals",
@@ -82,33 +82,33 @@ fn tail(out: &mut Vec<u8>, kind: KeptKind, tail: &Tail) -> Result<(), AllocError
     }
     if let Some(word) = &tail.word {
         out.extend_from_slice(b" word ")?;
-        out.extend_from_slice(word.as_slice())?;
+        out.extend_from_slice(word.as_bytes())?;
     }
     if let Some(group) = &tail.group {
         out.extend_from_slice(b" group ")?;
-        out.extend_from_slice(group.as_slice())?;
+        out.extend_from_slice(group.as_bytes())?;
     }
     Ok(())
 }
 
-fn service_parm(out: &mut Vec<u8>, parm: &ServiceParm) -> Result<(), AllocError> {
+fn service_parm(out: &mut Vec<u8>, parm: &ServiceParm<'_>) -> Result<(), AllocError> {
     out.extend_from_slice(b" ")?;
-    out.extend_from_slice(parm.name.as_slice())?;
+    out.extend_from_slice(parm.name.as_bytes())?;
     match &parm.value {
         Some(ServiceValue::Quoted(span)) => {
             out.extend_from_slice(b" quoted ")?;
-            out.extend_from_slice(span.as_slice())
+            out.extend_from_slice(span.as_bytes())
         }
         Some(ServiceValue::Run(span)) => {
             out.extend_from_slice(b" run ")?;
-            out.extend_from_slice(span.as_slice())
+            out.extend_from_slice(span.as_bytes())
         }
         None => Ok(()),
     }
 }
 
 /// The tree in one line.
-fn outline(alloc: Global, descriptor: &Descriptor) -> Result<Vec<u8>, AllocError> {
+fn outline(alloc: Global, descriptor: &Descriptor<'_>) -> Result<Vec<u8>, AllocError> {
     let mut out = Vec::new(alloc);
     match descriptor {
         Descriptor::Media(parts) => {
@@ -122,7 +122,7 @@ fn outline(alloc: Global, descriptor: &Descriptor) -> Result<Vec<u8>, AllocError
             out.extend_from_slice(b"Audit")?;
             for word in words.as_slice() {
                 out.extend_from_slice(b" ")?;
-                out.extend_from_slice(word.as_slice())?;
+                out.extend_from_slice(word.as_bytes())?;
             }
         }
         Descriptor::Services(parms) => {
@@ -133,7 +133,7 @@ fn outline(alloc: Global, descriptor: &Descriptor) -> Result<Vec<u8>, AllocError
         }
         Descriptor::Other(word) => {
             out.extend_from_slice(b"Other ")?;
-            out.extend_from_slice(word.as_slice())?;
+            out.extend_from_slice(word.as_bytes())?;
         }
     }
     Ok(out)

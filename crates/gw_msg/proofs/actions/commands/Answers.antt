@@ -1,4 +1,4 @@
-use Rattle.std.proofs.Common.{◌≡◌, true, false, rules}
+use Rattle.std.proofs.Common.{◌≡◌, true, false, refl, rules}
 use Rattle.std.proofs.lemmas.Result.{err_from_is_err_and}
 use Rattle.gw_text.specs.Runs.{begins}
 use Rattle.gw_msg.specs.Words.{is_property_start}
@@ -27,7 +27,7 @@ loop-cursor-preserved c =
     property_goes_on c.loop-cursor.cursor c.context_property.new.cursor c.sign.new.self tt (commands_at c.args.cursor.now) is c.in_ok-context_property.ensures c.if-not-sign.ensures.exact c.loop-cursor.invariant
 
 pub list-requires : goal.list-requires
-list-requires c = command_shrinks
+list-requires c = λ k. ((refl, tt), command_shrinks)
 
 pub returns : goal.returns
 returns c =

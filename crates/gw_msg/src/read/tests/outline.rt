@@ -3,7 +3,7 @@
 use super::super::read_message;
 use crate::fault::ReadFault;
 use crate::message::{AckRange, Action, Command, Item, Message, Request};
-use gw_base::{CtxRef, Items, TermRef};
+use gw_base::{CtxRef, Span, TermRef};
 use gw_desc::{Descriptor, MediaPart, Property, ServiceParm, ServiceValue, Sign, StreamPart, Tail};
 use std::alloc::{AllocError, Global};
 
@@ -32,35 +32,35 @@ impl Outline {
         self.put(digits.as_bytes())
     }
 
-    fn property(&mut self, property: &Property) -> Result<(), AllocError> {
+    fn property(&mut self, property: &Property<Span<'_>>) -> Result<(), AllocError> {
         self.put(b" ")?;
-        self.put(property.name.as_slice())?;
+        self.put(property.name.as_bytes())?;
         match property.sign {
             Sign::Equal => self.put(b"=")?,
             Sign::NotEqual => self.put(b"#")?,
             Sign::Less => self.put(b"<")?,
             Sign::Greater => self.put(b">")?,
         }
-        self.put(property.value.as_slice())
+        self.put(property.value.as_bytes())
     }
 
-    fn properties(&mut self, properties: &[Property]) -> Result<(), AllocError> {
+    fn properties(&mut self, properties: &[Property<Span<'_>>]) -> Result<(), AllocError> {
         for property in properties {
             self.property(property)?;
         }
         self.put(b")")
     }
 
-    fn stream_part(&mut self, part: &StreamPart) -> Result<(), AllocError> {
+    fn stream_part(&mut self, part: &StreamPart<'_>) -> Result<(), AllocError> {
         match part {
             StreamPart::Local(octets) => {
                 self.put(b" local<")?;
-                self.put(octets.as_slice())?;
+                self.put(octets.as_bytes())?;
                 self.put(b">")
             }
             StreamPart::Remote(octets) => {
                 self.put(b" remote<")?;
-                self.put(octets.as_slice())?;
+                self.put(octets.as_bytes())?;
                 self.put(b">")
             }
             StreamPart::LocalControl(properties) => {
@@ -70,7 +70,7 @@ impl Outline {
         }
     }
 
-    fn media_part(&mut self, part: &MediaPart) -> Result<(), AllocError> {
+    fn media_part(&mut self, part: &MediaPart<'_>) -> Result<(), AllocError> {
         match part {
             MediaPart::Outside(part) => self.stream_part(part),
             MediaPart::Stream(number, parts) => {
@@ -89,36 +89,36 @@ impl Outline {
         }
     }
 
-    fn tail(&mut self, tail: &Tail) -> Result<(), AllocError> {
+    fn tail(&mut self, tail: &Tail<Span<'_>>) -> Result<(), AllocError> {
         if tail.equals {
             self.put(b"=")?;
         }
         if let Some(word) = &tail.word {
-            self.put(word.as_slice())?;
+            self.put(word.as_bytes())?;
         }
         if let Some(group) = &tail.group {
-            self.put(group.as_slice())?;
+            self.put(group.as_bytes())?;
         }
         Ok(())
     }
 
-    fn service(&mut self, parm: &ServiceParm) -> Result<(), AllocError> {
+    fn service(&mut self, parm: &ServiceParm<'_>) -> Result<(), AllocError> {
         self.put(b" ")?;
-        self.put(parm.name.as_slice())?;
+        self.put(parm.name.as_bytes())?;
         match &parm.value {
             Some(ServiceValue::Quoted(value)) => {
                 self.put(b"=quoted")?;
-                self.put(value.as_slice())
+                self.put(value.as_bytes())
             }
             Some(ServiceValue::Run(value)) => {
                 self.put(b"=")?;
-                self.put(value.as_slice())
+                self.put(value.as_bytes())
             }
             None => Ok(()),
         }
     }
 
-    fn descriptor(&mut self, descriptor: &Descriptor) -> Result<(), AllocError> {
+    fn descriptor(&mut self, descriptor: &Descriptor<'_>) -> Result<(), AllocError> {
         match descriptor {
             Descriptor::Media(parts) => {
                 self.put(b" media(")?;
@@ -136,7 +136,7 @@ impl Outline {
                 self.put(b" audit(")?;
                 for word in words.as_slice() {
                     self.put(b" ")?;
-                    self.put(word.as_slice())?;
+                    self.put(word.as_bytes())?;
                 }
                 self.put(b")")
             }
@@ -149,7 +149,7 @@ impl Outline {
             }
             Descriptor::Other(word) => {
                 self.put(b" other ")?;
-                self.put(word.as_slice())
+                self.put(word.as_bytes())
             }
         }
     }
@@ -159,7 +159,7 @@ impl Outline {
         self.put(text.as_bytes())
     }
 
-    fn command(&mut self, command: &Command) -> Result<(), AllocError> {
+    fn command(&mut self, command: &Command<'_>) -> Result<(), AllocError> {
         let word = format!(in self.alloc; "; {:?}", command.verb)?;
         self.put(word.as_bytes())?;
         if command.optional {
@@ -175,7 +175,7 @@ impl Outline {
         Ok(())
     }
 
-    fn action(&mut self, action: &Action) -> Result<(), AllocError> {
+    fn action(&mut self, action: &Action<'_>) -> Result<(), AllocError> {
         match action.ctx {
             CtxRef::Null => self.put(b" in -")?,
             CtxRef::All => self.put(b" in *")?,
@@ -194,7 +194,7 @@ impl Outline {
         Ok(())
     }
 
-    fn request(&mut self, request: &Request) -> Result<(), AllocError> {
+    fn request(&mut self, request: &Request<'_>) -> Result<(), AllocError> {
         self.put(b"request ")?;
         self.number(request.id.0)?;
         for action in request.actions.as_slice() {
@@ -214,7 +214,7 @@ impl Outline {
         Ok(())
     }
 
-    fn item(&mut self, item: &Item) -> Result<(), AllocError> {
+    fn item(&mut self, item: &Item<'_>) -> Result<(), AllocError> {
         match item {
             Item::Request(request) => self.request(request)?,
             Item::Ack(ranges) => self.ack(ranges.as_slice())?,
@@ -223,7 +223,7 @@ impl Outline {
         self.put(b".")
     }
 
-    fn message(&mut self, message: &Message) -> Result<(), AllocError> {
+    fn message(&mut self, message: &Message<'_>) -> Result<(), AllocError> {
         self.put(message.mid.as_bytes())?;
         self.put(b": ")?;
         for item in message.items.as_slice() {
