@@ -11,7 +11,7 @@ use Rattle.gw_term.specs.declared.termination.Termination.{Termination}
 use Rattle.gw_ctx.specs.Contexts.{ContextRecord}
 use Rattle.gw_table.specs.Maps.{Maps, Outcome, term, ctx, put_term, put_ctx, place_of, members_of}
 use Rattle.gw_table.specs.Parts.{restricted, overlaid}
-use Rattle.gw_table.specs.Accesses.{Accesses, Done, ReadTerm, ReadCtx, ReadAll, PutTerm, PutCtx, effect, then, Within, PlaceIn, NewIn}
+use Rattle.gw_table.specs.Accesses.{Accesses, Done, ReadTerm, ReadCtx, ReadAll, PutTerm, PutCtx, effect, and_then, Within, PlaceIn, NewIn}
 use Rattle.gw_table.proofs.Lookups.{term-put_term, ctx-put_term, term-put_ctx, ctx-put_ctx, same_maps}
 use Rattle.gw_table.proofs.PartLookups.{term-restricted, ctx-restricted, term-overlaid, ctx-overlaid}
 
@@ -67,7 +67,7 @@ within_more a b (PutCtx c o p) m s w = (s (Ctx c) w.0, λ q h. either (w.1 q h) 
 
 -- ---- one after another
 
-pub effect-then : {A B : Type 0} (p : Accesses A) (g : A → Accesses B) (m : Maps) → effect (then p g) m ≡ effect (g (effect p m).answer) (effect p m).maps
+pub effect-then : {A B : Type 0} (p : Accesses A) (g : A → Accesses B) (m : Maps) → effect (and_then p g) m ≡ effect (g (effect p m).answer) (effect p m).maps
 effect-then (Done a) g m = refl
 effect-then (ReadTerm t f) g m = effect-then (f (term m t)) g m
 effect-then (ReadCtx c f) g m = effect-then (f (ctx m c)) g m
@@ -75,7 +75,7 @@ effect-then (ReadAll f) g m = effect-then (f m) g m
 effect-then (PutTerm t o p) g m = effect-then p g (put_term m t o)
 effect-then (PutCtx c o p) g m = effect-then p g (put_ctx m c o)
 
-pub within-then : {A B : Type 0} (keys : List Key) (p : Accesses A) (g : A → Accesses B) (m : Maps) → Within keys p m → Within keys (g (effect p m).answer) (effect p m).maps → Within keys (then p g) m
+pub within-then : {A B : Type 0} (keys : List Key) (p : Accesses A) (g : A → Accesses B) (m : Maps) → Within keys p m → Within keys (g (effect p m).answer) (effect p m).maps → Within keys (and_then p g) m
 within-then keys (Done a) g m w v = v
 within-then keys (ReadTerm t f) g m w v = (w.0, within-then keys (f (term m t)) g m w.1 v)
 within-then keys (ReadCtx c f) g m w v = (w.0, within-then keys (f (ctx m c)) g m w.1 v)

@@ -28,13 +28,13 @@ effect (PutTerm t o p) m = effect p (put_term m t o)
 effect (PutCtx n o p) m = effect p (put_ctx m n o)
 
 -- some, and then those that their answer leads to
-abbrev pub then : {A B : Type 0} → Accesses A → (A → Accesses B) → Accesses B
-then (Done a) g = g a
-then (ReadTerm t f) g = ReadTerm t (λ o. then (f o) g)
-then (ReadCtx n f) g = ReadCtx n (λ o. then (f o) g)
-then (ReadAll f) g = ReadAll (λ m. then (f m) g)
-then (PutTerm t o p) g = PutTerm t o (then p g)
-then (PutCtx n o p) g = PutCtx n o (then p g)
+abbrev pub and_then : {A B : Type 0} → Accesses A → (A → Accesses B) → Accesses B
+and_then (Done a) g = g a
+and_then (ReadTerm t f) g = ReadTerm t (λ o. and_then (f o) g)
+and_then (ReadCtx n f) g = ReadCtx n (λ o. and_then (f o) g)
+and_then (ReadAll f) g = ReadAll (λ m. and_then (f m) g)
+and_then (PutTerm t o p) g = PutTerm t o (and_then p g)
+and_then (PutCtx n o p) g = PutCtx n o (and_then p g)
 
 abbrev pub PlaceIn : List Key → Option CtxNum → Type 0
 PlaceIn keys None = Unit {0}
