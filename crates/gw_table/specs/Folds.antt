@@ -1,13 +1,8 @@
 -- Items one after another, up to the first that stops (RFC 3525, sections 8.1 and 8.2): commands in an action, actions in a
 -- transaction; and, where none stops, targets of a command.
 use Rattle.std.specs.Prelude.{Bool, true, false, if◌then◌else◌, List, [], ◌∷◌, ◌++◌}
+use Rattle.gw_table.specs.declared.attempts.Attempts.{Attempts}
 use Rattle.gw_table.specs.Maps.{Maps, Outcome}
-
--- what items gave: from where later ones go on, the answers in order, and whether nothing more is attempted
-pub record Attempts (S A : Type 0) : Type 0 where
-  pub next : S
-  pub answers : List A
-  pub stopped : Bool
 
 -- nothing was attempted
 abbrev pub none_from : {S A : Type 0} → S → Bool → Maps → Outcome (Attempts S A)
