@@ -17,7 +17,8 @@ use Rattle.gw_table.specs.Maps.{Maps, Outcome, ctx}
 use Rattle.gw_table.proofs.Folding.{kept}
 use Rattle.gw_cmd.specs.declared.at.At.{At}
 use Rattle.gw_cmd.specs.declared.at.At.TheVariants.{Live, Unmade}
-use Rattle.gw_cmd.proofs.Kept.{IsKept, kept_command}
+use Rattle.gw_table.specs.WellFormed.{AreWellFormed}
+use Rattle.gw_cmd.proofs.Kept.{IsKept, whole_is_kept, kept_command}
 use Rattle.gw_tx.specs.Owned.{with_owned}
 use Rattle.gw_tx.specs.Transactions.{refused, attempt, commands, action_in, action_for, action_on, action, actions, transaction}
 
@@ -52,3 +53,6 @@ module _ {P : Maps → Type 0} (rules : Rules) (k : IsKept rules.members (λ _. 
   pub kept_transaction : (r : Request) (ids : Ids) (m : Maps) → P m → P (transaction rules r ids m).maps
   unfolding transaction
   kept_transaction r ids m p = kept_actions (with_owned ids.contexts r.actions) m p
+
+pub transaction_whole : (rules : Rules) (r : Request) (ids : Ids) (m : Maps) → AreWellFormed rules.members m → AreWellFormed rules.members (transaction rules r ids m).maps
+transaction_whole rules r ids m w = kept_transaction rules (whole_is_kept rules.members) r ids m w

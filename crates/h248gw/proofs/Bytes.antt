@@ -4,7 +4,7 @@ use Rattle.std.specs.Option.{option_map}
 use Rattle.std.specs.Io.KnownBytes.{Appends}
 use Rattle.std.proofs.lemmas.List.{length-take, take_all}
 use Rattle.gw_engine.specs.declared.datagram.Datagram.{Datagram}
-use Rattle.gw_engine.specs.State.{Whole}
+use Rattle.gw_engine.specs.State.{GatewayValue}
 use Rattle.gw_engine.specs.Datagrams.{AnswersBurst}
 use Rattle.h248gw.specs.Start.{start}
 use Rattle.h248gw.specs.Program.{longest_datagram, burst_of, bytes_of, IsWritten}
@@ -19,7 +19,7 @@ all_read limit n before bytes (Some all) (Some input) h b l k short =
     front ∙ take_all n input (omega (arith, ap length front, length-take n input))
 
 -- the answers that were written are those to what was read
-pub answers_written : {A E : Type 0} (known old new : Option (List ℕ)) (text : List ℕ) (answers : List Datagram) (after : Whole) (result : Result A E)
+pub answers_written : {A E : Type 0} (known old new : Option (List ℕ)) (text : List ℕ) (answers : List Datagram) (after : GatewayValue) (result : Result A E)
     → IfSome known (λ input. text ≡ input) → length text ≤ longest_datagram → AnswersBurst start (burst_of text) answers after → OnOk result (Appends old new (bytes_of answers))
     → OnOk result (IfSome known (λ input. (bytes : List ℕ) × IsWritten input bytes × Appends old new bytes))
 answers_written known old new text answers after (Err e) read short burst written = tt

@@ -1,7 +1,7 @@
 -- What the program writes for what it reads (own).
 use Rattle.std.specs.Prelude.{◌≡◌, ◌≤◌, ℕ, List, [], ◌∷◌, length, flat_map}
 use Rattle.gw_engine.specs.declared.datagram.Datagram.{Datagram}
-use Rattle.gw_engine.specs.State.{Whole}
+use Rattle.gw_engine.specs.State.{GatewayValue}
 use Rattle.gw_engine.specs.Datagrams.{AnswersBurst}
 use Rattle.h248gw.specs.Start.{start}
 
@@ -21,6 +21,6 @@ bytes_of answers = flat_map (λ d. d.bytes) answers
 pub record IsWritten (text written : List ℕ) : Type 0 where
   pub short : length text ≤ longest_datagram
   pub answers : List Datagram
-  pub after : Whole
+  pub after : GatewayValue
   pub burst : AnswersBurst start (burst_of text) answers after
   pub bytes : written ≡ bytes_of answers
