@@ -8,7 +8,7 @@ use Rattle.gw_base.specs.declared.fault.NameFault.{NameFault}
 use Rattle.gw_base.specs.declared.term_ref.TermRef.{TermRef}
 use Rattle.gw_base.specs.declared.term_ref.TermRef.TheVariants.{Root, All, Choose, Under, Name, Other}
 
--- * and $ alone, and the $ among the ephemeral terminations
+-- $ alone, or behind the prefix of the ephemeral terminations
 abbrev pub IsChoose : List ℕ → Type 0
 IsChoose text = (text ≡ codes "$") ⊎ (text ≡ codes "RTP/$")
 

@@ -13,7 +13,7 @@ pub enum NameFault {
     #[error("the text is too long")]
     TooLong,
     /// The text is not of its form.
-    #[error("the text has a byte that its form does not allow there")]
+    #[error("the text is not of its form")]
     BadByte,
 }
 

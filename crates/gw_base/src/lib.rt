@@ -2,8 +2,6 @@
 #![tactic(auto)]
 
 mod bytes;
-#[cfg(test)]
-mod cases;
 mod choose;
 mod code;
 mod command_words;

@@ -11,10 +11,13 @@ use crate::inline::Inline;
 use std::fmt;
 use std::marker::Model;
 
+/// The most bytes of an address.
+const ADDRESS_MAX: usize = 45;
+
 /// An IPv4 or IPv6 address as text: 1 to 45 hexadecimal digits, dots and colons, kept inline as sent.
 #[derive(Clone, Copy, PartialEq, Eq, PartialOrd, Ord, Hash)]
 pub struct MediaAddr {
-    text: Inline<45>,
+    text: Inline<ADDRESS_MAX>,
 }
 
 impl Model for MediaAddr {
@@ -46,7 +49,7 @@ fn are_address_bytes(text: &[u8]) -> bool
 pub(crate) fn is_address(text: &[u8]) -> bool
     ensures { IsTrue result ↔ IsAddress text.now }
 {
-    !text.is_empty() && text.len() <= 45 && are_address_bytes(text)
+    !text.is_empty() && text.len() <= ADDRESS_MAX && are_address_bytes(text)
 }
 
 impl MediaAddr {
@@ -58,7 +61,7 @@ impl MediaAddr {
         if text.is_empty() {
             return Err(NameFault::Empty);
         }
-        if text.len() > 45 {
+        if text.len() > ADDRESS_MAX {
             return Err(NameFault::TooLong);
         }
         if !is_address(text) {

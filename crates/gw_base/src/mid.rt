@@ -13,14 +13,23 @@ use crate::bytes::{is_digit, is_letter, is_name_byte};
 use crate::fault::NameFault;
 use crate::inline::Inline;
 use crate::media::is_address;
+use crate::name::NAME_MAX;
 use std::fmt;
 use std::marker::Model;
+
+/// The most bytes of an mId in brackets: a name's, and two brackets, a colon and a port.
+const BRACKETED_MAX: usize = 72;
+
+/// The most digits of a port, and the greatest number that they write.
+const PORT_DIGITS: usize = 5;
+
+const PORT_MAX: u32 = 65_535;
 
 /// An mId as sent: an address in brackets or a domain name in angle brackets, each with a port or without, or a device name.
 /// Kept inline, compared and ordered byte for byte: another spelling of the same host is another sender.
 #[derive(Clone, Copy, PartialEq, Eq, PartialOrd, Ord, Hash)]
 pub struct Mid {
-    text: Inline<72>,
+    text: Inline<BRACKETED_MAX>,
 }
 
 impl Model for Mid {
@@ -70,7 +79,7 @@ fn is_domain(text: &[u8]) -> bool
     ensures { IsTrue result ↔ IsDomain text.now }
 {
     !text.is_empty()
-        && text.len() <= 64
+        && text.len() <= NAME_MAX
         && (is_letter(text[0]) || is_digit(text[0]))
         && are_domain_bytes(text)
 }
@@ -79,7 +88,7 @@ fn is_device(text: &[u8]) -> bool
     ensures { IsTrue result ↔ IsDevice text.now }
 {
     !text.is_empty()
-        && text.len() <= 64
+        && text.len() <= NAME_MAX
         && (is_letter(text[0]) || text[0] == b'*')
         && are_device_bytes(text)
 }
@@ -92,7 +101,7 @@ fn is_port_number(digits: &[u8]) -> bool
     let mut number: u32 = 0;
     for b in digits {
         number = number * 10 + u32::from(*b - b'0');
-        if number > 65_535 {
+        if number > PORT_MAX {
             return false;
         }
     }
@@ -102,7 +111,7 @@ fn is_port_number(digits: &[u8]) -> bool
 fn is_port(text: &[u8]) -> bool
     ensures { IsTrue result ↔ IsPort text.now }
 {
-    !text.is_empty() && text.len() <= 5 && are_digits(text) && is_port_number(text)
+    !text.is_empty() && text.len() <= PORT_DIGITS && are_digits(text) && is_port_number(text)
 }
 
 fn is_optional_port(text: &[u8]) -> bool
@@ -164,8 +173,8 @@ fn longest_mid(text: &[u8]) -> usize
     ensures { result ≡ longest_mid text.now }
 {
     match text.first() {
-        Some(b'[' | b'<') => 72,
-        _ => 64,
+        Some(b'[' | b'<') => BRACKETED_MAX,
+        _ => NAME_MAX,
     }
 }
 

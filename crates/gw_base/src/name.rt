@@ -12,11 +12,14 @@ use crate::inline::Inline;
 use std::fmt;
 use std::marker::Model;
 
+/// The most bytes of a name of any kind, of a TerminationID with wildcards too.
+pub(crate) const NAME_MAX: usize = 64;
+
 /// A termination's name: 1 to 64 bytes, kept inline, compared and ordered byte for byte. It begins with a letter and
 /// goes on with letters, digits and `_ / @ . -`.
 #[derive(Clone, Copy, PartialEq, Eq, PartialOrd, Ord, Hash)]
 pub struct TermName {
-    text: Inline<64>,
+    text: Inline<NAME_MAX>,
 }
 
 impl Model for TermName {
@@ -54,7 +57,7 @@ impl TermName {
         if text.is_empty() {
             return Err(NameFault::Empty);
         }
-        if text.len() > 64 {
+        if text.len() > NAME_MAX {
             return Err(NameFault::TooLong);
         }
         if !is_name(text) {

@@ -1,22 +1,22 @@
 //! What a command names (RFC 3525, section 6.2.2 and Annex B.2, `TerminationID`).
 
-ghost use Rattle.std.specs.Prelude.{◌≡◌, ◌≤◌, ◌↔◌, ℕ, List, length, IsTrue, MatchOption};
+ghost use Rattle.std.specs.Prelude.{◌≡◌, ◌≤◌, ◌↔◌, ℕ, List, length, true, IsTrue, MatchOption};
 ghost use Rattle.std.specs.List.{list_all, list_any};
 ghost use Rattle.gw_base.specs.Names.{name_max};
 ghost use Rattle.gw_base.specs.Wildcards.{is_wildcard, is_term_byte, IsTermText, IsRoot, IsUnder};
-ghost use Rattle.gw_base.specs.TermRefs.{ReadsTerm};
+ghost use Rattle.gw_base.specs.TermRefs.{IsClass, ReadsTerm};
 
 use crate::bytes::{is_letter, is_name_byte};
 use crate::fault::NameFault;
 use crate::inline::Inline;
-use crate::name::TermName;
+use crate::name::{NAME_MAX, TermName};
 use std::fmt;
 use std::marker::Model;
 
 /// A TerminationID with a wildcard that this profile gives no meaning to: 1 to 64 bytes, kept inline as sent.
 #[derive(Clone, Copy, PartialEq, Eq, Hash)]
 pub struct Pattern {
-    text: Inline<64>,
+    text: Inline<NAME_MAX>,
 }
 
 impl Model for Pattern {
@@ -94,6 +94,26 @@ fn under(text: &[u8]) -> Option<TermName>
     }
 }
 
+/// What a text with a wildcard stands for.
+fn wild(text: &[u8]) -> TermRef
+    requires form { IsTermText text.now }
+    requires wild { list_any is_wildcard text.now ≡ true }
+    ensures { IsClass result text.now }
+{
+    if text == b"*".as_slice() {
+        return TermRef::All;
+    }
+    if text == b"$".as_slice() || text == b"RTP/$".as_slice() {
+        return TermRef::Choose;
+    }
+    if let Some(prefix) = under(text) {
+        return TermRef::Under(prefix);
+    }
+    TermRef::Other(Pattern {
+        text: Inline::new(text),
+    })
+}
+
 impl TermRef {
     /// The reference that the text is. A text of no bytes is `Empty`, one of more than 64 `TooLong`; any other that does not
     /// begin with a letter, `*` or `$` and go on with letters, digits and `_ / * $ @ . -` is `BadByte`.
@@ -103,28 +123,17 @@ impl TermRef {
         if text.is_empty() {
             return Err(NameFault::Empty);
         }
-        if text.len() > 64 {
+        if text.len() > NAME_MAX {
             return Err(NameFault::TooLong);
         }
         if !is_term(text) {
             return Err(NameFault::BadByte);
         }
+        if has_wildcard(text) {
+            return Ok(wild(text));
+        }
         if is_root(text) {
             return Ok(TermRef::Root);
-        }
-        if text == b"*".as_slice() {
-            return Ok(TermRef::All);
-        }
-        if text == b"$".as_slice() || text == b"RTP/$".as_slice() {
-            return Ok(TermRef::Choose);
-        }
-        if let Some(prefix) = under(text) {
-            return Ok(TermRef::Under(prefix));
-        }
-        if has_wildcard(text) {
-            return Ok(TermRef::Other(Pattern {
-                text: Inline::new(text),
-            }));
         }
         match TermName::read(text) {
             Ok(name) => Ok(TermRef::Name(name)),

@@ -9,6 +9,7 @@ use Rattle.gw_base.specs.declared.term_ref.TermRef.{TermRef}
 use Rattle.gw_base.specs.declared.term_ref.TermRef.TheVariants.{Root, All, Under, Choose, Name, Other}
 use Rattle.gw_ctx.specs.Contexts.{ContextRecord}
 use Rattle.gw_msg.specs.declared.message.Command.{Command}
+use Rattle.gw_reply.specs.declared.parts.ReplyPart.{ReplyPart}
 use Rattle.gw_reply.specs.declared.reply.CommandReply.{CommandReply}
 use Rattle.gw_table.specs.Maps.{Maps, Outcome, term, ctx}
 use Rattle.gw_cmd.specs.declared.at.At.{At}
@@ -49,9 +50,14 @@ on_term rules at verb (Under t) m = refused NotImplemented m
 on_term rules at verb Choose m = refused NotImplemented m
 on_term rules at verb (Other t) m = refused NotImplemented m
 
+-- what is told of a command: nothing of one that was carried out, or why it was not
+abbrev pub told : Result Unit Code → Result (List ReplyPart) Code
+told (Ok done) = Ok []
+told (Err code) = Err code
+
 -- the reply has the command's word and TerminationID
 abbrev pub reply_of : Command → Result Unit Code → CommandReply
-reply_of c result = record { verb = c.verb; term = c.term; result = result }
+reply_of c result = record { verb = c.verb; term = c.term; result = told result }
 
 -- a success in a context that is not made yet makes it
 abbrev pub outcome_of : At → Command → Result Unit Code → CmdOutcome

@@ -4,7 +4,7 @@ ghost use Rattle.std.specs.Prelude.{◌≡◌, true, IfOk, OnOk};
 ghost use Rattle.gw_base.specs.declared.key.Key.TheVariants.{Term, Ctx};
 ghost use Rattle.gw_table.specs.Parts.{holds, Holds};
 ghost use Rattle.gw_table.specs.WellFormed.{IsSound};
-ghost use Rattle.gw_cmd.specs.Commands.{add_in, subtract_in, on_name, on_term, outcome_of, command as command_done};
+ghost use Rattle.gw_cmd.specs.Commands.{add_in, subtract_in, on_name, on_term, told, outcome_of, command as command_done};
 ghost use Rattle.gw_cmd.specs.Keys.{term_keys, command_keys};
 ghost use Rattle.gw_cmd.specs.Places.{number_of};
 ghost use Rattle.gw_cmd.specs.Refused.{Tells};
@@ -15,7 +15,7 @@ use crate::outcome::CmdOutcome;
 use crate::refusal::Refusal;
 use gw_base::{Code, Items, NoMemory, Rules, TermName, TermRef, Verb};
 use gw_msg::Command;
-use gw_reply::CommandReply;
+use gw_reply::{CommandReply, ReplyPart};
 use gw_table::Part;
 use std::alloc::Global;
 
@@ -105,6 +105,16 @@ fn on_term(
     }
 }
 
+/// What is told of a command: nothing of one that was carried out, or why it was not.
+fn told(alloc: Global, outcome: Result<(), Code>) -> Result<Items<ReplyPart>, Code>
+    ensures { result ≡ told outcome }
+{
+    match outcome {
+        Ok(()) => Ok(Items::new(alloc)),
+        Err(code) => Err(code),
+    }
+}
+
 /// The command's reply, and whether it made its context.
 fn answered(
     alloc: Global,
@@ -119,7 +129,7 @@ fn answered(
     replies.push(CommandReply {
         verb: command.verb,
         term: command.term,
-        result: given,
+        result: told(alloc, given),
     })?;
     Ok(CmdOutcome {
         replies,

@@ -5,3 +5,8 @@ pub mod PropertyLaws
 pub mod MediaLaws
 pub mod ServiceLaws
 pub mod DescriptorLaws
+pub mod Fills
+pub mod FillLines
+pub mod NamePlaces
+pub mod Marking
+pub mod Counting

@@ -51,6 +51,3 @@ impl<'a> Part<'a> for Descriptor<'a> {
         }
     }
 }
-
-#[cfg(test)]
-mod tests;

@@ -25,7 +25,7 @@ use Rattle.gw_engine.specs.declared.datagram.Datagram.{Datagram}
 use Rattle.gw_table.specs.Maps.{Outcome}
 use Rattle.gw_tx.specs.Transactions.{transaction}
 use Rattle.gw_reserve.specs.Owners.{owners, new_cursor}
-use Rattle.gw_engine.specs.State.{State, GatewayValue}
+use Rattle.gw_engine.specs.State.{State, Whole}
 
 -- ---- the message of a datagram
 
@@ -93,19 +93,19 @@ pub record DatagramOutcome : Type 0 where
   pub state : State
 
 -- an error in place of an answer, which changes nothing
-abbrev pub refusal : GatewayValue → Code → DatagramOutcome
+abbrev pub refusal : Whole → Code → DatagramOutcome
 refusal g code = record { bytes = fault_text g.settings.mid code; state = g.state }
 
 -- what the $ places of the request own
-abbrev pub owned_by : GatewayValue → Request → Ids
+abbrev pub owned_by : Whole → Request → Ids
 owned_by g r = owners g.state.maps g.state.context_cursor g.settings.contexts r
 
 -- the transaction on the tables as they are, with the identifiers that it owns
-abbrev pub carried : GatewayValue → Request → Outcome TxReply
+abbrev pub carried : Whole → Request → Outcome TxReply
 carried g r = transaction g.settings.rules r (owned_by g r) g.state.maps
 
 -- its reply, and the new tables and cursors
-abbrev pub reply_outcome : GatewayValue → Request → DatagramOutcome
+abbrev pub reply_outcome : Whole → Request → DatagramOutcome
 reply_outcome g r = record {
   bytes = reply_text g.settings.mid (carried g r).answer;
   state = record {
@@ -116,23 +116,23 @@ reply_outcome g r = record {
   };
 }
 
-abbrev pub request_outcome : GatewayValue → Option Request → DatagramOutcome
+abbrev pub request_outcome : Whole → Option Request → DatagramOutcome
 request_outcome g None = refusal g NotImplemented
 request_outcome g (Some r) = reply_outcome g r
 
-abbrev pub message_outcome : GatewayValue → Result Message Code → DatagramOutcome
+abbrev pub message_outcome : Whole → Result Message Code → DatagramOutcome
 message_outcome g (Ok m) = request_outcome g (simple_request m.items)
 message_outcome g (Err code) = refusal g code
 
 -- the datagram has one answer, for the peer that asked, and the state is the one afterwards
-pub record Answers (old : GatewayValue) (asked : Datagram) (answers : List Datagram) (new : GatewayValue) : Type 0 where
+pub record Answers (old : Whole) (asked : Datagram) (answers : List Datagram) (new : Whole) : Type 0 where
   pub message : Result Message Code
   pub read : IsMessageOf asked.bytes message
   pub answer : answers ≡ (record { peer = asked.peer; bytes = (message_outcome old message).bytes }) ∷ []
   pub state : new ≡ record { settings = old.settings; state = (message_outcome old message).state }
 
 -- a burst of one datagram at most
-abbrev pub AnswersBurst : GatewayValue → List Datagram → List Datagram → GatewayValue → Type 0
+abbrev pub AnswersBurst : Whole → List Datagram → List Datagram → Whole → Type 0
 AnswersBurst old [] answers new = (answers ≡ []) × (new ≡ old)
 AnswersBurst old (d ∷ []) answers new = Answers old d answers new
 AnswersBurst old (d ∷ (e ∷ more)) answers new = ⊥

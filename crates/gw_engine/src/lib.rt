@@ -11,6 +11,3 @@ pub use datagram::Datagram;
 pub use fault::{ConfigFault, LimitName};
 pub use gateway::Gateway;
 pub use gw_base::Config;
-
-#[cfg(test)]
-mod tests;

@@ -1,5 +1,5 @@
 -- The readers of commands and actions read their forms.
-use Rattle.std.proofs.Common.{◌≡◌, ◌⊎◌, inl, inr, ℕ, zero, suc, ◌<◌, ◌≤◌, Bool, true, false, cond, ◌==◌, List, [], ◌∷◌, ◌++◌, map, length, Option, Some, None, Result, Err, refl, ap, sym, subst, ◌∙◌, length-append, arith}
+use Rattle.std.proofs.Common.{◌≡◌, ◌⊎◌, inl, inr, ℕ, zero, suc, ◌<◌, ◌≤◌, Bool, true, false, cond, ◌==◌, List, [], ◌∷◌, ◌++◌, length, Option, Some, None, Result, Err, refl, ap, sym, subst, ◌∙◌, length-append, arith}
 use Rattle.std.specs.Prelude.{codes, nat_lt}
 use Rattle.std.specs.Char.{to_ascii_lowercase}
 use Rattle.std.proofs.lemmas.Bool.{not-true, lt-ltb}
@@ -30,7 +30,8 @@ use Rattle.gw_desc.proofs.TailLaws.{WithoutGroup, optional_group_reads, group_en
 use Rattle.gw_desc.proofs.DescriptorLaws.{descriptor_reads, descriptor_braces}
 use Rattle.gw_msg.specs.declared.message.Command.{Command}
 use Rattle.gw_msg.specs.declared.message.Action.{Action}
-use Rattle.gw_msg.specs.Grammar.{command_token, SpellsVerb, SpellsTerm, SpellsMark, may_be_wild, has_group, SpellsDetailsOf, SpellsDetails, SpellsCommand, SpellsContextId, IsPropertyToken, SpellsContextProperty, SpellsPart, parts_of, SpellsAction}
+use Rattle.gw_msg.specs.Grammar.{command_token, SpellsVerb, SpellsTerm, SpellsMark, may_be_wild, has_group, SpellsDetailsOf, SpellsDetails, SpellsCommand, SpellsContextId, IsPropertyToken, SpellsContextProperty, SpellsAction}
+use Rattle.gw_msg.proofs.ActionParts.{SpellsPart, parts_of, some_parts, some_commands, to_parts, of_parts, so_many, so_many-length}
 use Rattle.gw_msg.specs.Words.{verb_of, is_context, is_property, is_property_start, term_of}
 use Rattle.gw_msg.specs.Reading.{mark_at, only_if, token_in, is_allowed, details_of, command_at, context_id_at, context_property_at, property_then, commands_from, commands_at, contents_at, action_at}
 use Rattle.gw_msg.proofs.Starts.{case_begins, property_starts, no_property_start, verb_starts}
@@ -288,16 +289,6 @@ commands_reads (suc fuel) =
 
 -- ---- in the grammar's words
 
-some_parts : (commands : List Command) (text : List ℕ) → Separated SpellsCommand commands text → Separated SpellsPart (map (λ c. Some c) commands) text
-some_parts [] text h = absurd h
-some_parts (c ∷ []) text h = h
-some_parts (c ∷ (d ∷ ds)) text h = with_second h (with_second h.second (some_parts (d ∷ ds) h.second.back h.second.second))
-
-some_commands : (commands : List Command) (text : List ℕ) → Separated SpellsPart (map (λ c. Some c) commands) text → Separated SpellsCommand commands text
-some_commands [] text h = absurd h
-some_commands (c ∷ []) text h = h
-some_commands (c ∷ (d ∷ ds)) text h = with_second h (with_second h.second (some_commands (d ∷ ds) h.second.back h.second.second))
-
 -- a property in front of other parts
 more_parts : (parts : List (Option Command)) (text : List ℕ) → (SpellsContextProperty ▹ IsSign comma ▹ Separated SpellsPart parts) text → Separated SpellsPart (None ∷ parts) text
 more_parts [] text h = absurd (h.second.second)
@@ -424,9 +415,9 @@ action_to : (a : Action) (text : List ℕ) → Both (IsToken token.Context) (IsS
 action_to a text b =
     let ctx = b.second.second in let left = ctx.1.second in let x = left.second in let c = x.1 in
     subst (λ (d : Action). SpellsAction d text) c.second.0 (record {
-      properties = c.first.0;
-      words = with_second b (with_second b.second (with_second ctx.1 (with_second left (with_both c c.first.2 c.second.1))));
-      props = c.first.1;
+      properties = so_many c.first.0;
+      words = with_second b (with_second b.second (with_second ctx.1 (with_second left (with_both c (of_parts c.first.0 x.0.1 c.front c.first.2) c.second.1))));
+      props = c.first.1 ∙ ap (nat_lt 0) (sym (so_many-length c.first.0));
     })
   where
     with_both : {P Q R S : List ℕ → Type 0} {t : List ℕ} (d : Both P Q t) → R d.front → S d.back → Both R S t
@@ -435,7 +426,7 @@ action_to a text b =
 action_from : (a : Action) (text : List ℕ) → SpellsAction a text → Both (IsToken token.Context) (IsSign equals_sign ▹ ActionCtx a) text
 action_from a text h =
     let b = h.words in let ctx = b.second.second in let left = ctx.second in let c = left.second in
-    with_second b (with_second b.second (a.ctx, with_second ctx (with_second left ((a.props, a.commands), record { front = c.front; back = c.back; split = c.split; first = (h.properties, h.props, c.first); second = (refl, c.second) }))))
+    with_second b (with_second b.second (a.ctx, with_second ctx (with_second left ((a.props, a.commands), record { front = c.front; back = c.back; split = c.split; first = (length h.properties, h.props, to_parts h.properties a.commands c.front c.first); second = (refl, c.second) }))))
 
 pub action_reads : ReadsUp action_at SpellsAction Any Same Skipped
 unfolding action_at

@@ -4,5 +4,6 @@ pub mod Steps
 pub mod WordLaws
 pub mod Laws
 pub mod ItemLaws
+pub mod ActionParts
 pub mod HeaderLaws
 pub mod Whole

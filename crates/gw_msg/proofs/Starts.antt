@@ -1,12 +1,12 @@
 -- What the tokens of a message begin with, and so which of them comes next.
-use Rattle.std.proofs.Common.{◌≡◌, ◌⊎◌, inl, inr, ℕ, ◌+◌, ◌-◌, Bool, true, false, cond, not, ◌==◌, ◌||◌, ◌&&◌, List, [], ◌∷◌, map, Option, Some, refl, ap, sym, ◌∙◌, arith}
+use Rattle.std.proofs.Common.{◌≡◌, ◌⊎◌, inl, inr, ℕ, ◌+◌, ◌-◌, Bool, true, false, cond, not, ◌==◌, ◌||◌, ◌&&◌, List, [], ◌∷◌, map, Option, Some, None, refl, ap, sym, ◌∙◌, arith}
 use Rattle.std.specs.Prelude.{bytes_eq, codes}
-use Rattle.std.specs.List.{list_all, list_any}
+use Rattle.std.specs.List.{list_all}
 use Rattle.std.specs.Char.{to_ascii_lowercase}
 use Rattle.std.proofs.lemmas.Slice.Eq.{bytes_eq-Decides}
 use Rattle.std.proofs.lemmas.Bool.{and_parts, or_cases, eqb-true, not-true}
 use Rattle.gw_base.specs.Bytes.{is_one_of}
-use Rattle.gw_text.specs.Runs.{begins, is_byte}
+use Rattle.gw_text.specs.Runs.{begins, first}
 use Rattle.gw_text.specs.Forms.{IsInAnyCase}
 use Rattle.gw_text.specs.Tokens.{Spelling, table, is_spelling, find_token, token_of}
 use Rattle.gw_text.specs.declared.token.Token.{Token}
@@ -19,21 +19,13 @@ use Rattle.gw_msg.specs.Grammar.{IsPropertyToken, SpellsVerb}
 
 -- ---- the next byte
 
-eq_either : (a b : ℕ) → a == b ≡ b == a
-eq_either a b = grind arith
+pub begins_none : (p : ℕ → Bool) (text : List ℕ) → None ≡ first text → begins p text ≡ false
+begins_none p [] e = refl
+begins_none p (b ∷ bs) e = absurd cc
 
-none_begins : (bytes : List ℕ) → list_any (λ b. begins (is_byte b) []) bytes ≡ false
-none_begins [] = refl
-none_begins (b ∷ bs) = none_begins bs
-
-one_begins : (bytes : List ℕ) (c : ℕ) (cs : List ℕ) → list_any (λ b. begins (is_byte b) (c ∷ cs)) bytes ≡ is_one_of bytes c
-one_begins [] c cs = refl
-one_begins (b ∷ bs) c cs = ap (λ (t : Bool). t || list_any (λ b. begins (is_byte b) (c ∷ cs)) bs) (eq_either c b) ∙ ap (λ (t : Bool). b == c || t) (one_begins bs c cs)
-
--- one of the bytes comes next
-pub begins_one_of : (bytes text : List ℕ) → list_any (λ b. begins (is_byte b) text) bytes ≡ begins (is_one_of bytes) text
-begins_one_of bytes [] = none_begins bytes
-begins_one_of bytes (c ∷ cs) = one_begins bytes c cs
+pub begins_some : (p : ℕ → Bool) (text : List ℕ) (b : ℕ) → Some b ≡ first text → begins p text ≡ p b
+begins_some p [] b e = absurd cc
+begins_some p (c ∷ cs) b e = ap p (sym (some_is b c e))
 
 -- ---- the first bytes of tokens
 

@@ -8,8 +8,8 @@ use Rattle.gw_text.proofs.ReadsUp.{bind_some, skip_solid}
 use Rattle.gw_msg.specs.declared.message.Message.{Message}
 use Rattle.gw_msg.specs.declared.fault.ReadFault.{ReadFault}
 use Rattle.gw_msg.specs.declared.fault.ReadFault.TheVariants.{Version, Syntax, NoMemory}
-use Rattle.gw_msg.specs.Grammar.{spoken_version, SpellsContent, Spells, HasVersionFault, IsReadingOf}
-use Rattle.gw_msg.specs.Reading.{header_at, content_at, all_at, or_syntax, judged, message_of, IsAnswer}
+use Rattle.gw_msg.specs.Grammar.{spoken_version, SpellsContent, Spells, HasHeader, HasVersionFault, IsReadingOf}
+use Rattle.gw_msg.specs.Reading.{header_at, content_at, all_at, or_syntax, judged, message_of, IsSpoken, IsAnswer}
 use Rattle.gw_msg.proofs.ItemLaws.{content_reads, content_solid}
 use Rattle.gw_msg.proofs.HeaderLaws.{header_reads}
 
@@ -95,10 +95,33 @@ version_complete text h =
     let other : h.version == spoken_version ≡ false = ne_eqb h.version spoken_version h.other in
     ap judged one.1 ∙ ap (λ (t : Bool). cond t (or_syntax (all_at content_at one.0)) (Err Version)) other
 
-pub reading : (text : List ℕ) (answer : Answer) → IsAnswer answer (message_of text) → IsReadingOf text answer
+-- a header of the version that is spoken
+spoken_sound : (text : List ℕ) (o : Option (ℕ × List ℕ)) → header_at text ≡ o → IsSpoken o → HasHeader spoken_version text
+spoken_sound text None e h = absurd h
+spoken_sound text (Some header) e h =
+    let at : header_at text ≡ Some (spoken_version, header.1) = e ∙ ap (λ (k : ℕ). Some (k, header.1)) h in
+    let s = header_reads.sound text spoken_version header.1 at in
+    record { front = s.0; back = header.1; split = s.1; first = s.2; second = tt }
+
+-- a text has a header of one version at most
+version_of : (text : List ℕ) (n : ℕ) → HasHeader n text → (rest : List ℕ) × (header_at text ≡ Some (n, rest))
+version_of text n b =
+    let one = header_reads.complete n b.front b.back text b.first tt (ap skip b.split) in
+    (one.0, one.1)
+
+same_header : (m n : ℕ) (x y : List ℕ) → ◌≡◌ {A = Option (ℕ × List ℕ)} (Some (m, x)) (Some (n, y)) → m ≡ n
+same_header m n x y e = let p : ◌≡◌ {A = ℕ × List ℕ} (m, x) (n, y) = cc in ap (λ (q : ℕ × List ℕ). q.0) p
+
+not_both : (text : List ℕ) → HasHeader spoken_version text → HasVersionFault text → ⊥
+not_both text h v =
+    let a = version_of text spoken_version h in
+    let b = version_of text v.version v.header in
+    v.other (sym (same_header spoken_version v.version a.0 b.0 (sym a.1 ∙ b.1)))
+
+pub reading : (text : List ℕ) (answer : Answer) → IsAnswer text answer → IsReadingOf text answer
 reading text (Ok m) h = message_sound text m h
 reading text (Err Version) h = version_sound text h
-reading text (Err NoMemory) h = λ v. h (version_complete text v)
+reading text (Err NoMemory) h = spoken_sound text (header_at text) refl h
 reading text (Err Syntax) h = (
   λ v. let clash : Err Syntax ≡ Err Version = sym h ∙ version_complete text v in absurd cc,
   λ m s. let clash : Err Syntax ≡ Ok m = sym h ∙ message_complete text m s in absurd cc,
@@ -121,18 +144,9 @@ pub version_answer : (text : List ℕ) (answer : Answer) → IsReadingOf text an
 version_answer text (Ok m) h v = absurd (no_version text m h v)
 version_answer text (Err Version) h v = refl
 version_answer text (Err Syntax) h v = absurd (h.0 v)
-version_answer text (Err NoMemory) h v = absurd (h v)
+version_answer text (Err NoMemory) h v = absurd (not_both text h v)
 
 -- ---- each text has one answer
-
-answers_itself : (answer : Answer) → IsAnswer answer answer
-answers_itself (Ok m) = refl
-answers_itself (Err Version) = refl
-answers_itself (Err Syntax) = refl
-answers_itself (Err NoMemory) = λ e. absurd cc
-
-pub its_answer : (text : List ℕ) → IsReadingOf text (message_of text)
-its_answer text = reading text (message_of text) (answers_itself (message_of text))
 
 or_syntax_memory : (o : Option Message) → or_syntax o ≢ Err NoMemory
 or_syntax_memory None e = absurd cc
@@ -149,6 +163,15 @@ judged_memory (Some h) e = judged_memory_at (h.0 == spoken_version) (all_at cont
 pub no_memory : (text : List ℕ) → message_of text ≢ Err NoMemory
 unfolding message_of
 no_memory text e = judged_memory (header_at text) e
+
+answers_itself : (text : List ℕ) (answer : Answer) → message_of text ≡ answer → IsAnswer text answer
+answers_itself text (Ok m) e = e
+answers_itself text (Err Version) e = e
+answers_itself text (Err Syntax) e = e
+answers_itself text (Err NoMemory) e = absurd (no_memory text e)
+
+pub its_answer : (text : List ℕ) → IsReadingOf text (message_of text)
+its_answer text = reading text (message_of text) (answers_itself text (message_of text) refl)
 
 syntax_at : (text : List ℕ) (answer : Answer) → message_of text ≡ answer → ¬ HasVersionFault text → ((m : Message) → ¬ Spells m text) → Err Syntax ≡ answer
 syntax_at text (Ok m) e v s = absurd (s m (message_sound text m e))

@@ -1,5 +1,5 @@
 -- Which texts spell a message (RFC 3525, Annex B.2). EQUAL, LBRKT, RBRKT and COMMA are signs, with LWSP on both sides.
-use Rattle.std.specs.Prelude.{◌≡◌, ◌≢◌, ◌⊎◌, ℕ, zero, suc, nat_lt, true, false, Bool, List, [], ◌∷◌, map, Option, Some, None, Result, Ok, Err, codes}
+use Rattle.std.specs.Prelude.{◌≡◌, ◌≢◌, ◌⊎◌, ℕ, nat_lt, true, false, Bool, List, [], ◌∷◌, length, Option, Result, Ok, Err, codes}
 use Rattle.gw_base.specs.Lang.{◌▹◌, IsText}
 use Rattle.gw_base.specs.Mids.{IsMid}
 use Rattle.gw_base.specs.TermRefs.{IsTerm}
@@ -8,9 +8,9 @@ use Rattle.gw_base.specs.declared.command_words.CtxRef.{CtxRef}
 use Rattle.gw_base.specs.declared.command_words.CtxRef.TheVariants.{Null, All, Choose, Num}
 use Rattle.gw_base.specs.declared.command_words.Verb.{Verb}
 use Rattle.gw_base.specs.declared.command_words.Verb.TheVariants as verb
-use Rattle.gw_text.specs.Lexical.{equals_sign, left_brace, right_brace}
+use Rattle.gw_text.specs.Lexical.{comma, equals_sign, left_brace, right_brace}
 use Rattle.gw_text.specs.Space.{IsSpace, IsSep}
-use Rattle.gw_text.specs.Forms.{IsSign, IsInAnyCase, IsToken, IsNumber, IsUint32, Spaced, Braced, OptionalBraced}
+use Rattle.gw_text.specs.Forms.{IsSign, IsInAnyCase, IsToken, IsNumber, IsUint32, Separated, Spaced, Braced, OptionalBraced}
 use Rattle.gw_text.specs.Quoted.{IsQuoted}
 use Rattle.gw_text.specs.Group.{IsGroup}
 use Rattle.gw_text.specs.declared.token.Token.{Token}
@@ -101,21 +101,29 @@ IsPropertyToken text = IsToken token.Topology text ⊎ (IsToken token.Priority t
 abbrev pub SpellsContextProperty : List ℕ → Type 0
 SpellsContextProperty = IsPropertyToken ▹ IsTail
 
--- a part of an action: a command, or a property, of which nothing is kept
-abbrev pub SpellsPart : Option Command → List ℕ → Type 0
-SpellsPart None text = SpellsContextProperty text
-SpellsPart (Some c) text = SpellsCommand c text
+-- a context property, of which nothing is kept
+abbrev pub ContextProperty : Type 0
+ContextProperty = Unit {0}
 
--- the parts of an action: so many properties, and then the commands
-abbrev pub parts_of : ℕ → List Command → List (Option Command)
-parts_of zero commands = map (λ c. Some c) commands
-parts_of (suc properties) commands = None ∷ parts_of properties commands
+-- contextProperties and contextAudit, with COMMA between them
+abbrev pub SpellsContextProperties : List ContextProperty → List ℕ → Type 0
+SpellsContextProperties = Separated (λ property. SpellsContextProperty)
 
--- actionRequest: CtxToken EQUAL ContextID LBRKT, properties and then commands, one part at least in all, RBRKT
+-- commandRequestList
+abbrev pub SpellsCommands : List Command → List ℕ → Type 0
+SpellsCommands = Separated SpellsCommand
+
+-- what an action asks of its context: commands, or properties, or properties and behind COMMA commands
+abbrev pub SpellsContents : List ContextProperty → List Command → List ℕ → Type 0
+SpellsContents [] commands = SpellsCommands commands
+SpellsContents (p ∷ ps) [] = SpellsContextProperties (p ∷ ps)
+SpellsContents (p ∷ ps) (c ∷ cs) = SpellsContextProperties (p ∷ ps) ▹ IsSign comma ▹ SpellsCommands (c ∷ cs)
+
+-- actionRequest: CtxToken EQUAL ContextID LBRKT .. RBRKT
 pub record SpellsAction (a : Action) (text : List ℕ) : Type 0 where
-  pub properties : ℕ
-  pub words : (IsToken token.Context ▹ IsSign equals_sign ▹ SpellsContextId a.ctx ▹ Braced SpellsPart (parts_of properties a.commands)) text
-  pub props : a.props ≡ nat_lt 0 properties
+  pub properties : List ContextProperty
+  pub words : (IsToken token.Context ▹ IsSign equals_sign ▹ SpellsContextId a.ctx ▹ IsSign left_brace ▹ SpellsContents properties a.commands ▹ IsSign right_brace) text
+  pub props : a.props ≡ nat_lt 0 (length properties)
 
 -- ---- messages
 
@@ -212,16 +220,20 @@ Spells m = IsHeader spoken_version ▹ SpellsContent m
 
 -- ---- what is answered
 
+-- a header of the version, whatever follows
+abbrev pub HasHeader : ℕ → List ℕ → Type 0
+HasHeader version = IsHeader version ▹ (λ rest. Unit {0})
+
 -- a header of another version, whatever follows
 pub record HasVersionFault (text : List ℕ) : Type 0 where
   pub version : ℕ
   pub other : version ≢ spoken_version
-  pub header : (IsHeader version ▹ (λ rest. Unit {0})) text
+  pub header : HasHeader version text
 
 -- What reading a text may answer: the message that it spells; Version where the header has another; Syntax where it is
--- neither. Memory may run out at any text whose header has no other version.
+-- neither. Memory is taken, and may run out, behind a header of the version that is spoken alone.
 abbrev pub IsReadingOf : List ℕ → Result Message ReadFault → Type 0
 IsReadingOf text (Ok m) = Spells m text
 IsReadingOf text (Err Version) = HasVersionFault text
 IsReadingOf text (Err Syntax) = (¬ HasVersionFault text) × ((m : Message) → ¬ Spells m text)
-IsReadingOf text (Err NoMemory) = ¬ HasVersionFault text
+IsReadingOf text (Err NoMemory) = HasHeader spoken_version text

@@ -1,5 +1,5 @@
 -- Messages as they are read, from left to right (own). That this is the grammar (RFC 3525, Annex B.2) is proved.
-use Rattle.std.specs.Prelude.{◌≡◌, ◌≢◌, ◌==◌, ◌||◌, not, ℕ, zero, suc, length, true, false, Bool, List, [], if◌then◌else◌, Option, Some, None, Result, Ok, Err, codes}
+use Rattle.std.specs.Prelude.{◌≡◌, ◌==◌, ◌||◌, not, ℕ, zero, suc, length, true, false, Bool, List, [], if◌then◌else◌, Option, Some, None, Result, Ok, Err, codes}
 use Rattle.gw_base.specs.Bytes.{byte}
 use Rattle.gw_base.specs.declared.command_words.CtxRef.{CtxRef}
 use Rattle.gw_base.specs.declared.command_words.CtxRef.TheVariants.{Null, All, Choose, Num}
@@ -262,9 +262,14 @@ abbrev pub fault_of : PartFault → ReadFault
 fault_of part.Syntax = Syntax
 fault_of part.NoMemory = NoMemory
 
--- What a function returned is the answer, unless memory ran out, which it does at no header of another version.
-abbrev pub IsAnswer : Result Message ReadFault → Result Message ReadFault → Type 0
-IsAnswer (Ok m) answer = answer ≡ Ok m
-IsAnswer (Err Version) answer = answer ≡ Err Version
-IsAnswer (Err Syntax) answer = answer ≡ Err Syntax
-IsAnswer (Err NoMemory) answer = answer ≢ Err Version
+-- a header was read, of the version that is spoken
+abbrev pub IsSpoken : Option (ℕ × List ℕ) → Type 0
+IsSpoken None = ⊥
+IsSpoken (Some header) = header.0 ≡ spoken_version
+
+-- What a function returned is the answer to the text, unless memory ran out, which it does behind such a header alone.
+abbrev pub IsAnswer : List ℕ → Result Message ReadFault → Type 0
+IsAnswer text (Ok m) = message_of text ≡ Ok m
+IsAnswer text (Err Version) = message_of text ≡ Err Version
+IsAnswer text (Err Syntax) = message_of text ≡ Err Syntax
+IsAnswer text (Err NoMemory) = IsSpoken (header_at text)

@@ -1,6 +1,7 @@
 //! Reading a whole message.
 
-ghost use Rattle.std.specs.Prelude.{◌≡◌, ◌≢◌, ◌⊎◌, ℕ, List, Some, None, Result, Err, MatchResult};
+ghost use Rattle.std.specs.Prelude.{◌≡◌, ◌≢◌, ◌⊎◌, ℕ, List, Result, Err};
+ghost use Rattle.gw_desc.specs.Parts.{Finds};
 ghost use Rattle.gw_msg.specs.Reading.{IsAnswer, version_at, header_at, message_of};
 ghost use Rattle.gw_msg.specs.Grammar.{IsReadingOf, Spells, HasVersionFault};
 ghost use Rattle.gw_msg.specs.declared.message.Message.{Message as SpelledMessage};
@@ -26,7 +27,7 @@ const VERSION_MAX: u32 = 99;
 /// What follows the first token of a header: the version, which is answered.
 #[tactic(auto, unfolding(crate::specs::Reading::version_at))]
 fn header_end(cursor: &mut Cursor<'_>) -> Result<u32, PartFault>
-    ensures { MatchResult result (λ version. version_at cursor.old ≡ Some (version, cursor.new)) (λ e. (e ≡ PartFault.Syntax) × (version_at cursor.old ≡ None)) }
+    ensures { Finds result cursor.new (version_at cursor.old) }
 {
     if !cursor.byte(b'/') {
         return Err(PartFault::Syntax);
@@ -39,7 +40,7 @@ fn header_end(cursor: &mut Cursor<'_>) -> Result<u32, PartFault>
 /// The header: its version.
 #[tactic(auto, unfolding(crate::specs::Reading::header_at, gw_text::specs::SpaceScan::skip))]
 fn header(cursor: &mut Cursor<'_>) -> Result<u32, PartFault>
-    ensures { MatchResult result (λ version. header_at cursor.old ≡ Some (version, cursor.new)) (λ e. (e ≡ PartFault.Syntax) × (header_at cursor.old ≡ None)) }
+    ensures { Finds result cursor.new (header_at cursor.old) }
 {
     cursor.lwsp();
     if !cursor.prefix(b"MEGACO") && !cursor.byte(b'!') {
@@ -50,7 +51,7 @@ fn header(cursor: &mut Cursor<'_>) -> Result<u32, PartFault>
 
 #[tactic(auto, unfolding(crate::specs::Reading::message_of))]
 fn answer<'a>(alloc: Global, text: &'a [u8]) -> Result<Message<'a>, ReadFault>
-    ensures { IsAnswer result (message_of text.now) }
+    ensures { IsAnswer text.now result }
 {
     let mut cursor = Cursor::new(text);
     if header(&mut cursor)? != SPOKEN_VERSION {
@@ -70,7 +71,7 @@ fn answer<'a>(alloc: Global, text: &'a [u8]) -> Result<Message<'a>, ReadFault>
 /// # Errors
 ///
 /// `Version` where the text begins as a message of another version than 1, whatever follows; `Syntax` where it does not
-/// and spells no message; `NoMemory` where a growth was refused.
+/// and spells no message; `NoMemory` where a growth was refused, behind a header of version 1 alone.
 pub fn read_message<'a>(alloc: Global, text: &'a [u8]) -> Result<Message<'a>, ReadFault>
     ensures { IsReadingOf text.now result }
 {
@@ -83,14 +84,11 @@ pub fn one_message()
     ensures version { (text : List ℕ) (m : SpelledMessage) → Spells m text → ¬ HasVersionFault text }
 {}
 
-/// Each text has one answer but for want of memory, and `message_of` is that answer. A header of another version leaves
-/// no room for want of memory.
+/// Each text has one answer but for want of memory, and `message_of` is that answer. A text without a header of version 1
+/// leaves no room for want of memory.
 pub fn one_answer()
     ensures answer { (text : List ℕ) → IsReadingOf text (message_of text) }
     ensures memory { (text : List ℕ) → message_of text ≢ Err NoMemory }
     ensures version { (text : List ℕ) (answer : Result SpelledMessage Fault) → IsReadingOf text answer → HasVersionFault text → answer ≡ Err Version }
     ensures only { (text : List ℕ) (answer : Result SpelledMessage Fault) → IsReadingOf text answer → (answer ≡ message_of text) ⊎ (answer ≡ Err NoMemory) }
 {}
-
-#[cfg(test)]
-mod tests;

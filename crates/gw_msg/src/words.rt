@@ -1,8 +1,7 @@
 //! Reading the single words of a message. After a fault nothing is said of the cursor.
 
 ghost use Rattle.std.specs.Prelude.{◌≡◌, Some};
-ghost use Rattle.std.specs.List.{list_any};
-ghost use Rattle.gw_text.specs.Runs.{begins, is_byte};
+ghost use Rattle.gw_text.specs.Runs.{begins};
 ghost use Rattle.gw_text.specs.Reader.{word_as, solid_as};
 ghost use Rattle.gw_desc.specs.Parts.{Finds};
 ghost use Rattle.gw_msg.specs.Grammar.{may_be_wild, has_group};
@@ -21,28 +20,27 @@ pub fn mark(cursor: &mut Cursor<'_>, bytes: &[u8]) -> bool
     cursor.prefix(bytes)
 }
 
-/// Whether one of the bytes comes next. It is not taken.
-fn is_one_next(cursor: &Cursor<'_>, bytes: &[u8]) -> bool
-    ensures { result ≡ list_any (λ b. begins (is_byte b) cursor.now) bytes.now }
-{
-    bytes.iter().any(|b| cursor.is_at(*b))
-}
-
 /// Whether a context property comes next: of what may stand in an action, properties alone begin with one of these
 /// letters.
-#[tactic(auto, using(crate::proofs::Starts::begins_one_of))]
+#[tactic(auto, using(crate::proofs::Starts::begins_none, crate::proofs::Starts::begins_some))]
 pub fn is_property_next(cursor: &Cursor<'_>) -> bool
     ensures { result ≡ begins is_property_start cursor.now }
 {
-    is_one_next(cursor, b"TtPpEeCc")
+    match cursor.peek() {
+        Some(b) => b"TtPpEeCc".contains(&b),
+        None => false,
+    }
 }
 
 /// Whether an error comes next: of the tokens that may begin a body, `Error` alone begins with an E.
-#[tactic(auto, using(crate::proofs::Starts::begins_one_of))]
+#[tactic(auto, using(crate::proofs::Starts::begins_none, crate::proofs::Starts::begins_some))]
 pub fn is_error_next(cursor: &Cursor<'_>) -> bool
     ensures { result ≡ begins is_error_start cursor.now }
 {
-    is_one_next(cursor, b"Ee")
+    match cursor.peek() {
+        Some(b) => b"Ee".contains(&b),
+        None => false,
+    }
 }
 
 /// The command that a token names.

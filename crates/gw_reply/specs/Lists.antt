@@ -1,6 +1,6 @@
 -- Lists and groups in a text (RFC 3525, Annex B.2, COMMA, LBRKT and RBRKT, without white space).
-use Rattle.std.specs.Prelude.{ℕ, List, ◌++◌, codes}
-use Rattle.std.specs.List.{join_with_byte}
+use Rattle.std.specs.Prelude.{ℕ, List, ◌∷◌, ◌++◌, codes}
+use Rattle.std.specs.List.{join_with_byte, flat_map}
 use Rattle.gw_base.specs.Bytes.{byte}
 
 -- COMMA
@@ -14,3 +14,7 @@ joined texts = join_with_byte comma texts
 -- the text in braces
 abbrev pub in_braces : List ℕ → List ℕ
 in_braces text = codes "{" ++ text ++ codes "}"
+
+-- each part's text behind a comma
+abbrev pub later : {T : Type 0} → (T → List ℕ) → List T → List ℕ
+later text parts = flat_map (λ part. comma ∷ text part) parts

@@ -1,9 +1,11 @@
 -- Replies (RFC 3525, section 8.2.2 and Annex B.2, transactionReply, actionReply, commandReply; without white space: own).
-use Rattle.std.specs.Prelude.{ℕ, List, [], ◌++◌, map, codes, decimal, Result, Ok, Err}
+use Rattle.std.specs.Prelude.{ℕ, List, [], ◌∷◌, ◌++◌, map, codes, decimal, Result, Ok, Err}
 use Rattle.gw_base.specs.declared.code.Code.{Code}
 use Rattle.gw_reply.specs.declared.reply.TxReply.{TxReply}
 use Rattle.gw_reply.specs.declared.reply.ActionReply.{ActionReply}
 use Rattle.gw_reply.specs.declared.reply.CommandReply.{CommandReply}
+use Rattle.gw_reply.specs.declared.parts.ReplyPart.{ReplyPart}
+use Rattle.gw_reply.specs.Parts.{part_text}
 use Rattle.gw_reply.specs.Lists.{joined, in_braces}
 use Rattle.gw_reply.specs.Terminations.{term_text}
 use Rattle.gw_reply.specs.Contexts.{context_text}
@@ -15,9 +17,10 @@ abbrev pub replies_text : {T : Type 0} → (T → List ℕ) → Result (List T) 
 replies_text text (Ok replies) = joined (map text replies)
 replies_text text (Err code) = error_text code
 
--- what follows the TerminationID in a command reply: nothing, or an error in braces
-abbrev pub body_text : Result (Unit {0}) Code → List ℕ
-body_text (Ok _) = []
+-- what follows the TerminationID in a command reply: the parts in braces, if there are any, or an error in braces
+abbrev pub body_text : Result (List ReplyPart) Code → List ℕ
+body_text (Ok []) = []
+body_text (Ok (part ∷ parts)) = in_braces (joined (map part_text (part ∷ parts)))
 body_text (Err code) = in_braces (error_text code)
 
 -- <Command>=<TerminationID>, and the body where there is one

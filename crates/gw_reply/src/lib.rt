@@ -4,12 +4,15 @@
 mod error;
 mod identifiers;
 mod message;
+mod part_text;
+mod parts;
 mod reply;
-#[cfg(test)]
-mod tests;
 mod tree_text;
 mod wire;
 
 pub use message::{write_fault, write_reply};
+pub use parts::{
+    AuditReply, FilledStream, KeptProperty, KeptTail, MediaReply, ReplyPart, StreamReply,
+};
 pub use reply::{ActionReply, CommandReply, TxReply};
 pub use wire::write_number;

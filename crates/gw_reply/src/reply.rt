@@ -1,5 +1,6 @@
 //! The tree of a transaction's reply (RFC 3525, section 8.2.2).
 
+use crate::parts::ReplyPart;
 use gw_base::{Code, CtxRef, Items, TermRef, TxId, Verb};
 
 /// The reply to one transaction.
@@ -21,12 +22,12 @@ pub struct ActionReply {
 }
 
 /// The reply to one command on one termination, or on all that a wildcard matched.
-#[derive(Clone, Copy, Debug)]
+#[derive(Debug, Drop)]
 pub struct CommandReply {
     /// The command.
     pub verb: Verb,
     /// The termination, or the TerminationID as sent where the command was refused before it had one.
     pub term: TermRef,
-    /// Nothing but that it was carried out, or why it was not.
-    pub result: Result<(), Code>,
+    /// What is told of it, perhaps nothing but that it was carried out, or why it was not.
+    pub result: Result<Items<ReplyPart>, Code>,
 }

@@ -3,17 +3,24 @@
 ghost use Rattle.std.specs.Prelude.{◌≡◌, ◌++◌, OnOk};
 ghost use Rattle.gw_reply.specs.Replies.{body_text};
 
+use crate::parts::ReplyPart;
 use crate::reply::{ActionReply, CommandReply, TxReply};
-use crate::wire::{WireText, write_number, write_replies};
-use gw_base::Code;
+use crate::wire::{WireText, write_joined, write_number, write_replies};
+use gw_base::{Code, Items};
 use std::alloc::AllocError;
 
-/// What follows the TerminationID: an error in braces, or nothing.
-fn write_body(outcome: &Result<(), Code>, out: &mut Vec<u8>) -> Result<(), AllocError>
+/// What follows the TerminationID: the parts in braces, if there are any, or an error in braces.
+fn write_body(outcome: &Result<Items<ReplyPart>, Code>, out: &mut Vec<u8>) -> Result<(), AllocError>
     ensures { OnOk result (out.new.items ≡ out.old.items ++ body_text outcome.now) }
 {
     match outcome {
-        Ok(()) => Ok(()),
+        Ok(parts) if parts.is_empty() => Ok(()),
+        Ok(parts) => {
+            out.push(b'{')?;
+            write_joined(parts.as_slice(), out)?;
+            out.push(b'}')?;
+            Ok(())
+        }
         Err(code) => {
             out.push(b'{')?;
             code.write_to(out)?;

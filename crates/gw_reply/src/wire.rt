@@ -1,7 +1,7 @@
 //! How a text grows: the parts of a message, one behind the other in one buffer.
 
 ghost use Rattle.std.specs.Prelude.{◌≡◌, ◌++◌, ℕ, List, OnOk, map, decimal};
-ghost use Rattle.gw_reply.specs.Lists.{joined};
+ghost use Rattle.gw_reply.specs.Lists.{joined, later};
 ghost use Rattle.gw_reply.specs.Replies.{replies_text};
 
 use gw_base::{Code, Items};
@@ -28,19 +28,26 @@ pub fn write_number(number: u32, out: &mut Vec<u8>) -> Result<(), AllocError>
     out.extend_from_slice(Buffer::new().format(number).as_bytes())
 }
 
+/// The parts, each behind a comma.
+pub(crate) fn write_later<T: WireText>(parts: &[T], out: &mut Vec<u8>) -> Result<(), AllocError>
+    ensures { OnOk result (out.new.items ≡ out.old.items ++ later T.text parts.now) }
+{
+    for part in parts {
+        out.push(b',')?;
+        part.write_to(out)?;
+    }
+    Ok(())
+}
+
 /// The parts, with a comma between each two.
-fn write_joined<T: WireText>(parts: &[T], out: &mut Vec<u8>) -> Result<(), AllocError>
+pub(crate) fn write_joined<T: WireText>(parts: &[T], out: &mut Vec<u8>) -> Result<(), AllocError>
     ensures { OnOk result (out.new.items ≡ out.old.items ++ joined (map T.text parts.now)) }
 {
     let Some((first, rest)) = parts.split_first() else {
         return Ok(());
     };
     first.write_to(out)?;
-    for part in rest {
-        out.push(b',')?;
-        part.write_to(out)?;
-    }
-    Ok(())
+    write_later(rest, out)
 }
 
 /// The replies with commas between them, or the error that stands for all of them.

@@ -16,6 +16,7 @@ pub mod Lists
 pub mod Loops
 pub mod Items
 pub mod OctetsLemmas
+pub mod OctetsPlain
 pub mod TrimLemmas
 pub mod OctetsScans
 pub mod GroupSteps

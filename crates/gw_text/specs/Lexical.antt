@@ -1,7 +1,8 @@
 -- The bytes that the text encoding gives a meaning, by name, and its classes of bytes (RFC 3525, Annex B.2).
 use Rattle.std.specs.Prelude.{ℕ, Bool, ◌||◌, ◌&&◌, ◌==◌, not, codes}
-use Rattle.gw_base.specs.Bytes.{is_letter, is_digit, is_one_of}
+use Rattle.gw_base.specs.Bytes.{is_letter, is_digit, is_one_of, byte}
 
+-- the control bytes NUL, HTAB, LF and CR, by their numbers
 abbrev pub nul : ℕ
 nul = 0
 
@@ -15,55 +16,44 @@ abbrev pub carriage_return : ℕ
 carriage_return = 13
 
 abbrev pub space : ℕ
-space = 32
+space = byte (codes " ")
 
--- `"`
 abbrev pub quote_mark : ℕ
-quote_mark = 34
+quote_mark = byte (codes "\"")
 
--- `,`
 abbrev pub comma : ℕ
-comma = 44
+comma = byte (codes ",")
 
--- `-`
 abbrev pub dash : ℕ
-dash = 45
+dash = byte (codes "-")
 
--- `:`
 abbrev pub colon : ℕ
-colon = 58
+colon = byte (codes ":")
 
--- `;`
 abbrev pub semicolon : ℕ
-semicolon = 59
+semicolon = byte (codes ";")
 
--- `=`
 abbrev pub equals_sign : ℕ
-equals_sign = 61
+equals_sign = byte (codes "=")
 
--- `[`
 abbrev pub left_bracket : ℕ
-left_bracket = 91
+left_bracket = byte (codes "[")
 
--- `\`
 abbrev pub backslash : ℕ
-backslash = 92
+backslash = byte (codes "\\")
 
--- `]`
 abbrev pub right_bracket : ℕ
-right_bracket = 93
+right_bracket = byte (codes "]")
 
--- `{`
 abbrev pub left_brace : ℕ
-left_brace = 123
+left_brace = byte (codes "{")
 
--- `}`
 abbrev pub right_brace : ℕ
-right_brace = 125
+right_brace = byte (codes "}")
 
--- `~`, the last byte that is seen
+-- the last byte that is seen
 abbrev pub tilde : ℕ
-tilde = 126
+tilde = byte (codes "~")
 
 -- EOL: what ends a line
 abbrev pub is_eol : ℕ → Bool

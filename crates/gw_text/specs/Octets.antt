@@ -1,5 +1,5 @@
 -- Octets: the text of a Local or a Remote, between its braces (own reading of RFC 3525, Annex B.2, octetString).
-use Rattle.std.specs.Prelude.{◌≡◌, ◌==◌, ◌⊎◌, ℕ, ◌+◌, Bool, true, false, not, ◌||◌, ◌&&◌, if◌then◌else◌, List, [], ◌∷◌, ◌++◌, take, drop, Option, Some, None, Result, Ok, Err}
+use Rattle.std.specs.Prelude.{◌≡◌, ◌==◌, ◌⊎◌, ℕ, zero, suc, ◌+◌, Bool, true, false, not, ◌||◌, ◌&&◌, if◌then◌else◌, List, [], ◌∷◌, ◌++◌, take, drop, Option, Some, None, Result, Ok, Err}
 use Rattle.gw_text.specs.Lexical.{nul, backslash, right_brace, is_blank}
 use Rattle.gw_text.specs.Runs.{IsRun, begins, run_len}
 use Rattle.gw_text.specs.Scans.{Scan}
@@ -55,6 +55,20 @@ octets_from escaped passed keep (b ∷ bs) =
 
 unfoldable pub octets_ends : List ℕ → Option (ℕ × ℕ)
 octets_ends text = octets_from false 0 0 text
+
+-- a byte that ends no octets and escapes nothing
+abbrev pub is_plain : ℕ → Bool
+is_plain b = not (b == right_brace || b == backslash || b == nul)
+
+-- the same with a byte in front
+abbrev pub end_behind : ℕ → ℕ → ℕ
+end_behind b zero = if is_blank b then 0 else 1
+end_behind b (suc end) = suc (suc end)
+
+-- the length of the text without the white space at its end
+abbrev pub solid_end : List ℕ → ℕ
+solid_end [] = 0
+solid_end (b ∷ bs) = end_behind b (solid_end bs)
 
 -- without white space at the front
 abbrev pub trimmed : List ℕ → List ℕ

@@ -1,5 +1,5 @@
 -- Runs of bytes of a class, and what a text begins with (own).
-use Rattle.std.specs.Prelude.{◌≡◌, ◌==◌, true, ℕ, suc, Bool, false, if◌then◌else◌, List, [], ◌∷◌}
+use Rattle.std.specs.Prelude.{◌≡◌, ◌==◌, true, ℕ, suc, Bool, false, if◌then◌else◌, List, [], ◌∷◌, Option, Some, None}
 use Rattle.std.specs.List.{list_all}
 
 -- how many bytes at the front are of the class
@@ -11,6 +11,11 @@ run_len p (b ∷ bs) = if p b then suc (run_len p bs) else 0
 abbrev pub begins : (ℕ → Bool) → List ℕ → Bool
 begins p [] = false
 begins p (b ∷ bs) = p b
+
+-- the first byte, if there is one
+abbrev pub first : List ℕ → Option ℕ
+first [] = None
+first (b ∷ bs) = Some b
 
 -- bytes of the class alone
 abbrev pub IsRun : (ℕ → Bool) → List ℕ → Type 0

@@ -50,6 +50,6 @@ abbrev pub uint32_at : Scan ℕ
 uint32_at = number_within uint32_digits uint32_max
 
 -- What a scan answered, seen by view, is what is at the cursor. A fault leaves the cursor where it was.
-abbrev pub Gives : {X V : Type 0} → (X → V) → List ℕ → Result X ScanFault → List ℕ → Result (V × List ℕ) ScanFault → Type 0
-Gives view old (Ok x) new at = at ≡ Ok (view x, new)
-Gives view old (Err e) new at = (at ≡ Err e) × (new ≡ old)
+abbrev pub Takes : {X V : Type 0} → (X → V) → List ℕ → Result X ScanFault → List ℕ → Result (V × List ℕ) ScanFault → Type 0
+Takes view old (Ok x) new at = at ≡ Ok (view x, new)
+Takes view old (Err e) new at = (at ≡ Err e) × (new ≡ old)

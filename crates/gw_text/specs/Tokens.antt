@@ -13,21 +13,22 @@ pub record Spelling : Type 0 where
 abbrev row : List ℕ → List ℕ → Token → Spelling
 row long short token = record { long = long; short = short; token = token }
 
+-- those of a letter in the order of use
 abbrev pub table : List Spelling
 table =
     row (codes "Add") (codes "A") Add
+    ∷ row (codes "AuditValue") (codes "AV") AuditValue
     ∷ row (codes "Audit") (codes "AT") Audit
     ∷ row (codes "AuditCapability") (codes "AC") AuditCapability
-    ∷ row (codes "AuditValue") (codes "AV") AuditValue
     ∷ row (codes "Bothway") (codes "BW") Bothway
     ∷ row (codes "Context") (codes "C") Context
     ∷ row (codes "ContextAudit") (codes "CA") ContextAudit
-    ∷ row (codes "Delay") (codes "DL") Delay
     ∷ row (codes "DigitMap") (codes "DM") DigitMap
-    ∷ row (codes "Emergency") (codes "EG") Emergency
-    ∷ row (codes "Error") (codes "ER") Error
-    ∷ row (codes "EventBuffer") (codes "EB") EventBuffer
+    ∷ row (codes "Delay") (codes "DL") Delay
     ∷ row (codes "Events") (codes "E") Events
+    ∷ row (codes "EventBuffer") (codes "EB") EventBuffer
+    ∷ row (codes "Error") (codes "ER") Error
+    ∷ row (codes "Emergency") (codes "EG") Emergency
     ∷ row (codes "Forced") (codes "FO") Forced
     ∷ row (codes "Inactive") (codes "IN") Inactive
     ∷ row (codes "InService") (codes "IV") InService
@@ -36,37 +37,37 @@ table =
     ∷ row (codes "LocalControl") (codes "O") LocalControl
     ∷ row (codes "Loopback") (codes "LB") Loopback
     ∷ row (codes "Media") (codes "M") Media
-    ∷ row (codes "Method") (codes "MT") Method
     ∷ row (codes "Mode") (codes "MO") Mode
-    ∷ row (codes "Modem") (codes "MD") Modem
     ∷ row (codes "Modify") (codes "MF") Modify
     ∷ row (codes "Move") (codes "MV") Move
+    ∷ row (codes "Method") (codes "MT") Method
+    ∷ row (codes "Modem") (codes "MD") Modem
     ∷ row (codes "Mux") (codes "MX") Mux
     ∷ row (codes "Notify") (codes "N") Notify
     ∷ row (codes "ObservedEvents") (codes "OE") ObservedEvents
-    ∷ row (codes "Oneway") (codes "OW") Oneway
     ∷ row (codes "OutOfService") (codes "OS") OutOfService
-    ∷ row (codes "Packages") (codes "PG") Packages
+    ∷ row (codes "Oneway") (codes "OW") Oneway
+    ∷ row (codes "Remote") (codes "R") Remote
+    ∷ row (codes "ReceiveOnly") (codes "RC") ReceiveOnly
+    ∷ row (codes "Reply") (codes "P") Reply
+    ∷ row (codes "Reason") (codes "RE") Reason
+    ∷ row (codes "Restart") (codes "RS") Restart
     ∷ row (codes "Pending") (codes "PN") Pending
     ∷ row (codes "Priority") (codes "PR") Priority
-    ∷ row (codes "Reason") (codes "RE") Reason
-    ∷ row (codes "ReceiveOnly") (codes "RC") ReceiveOnly
-    ∷ row (codes "Remote") (codes "R") Remote
-    ∷ row (codes "Reply") (codes "P") Reply
-    ∷ row (codes "Restart") (codes "RS") Restart
-    ∷ row (codes "SendOnly") (codes "SO") SendOnly
-    ∷ row (codes "SendReceive") (codes "SR") SendReceive
-    ∷ row (codes "ServiceChange") (codes "SC") ServiceChange
-    ∷ row (codes "ServiceStates") (codes "SI") ServiceStates
-    ∷ row (codes "Services") (codes "SV") Services
-    ∷ row (codes "Signals") (codes "SG") Signals
-    ∷ row (codes "Statistics") (codes "SA") Statistics
-    ∷ row (codes "Stream") (codes "ST") Stream
+    ∷ row (codes "Packages") (codes "PG") Packages
     ∷ row (codes "Subtract") (codes "S") Subtract
-    ∷ row (codes "TerminationState") (codes "TS") TerminationState
-    ∷ row (codes "Test") (codes "TE") Test
-    ∷ row (codes "Topology") (codes "TP") Topology
+    ∷ row (codes "Stream") (codes "ST") Stream
+    ∷ row (codes "Signals") (codes "SG") Signals
+    ∷ row (codes "SendReceive") (codes "SR") SendReceive
+    ∷ row (codes "SendOnly") (codes "SO") SendOnly
+    ∷ row (codes "ServiceChange") (codes "SC") ServiceChange
+    ∷ row (codes "Services") (codes "SV") Services
+    ∷ row (codes "ServiceStates") (codes "SI") ServiceStates
+    ∷ row (codes "Statistics") (codes "SA") Statistics
     ∷ row (codes "Transaction") (codes "T") Transaction
+    ∷ row (codes "TerminationState") (codes "TS") TerminationState
+    ∷ row (codes "Topology") (codes "TP") Topology
+    ∷ row (codes "Test") (codes "TE") Test
     ∷ row (codes "TransactionResponseAck") (codes "K") TransactionResponseAck
     ∷ []
 

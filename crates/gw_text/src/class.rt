@@ -1,9 +1,7 @@
 //! Classes of bytes (RFC 3525, Annex B.2).
 
 ghost use Rattle.std.specs.Prelude.{◌≡◌};
-ghost use Rattle.gw_text.specs.Lexical.{is_eol, is_blank, is_safe, is_safe_mark, is_solid};
-
-use gw_base::{is_digit, is_letter};
+ghost use Rattle.gw_text.specs.Lexical.{is_eol, is_blank, is_safe, is_solid};
 
 /// The end of a line: CR or LF.
 pub fn is_eol(b: u8) -> bool
@@ -26,15 +24,20 @@ pub fn is_solid(b: u8) -> bool
     !(is_blank(b) || b == b';')
 }
 
-fn is_safe_mark(b: u8) -> bool
-    ensures { result ≡ is_safe_mark b }
-{
-    b"!$%&'()*+-./?@\\^_`|~".contains(&b)
-}
+// Each safe byte stands at its own place, and a comma at every other place.
+static SAFE: [u8; 256] = *b"\
+    ,,,,,,,,,,,,,,,,,,,,,,,,,,,,,,,,\
+    ,!,,$%&'()*+,-./0123456789,,,,,?\
+    @ABCDEFGHIJKLMNOPQRSTUVWXYZ,\\,^_\
+    `abcdefghijklmnopqrstuvwxyz,|,~,\
+    ,,,,,,,,,,,,,,,,,,,,,,,,,,,,,,,,\
+    ,,,,,,,,,,,,,,,,,,,,,,,,,,,,,,,,\
+    ,,,,,,,,,,,,,,,,,,,,,,,,,,,,,,,,\
+    ,,,,,,,,,,,,,,,,,,,,,,,,,,,,,,,,";
 
 /// A byte of a word: a letter, a digit or one of ``! $ % & ' ( ) * + - . / ? @ \ ^ _ ` | ~``.
 pub fn is_safe(b: u8) -> bool
     ensures { result ≡ is_safe b }
 {
-    is_letter(b) || is_digit(b) || is_safe_mark(b)
+    SAFE[b as usize] != b','
 }

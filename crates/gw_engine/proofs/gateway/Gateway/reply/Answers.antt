@@ -8,7 +8,7 @@ use Rattle.gw_tx.specs.Transactions.{transaction}
 use Rattle.gw_tx.proofs.Kept.{transaction_whole}
 use Rattle.gw_reserve.specs.declared.owners.Cursors.{Cursors}
 use Rattle.gw_reserve.specs.Owners.{new_cursor}
-use Rattle.gw_engine.specs.State.{State, GatewayValue}
+use Rattle.gw_engine.specs.State.{State, Whole}
 use Rattle.gw_engine.specs.GatewayView.{value_of}
 use Rattle.gw_engine.specs.Datagrams.{owned_by, carried, reply_outcome}
 use Rattle.gw_engine.specs.Preparing.{Prepares}
@@ -16,7 +16,7 @@ use Rattle.gw_engine.proofs.gateway.Gateway.reply.Goals as goal
 
 pub returns : goal.returns
 returns c =
-    let g : GatewayValue = value_of c.self.inside in
+    let g : Whole = value_of c.self.inside in
     let r = c.args.request.now in
     let ids : c.in_ok-ids.ids ≡ owned_by g r = c.in_ok-ids.ensures.ids in
     let cursor : c.in_ok-ids.cursors.context ≡ new_cursor g.state.maps g.state.context_cursor g.settings.contexts r = ap (λ (k : Cursors). k.context) c.in_ok-ids.ensures.cursors in
@@ -38,4 +38,4 @@ returns c =
         distinct = c.self.invariant.well_formed.distinct;
       };
     } in
-    subst (λ (w : GatewayValue). Prepares w (reply_outcome w r) c.in_ok-bytes.bytes.items (Some (c.tables.result, c.in_ok-ids.cursors))) c.self.view_is prepared
+    subst (λ (w : Whole). Prepares w (reply_outcome w r) c.in_ok-bytes.bytes.items (Some (c.tables.result, c.in_ok-ids.cursors))) c.self.view_is prepared
