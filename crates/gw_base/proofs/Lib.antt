@@ -1,7 +1,10 @@
 pub mod Booleans
 pub mod Enclosures
+pub mod KeyTests
 pub mod Known
 pub mod NameForms
+pub mod NameTests
+pub mod NamesInLists
 pub mod Paddings
 pub mod Ports
 pub mod SpelledLaws

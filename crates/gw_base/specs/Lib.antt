@@ -1,8 +1,11 @@
 pub mod Addresses
 pub mod Bytes
+pub mod Choose
 pub mod Codes
+pub mod Keys
 pub mod Lang
 pub mod Mids
+pub mod NameLists
 pub mod Names
 pub mod Padding
 pub mod PaddingLaw

@@ -2,6 +2,7 @@
 #![tactic(auto)]
 
 mod bytes;
+mod choose;
 mod code;
 mod command_words;
 mod config;
@@ -10,6 +11,7 @@ mod ids;
 mod inline;
 mod inline_order;
 mod items;
+mod key;
 mod media;
 mod mid;
 mod name;
@@ -23,6 +25,7 @@ pub use config::Config;
 pub use fault::{NameFault, NoMemory};
 pub use ids::{CtxNum, Ids, TxId};
 pub use items::Items;
+pub use key::Key;
 pub use media::MediaAddr;
 pub use mid::Mid;
 pub use name::TermName;

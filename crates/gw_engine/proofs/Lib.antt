@@ -1,12 +1,2 @@
-pub mod Accesses
-pub mod Kept
-pub mod Lookups
-pub mod Folds
-pub mod MemberLists
-pub mod Names
-pub mod Owned
+pub mod Configured
 pub mod Prepared
-pub mod Provisioning
-pub mod Sound
-pub mod Steps
-pub mod Whole

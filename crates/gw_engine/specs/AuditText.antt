@@ -1,11 +1,12 @@
 -- The gateway's tables as text, for an operator (own).
-use Rattle.std.specs.Prelude.{ℕ, List, ◌++◌, length, codes, decimal, Option, None, Some}
+use Rattle.std.specs.Prelude.{ℕ, List, [], ◌++◌, length, codes, decimal, Option, None, Some}
 use Rattle.std.specs.List.{flat_map}
-use Rattle.std.specs.FinMap as map
 use Rattle.gw_base.specs.declared.ids.CtxNum.{CtxNum}
 use Rattle.gw_base.specs.declared.command_words.Service.{Service}
 use Rattle.gw_base.specs.declared.command_words.Service.TheVariants.{Test, OutOfService, InService}
-use Rattle.gw_engine.specs.declared.termination.Termination.{Termination}
+use Rattle.gw_term.specs.declared.record.Termination.{Termination}
+use Rattle.gw_ctx.specs.Contexts.{ContextRecord}
+use Rattle.gw_table.specs.Maps.{Maps, term, ctx, names, numbers}
 use Rattle.gw_engine.specs.State.{Whole}
 
 -- the context that a termination is in; - for the null context
@@ -23,12 +24,21 @@ abbrev pub member_text : List ℕ → List ℕ
 member_text name = codes " " ++ name
 
 -- context <number> <members in joining order>
-abbrev pub context_line : ℕ × List (List ℕ) → List ℕ
-context_line entry = codes "context " ++ decimal entry.0 ++ flat_map member_text entry.1 ++ codes "\n"
+abbrev pub context_line : CtxNum → Option ContextRecord → List ℕ
+context_line n None = []
+context_line n (Some c) = codes "context " ++ decimal n.0 ++ flat_map member_text c.members ++ codes "\n"
 
 -- term <name> <place> <service state>
-abbrev pub term_line : List ℕ × Termination → List ℕ
-term_line entry = codes "term " ++ entry.0 ++ codes " " ++ place_text entry.1.place ++ codes " " ++ service_text entry.1.service ++ codes "\n"
+abbrev pub term_line : List ℕ → Option Termination → List ℕ
+term_line t None = []
+term_line t (Some r) = codes "term " ++ t ++ codes " " ++ place_text r.place ++ codes " " ++ service_text r.service ++ codes "\n"
+
+-- the line of each of these contexts, and of each of these terminations
+abbrev pub context_lines : Maps → List CtxNum → List ℕ
+context_lines m = flat_map (λ n. context_line n (ctx m n))
+
+abbrev pub term_lines : Maps → List (List ℕ) → List ℕ
+term_lines m = flat_map (λ t. term_line t (term m t))
 
 -- cursors <the last context number owned> <the slot behind the last owned>
 abbrev pub cursors_line : ℕ → ℕ → List ℕ
@@ -43,6 +53,6 @@ kept_line count = codes "kept " ++ decimal count ++ codes "\n"
 abbrev pub audit_text : Whole → List ℕ
 audit_text g =
     cursors_line g.state.context_cursor g.state.slot_cursor
-    ++ flat_map context_line (map.entries g.state.maps.contexts)
-    ++ flat_map term_line (map.entries g.state.maps.terms)
+    ++ context_lines g.state.maps (numbers g.state.maps)
+    ++ term_lines g.state.maps (names g.state.maps)
     ++ kept_line (length g.state.kept)

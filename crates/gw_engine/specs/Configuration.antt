@@ -1,17 +1,14 @@
 -- Which configurations make a gateway, which fault another has, and the gateway that is made (limits and their order: own).
-use Rattle.std.specs.Prelude.{◌≡◌, ℕ, Bool, true, false, ◌&&◌, if◌then◌else◌, nat_le, List, [], length, map, Option, None, Some}
+use Rattle.std.specs.Prelude.{◌≡◌, ℕ, Bool, true, false, ◌&&◌, if◌then◌else◌, nat_le, List, [], length, Option, None, Some}
 use Rattle.std.specs.List.{list_any}
-use Rattle.std.specs.FinMap as finite
 use Rattle.gw_base.specs.declared.config.Config.{Config}
-use Rattle.gw_base.specs.declared.command_words.Service.TheVariants.{InService}
 use Rattle.gw_engine.specs.declared.fault.LimitName.{LimitName}
 use Rattle.gw_engine.specs.declared.fault.LimitName.TheVariants.{Contexts, Slots, Members, Keep, Terms}
 use Rattle.gw_engine.specs.declared.fault.ConfigFault.{ConfigFault}
 use Rattle.gw_engine.specs.declared.fault.ConfigFault.TheVariants.{LimitOutOfRange, ReservedName, DuplicateName, NoMemory}
-use Rattle.gw_engine.specs.declared.termination.Termination.{Termination}
-use Rattle.gw_engine.specs.Maps.{Maps}
-use Rattle.gw_engine.specs.Members.{NoDoubles}
-use Rattle.gw_engine.specs.Reserved.{is_reserved}
+use Rattle.gw_table.specs.Maps.{new_maps}
+use Rattle.gw_base.specs.NameLists.{NoDoubles}
+use Rattle.gw_table.specs.Reserved.{is_reserved}
 use Rattle.gw_engine.specs.State.{Whole}
 
 -- n is from low to high
@@ -57,14 +54,6 @@ pub record IsAccepted (c : Config) : Type 0 where
   pub limits : first_limit c ≡ None
   pub names : list_any is_reserved c.terms ≡ false
   pub once : NoDoubles c.terms
-
--- a termination that was configured, in the null context
-abbrev pub provisioned : Termination
-provisioned = record { place = None; service = InService }
-
--- the terminations of the configuration, and no contexts
-abbrev pub new_maps : List (List ℕ) → Maps
-new_maps names = record { terms = finite.from_entries (map (λ name. (name, provisioned)) names); contexts = finite.empty }
 
 -- the gateway of the configuration: both cursors are 0, and no reply is kept
 abbrev pub new_gateway : Config → Whole

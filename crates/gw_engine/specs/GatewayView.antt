@@ -4,8 +4,8 @@ use Rattle.gw_engine.specs.declared.gateway.Gateway.TheInside.{Inside}
 use Rattle.gw_engine.specs.Configuration.{is_within, most_contexts, most_slots, most_members, most_kept}
 use Rattle.gw_engine.specs.State.{Whole, IsWellFormed}
 
-abbrev pub whole_of : Inside → Whole
-whole_of a = record {
+abbrev pub value_of : Inside → Whole
+value_of a = record {
   settings = record { mid = a.mid; rules = a.rules; contexts = a.contexts; slots = a.slots; keep = a.keep };
   state = record { maps = a.tables; context_cursor = a.cursors.context; slot_cursor = a.cursors.slot; kept = [] };
 }
@@ -16,4 +16,4 @@ pub record IsGateway (a : Inside) : Type 0 where
   pub slots : is_within 0 most_slots a.slots ≡ true
   pub members : is_within 1 most_members a.rules.members ≡ true
   pub keep : is_within 1 most_kept a.keep ≡ true
-  pub well_formed : IsWellFormed (whole_of a).settings (whole_of a).state
+  pub well_formed : IsWellFormed (value_of a).settings (value_of a).state

@@ -1,9 +1,10 @@
 -- The state of a gateway, and what was configured (RFC 3525, section 6; the cursors and the kept replies are own).
-use Rattle.std.specs.Prelude.{ℕ, ◌≤◌, List, length, refl}
+use Rattle.std.specs.Prelude.{◌≡◌, ℕ, Bool, false, ◌&&◌, ◌≤◌, nat_eq, bytes_eq, List, [], ◌∷◌, length, refl}
+use Rattle.std.specs.List.{list_any}
 use Rattle.std.specs.Coded.{Coded, code_by, coded×, coded_list, coded_ℕ}
 use Rattle.gw_base.specs.declared.command_words.Rules.{Rules}
-use Rattle.gw_engine.specs.Maps.{Maps, coded_maps}
-use Rattle.gw_engine.specs.WellFormed.{AreWellFormed}
+use Rattle.gw_table.specs.Maps.{Maps, coded_maps}
+use Rattle.gw_table.specs.WellFormed.{AreWellFormed}
 
 -- a reply that is kept for repeats: who asked, under which number, and the bytes
 pub record Kept : Type 0 where
@@ -26,17 +27,28 @@ pub record Settings : Type 0 where
   pub slots : ℕ
   pub keep : ℕ
 
--- a gateway as a whole
+-- what was configured, and the state
 pub record Whole : Type 0 where
   pub settings : Settings
   pub state : State
 
--- the tables fit together, the cursors are within the limits, and no more replies are kept than may be
+-- the reply is to the same sender's transaction of the same number
+abbrev pub same_transaction : Kept → Kept → Bool
+same_transaction a b = bytes_eq a.mid b.mid && nat_eq a.id b.id
+
+-- no transaction has two replies
+abbrev pub AreDistinct : List Kept → Type 0
+AreDistinct [] = Unit {0}
+AreDistinct (k ∷ ks) = (list_any (same_transaction k) ks ≡ false) × AreDistinct ks
+
+-- the tables fit together, the cursors are within the limits, and no more replies are kept than may be, each to another
+-- transaction
 pub record IsWellFormed (settings : Settings) (state : State) : Type 0 where
   pub maps : AreWellFormed settings.rules.members state.maps
   pub context_cursor : state.context_cursor ≤ settings.contexts
   pub slot_cursor : state.slot_cursor ≤ settings.slots
   pub kept : length state.kept ≤ settings.keep
+  pub distinct : AreDistinct state.kept
 
 -- ---- codes, by which values of models are told apart
 
@@ -63,5 +75,5 @@ coded_settings =
     (λ s. (s.mid, (s.rules, (s.contexts, (s.slots, s.keep)))))
     (λ p. record { mid = p.0; rules = p.1.0; contexts = p.1.1.0; slots = p.1.1.1.0; keep = p.1.1.1.1 }) (λ _. refl)
 
-abbrev pub coded_whole : Coded Whole
-coded_whole = code_by (Settings × State) (coded× coded_settings coded_state) (λ g. (g.settings, g.state)) (λ p. record { settings = p.0; state = p.1 }) (λ _. refl)
+abbrev pub coded_gateway : Coded Whole
+coded_gateway = code_by (Settings × State) (coded× coded_settings coded_state) (λ g. (g.settings, g.state)) (λ p. record { settings = p.0; state = p.1 }) (λ _. refl)

@@ -1,16 +1,17 @@
 //! The gateway's tables as text, for an operator.
 
-ghost use Rattle.std.specs.Prelude.{◌≡◌, ◌++◌, IfOk, OnOk};
+ghost use Rattle.std.specs.Prelude.{◌≡◌, ◌++◌, IfOk, OnOk, option_copied};
 ghost use Rattle.std.specs.List.{flat_map};
-ghost use Rattle.std.specs.FinMap as map;
-ghost use Rattle.gw_engine.specs.AuditText.{place_text, service_text, member_text, context_line, term_line, cursors_line, kept_line, audit_text};
+ghost use Rattle.gw_engine.specs.AuditText.{place_text, service_text, member_text, context_line, term_line, context_lines, term_lines, cursors_line, kept_line, audit_text};
 ghost use Rattle.gw_engine.specs.State.{IsWellFormed};
 
-use crate::gateway::{Cursors, Gateway};
-use crate::tables::Tables;
-use crate::termination::Termination;
+use crate::gateway::Gateway;
 use gw_base::{CtxNum, NoMemory, Service, TermName};
+use gw_ctx::Context;
 use gw_reply::write_number;
+use gw_reserve::Cursors;
+use gw_table::Tables;
+use gw_term::Termination;
 use std::alloc::{AllocError, Global};
 
 fn write_place(place: Option<CtxNum>, out: &mut Vec<u8>) -> Result<(), AllocError>
@@ -62,55 +63,65 @@ fn write_members(members: &[TermName], out: &mut Vec<u8>) -> Result<(), AllocErr
     Ok(())
 }
 
-fn write_context(number: u32, members: &[TermName], out: &mut Vec<u8>) -> Result<(), AllocError>
-    ensures { OnOk result (out.new.items ≡ out.old.items ++ context_line (number, members.now)) }
+fn write_context(
+    number: CtxNum,
+    context: Option<&Context>,
+    out: &mut Vec<u8>,
+) -> Result<(), AllocError>
+    ensures { OnOk result (out.new.items ≡ out.old.items ++ context_line number (option_copied context.entry)) }
 {
-    out.extend_from_slice(b"context ")?;
-    write_number(number, out)?;
-    write_members(members, out)?;
-    out.push(b'\n')?;
+    if let Some(context) = context {
+        out.extend_from_slice(b"context ")?;
+        write_number(number.0, out)?;
+        write_members(context.members().as_slice(), out)?;
+        out.push(b'\n')?;
+    }
     Ok(())
 }
 
-fn write_term(name: TermName, termination: Termination, out: &mut Vec<u8>) -> Result<(), AllocError>
-    ensures { OnOk result (out.new.items ≡ out.old.items ++ term_line (name, termination)) }
+fn write_term(
+    name: TermName,
+    termination: Option<&Termination>,
+    out: &mut Vec<u8>,
+) -> Result<(), AllocError>
+    ensures { OnOk result (out.new.items ≡ out.old.items ++ term_line name (option_copied termination.entry)) }
 {
-    out.extend_from_slice(b"term ")?;
-    out.extend_from_slice(name.as_bytes())?;
-    out.push(b' ')?;
-    write_place(termination.place, out)?;
-    out.push(b' ')?;
-    write_service(termination.service, out)?;
-    out.push(b'\n')?;
+    if let Some(termination) = termination {
+        out.extend_from_slice(b"term ")?;
+        out.extend_from_slice(name.as_bytes())?;
+        out.push(b' ')?;
+        write_place(termination.place(), out)?;
+        out.push(b' ')?;
+        write_service(termination.service(), out)?;
+        out.push(b'\n')?;
+    }
     Ok(())
 }
 
-impl Tables {
-    /// A line for each context, the numbers rising.
-    fn write_contexts(&self, out: &mut Vec<u8>) -> Result<(), AllocError>
-        ensures { OnOk result (out.new.items ≡ out.old.items ++ flat_map context_line (map.entries self.now.contexts)) }
-    {
-        for (number, context) in self.contexts.iter() {
-            write_context(*number, context.members(), out)?;
-        }
-        Ok(())
+/// A line for each of the contexts.
+fn write_contexts(tables: &Tables, numbers: &[CtxNum], out: &mut Vec<u8>) -> Result<(), AllocError>
+    ensures { OnOk result (out.new.items ≡ out.old.items ++ context_lines tables.now numbers.now) }
+{
+    for number in numbers {
+        write_context(*number, tables.find_ctx(*number), out)?;
     }
+    Ok(())
+}
 
-    /// A line for each termination, in the order of the bytes of their names.
-    fn write_terms(&self, out: &mut Vec<u8>) -> Result<(), AllocError>
-        ensures { OnOk result (out.new.items ≡ out.old.items ++ flat_map term_line (map.entries self.now.terms)) }
-    {
-        for (name, termination) in self.terms.iter() {
-            write_term(*name, *termination, out)?;
-        }
-        Ok(())
+/// A line for each of the terminations.
+fn write_terms(tables: &Tables, names: &[TermName], out: &mut Vec<u8>) -> Result<(), AllocError>
+    ensures { OnOk result (out.new.items ≡ out.old.items ++ term_lines tables.now names.now) }
+{
+    for name in names {
+        write_term(*name, tables.find_term(name), out)?;
     }
+    Ok(())
 }
 
 impl Gateway {
     /// The tables and cursors as text: a line `cursors <contexts> <slots>`, a line `context <number> <members>` for each
     /// context, a line `term <name> <context or -> <service state>` for each termination, and a line `kept <count>`. The work is
-    /// linear in the text.
+    /// linear in the text, but for a look-up for each line.
     ///
     /// # Errors
     ///
@@ -121,8 +132,10 @@ impl Gateway {
     {
         let mut out = Vec::new(alloc);
         write_cursors(self.cursors, &mut out)?;
-        self.tables.write_contexts(&mut out)?;
-        self.tables.write_terms(&mut out)?;
+        let numbers = self.tables.numbers(alloc)?;
+        write_contexts(&self.tables, numbers.as_slice(), &mut out)?;
+        let names = self.tables.names(alloc)?;
+        write_terms(&self.tables, names.as_slice(), &mut out)?;
         write_kept(0, &mut out)?;
         Ok(out)
     }

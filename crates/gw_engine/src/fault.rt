@@ -3,7 +3,7 @@
 ghost use Rattle.std.specs.Prelude.{◌≡◌};
 ghost use Rattle.gw_engine.specs.declared.fault.ConfigFault.TheVariants.{NoMemory};
 
-use std::alloc::AllocError;
+use std::alloc::AllocFailed;
 use thiserror::Error;
 
 /// A limit of a configuration.
@@ -38,10 +38,18 @@ pub enum ConfigFault {
     NoMemory,
 }
 
-impl From<AllocError> for ConfigFault {
+impl From<gw_base::NoMemory> for ConfigFault {
     ghost from_gives = { λ _ e. e ≡ NoMemory };
 
-    fn from(_e: AllocError) -> ConfigFault {
+    fn from(_e: gw_base::NoMemory) -> ConfigFault {
+        ConfigFault::NoMemory
+    }
+}
+
+impl<T: Drop> From<AllocFailed<T>> for ConfigFault {
+    ghost from_gives = { λ _ e. e ≡ NoMemory };
+
+    fn from(_e: AllocFailed<T>) -> ConfigFault {
         ConfigFault::NoMemory
     }
 }

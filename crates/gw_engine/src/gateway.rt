@@ -1,26 +1,18 @@
 //! The gateway: what was configured, and its state.
 
-ghost use Rattle.std.specs.Prelude.{◌≡◌, ◌⊎◌, IfOk, IfErr};
+ghost use Rattle.std.specs.Prelude.{◌≡◌, ◌⊎◌, IfOk, OnOk, IfErr};
 ghost use Rattle.std.specs.List.{list_any};
-ghost use Rattle.gw_engine.specs.Configuration.{first_limit, IsFault, IsAccepted, new_gateway, new_maps};
-ghost use Rattle.gw_engine.specs.Members.{NoDoubles};
-ghost use Rattle.gw_engine.specs.Reserved.{is_reserved};
+ghost use Rattle.gw_base.specs.NameLists.{NoDoubles};
+ghost use Rattle.gw_table.specs.Reserved.{is_reserved};
+ghost use Rattle.gw_engine.specs.Configuration.{first_limit, IsFault, IsAccepted, new_gateway};
 
 use crate::fault::{ConfigFault, LimitName};
-use crate::tables::Tables;
-use crate::termination::Termination;
-use gw_base::{Config, Mid, Rules, Service, TermName};
+use gw_base::{Config, Mid, Rules, TermName};
+use gw_reserve::Cursors;
+use gw_table::{Tables, is_reserved};
+use indexmap::IndexSet;
 use std::alloc::Global;
 use std::marker::Model;
-
-/// Where the search for free identifiers begins.
-#[derive(Clone, Copy, Debug, PartialEq, Eq)]
-pub(crate) struct Cursors {
-    /// The last context number that was owned, or 0.
-    pub context: u32,
-    /// The slot behind the last that was owned, or 0.
-    pub slot: u32,
-}
 
 /// A media gateway: its configuration, its terminations and contexts, and where the search for free identifiers begins.
 #[derive(Drop)]
@@ -35,15 +27,15 @@ pub struct Gateway {
 }
 
 impl Model for Gateway {
-    ghost use Rattle.gw_engine.specs.State.{Whole, coded_whole};
+    ghost use Rattle.gw_engine.specs.State.{Whole, coded_gateway};
 
     ghost Value = { Whole };
 
-    ghost coded = { coded_whole };
+    ghost coded = { coded_gateway };
 
-    ghost use Rattle.gw_engine.specs.GatewayView.{whole_of, IsGateway};
+    ghost use Rattle.gw_engine.specs.GatewayView.{value_of, IsGateway};
 
-    ghost view = { whole_of };
+    ghost view = { value_of };
 
     ghost invariant = { IsGateway };
 }
@@ -78,41 +70,29 @@ fn first_limit(config: &Config) -> Option<LimitName>
     }
 }
 
-/// Whether the name is the gateway's own to give.
-fn is_reserved(name: TermName) -> bool
-    ensures { result ≡ is_reserved name }
-{
-    let bytes = name.as_bytes();
-    bytes.eq_ignore_ascii_case(b"ROOT") || bytes.starts_with(b"RTP/")
-}
-
 fn has_reserved(names: &[TermName]) -> bool
     ensures { result ≡ list_any is_reserved names.now }
 {
     names.iter().any(|name| is_reserved(*name))
 }
 
-/// Tables with these terminations in the null context.
-fn provisioned(alloc: Global, names: &[TermName]) -> Result<Tables, ConfigFault>
-    ensures ok { IfOk result (λ tables. (tables ≡ new_maps names.now) × NoDoubles names.now) }
+/// Tells whether a name is given twice, which is a fault.
+fn check_names(alloc: Global, names: &[TermName]) -> Result<(), ConfigFault>
+    ensures ok { OnOk result (NoDoubles names.now) }
     ensures fault { IfErr result (λ e. ((e ≡ ConfigFault.DuplicateName) × ¬ NoDoubles names.now) ⊎ (e ≡ ConfigFault.NoMemory)) }
 {
-    let mut tables = Tables::new(alloc);
+    let mut seen = IndexSet::new(alloc);
     for name in names {
-        let free = Termination {
-            place: None,
-            service: Service::InService,
-        };
-        if tables.set_term(*name, Some(free))?.is_some() {
+        if !seen.insert(*name)? {
             return Err(ConfigFault::DuplicateName);
         }
     }
-    Ok(tables)
+    Ok(())
 }
 
 impl Gateway {
-    /// The gateway of a configuration, with its terminations in the null context and no contexts. Its names are looked up in
-    /// the order of their bytes, so this takes n log n steps in them.
+    /// The gateway of a configuration, with its terminations in the null context and no contexts. This takes n log n steps in the
+    /// names.
     ///
     /// # Errors
     ///
@@ -128,7 +108,8 @@ impl Gateway {
         if has_reserved(config.terms.as_slice()) {
             return Err(ConfigFault::ReservedName);
         }
-        let tables = provisioned(alloc, config.terms.as_slice())?;
+        check_names(alloc, config.terms.as_slice())?;
+        let tables = Tables::provision(alloc, &config)?;
         Ok(Gateway {
             mid: config.mid,
             rules: Rules {

@@ -2,25 +2,25 @@
 
 ghost use Rattle.std.specs.Prelude.{◌≡◌, ◌≤◌, length, IfOk, OnErr, MatchOption, None, Some};
 ghost use Rattle.std.specs.List.{list_all};
-ghost use Rattle.gw_engine.specs.Datagrams.{is_simple_command, is_simple_context, is_simple_action, is_simple_request, simple_request, refusal, reply_to, AnswersBurst};
-ghost use Rattle.gw_engine.specs.Serving.{Prepares, PreparesText};
+ghost use Rattle.gw_engine.specs.Datagrams.{is_simple_command, is_simple_context, is_simple_action, is_simple_request, simple_request, refusal, reply_outcome, AnswersBurst};
+ghost use Rattle.gw_engine.specs.Preparing.{Prepares, PreparesText};
 ghost use Rattle.gw_engine.specs.State.{IsWellFormed};
 
-use crate::carry::transaction;
-use crate::change::Change;
 use crate::datagram::Datagram;
-use crate::gateway::{Cursors, Gateway};
-use crate::reserve::reserve;
-use crate::tables::Tables;
-use gw_base::{Code, CtxRef, Items, NoMemory};
+use crate::gateway::Gateway;
+use gw_base::{Code, CtxRef, Items, NoMemory, TermRef, Verb};
 use gw_msg::{Action, Command, Item, ReadFault, Request, read_message};
 use gw_reply::{write_fault, write_reply};
+use gw_reserve::{Cursors, reserve};
+use gw_table::Tables;
+use gw_tx::transaction;
 use std::alloc::Global;
 
 fn is_simple_command(command: &Command<'_>) -> bool
     ensures { result ≡ is_simple_command command.now }
 {
-    Change::of(command).is_some()
+    matches!(command.verb, Verb::Add | Verb::Subtract)
+        && matches!(command.term, TermRef::Name(_))
         && !(command.optional || command.wild)
         && command.descriptors.is_empty()
 }
@@ -85,26 +85,15 @@ impl Gateway {
 
     /// The reply to a request, which is carried out on a copy of the tables.
     fn reply(&self, alloc: Global, request: &Request<'_>) -> Result<Prepared, NoMemory>
-        ensures { IfOk result (λ p. Prepares self.now (reply_to self.now request.now) p.bytes.items p.change) }
+        ensures { IfOk result (λ p. Prepares self.now (reply_outcome self.now request.now) p.bytes.items p.change) }
     {
-        let asked = request.actions.as_slice();
-        let (ids, context) = reserve(
-            alloc,
-            &self.tables,
-            self.contexts,
-            self.cursors.context,
-            asked,
-        )?;
-        let mut tables = self.tables.copy()?;
-        let reply = transaction(alloc, &self.rules, &mut tables, request, &ids)?;
+        let (ids, cursors) = reserve(alloc, &self.tables, self.contexts, &self.cursors, request)?;
+        let mut part = self.tables.copy()?.all();
+        let reply = transaction(alloc, &self.rules, &mut part, request, &ids)?;
         let bytes = write_reply(alloc, &reply, &self.mid)?;
-        let cursors = Cursors {
-            context,
-            slot: self.cursors.slot,
-        };
         Ok(Prepared {
             bytes,
-            change: Some((tables, cursors)),
+            change: Some((part.tables(), cursors)),
         })
     }
 

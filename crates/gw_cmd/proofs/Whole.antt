@@ -1,0 +1,116 @@
+-- Terminations that join and leave keep whole tables well-formed.
+use Rattle.std.proofs.Common.{nat_eq, ◌≡◌, ℕ, ◌≤◌, ◌<◌, Bool, true, false, cond, List, [], ◌∷◌, ◌++◌, length, Option, None, Some, bytes_eq, refl, sym, ap, subst, ◌∙◌, arith, length-append}
+use Rattle.std.specs.Prelude.{◌≢◌}
+use Rattle.gw_base.specs.declared.ids.CtxNum.{CtxNum}
+use Rattle.gw_base.specs.NameLists.{is_in}
+use Rattle.gw_base.proofs.NameTests.{same_name, same_number, number_itself}
+use Rattle.gw_base.proofs.NamesInLists.{last_in_pushed, stays_in_pushed, stays_without, length_without}
+use Rattle.gw_term.specs.declared.record.Termination.{Termination}
+use Rattle.gw_ctx.specs.Contexts.{ContextRecord, new_context, joined, left}
+use Rattle.gw_table.specs.Maps.{Maps, term, ctx, put_term, place_of, context_of, members_of}
+use Rattle.gw_table.specs.Parts.{Every}
+use Rattle.gw_table.specs.Reserved.{is_reserved}
+use Rattle.gw_table.specs.WellFormed.{IsSound, AreWellFormed}
+use Rattle.gw_table.proofs.Lookups.{term-put_term, ctx-put_term}
+use Rattle.gw_table.proofs.PartLookups.{sound_whole}
+use Rattle.gw_cmd.specs.Moves.{with_member, without_member, unless_none, unless_empty}
+use Rattle.gw_cmd.proofs.Sound.{members-unless_empty, ctx-with_member, ctx-without_member, term-with_member, term-without_member, free_at_none, sound_joined, sound_departed}
+
+-- a termination that is there has no name of the gateway's own, nor gets one
+unnamed : (limit : ℕ) (t q : List ℕ) (r : Termination) (m : Maps) → AreWellFormed limit m → term m t ≡ Some r → is_reserved q ≡ true → (new : Option Termination) (b : Bool) → bytes_eq q t ≡ b → cond b new (term m q) ≡ None
+unnamed limit t q r m w is h new false e = w.named q h
+unnamed limit t q r m w is h new true e =
+    let same : term m q ≡ Some r = ap (λ (k : List ℕ). term m k) (same_name q t e) ∙ is in
+    let clash : None ≡ Some r = sym (w.named q h) ∙ same in
+    cc
+
+pushed_some : (t : List ℕ) (c : ContextRecord) → Some (joined t c) ≢ Some new_context
+pushed_some t c e = by c.members (ap (λ (o : Option ContextRecord). members_of o) e)
+  where
+    by : (l : List (List ℕ)) → l ++ t ∷ [] ≡ [] → ⊥
+    by [] e = cc
+    by (x ∷ xs) e = cc
+
+unless_some : (c : ContextRecord) → unless_empty c ≢ Some new_context
+unless_some c e = by c.members c refl e
+  where
+    by : (l : List (List ℕ)) (c : ContextRecord) → l ≡ c.members → unless_none l c ≡ Some new_context → ⊥
+    by [] c a e = cc
+    by (x ∷ xs) c a e = let f : c.members ≡ [] = ap (λ (o : Option ContextRecord). members_of o) e in let clash : x ∷ xs ≡ [] = a ∙ f in cc
+
+pub whole_joined : (limit : ℕ) (n : CtxNum) (t : List ℕ) (r : Termination) (o : Option Termination) (m : Maps) → AreWellFormed limit m → term m t ≡ Some r → r.place ≡ None → place_of o ≡ Some n → length (members_of (ctx m n)) < limit → AreWellFormed limit (put_term (with_member n t m) t o)
+whole_joined limit n t r o m w is nowhere there room = record {
+  recorded = λ q c h. sound.recorded q c refl h;
+  listed = λ q c e. ap (λ x. is_in q (members_of x)) (at_ctx c) ∙ listed q c (bytes_eq q t) (nat_eq c.0 n.0) refl refl (ap (λ x. place_of x) (sym (at_term q)) ∙ e);
+  once = sound.once;
+  some = λ c e. some c (nat_eq c.0 n.0) (sym (at_ctx c) ∙ e);
+  few = λ c. subst (λ x. length (members_of x) ≤ limit) (sym (at_ctx c)) (few c (nat_eq c.0 n.0));
+  named = λ q h. at_term q ∙ unnamed limit t q r m w is h o (bytes_eq q t) refl;
+}
+  where
+    sound : IsSound Every (put_term (with_member n t m) t o)
+    sound = sound_joined Every n t o m (sound_whole limit m w) (free_at_none Every t m (sound_whole limit m w) refl (ap (λ x. place_of x) is ∙ nowhere)) there
+
+    list : Option ContextRecord
+    list = Some (joined t (context_of (ctx m n)))
+
+    at_term : (q : List ℕ) → term (put_term (with_member n t m) t o) q ≡ cond (bytes_eq q t) o (term m q)
+    at_term q = term-put_term (with_member n t m) t o q ∙ ap (cond (bytes_eq q t) o) (term-with_member n t m q)
+
+    at_ctx : (c : CtxNum) → ctx (put_term (with_member n t m) t o) c ≡ cond (nat_eq c.0 n.0) list (ctx m c)
+    at_ctx c = ctx-put_term (with_member n t m) t o c ∙ ctx-with_member n t m c
+
+    listed : (q : List ℕ) (c : CtxNum) (b d : Bool) → bytes_eq q t ≡ b → nat_eq c.0 n.0 ≡ d → place_of (cond b o (term m q)) ≡ Some c → is_in q (members_of (cond d list (ctx m c))) ≡ true
+    listed q c true true a b e = last_in_pushed q t (members_of (ctx m n)) a
+    listed q c true false a b e =
+        let f : Some n ≡ Some c = sym there ∙ e in
+        let j : n ≡ c = cc in
+        let y : nat_eq c.0 n.0 ≡ true = number_itself c n (sym j) in
+        absurd (let clash : true ≡ false = sym y ∙ b in cc)
+    listed q c false true a b e = stays_in_pushed q t (members_of (ctx m n)) (ap (λ (k : CtxNum). is_in q (members_of (ctx m k))) (sym (same_number c n b)) ∙ w.listed q c e)
+    listed q c false false a b e = w.listed q c e
+
+    some : (c : CtxNum) (d : Bool) → cond d list (ctx m c) ≢ Some new_context
+    some c true e = pushed_some t (context_of (ctx m n)) e
+    some c false e = w.some c e
+
+    few : (c : CtxNum) (d : Bool) → length (members_of (cond d list (ctx m c))) ≤ limit
+    few c true = omega (arith, length-append (members_of (ctx m n)) (t ∷ []))
+    few c false = w.few c
+
+pub whole_departed : (limit : ℕ) (n : CtxNum) (t : List ℕ) (r : Termination) (o : Option Termination) (m : Maps) → AreWellFormed limit m → term m t ≡ Some r → r.place ≡ Some n → place_of o ≡ None → AreWellFormed limit (put_term (without_member n t m) t o)
+whole_departed limit n t r o m w is there nowhere = record {
+  recorded = λ q c h. sound.recorded q c refl h;
+  listed = λ q c e. ap (λ x. is_in q (members_of x)) (at_ctx c) ∙ listed q c (bytes_eq q t) (nat_eq c.0 n.0) refl refl (ap (λ x. place_of x) (sym (at_term q)) ∙ e);
+  once = sound.once;
+  some = λ c e. some c (nat_eq c.0 n.0) (sym (at_ctx c) ∙ e);
+  few = λ c. subst (λ x. length (members_of x) ≤ limit) (sym (at_ctx c)) (few c (nat_eq c.0 n.0));
+  named = λ q h. at_term q ∙ unnamed limit t q r m w is h o (bytes_eq q t) refl;
+}
+  where
+    sound : IsSound Every (put_term (without_member n t m) t o)
+    sound = sound_departed Every n t o m (sound_whole limit m w) refl (ap (λ x. place_of x) is ∙ there)
+
+    rest : ContextRecord
+    rest = left t (context_of (ctx m n))
+
+    at_term : (q : List ℕ) → term (put_term (without_member n t m) t o) q ≡ cond (bytes_eq q t) o (term m q)
+    at_term q = term-put_term (without_member n t m) t o q ∙ ap (cond (bytes_eq q t) o) (term-without_member n t m q)
+
+    at_ctx : (c : CtxNum) → ctx (put_term (without_member n t m) t o) c ≡ cond (nat_eq c.0 n.0) (unless_empty rest) (ctx m c)
+    at_ctx c = ctx-put_term (without_member n t m) t o c ∙ ctx-without_member n t m c
+
+    listed : (q : List ℕ) (c : CtxNum) (b d : Bool) → bytes_eq q t ≡ b → nat_eq c.0 n.0 ≡ d → place_of (cond b o (term m q)) ≡ Some c → is_in q (members_of (cond d (unless_empty rest) (ctx m c))) ≡ true
+    listed q c true d a b e = absurd (let clash : None ≡ Some c = sym nowhere ∙ e in cc)
+    listed q c false true a b e =
+        ap (is_in q) (members-unless_empty rest)
+        ∙ stays_without t q (members_of (ctx m n)) a (ap (λ (k : CtxNum). is_in q (members_of (ctx m k))) (sym (same_number c n b)) ∙ w.listed q c e)
+    listed q c false false a b e = w.listed q c e
+
+    some : (c : CtxNum) (d : Bool) → cond d (unless_empty rest) (ctx m c) ≢ Some new_context
+    some c true e = unless_some rest e
+    some c false e = w.some c e
+
+    few : (c : CtxNum) (d : Bool) → length (members_of (cond d (unless_empty rest) (ctx m c))) ≤ limit
+    few c true = omega (arith, ap length (members-unless_empty rest), length_without t (members_of (ctx m n)), w.few n)
+    few c false = w.few c

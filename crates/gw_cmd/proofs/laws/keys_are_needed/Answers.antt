@@ -1,0 +1,8 @@
+use Rattle.gw_cmd.proofs.Locality.{needs_context, needs_termination}
+use Rattle.gw_cmd.proofs.laws.keys_are_needed.Goals as goal
+
+pub returns-clause-context : goal.returns-clause-context
+returns-clause-context c = needs_context
+
+pub returns-clause-termination : goal.returns-clause-termination
+returns-clause-termination c = needs_termination

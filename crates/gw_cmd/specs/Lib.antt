@@ -1,0 +1,9 @@
+pub mod Commands
+pub mod Effects
+pub mod Keys
+pub mod Moves
+pub mod Places
+pub mod Refused
+pub use Rattle.gw_table.specs.Maps
+pub use Rattle.gw_table.specs.Parts
+pub use Rattle.gw_table.specs.WellFormed

@@ -1,0 +1,2 @@
+pub mod Owners
+pub use Rattle.gw_table.specs.Maps

@@ -1,0 +1,6 @@
+//! Which identifiers the `$` places of a request own.
+#![tactic(auto)]
+
+mod owners;
+
+pub use owners::{Cursors, reserve};

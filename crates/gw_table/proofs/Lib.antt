@@ -1,0 +1,6 @@
+pub mod Folding
+pub mod Frames
+pub mod Growth
+pub mod Lookups
+pub mod PartLookups
+pub mod Provisioning

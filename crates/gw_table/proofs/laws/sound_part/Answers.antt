@@ -1,0 +1,8 @@
+use Rattle.gw_table.proofs.PartLookups.{sound_restricted, sound_whole}
+use Rattle.gw_table.proofs.laws.sound_part.Goals as goal
+
+pub returns-clause-part : goal.returns-clause-part
+returns-clause-part c = sound_restricted
+
+pub returns-clause-whole : goal.returns-clause-whole
+returns-clause-whole c = sound_whole

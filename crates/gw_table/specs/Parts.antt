@@ -1,0 +1,81 @@
+-- Parts of tables: their keys, and the entries that they show (own).
+use Rattle.std.specs.Prelude.{◌≡◌, ℕ, Bool, true, not, List, [], ◌∷◌, Option, None, Some, ◌⊎◌, refl}
+use Rattle.std.proofs.Common.{inl, inr}
+use Rattle.std.specs.FinMap as finite
+use Rattle.std.specs.Coded.{Coded, code_by, coded×, coded⊎, coded_list, coded_option, coded_ℕ}
+use Rattle.gw_base.specs.declared.key.Key.{Key}
+use Rattle.gw_base.specs.declared.key.Key.TheVariants.{Term, Ctx, Whole}
+use Rattle.gw_base.specs.Keys.{has}
+use Rattle.gw_table.specs.Maps.{Maps, term, ctx, put_term, put_ctx, coded_maps}
+
+-- the keys of a part: each key that there is, or these alone
+pub data PartKeys : Type 0 where
+  Every : PartKeys
+  Only : List Key → PartKeys
+
+-- the key is the part's
+abbrev pub holds : PartKeys → Key → Bool
+holds Every k = true
+holds (Only keys) k = has keys k
+
+-- each of these keys is the part's
+abbrev pub Holds : PartKeys → List Key → Type 0
+Holds part keys = (k : Key) → has keys k ≡ true → holds part k ≡ true
+
+-- a part: its keys, and maps with no entry at any other key
+pub record Parted : Type 0 where
+  pub keys : PartKeys
+  pub maps : Maps
+
+-- the entries at these keys
+abbrev pub restricted : List Key → Maps → Maps
+restricted keys m = record { terms = finite.retain_keys m.terms (λ t. has keys (Term t)); contexts = finite.retain_keys m.contexts (λ n. has keys (Ctx (record { 0 = n }))) }
+
+-- the entries at all other keys
+abbrev pub cut : List Key → Maps → Maps
+cut keys m = record { terms = finite.retain_keys m.terms (λ t. not (has keys (Term t))); contexts = finite.retain_keys m.contexts (λ n. not (has keys (Ctx (record { 0 = n })))) }
+
+-- a part laid over the maps: each of the keys has the part's entry, and none where the part has none
+abbrev pub overlaid : List Key → Maps → Maps → Maps
+overlaid [] part m = m
+overlaid (Term t ∷ keys) part m = put_term (overlaid keys part m) t (term part t)
+overlaid (Ctx n ∷ keys) part m = put_ctx (overlaid keys part m) n (ctx part n)
+overlaid (Whole ∷ keys) part m = overlaid keys part m
+
+-- ---- codes, by which values of models are told apart
+
+abbrev keyed : Key → List ℕ ⊎ (ℕ ⊎ ℕ)
+keyed (Term t) = inl t
+keyed (Ctx n) = inr (inl n.0)
+keyed Whole = inr (inr 0)
+
+abbrev key_of : List ℕ ⊎ (ℕ ⊎ ℕ) → Key
+key_of (inl t) = Term t
+key_of (inr (inl n)) = Ctx (record { 0 = n })
+key_of (inr (inr k)) = Whole
+
+abbrev same_keyed : (k : Key) → key_of (keyed k) ≡ k
+same_keyed (Term t) = refl
+same_keyed (Ctx n) = refl
+same_keyed Whole = refl
+
+abbrev coded_key : Coded Key
+coded_key = code_by (List ℕ ⊎ (ℕ ⊎ ℕ)) (coded⊎ (coded_list coded_ℕ) (coded⊎ coded_ℕ coded_ℕ)) keyed key_of same_keyed
+
+abbrev listed : PartKeys → Option (List Key)
+listed Every = None
+listed (Only keys) = Some keys
+
+abbrev keys_of : Option (List Key) → PartKeys
+keys_of None = Every
+keys_of (Some keys) = Only keys
+
+abbrev same_listed : (p : PartKeys) → keys_of (listed p) ≡ p
+same_listed Every = refl
+same_listed (Only keys) = refl
+
+abbrev coded_part_keys : Coded PartKeys
+coded_part_keys = code_by (Option (List Key)) (coded_option (coded_list coded_key)) listed keys_of same_listed
+
+abbrev pub coded_part : Coded Parted
+coded_part = code_by (PartKeys × Maps) (coded× coded_part_keys coded_maps) (λ p. (p.keys, p.maps)) (λ t. record { keys = t.0; maps = t.1 }) (λ _. refl)

@@ -1,0 +1,25 @@
+-- Which tables fit together (RFC 3525, section 6).
+use Rattle.std.specs.Prelude.{◌≡◌, ◌≢◌, ℕ, true, ◌≤◌, List, length, None, Some}
+use Rattle.gw_base.specs.declared.ids.CtxNum.{CtxNum}
+use Rattle.gw_base.specs.declared.key.Key.TheVariants.{Term}
+use Rattle.gw_base.specs.NameLists.{is_in, NoDoubles}
+use Rattle.gw_ctx.specs.Contexts.{new_context}
+use Rattle.gw_table.specs.Maps.{Maps, term, ctx, members_of, place_of}
+use Rattle.gw_table.specs.Parts.{PartKeys, holds}
+use Rattle.gw_table.specs.Reserved.{is_reserved}
+
+-- What a part of tables has from the whole: a member whose entry is the part's is recorded in that context, and no list has a
+-- name twice.
+pub record IsSound (keys : PartKeys) (m : Maps) : Type 0 where
+  pub recorded : (t : List ℕ) (n : CtxNum) → holds keys (Term t) ≡ true → is_in t (members_of (ctx m n)) ≡ true → place_of (term m t) ≡ Some n
+  pub once : (n : CtxNum) → NoDoubles (members_of (ctx m n))
+
+-- A name stands in a context's list exactly if its record's place is that context, and once. No context is empty, and none has
+-- more members than the limit. No termination has a name that is the gateway's own to give.
+pub record AreWellFormed (limit : ℕ) (m : Maps) : Type 0 where
+  pub recorded : (t : List ℕ) (n : CtxNum) → is_in t (members_of (ctx m n)) ≡ true → place_of (term m t) ≡ Some n
+  pub listed : (t : List ℕ) (n : CtxNum) → place_of (term m t) ≡ Some n → is_in t (members_of (ctx m n)) ≡ true
+  pub once : (n : CtxNum) → NoDoubles (members_of (ctx m n))
+  pub some : (n : CtxNum) → ctx m n ≢ Some new_context
+  pub few : (n : CtxNum) → length (members_of (ctx m n)) ≤ limit
+  pub named : (t : List ℕ) → is_reserved t ≡ true → term m t ≡ None

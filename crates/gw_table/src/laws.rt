@@ -1,0 +1,18 @@
+//! What follows from the definitions alone.
+
+ghost use Rattle.std.specs.Prelude.{◌≡◌, ℕ, List};
+ghost use Rattle.gw_base.specs.declared.key.Key.{Key};
+ghost use Rattle.gw_table.specs.Maps.{Maps};
+ghost use Rattle.gw_table.specs.Parts.{Every, Only, restricted, cut, overlaid};
+ghost use Rattle.gw_table.specs.WellFormed.{IsSound, AreWellFormed};
+
+/// A part of sound tables is sound, and well-formed tables are.
+pub fn sound_part()
+    ensures part { (keys : List Key) (m : Maps) → IsSound Every m → IsSound (Only keys) (restricted keys m) }
+    ensures whole { (limit : ℕ) (m : Maps) → AreWellFormed limit m → IsSound Every m }
+{}
+
+/// A part that is taken out and put back changes nothing.
+pub fn part_put_back()
+    ensures { (keys : List Key) (m : Maps) → overlaid keys (restricted keys m) (cut keys m) ≡ m }
+{}

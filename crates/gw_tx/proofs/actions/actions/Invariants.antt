@@ -1,0 +1,15 @@
+use Rattle.std.proofs.Common.{◌≡◌, drop}
+use Rattle.gw_table.specs.Folds.{behind}
+use Rattle.gw_table.specs.Parts.{Every}
+use Rattle.gw_table.specs.WellFormed.{IsSound}
+use Rattle.gw_tx.specs.Owned.{with_owned}
+use Rattle.gw_tx.specs.Transactions.{actions}
+use Rattle.gw_tx.proofs.actions.actions.Given as goal
+
+-- the replies so far, and then the rest, are those of all
+abbrev pub invariant-loop-sent : goal.invariant-loop-sent
+invariant-loop-sent l = record {
+  told : behind l.replies (actions l.rules (with_owned l.left (drop l.sent-index l.asked)) l.part.maps) ≡ actions l.rules (with_owned l.owned l.asked) l.fn.part.maps;
+  sound : IsSound Every l.part.maps;
+  every : l.part.keys ≡ Every;
+}

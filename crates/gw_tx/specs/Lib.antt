@@ -1,0 +1,6 @@
+pub mod Owned
+pub mod Transactions
+pub use Rattle.gw_table.specs.Folds
+pub use Rattle.gw_table.specs.Maps
+pub use Rattle.gw_table.specs.Parts
+pub use Rattle.gw_table.specs.WellFormed
