@@ -45,12 +45,7 @@ fn add_in(
 }
 
 /// Subtracts the termination from the action's context, unless that has ended or is not made yet.
-fn subtract_in(
-    alloc: Global,
-    part: &mut Part,
-    at: At,
-    name: TermName,
-) -> Result<(), Refusal>
+fn subtract_in(alloc: Global, part: &mut Part, at: At, name: TermName) -> Result<(), Refusal>
     requires term_key { holds part.old.keys (Term name) ≡ true }
     requires ctx_key { holds part.old.keys (Ctx (number_of at)) ≡ true }
     ensures told { Tells result part.new.maps (subtract_in at name part.old.maps) }

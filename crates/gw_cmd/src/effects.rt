@@ -1,8 +1,8 @@
 //! What a command does to one termination.
 
-ghost use Rattle.std.specs.Prelude.{◌≡◌, true, false, ◌∷◌, []};
+ghost use Rattle.std.specs.Prelude.{◌≡◌, true, false, ◌∷◌, [], Some, OnOk};
 ghost use Rattle.gw_base.specs.declared.key.Key.TheVariants.{Term, Ctx};
-ghost use Rattle.gw_table.specs.Maps.{term};
+ghost use Rattle.gw_table.specs.Maps.{term, put_term};
 ghost use Rattle.gw_table.specs.Parts.{holds};
 ghost use Rattle.gw_table.specs.WellFormed.{IsSound};
 ghost use Rattle.gw_cmd.specs.Effects.{add_to, subtract_from};
@@ -10,9 +10,24 @@ ghost use Rattle.gw_cmd.specs.Refused.{Tells};
 
 use crate::members::{join, leave};
 use crate::refusal::Refusal;
-use gw_base::{Code, CtxNum, Rules, TermName};
+use gw_base::{Code, CtxNum, NoMemory, Rules, TermName};
 use gw_table::Part;
+use gw_term::Termination;
 use std::alloc::Global;
+
+/// The termination goes where it was not needed. A function of its own, since what a proof knows of a record that is let go
+/// would stand in its caller's proof.
+fn let_go(_termination: Termination) {}
+
+/// The termination's record becomes this one.
+fn put(part: &mut Part, name: TermName, termination: Termination) -> Result<(), NoMemory>
+    requires { holds part.old.keys (Term name) ≡ true }
+    ensures ok { OnOk result (part.new.maps ≡ put_term part.old.maps name (Some termination)) }
+    ensures keys { part.new.keys ≡ part.old.keys }
+{
+    part.set_term(name, Some(termination))?;
+    Ok(())
+}
 
 /// Adds the termination to the context, or says why not.
 pub(crate) fn add(
@@ -35,9 +50,12 @@ pub(crate) fn add(
         return Err(Refusal::Code(Code::AlreadyInContext));
     }
     let mut termination = termination.copy(alloc)?;
-    join(alloc, rules, part, number, name)?;
+    if let Err(refusal) = join(alloc, rules, part, number, name) {
+        let_go(termination);
+        return Err(refusal);
+    }
     termination.set_place(Some(number));
-    part.set_term(name, Some(termination))?;
+    put(part, name, termination)?;
     Ok(())
 }
 
@@ -63,8 +81,11 @@ pub(crate) fn subtract(
         return Err(Refusal::Code(Code::NotInContext));
     }
     let mut termination = termination.copy(alloc)?;
-    leave(part, number, &name)?;
+    if let Err(no_memory) = leave(part, number, &name) {
+        let_go(termination);
+        return Err(no_memory.into());
+    }
     termination.reset();
-    part.set_term(name, Some(termination))?;
+    put(part, name, termination)?;
     Ok(())
 }
