@@ -14,7 +14,6 @@ mod unfit;
 
 use crate::descriptor::Descriptor;
 use gw_base::{Code, Verb};
-
 pub use kinds::same_kept;
 
 /// What is wrong with the descriptors of a command, the first of these that applies to the whole list: `IllegalDescriptor`
