@@ -30,19 +30,17 @@ fn some_space_len(text: &[u8]) -> usize
 {
     let mut inside = false;
     let mut best = 0;
-    // By index: over the bytes and their count at once the loop is half as long again.
-    for i in 0..text.len() {
-        let b = text[i];
+    for (i, b) in text.iter().enumerate() {
         if inside {
-            if is_eol(b) {
+            if is_eol(*b) {
                 inside = false;
                 best = i + 1;
-            } else if b == 0 {
+            } else if *b == 0 {
                 return best;
             }
-        } else if is_blank(b) {
+        } else if is_blank(*b) {
             best = i + 1;
-        } else if b == b';' {
+        } else if *b == b';' {
             inside = true;
         } else {
             return best;
