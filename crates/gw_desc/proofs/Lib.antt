@@ -10,3 +10,8 @@ pub mod FillLines
 pub mod NamePlaces
 pub mod Marking
 pub mod Counting
+pub mod KeptForms
+pub mod FillForms
+pub mod FillChain
+pub mod FillKept
+pub mod FillEnds

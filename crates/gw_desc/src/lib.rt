@@ -22,7 +22,9 @@ pub use descriptor::{
 };
 pub use fault::PartFault;
 pub use fill::fill_local;
-pub use laws::{descriptors_are_read, tails_are_read};
+pub use laws::{
+    descriptors_are_read, fills_go_step_by_step, kept_texts_have_their_forms, tails_are_read,
+};
 pub use lists::{Part, braced, items, list, optional_braced, sign, token};
 pub use tails::{optional_group, tail};
 pub use values::{

@@ -4,3 +4,6 @@ pub mod Audit
 pub mod Applies
 pub mod RecordCodes
 pub mod Laws
+pub mod Limits
+pub mod Lookups
+pub mod KeptRecords

@@ -13,5 +13,5 @@ mod tails;
 
 pub use apply::Filled;
 pub use fault::ApplyFault;
-pub use laws::merges_go_by_field;
+pub use laws::{look_ups_after_a_merge, merges_go_by_field, merges_keep_forms};
 pub use record::{Stream, Termination};

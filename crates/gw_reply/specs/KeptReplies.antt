@@ -1,0 +1,32 @@
+-- The forms of the texts in a tree of replies (own): of its TerminationIDs, and of what it tells as it is kept.
+use Rattle.std.specs.Prelude.{◌<◌, ℕ, List}
+use Rattle.gw_base.specs.Names.{IsName}
+use Rattle.gw_base.specs.Wildcards.{IsTermText}
+use Rattle.gw_base.specs.declared.term_ref.TermRef.{TermRef}
+use Rattle.gw_base.specs.declared.term_ref.TermRef.TheVariants.{Under, Name, Other}
+use Rattle.gw_reply.specs.KeptParts.{HasKeptReply, AllOk}
+use Rattle.gw_reply.specs.declared.reply.TxReply.{TxReply}
+use Rattle.gw_reply.specs.declared.reply.ActionReply.{ActionReply}
+use Rattle.gw_reply.specs.declared.reply.CommandReply.{CommandReply}
+
+-- a reference whose texts have the forms that a request spells
+abbrev pub HasForm : TermRef → Type 0
+HasForm (Under prefix) = IsName prefix
+HasForm (Name name) = IsTermText name
+HasForm (Other pattern) = IsTermText pattern
+HasForm _ = Unit {0}
+
+-- a number of 32 bits
+abbrev pub IsWide : ℕ → Type 0
+IsWide n = n < 4294967296
+
+-- what a command reply names, and the parts that it tells
+abbrev pub IsKeptCommand : CommandReply → Type 0
+IsKeptCommand c = HasForm c.term × AllOk HasKeptReply c.result
+
+abbrev pub IsKeptAction : ActionReply → Type 0
+IsKeptAction a = AllOk IsKeptCommand a.result
+
+-- a tree whose texts have their forms
+abbrev pub IsKeptTree : TxReply → Type 0
+IsKeptTree t = IsWide t.id.0 × AllOk IsKeptAction t.result
