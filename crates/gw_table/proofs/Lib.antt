@@ -4,3 +4,4 @@ pub mod Growth
 pub mod Lookups
 pub mod PartLookups
 pub mod Provisioning
+pub mod SlotNames

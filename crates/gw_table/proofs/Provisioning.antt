@@ -12,10 +12,12 @@ use Rattle.gw_base.specs.NameLists.{name_cmp, is_in, NoDoubles}
 use Rattle.gw_base.proofs.NameTests.{name_test, same_name}
 use Rattle.gw_term.specs.declared.record.Termination.{Termination}
 use Rattle.gw_term.specs.Record.{provisioned}
+use Rattle.gw_term.specs.Limits.{HasFew}
+use Rattle.gw_base.proofs.Booleans.{refuted}
 use Rattle.gw_ctx.specs.Contexts.{ContextRecord, new_context}
 use Rattle.gw_table.specs.Maps.{Maps, term, ctx, put_term, members_of, place_of, no_maps, new_maps}
 use Rattle.gw_table.specs.Reserved.{is_reserved}
-use Rattle.gw_table.specs.WellFormed.{AreWellFormed}
+use Rattle.gw_table.specs.WellFormed.{AreWellFormed, Fits}
 use Rattle.gw_table.proofs.Lookups.{term-put_term, same_maps}
 
 -- the termination where the test holds
@@ -96,9 +98,20 @@ new_maps_fit limit names free = record {
   listed = λ t n e. absurd (nowhere (is_in t names) n (ap (λ o. place_of o) (sym (term-new_maps names t)) ∙ e));
   some = λ n e. let clash : None ≡ Some new_context = sym (no_context n) ∙ e in cc;
   few = λ n. subst (λ o. length (members_of o) ≤ limit) (sym (no_context n)) (omega arith);
-  named = λ t h. term-new_maps names t ∙ ap (λ b. if_in b) (not_listed names t free h);
+  named = λ t r e. named t r (is_in t names) refl (sym (term-new_maps names t) ∙ e);
+  modest = λ t r e. modest r (is_in t names) (sym (term-new_maps names t) ∙ e);
 }
   where
+    named : (t : List ℕ) (r : Termination) (b : Bool) → is_in t names ≡ b → if_in b ≡ Some r → Fits t r.slot
+    named t r false i e = absurd cc
+    named t r true i e =
+        let same : provisioned ≡ r = cc in
+        subst (λ (x : Termination). Fits t x.slot) same (refuted (is_reserved t) (λ h. let clash : true ≡ false = sym i ∙ not_listed names t free h in cc))
+
+    modest : (r : Termination) (b : Bool) → if_in b ≡ Some r → HasFew r
+    modest r false e = absurd cc
+    modest r true e = let same : provisioned ≡ r = cc in subst HasFew same (record { properties = omega arith; first = tt; second = tt; third = tt; fourth = tt })
+
     no_context : (n : CtxNum) → ctx (new_maps names) n ≡ None
     no_context n = get-empty nat_cmp n.0
 

@@ -1,9 +1,10 @@
 //! What follows from the definitions alone.
 
-ghost use Rattle.std.specs.Prelude.{◌≡◌, ℕ, List};
+ghost use Rattle.std.specs.Prelude.{◌≡◌, ℕ, ◌<◌, ◌^◌, true, List};
 ghost use Rattle.gw_base.specs.declared.key.Key.{Key};
 ghost use Rattle.gw_table.specs.Maps.{Maps};
 ghost use Rattle.gw_table.specs.Parts.{Every, Only, restricted, cut, overlaid};
+ghost use Rattle.gw_table.specs.Reserved.{is_reserved, slot_name};
 ghost use Rattle.gw_table.specs.WellFormed.{IsSound, AreWellFormed};
 
 /// A part of sound tables is sound, and well-formed tables are.
@@ -15,4 +16,10 @@ pub fn sound_part()
 /// A part that is taken out and put back changes nothing.
 pub fn part_put_back()
     ensures { (keys : List Key) (m : Maps) → overlaid keys (restricted keys m) (cut keys m) ≡ m }
+{}
+
+/// Different slots have different names, which are the gateway's own to give.
+pub fn slots_have_names_of_their_own()
+    ensures apart { (s t : ℕ) → s < 2 ^ 16 → t < 2 ^ 16 → slot_name s ≡ slot_name t → s ≡ t }
+    ensures reserved { (s : ℕ) → is_reserved (slot_name s) ≡ true }
 {}

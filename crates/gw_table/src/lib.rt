@@ -6,9 +6,11 @@ mod laws;
 mod part;
 mod reserved;
 mod tables;
+mod unused;
 
 pub use attempts::Attempts;
-pub use laws::{part_put_back, sound_part};
+pub use laws::{part_put_back, slots_have_names_of_their_own, sound_part};
 pub use part::Part;
-pub use reserved::is_reserved;
+pub use reserved::{is_reserved, slot_name};
 pub use tables::Tables;
+pub use unused::owns_slot;

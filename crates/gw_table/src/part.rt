@@ -119,4 +119,17 @@ impl Part {
     {
         self.tables.numbers(alloc)
     }
+
+    /// An equal part.
+    ///
+    /// # Errors
+    ///
+    /// Want of memory.
+    pub fn copy(&self) -> Result<Part, NoMemory>
+        ensures { IfOk result (λ copy. copy ≡ self.now) }
+    {
+        Ok(Part {
+            tables: self.tables.copy()?,
+        })
+    }
 }
