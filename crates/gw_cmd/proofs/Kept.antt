@@ -1,105 +1,111 @@
--- What each change of a termination's place keeps, commands keep.
-use Rattle.std.proofs.Common.{nat_eq, nat_le, ◌≡◌, ℕ, Bool, true, false, List, length, Option, None, Some, Result, refl, ap, ◌∙◌}
+-- What each change of a termination keeps, commands keep.
+use Rattle.std.proofs.Common.{nat_eq, ◌≡◌, ℕ, Bool, true, false, ◌⊎◌, inl, inr, List, [], ◌∷◌, Option, None, Some, is_some, Result, Ok, Err, refl, sym, ap, subst, ◌∙◌}
 use Rattle.std.specs.Prelude.{if◌then◌else◌}
-use Rattle.std.proofs.lemmas.Bool.{leb-false}
 use Rattle.gw_base.specs.declared.code.Code.{Code}
-use Rattle.gw_base.specs.declared.code.Code.TheVariants.{ContextFull, NotInContext}
 use Rattle.gw_base.specs.declared.ids.CtxNum.{CtxNum}
 use Rattle.gw_base.specs.declared.command_words.Rules.{Rules}
+use Rattle.gw_base.specs.declared.command_words.Service.{Service}
 use Rattle.gw_base.specs.declared.command_words.Verb.{Verb}
 use Rattle.gw_base.specs.declared.command_words.Verb.TheVariants.{Add, Modify, Move, Subtract, AuditValue, AuditCapability, Notify, ServiceChange}
-use Rattle.gw_base.specs.declared.key.Key.TheVariants.{Term}
 use Rattle.gw_base.specs.declared.term_ref.TermRef.{TermRef}
 use Rattle.gw_base.specs.declared.term_ref.TermRef.TheVariants.{Root, All, Under, Choose, Name, Other}
-use Rattle.gw_base.specs.Keys.{has}
-use Rattle.gw_term.specs.declared.record.Termination.{Termination}
-use Rattle.gw_term.specs.Record.{placed, reset}
-use Rattle.gw_ctx.specs.Contexts.{ContextRecord}
+use Rattle.gw_desc.specs.declared.descriptor.Descriptor.{Descriptor}
 use Rattle.gw_msg.specs.declared.message.Command.{Command}
-use Rattle.gw_table.specs.Maps.{Maps, Outcome, term, ctx, members_of, place_of}
-use Rattle.gw_table.specs.Parts.{PartKeys, Every, holds}
-use Rattle.gw_table.specs.WellFormed.{IsSound, AreWellFormed}
+use Rattle.gw_term.specs.declared.record.Termination.{Termination}
+use Rattle.gw_term.specs.Limits.{HasFew}
+use Rattle.gw_term.specs.Record.{ephemeral, serviced}
+use Rattle.gw_table.specs.Maps.{Maps, Outcome, term, ctx, names}
+use Rattle.gw_table.specs.Reserved.{slot_name}
+use Rattle.gw_table.proofs.Folding.{kept}
 use Rattle.gw_cmd.specs.declared.at.At.{At}
-use Rattle.gw_cmd.specs.declared.at.At.TheVariants.{Live, Unmade}
-use Rattle.gw_cmd.specs.Moves.{entered, returned}
-use Rattle.gw_cmd.specs.Effects.{refused, done, if_room, add_at, add_to, subtract_at, subtract_from}
-use Rattle.gw_cmd.specs.Commands.{unless_ended, add_in, subtract_in, on_name, on_term, command}
-use Rattle.gw_base.proofs.NameTests.{same_number}
-use Rattle.gw_cmd.proofs.Sound.{free_at_none, sound_joined, sound_departed}
-use Rattle.gw_cmd.proofs.Whole.{whole_joined, whole_departed}
+use Rattle.gw_cmd.specs.declared.change.Change.{Change}
+use Rattle.gw_cmd.specs.declared.change.Change.TheVariants.{Becomes}
+use Rattle.gw_cmd.specs.declared.change.Decided.{Decided}
+use Rattle.gw_cmd.specs.declared.outcome.CmdOutcome.{CmdOutcome}
+use Rattle.gw_cmd.specs.Asked.{service_asked}
+use Rattle.gw_cmd.specs.Commands.{on_target, on_targets, on_names, on_new, on_root, put_service, all_serviced, serviced_if, root_maps, refused, carried, unless_refused, command}
+use Rattle.gw_cmd.specs.Effects.{decided, done, on_record, on_found, on_name}
+use Rattle.gw_cmd.specs.Moves.{changed}
+use Rattle.gw_cmd.specs.Places.{place_at}
+use Rattle.gw_cmd.specs.Refusals.{refusal}
+use Rattle.gw_cmd.specs.Suits.{IsUnused}
+use Rattle.gw_cmd.specs.Targets.{targets}
+use Rattle.gw_cmd.proofs.Lawful.{IsRewritten, Lawful, decided_lawful}
 
--- what joining, in a context with room, and leaving keep, of terminations whose names pass
-pub record IsKept (limit : ℕ) (passes : List ℕ → Bool) (P : Maps → Type 0) : Type 0 where
-  pub joins : (n : CtxNum) (t : List ℕ) (r : Termination) (m : Maps) → P m → passes t ≡ true → term m t ≡ Some r → r.place ≡ None → nat_le limit (length (members_of (ctx m n))) ≡ false → P (entered n t r m)
-  pub leaves : (n : CtxNum) (t : List ℕ) (r : Termination) (m : Maps) → P m → passes t ≡ true → term m t ≡ Some r → r.place ≡ Some n → P (returned n t r m)
+-- a termination that has this record, or is made with it in a slot
+pub data IsKnown (makes : ℕ → Type 0) (t : List ℕ) (r : Termination) (m : Maps) : Type 0 where
+  Found : term m t ≡ Some r → IsKnown makes t r m
+  Made : (s : ℕ) → t ≡ slot_name s → r ≡ ephemeral s → term m t ≡ None → makes s → IsKnown makes t r m
 
-pub sound_is_kept : (limit : ℕ) (keys : PartKeys) → IsKept limit (λ t. holds keys (Term t)) (IsSound keys)
-sound_is_kept limit keys = record {
-  joins = λ n t r m s k e i room. sound_joined keys n t (Some (placed r (Some n))) m s (free_at_none keys t m s k (ap (λ o. place_of o) e ∙ i)) refl;
-  leaves = λ n t r m s k e i. sound_departed keys n t (Some (reset r)) m s k (ap (λ o. place_of o) e ∙ i);
-}
+-- what lawful changes keep, of terminations whose names pass
+pub record IsKept (rules : Rules) (passes : List ℕ → Bool) (makes : ℕ → Type 0) (P : Maps → Type 0) : Type 0 where
+  pub changes : (v : Verb) (place : Option CtxNum) (t : List ℕ) (r : Termination) (change : Change) (m : Maps) → P m → passes t ≡ true → IsKnown makes t r m → Lawful rules v place r change m → P (changed t change m)
 
-pub whole_is_kept : (limit : ℕ) → IsKept limit (λ _. true) (AreWellFormed limit)
-whole_is_kept limit = record {
-  joins = λ n t r m w k e i room. whole_joined limit n t r (Some (placed r (Some n))) m w e i refl (leb-false limit (length (members_of (ctx m n))) room);
-  leaves = λ n t r m w k e i. whole_departed limit n t r (Some (reset r)) m w e i refl;
-}
+-- the slot may be used
+abbrev pub MayMake : (ℕ → Type 0) → Option ℕ → Type 0
+MayMake makes None = Unit {0}
+MayMake makes (Some slot) = makes slot
 
-kept_if : (P : Maps → Type 0) {A : Type 0} (b : Bool) (x y : Outcome A) → (b ≡ true → P x.maps) → (b ≡ false → P y.maps) → P (if b then x else y).maps
-kept_if P true x y f g = f refl
-kept_if P false x y f g = g refl
+few_serviced : (s : Service) (r : Termination) → HasFew r → HasFew (serviced r s)
+few_serviced s r f = record { properties = f.properties; first = f.first; second = f.second; third = f.third; fourth = f.fourth }
 
-module _ {P : Maps → Type 0} (rules : Rules) (passes : List ℕ → Bool) (k : IsKept rules.members passes P) where
-  kept_add : (n : CtxNum) (t : List ℕ) (m : Maps) (o : Option Termination) → passes t ≡ true → term m t ≡ o → P m → P (add_to rules n t m o).maps
-  kept_add n t m None h e p = p
-  kept_add n t m (Some r) h e p = at r.place refl
-    where
-      at : (o : Option CtxNum) → r.place ≡ o → P (add_at rules n t m r o).maps
-      at (Some q) i = p
-      at None i =
-          kept_if P (nat_le rules.members (length (members_of (ctx m n)))) (refused ContextFull m) (done (entered n t r m)) (λ _. p)
-          (λ room. k.joins n t r m p h e i room)
+module _ {P : Maps → Type 0} (rules : Rules) (passes : List ℕ → Bool) (makes : ℕ → Type 0) (k : IsKept rules passes makes P) where
+  kept_done : (v : Verb) (place : Option CtxNum) (t : List ℕ) (r : Termination) (m : Maps) (x : Result Decided Code) → passes t ≡ true → IsKnown makes t r m → ((d : Decided) → x ≡ Ok d → Lawful rules v place r d.change m) → P m → P (done t m x).maps
+  kept_done v place t r m (Err code) h i l p = p
+  kept_done v place t r m (Ok d) h i l p = k.changes v place t r d.change m p h i (l d refl)
 
-  kept_subtract : (n : CtxNum) (t : List ℕ) (m : Maps) (o : Option Termination) → passes t ≡ true → term m t ≡ o → P m → P (subtract_from n t m o).maps
-  kept_subtract n t m None h e p = p
-  kept_subtract n t m (Some r) h e p = at r.place refl
-    where
-      at : (o : Option CtxNum) → r.place ≡ o → P (subtract_at n t m r o).maps
-      at None i = p
-      at (Some q) i =
-          kept_if P (nat_eq q.0 n.0) (done (returned n t r m)) (refused NotInContext m)
-          (λ same. k.leaves n t r m p h e (i ∙ ap (λ y. Some y) (same_number q n same))) (λ _. p)
+  pub kept_record : (place : Option CtxNum) (c : Command) (t : List ℕ) (r : Termination) (m : Maps) → passes t ≡ true → IsKnown makes t r m → P m → P (on_record rules place c t r m).maps
+  unfolding on_record
+  kept_record place c t r m h i p = kept_done c.verb place t r m (decided rules place c m r) h i (λ d e. decided_lawful rules place c m r d e) p
 
-  kept_unless : (o : Option ContextRecord) (m : Maps) (x : Outcome (Result Unit Code)) → P m → P x.maps → P (unless_ended o m x).maps
-  kept_unless None m x p q = p
-  kept_unless (Some l) m x p q = q
+  kept_found : (place : Option CtxNum) (c : Command) (t : List ℕ) (m : Maps) (o : Option Termination) → term m t ≡ o → (is_some o ≡ true → passes t ≡ true) → P m → P (on_found rules place c t o m).maps
+  kept_found place c t m None e h p = p
+  kept_found place c t m (Some r) e h p = kept_record place c t r m (h refl) (Found e) p
 
-  kept_add_in : (at : At) (t : List ℕ) (m : Maps) → passes t ≡ true → P m → P (add_in rules at t m).maps
-  kept_add_in (Live n) t m h p = kept_unless (ctx m n) m (add_to rules n t m (term m t)) p (kept_add n t m (term m t) h refl p)
-  kept_add_in (Unmade n) t m h p = kept_add n t m (term m t) h refl p
+  pub kept_name : (place : Option CtxNum) (c : Command) (t : List ℕ) (m : Maps) → (is_some (term m t) ≡ true → passes t ≡ true) → P m → P (on_name rules place c t m).maps
+  kept_name place c t m h p = kept_found place c t m (term m t) refl h p
 
-  kept_subtract_in : (at : At) (t : List ℕ) (m : Maps) → passes t ≡ true → P m → P (subtract_in at t m).maps
-  kept_subtract_in (Live n) t m h p = kept_unless (ctx m n) m (subtract_from n t m (term m t)) p (kept_subtract n t m (term m t) h refl p)
-  kept_subtract_in (Unmade n) t m h p = p
+  pub kept_service : (s : Service) (t : List ℕ) (m : Maps) (o : Option Termination) → term m t ≡ o → passes t ≡ true → P m → P (put_service s t m o)
+  kept_service s t m None e h p = p
+  kept_service s t m (Some r) e h p = k.changes ServiceChange r.place t r (Becomes (serviced r s)) m p h (Found e) (refl, refl, record { slot = refl; few = few_serviced s r })
 
-  kept_on_name : (at : At) (v : Verb) (t : List ℕ) (m : Maps) → passes t ≡ true → P m → P (on_name rules at v t m).maps
-  kept_on_name at Add t m h p = kept_add_in at t m h p
-  kept_on_name at Subtract t m h p = kept_subtract_in at t m h p
-  kept_on_name at Modify t m h p = p
-  kept_on_name at Move t m h p = p
-  kept_on_name at AuditValue t m h p = p
-  kept_on_name at AuditCapability t m h p = p
-  kept_on_name at Notify t m h p = p
-  kept_on_name at ServiceChange t m h p = p
+  kept_all : (s : Service) (ts : List (List ℕ)) (m : Maps) → ((t : List ℕ) → passes t ≡ true) → P m → P (all_serviced s ts m)
+  kept_all s [] m h p = p
+  kept_all s (t ∷ ts) m h p = kept_all s ts (put_service s t m (term m t)) h (kept_service s t m (term m t) refl (h t) p)
 
-  kept_on_term : (at : At) (v : Verb) (r : TermRef) (m : Maps) → ((t : List ℕ) → passes t ≡ true) → P m → P (on_term rules at v r m).maps
-  kept_on_term at v (Name t) m h p = kept_on_name at v t m (h t) p
-  kept_on_term at v Root m h p = p
-  kept_on_term at v All m h p = p
-  kept_on_term at v (Under t) m h p = p
-  kept_on_term at v Choose m h p = p
-  kept_on_term at v (Other t) m h p = p
+  kept_if : (o : Option Service) (m : Maps) → ((t : List ℕ) → passes t ≡ true) → P m → P (serviced_if o m)
+  kept_if None m h p = p
+  kept_if (Some s) m h p = kept_all s (names m) m h p
 
-  pub kept_command : (at : At) (c : Command) (m : Maps) → ((t : List ℕ) → passes t ≡ true) → P m → P (command rules at c m).maps
+  kept_root : (v : Verb) (ds : List Descriptor) (m : Maps) → ((t : List ℕ) → passes t ≡ true) → P m → P (root_maps v ds m)
+  kept_root ServiceChange ds m h p = kept_if (service_asked ds) m h p
+  kept_root Add ds m h p = p
+  kept_root Modify ds m h p = p
+  kept_root Move ds m h p = p
+  kept_root Subtract ds m h p = p
+  kept_root AuditValue ds m h p = p
+  kept_root AuditCapability ds m h p = p
+  kept_root Notify ds m h p = p
+
+  kept_new : (at : At) (c : Command) (slot : Option ℕ) (m : Maps) → ((t : List ℕ) → passes t ≡ true) → IsUnused slot m → MayMake makes slot → P m → P (on_new rules at c slot m).maps
+  kept_new at c None m h u a p = p
+  kept_new at c (Some s) m h u a p = kept_record (place_at at) c (slot_name s) (ephemeral s) m (h (slot_name s)) (Made s refl refl u a) p
+
+  kept_names : (at : At) (c : Command) (m : Maps) → ((t : List ℕ) → passes t ≡ true) → P m → P (on_names rules at c m).maps
+  kept_names at c m h p = kept (on_target rules at c) P (λ s t n q. kept_name (place_at at) c t n (λ _. h t) q) tt (targets at c m) m p
+
+  kept_carried : (at : At) (slot : Option ℕ) (c : Command) (m : Maps) (r : TermRef) → ((t : List ℕ) → passes t ≡ true) → IsUnused slot m → MayMake makes slot → P m → P (carried rules at slot c m r).maps
+  kept_carried at slot c m Root h u a p = kept_root c.verb c.descriptors m h p
+  kept_carried at slot c m Choose h u a p = kept_new at c slot m h u a p
+  kept_carried at slot c m (Name t) h u a p = kept_names at c m h p
+  kept_carried at slot c m All h u a p = kept_names at c m h p
+  kept_carried at slot c m (Under prefix) h u a p = kept_names at c m h p
+  kept_carried at slot c m (Other text) h u a p = kept_names at c m h p
+
+  kept_unless : (o : Option Code) (at : At) (c : Command) (m : Maps) (x : Outcome CmdOutcome) → P m → P x.maps → P (unless_refused o at c m x).maps
+  kept_unless (Some code) at c m x p q = p
+  kept_unless None at c m x p q = q
+
+  pub kept_command : (at : At) (slot : Option ℕ) (c : Command) (m : Maps) → ((t : List ℕ) → passes t ≡ true) → IsUnused slot m → MayMake makes slot → P m → P (command rules at slot c m).maps
   unfolding command
-  kept_command at c m h p = kept_on_term at c.verb c.term m h p
+  kept_command at slot c m h u a p = kept_unless (refusal at slot c m) at c m (carried rules at slot c m c.term) p (kept_carried at slot c m c.term h u a p)

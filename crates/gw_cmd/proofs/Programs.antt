@@ -1,227 +1,320 @@
--- Each command as single reads and writes of entries, that these do what the command does, and that they stay within its keys.
-use Rattle.std.proofs.Common.{nat_eq, nat_le, ◌≡◌, ℕ, Bool, true, false, cond, inl, inr, List, [], ◌∷◌, ◌++◌, length, Option, None, Some, Result, Ok, Err, refl, sym, ap, subst, ◌∙◌}
-use Rattle.std.specs.Prelude.{if◌then◌else◌}
+-- A command as single reads and writes of entries, and that these do what the command does.
+use Rattle.std.proofs.Common.{nat_le, ◌≡◌, ℕ, Bool, true, false, List, [], ◌∷◌, ◌++◌, length, Option, None, Some, is_none, is_some, Result, Ok, Err, refl, sym, ap, ◌∙◌}
+use Rattle.std.specs.Prelude.{if◌then◌else◌, not}
+use Rattle.std.specs.List.{filter}
 use Rattle.gw_base.specs.declared.code.Code.{Code}
-use Rattle.gw_base.specs.declared.code.Code.TheVariants.{UnknownContext, IllegalCombination, UnknownTermination, AlreadyInContext, ContextFull, NotInContext, NotImplemented}
+use Rattle.gw_base.specs.declared.code.Code.TheVariants.{UnknownContext, UnknownTermination, NoWildcardMatch, NoTerminationLeft}
 use Rattle.gw_base.specs.declared.ids.CtxNum.{CtxNum}
 use Rattle.gw_base.specs.declared.command_words.Rules.{Rules}
+use Rattle.gw_base.specs.declared.command_words.Service.{Service}
 use Rattle.gw_base.specs.declared.command_words.Verb.{Verb}
 use Rattle.gw_base.specs.declared.command_words.Verb.TheVariants.{Add, Modify, Move, Subtract, AuditValue, AuditCapability, Notify, ServiceChange}
-use Rattle.gw_base.specs.declared.key.Key.{Key}
-use Rattle.gw_base.specs.declared.key.Key.TheVariants.{Term, Ctx}
 use Rattle.gw_base.specs.declared.term_ref.TermRef.{TermRef}
-use Rattle.gw_base.specs.declared.term_ref.TermRef.TheVariants as ref
-use Rattle.gw_base.specs.Keys.{has, Among}
-use Rattle.gw_base.specs.NameLists.{is_in}
-use Rattle.gw_base.proofs.NameTests.{same_name}
-use Rattle.gw_base.proofs.NamesInLists.{either, in_pushed, in_without}
-use Rattle.gw_base.proofs.KeyTests.{has-head, has-tail}
-use Rattle.gw_term.specs.declared.record.Termination.{Termination}
-use Rattle.gw_term.specs.Record.{placed, reset}
+use Rattle.gw_base.specs.declared.term_ref.TermRef.TheVariants.{Root, All, Under, Choose, Name, Other}
+use Rattle.gw_desc.specs.Checks.{check_code}
 use Rattle.gw_ctx.specs.Contexts.{ContextRecord, joined, left}
+use Rattle.gw_desc.specs.declared.descriptor.Descriptor.{Descriptor}
 use Rattle.gw_msg.specs.declared.message.Command.{Command}
-use Rattle.gw_table.specs.Maps.{Maps, Outcome, term, ctx, place_of, context_of, members_of}
-use Rattle.gw_table.specs.Accesses.{Accesses, Done, ReadTerm, ReadCtx, PutTerm, PutCtx, effect, and_then, NewIn, Within}
-use Rattle.gw_table.proofs.Frames.{effect-then, within-then, within-cond}
+use Rattle.gw_reply.specs.declared.parts.ReplyPart.{ReplyPart}
+use Rattle.gw_reply.specs.declared.reply.CommandReply.{CommandReply}
+use Rattle.gw_term.specs.declared.record.Termination.{Termination}
+use Rattle.gw_term.specs.Record.{ephemeral, serviced}
+use Rattle.gw_table.specs.declared.attempts.Attempts.{Attempts}
+use Rattle.gw_table.specs.Accesses.{Accesses, Done, ReadTerm, ReadCtx, ReadAll, PutTerm, PutCtx, effect, and_then}
+use Rattle.gw_table.specs.Folds.{behind}
+use Rattle.gw_table.specs.Maps.{Maps, Outcome, term, ctx, names, context_of, members_of}
+use Rattle.gw_table.specs.Reserved.{slot_name}
+use Rattle.gw_table.proofs.Folding.{in_order-more, in_order-none}
+use Rattle.gw_table.proofs.Frames.{effect-then}
 use Rattle.gw_cmd.specs.declared.at.At.{At}
-use Rattle.gw_cmd.specs.declared.at.At.TheVariants.{Live, Unmade}
+use Rattle.gw_cmd.specs.declared.at.At.TheVariants.{Null, Live, Unmade, Each}
+use Rattle.gw_cmd.specs.declared.change.Change.{Change}
+use Rattle.gw_cmd.specs.declared.change.Change.TheVariants.{Stays, Becomes, Joins, Crosses, Leaves}
+use Rattle.gw_cmd.specs.declared.change.Decided.{Decided}
 use Rattle.gw_cmd.specs.declared.outcome.CmdOutcome.{CmdOutcome}
-use Rattle.gw_cmd.specs.Places.{number_of}
-use Rattle.gw_cmd.specs.Moves.{unless_empty, entered, returned}
-use Rattle.gw_cmd.specs.Effects as effects
+use Rattle.gw_cmd.specs.Asked.{matches, is_some_list, service_asked}
 use Rattle.gw_cmd.specs.Commands as commands
-use Rattle.gw_cmd.specs.Keys.{place_key, name_keys, term_keys, command_keys}
-use Rattle.gw_cmd.proofs.Sound.{members-unless_empty}
+use Rattle.gw_cmd.specs.Effects.{decided_in, decided_in_null, done, on_record, on_found, on_name}
+use Rattle.gw_cmd.specs.Moves.{unless_empty, changed}
+use Rattle.gw_cmd.specs.Places.{place_at}
+use Rattle.gw_cmd.specs.Refusals.{refusal_by_form, has_ended, code_if, missing, or_else, refusal_by_tables}
+use Rattle.gw_cmd.specs.Targets.{is_free, those_in, source, matched, targets_of, targets}
 
--- ---- the accesses
+-- maps and an answer
+abbrev pub giving : {A : Type 0} → Maps → A → Outcome A
+giving m a = record { maps = m; answer = a }
 
-abbrev refuse : Code → Accesses (Result Unit Code)
-refuse code = Done (Err code)
+-- ---- one termination
 
-abbrev end_with : List ℕ → Termination → Accesses (Result Unit Code)
-end_with t r = PutTerm t (Some r) (Done (Ok tt))
+unfoldable pub make : List ℕ → Change → Accesses (Unit {0})
+make t Stays = Done tt
+make t (Becomes r) = PutTerm t (Some r) (Done tt)
+make t (Joins n r) = PutTerm t (Some r) (ReadCtx n (λ c. PutCtx n (Some (joined t (context_of c))) (Done tt)))
+make t (Crosses p n r) = PutTerm t (Some r) (ReadCtx p (λ c. PutCtx p (unless_empty (left t (context_of c))) (ReadCtx n (λ d. PutCtx n (Some (joined t (context_of d))) (Done tt)))))
+make t (Leaves n o) = PutTerm t o (ReadCtx n (λ c. PutCtx n (unless_empty (left t (context_of c))) (Done tt)))
 
-abbrev join : Rules → CtxNum → List ℕ → Termination → Accesses (Result Unit Code)
-join rules n t r = ReadCtx n (λ c. cond (nat_le rules.members (length (members_of c))) (refuse ContextFull) (PutCtx n (Some (joined t (context_of c))) (end_with t (placed r (Some n)))))
+pub effect-make : (t : List ℕ) (change : Change) (m : Maps) → effect (make t change) m ≡ giving (changed t change m) tt
+unfolding make
+effect-make t Stays m = refl
+effect-make t (Becomes r) m = refl
+effect-make t (Joins n r) m = refl
+effect-make t (Crosses p n r) m = refl
+effect-make t (Leaves n o) m = refl
 
-abbrev leave : CtxNum → List ℕ → Termination → Accesses (Result Unit Code)
-leave n t r = ReadCtx n (λ c. PutCtx n (unless_empty (left t (context_of c))) (end_with t (reset r)))
+abbrev pub finish : List ℕ → Result Decided Code → Accesses (Result (List ReplyPart) Code)
+finish t (Err code) = Done (Err code)
+finish t (Ok d) = and_then (make t d.change) (λ _. Done (Ok d.parts))
 
-abbrev add_placed : Rules → CtxNum → List ℕ → Termination → Option CtxNum → Accesses (Result Unit Code)
-add_placed rules n t r (Some p) = refuse AlreadyInContext
-add_placed rules n t r None = join rules n t r
+pub effect-finish : (t : List ℕ) (x : Result Decided Code) (m : Maps) → effect (finish t x) m ≡ done t m x
+effect-finish t (Err code) m = refl
+effect-finish t (Ok d) m =
+    effect-then (make t d.change) (λ _. Done (Ok d.parts)) m
+    ∙ ap (λ (o : Outcome (Unit {0})). giving {A = Result (List ReplyPart) Code} o.maps (Ok d.parts)) (effect-make t d.change m)
 
-abbrev add_found : Rules → CtxNum → List ℕ → Option Termination → Accesses (Result Unit Code)
-add_found rules n t None = refuse UnknownTermination
-add_found rules n t (Some r) = add_placed rules n t r r.place
+abbrev pub of_record : Rules → Option CtxNum → Command → List ℕ → Termination → Accesses (Result (List ReplyPart) Code)
+of_record rules None c t r = finish t (decided_in_null rules c.verb c.descriptors r)
+of_record rules (Some n) c t r = ReadCtx n (λ x. finish t (decided_in rules c.verb c.descriptors (nat_le rules.members (length (members_of x))) n r))
 
-abbrev subtract_placed : CtxNum → List ℕ → Termination → Option CtxNum → Accesses (Result Unit Code)
-subtract_placed n t r None = refuse NotInContext
-subtract_placed n t r (Some p) = cond (nat_eq p.0 n.0) (leave n t r) (refuse NotInContext)
+pub effect-of_record : (rules : Rules) (place : Option CtxNum) (c : Command) (t : List ℕ) (r : Termination) (m : Maps) → effect (of_record rules place c t r) m ≡ on_record rules place c t r m
+unfolding on_record
+effect-of_record rules None c t r m = effect-finish t (decided_in_null rules c.verb c.descriptors r) m
+effect-of_record rules (Some n) c t r m = effect-finish t (decided_in rules c.verb c.descriptors (nat_le rules.members (length (members_of (ctx m n)))) n r) m
 
-abbrev subtract_found : CtxNum → List ℕ → Option Termination → Accesses (Result Unit Code)
-subtract_found n t None = refuse UnknownTermination
-subtract_found n t (Some r) = subtract_placed n t r r.place
+abbrev pub of_found : Rules → Option CtxNum → Command → List ℕ → Option Termination → Accesses (Result (List ReplyPart) Code)
+of_found rules place c t None = Done (Err UnknownTermination)
+of_found rules place c t (Some r) = of_record rules place c t r
 
-abbrev in_context : Option ContextRecord → Accesses (Result Unit Code) → Accesses (Result Unit Code)
-in_context None p = refuse UnknownContext
-in_context (Some c) p = p
+pub effect-of_found : (rules : Rules) (place : Option CtxNum) (c : Command) (t : List ℕ) (o : Option Termination) (m : Maps) → effect (of_found rules place c t o) m ≡ on_found rules place c t o m
+effect-of_found rules place c t None m = refl
+effect-of_found rules place c t (Some r) m = effect-of_record rules place c t r m
 
-abbrev add_in : Rules → At → List ℕ → Accesses (Result Unit Code)
-add_in rules (Live n) t = ReadCtx n (λ c. in_context c (ReadTerm t (λ o. add_found rules n t o)))
-add_in rules (Unmade n) t = ReadTerm t (λ o. add_found rules n t o)
+abbrev pub of_name : Rules → Option CtxNum → Command → List ℕ → Accesses (Result (List ReplyPart) Code)
+of_name rules place c t = ReadTerm t (λ o. of_found rules place c t o)
 
-abbrev subtract_in : At → List ℕ → Accesses (Result Unit Code)
-subtract_in (Live n) t = ReadCtx n (λ c. in_context c (ReadTerm t (λ o. subtract_found n t o)))
-subtract_in (Unmade n) t = refuse IllegalCombination
+-- ---- several
 
-abbrev on_name : Rules → At → Verb → List ℕ → Accesses (Result Unit Code)
-on_name rules at Add t = add_in rules at t
-on_name rules at Subtract t = subtract_in at t
-on_name rules at Modify t = refuse NotImplemented
-on_name rules at Move t = refuse NotImplemented
-on_name rules at AuditValue t = refuse NotImplemented
-on_name rules at AuditCapability t = refuse NotImplemented
-on_name rules at Notify t = refuse NotImplemented
-on_name rules at ServiceChange t = refuse NotImplemented
+abbrev pub of_names : Rules → At → Command → List (List ℕ) → Accesses (List CommandReply)
+of_names rules at c [] = Done []
+of_names rules at c (t ∷ ts) = and_then (of_name rules (place_at at) c t) (λ x. and_then (of_names rules at c ts) (λ rs. Done (commands.reply c (Name t) x ∷ rs)))
 
-abbrev on_term : Rules → At → Verb → TermRef → Accesses (Result Unit Code)
-on_term rules at v (ref.Name t) = on_name rules at v t
-on_term rules at v ref.Root = refuse NotImplemented
-on_term rules at v ref.All = refuse NotImplemented
-on_term rules at v (ref.Under t) = refuse NotImplemented
-on_term rules at v ref.Choose = refuse NotImplemented
-on_term rules at v (ref.Other t) = refuse NotImplemented
+-- the maps and the answers after some attempts
+abbrev pub plain : Outcome (Attempts Unit CommandReply) → Outcome (List CommandReply)
+plain o = giving o.maps o.answer.answers
 
-pub program : Rules → At → Command → Accesses CmdOutcome
-program rules at c = and_then (on_term rules at c.verb c.term) (λ result. Done (commands.outcome_of at c result))
+pub effect-of_names : (rules : Rules) (at : At) (c : Command) (ts : List (List ℕ)) (m : Maps) → effect (of_names rules at c ts) m ≡ plain (commands.on_targets rules at c ts m)
+effect-of_names rules at c [] m = ap (λ o. plain o) (sym (in_order-none (commands.on_target rules at c) tt m))
+effect-of_names rules at c (t ∷ ts) m =
+    let now : Outcome (Result (List ReplyPart) Code) = on_name rules (place_at at) c t m in
+    effect-then (of_name rules (place_at at) c t) (λ x. and_then (of_names rules at c ts) (λ rs. Done (commands.reply c (Name t) x ∷ rs))) m
+    ∙ ap (λ (o : Outcome (Result (List ReplyPart) Code)). effect (and_then (of_names rules at c ts) (λ rs. Done (commands.reply c (Name t) o.answer ∷ rs))) o.maps) (effect-of_found rules (place_at at) c t (term m t) m)
+    ∙ effect-then (of_names rules at c ts) (λ rs. Done (commands.reply c (Name t) now.answer ∷ rs)) now.maps
+    ∙ ap (λ (o : Outcome (List CommandReply)). giving o.maps (commands.reply c (Name t) now.answer ∷ o.answer)) (effect-of_names rules at c ts now.maps)
+    ∙ ap (λ o. plain o) (sym (in_order-more (commands.on_target rules at c) tt t ts m))
 
--- ---- they do what the command does
+-- ---- whom it is for
 
-effect-cond : {A : Type 0} (b : Bool) (p q : Accesses A) (x y : Outcome A) (m : Maps) → effect p m ≡ x → effect q m ≡ y → effect (cond b p q) m ≡ (if b then x else y)
-effect-cond true p q x y m e f = e
-effect-cond false p q x y m e f = f
+-- a context of an action with * may have ended, so that all is read
+abbrev pub of_members : At → CtxNum → Accesses (List (List ℕ))
+of_members Null n = ReadCtx n (λ c. Done (members_of c))
+of_members (Live k) n = ReadCtx n (λ c. Done (members_of c))
+of_members (Unmade k) n = ReadCtx n (λ c. Done (members_of c))
+of_members (Each k) n = ReadAll (λ m. Done (members_of (ctx m n)))
 
-effect-in_context : (c : Option ContextRecord) (p : Accesses (Result Unit Code)) (x : Outcome (Result Unit Code)) (m : Maps) → effect p m ≡ x → effect (in_context c p) m ≡ commands.unless_ended c m x
-effect-in_context None p x m e = refl
-effect-in_context (Some c) p x m e = e
+abbrev pub of_those : At → Option CtxNum → Accesses (List (List ℕ))
+of_those at None = ReadAll (λ m. Done (filter (is_free m) (names m)))
+of_those at (Some n) = of_members at n
 
-effect-add : (rules : Rules) (n : CtxNum) (t : List ℕ) (o : Option Termination) (m : Maps) → effect (add_found rules n t o) m ≡ effects.add_to rules n t m o
-effect-add rules n t None m = refl
-effect-add rules n t (Some r) m = at r.place
+abbrev pub of_matched : At → Command → Accesses (List (List ℕ))
+of_matched at c = and_then (of_those at (source at c)) (λ l. Done (filter (matches c.term) l))
+
+abbrev pub of_targets : TermRef → At → Command → Accesses (List (List ℕ))
+of_targets (Name t) at c = Done (t ∷ [])
+of_targets All at c = of_matched at c
+of_targets (Under prefix) at c = of_matched at c
+of_targets Root at c = Done []
+of_targets Choose at c = Done []
+of_targets (Other text) at c = Done []
+
+pub effect-of_those : (at : At) (o : Option CtxNum) (m : Maps) → effect (of_those at o) m ≡ giving m (those_in o m)
+effect-of_those at None m = refl
+effect-of_those Null (Some n) m = refl
+effect-of_those (Live k) (Some n) m = refl
+effect-of_those (Unmade k) (Some n) m = refl
+effect-of_those (Each k) (Some n) m = refl
+
+effect-of_matched : (at : At) (c : Command) (m : Maps) → effect (of_matched at c) m ≡ giving m (matched at c m)
+unfolding matched
+effect-of_matched at c m =
+    effect-then (of_those at (source at c)) (λ l. Done (filter (matches c.term) l)) m
+    ∙ ap (λ (o : Outcome (List (List ℕ))). giving o.maps (filter (matches c.term) o.answer)) (effect-of_those at (source at c) m)
+
+pub effect-of_targets : (r : TermRef) (at : At) (c : Command) (m : Maps) → effect (of_targets r at c) m ≡ giving m (targets_of r at c m)
+effect-of_targets (Name t) at c m = refl
+effect-of_targets All at c m = effect-of_matched at c m
+effect-of_targets (Under prefix) at c m = effect-of_matched at c m
+effect-of_targets Root at c m = refl
+effect-of_targets Choose at c m = refl
+effect-of_targets (Other text) at c m = refl
+
+-- ---- refusals by the tables
+
+abbrev pub of_ended : At → Accesses Bool
+of_ended Null = Done false
+of_ended (Live n) = ReadCtx n (λ o. Done (is_none o))
+of_ended (Unmade n) = Done false
+of_ended (Each n) = ReadAll (λ m. Done (is_none (ctx m n)))
+
+-- the targets are known by then
+abbrev pub of_missing : Option ℕ → List (List ℕ) → TermRef → Accesses (Option Code)
+of_missing slot ts (Name t) = ReadTerm t (λ o. Done (code_if UnknownTermination (is_none o)))
+of_missing slot ts All = Done (code_if NoWildcardMatch (not (is_some_list ts)))
+of_missing slot ts (Under prefix) = Done (code_if NoWildcardMatch (not (is_some_list ts)))
+of_missing slot ts Choose = Done (code_if NoTerminationLeft (is_none slot))
+of_missing slot ts Root = Done None
+of_missing slot ts (Other text) = Done None
+
+abbrev pub of_tables : At → Option ℕ → Command → List (List ℕ) → Accesses (Option Code)
+of_tables at slot c ts = and_then (of_ended at) (λ e. and_then (of_missing slot ts c.term) (λ x. Done (or_else (code_if UnknownContext e) (or_else x (check_code c.verb c.descriptors)))))
+
+pub effect-of_ended : (at : At) (m : Maps) → effect (of_ended at) m ≡ giving m (has_ended at m)
+effect-of_ended Null m = refl
+effect-of_ended (Live n) m = refl
+effect-of_ended (Unmade n) m = refl
+effect-of_ended (Each n) m = refl
+
+effect-of_missing : (at : At) (slot : Option ℕ) (c : Command) (r : TermRef) (m : Maps) → effect (of_missing slot (targets at c m) r) m ≡ giving m (missing at slot c m r)
+effect-of_missing at slot c (Name t) m = refl
+effect-of_missing at slot c All m = refl
+effect-of_missing at slot c (Under prefix) m = refl
+effect-of_missing at slot c Choose m = refl
+effect-of_missing at slot c Root m = refl
+effect-of_missing at slot c (Other text) m = refl
+
+pub effect-of_tables : (at : At) (slot : Option ℕ) (c : Command) (m : Maps) → effect (of_tables at slot c (targets at c m)) m ≡ giving m (refusal_by_tables at slot c m)
+unfolding refusal_by_tables
+effect-of_tables at slot c m =
+    let later : Bool → Accesses (Option Code) = λ e. and_then (of_missing slot (targets at c m) c.term) (λ x. Done (or_else (code_if UnknownContext e) (or_else x (check_code c.verb c.descriptors)))) in
+    effect-then (of_ended at) later m
+    ∙ ap (λ (o : Outcome Bool). effect (later o.answer) o.maps) (effect-of_ended at m)
+    ∙ effect-then (of_missing slot (targets at c m) c.term) (λ x. Done (or_else (code_if UnknownContext (has_ended at m)) (or_else x (check_code c.verb c.descriptors)))) m
+    ∙ ap (λ (o : Outcome (Option Code)). giving o.maps (or_else (code_if UnknownContext (has_ended at m)) (or_else o.answer (check_code c.verb c.descriptors)))) (effect-of_missing at slot c c.term m)
+
+-- ---- on the gateway itself, and on a new termination
+
+-- a service state for one, and then for the others
+abbrev pub of_service : Service → List ℕ → Option Termination → Accesses (Unit {0}) → Accesses (Unit {0})
+of_service s t None p = p
+of_service s t (Some r) p = PutTerm t (Some (serviced r s)) p
+
+abbrev pub of_services : Service → List (List ℕ) → Accesses (Unit {0})
+of_services s [] = Done tt
+of_services s (t ∷ ts) = ReadTerm t (λ o. of_service s t o (of_services s ts))
+
+effect-of_services : (s : Service) (ts : List (List ℕ)) (m : Maps) → effect (of_services s ts) m ≡ giving (commands.all_serviced s ts m) tt
+effect-of_services s [] m = refl
+effect-of_services s (t ∷ ts) m = by (term m t) (λ n. effect-of_services s ts n)
   where
-    at : (p : Option CtxNum) → effect (add_placed rules n t r p) m ≡ effects.add_at rules n t m r p
-    at (Some p) = refl
-    at None =
-        effect-cond (nat_le rules.members (length (members_of (ctx m n)))) (refuse ContextFull) (PutCtx n (Some (joined t (context_of (ctx m n)))) (end_with t (placed r (Some n))))
-        (effects.refused ContextFull m) (effects.done (entered n t r m)) m refl refl
+    by : (o : Option Termination) → ((n : Maps) → effect (of_services s ts) n ≡ giving (commands.all_serviced s ts n) tt) → effect (of_service s t o (of_services s ts)) m ≡ giving (commands.all_serviced s ts (commands.put_service s t m o)) tt
+    by None later = later m
+    by (Some r) later = later (commands.put_service s t m (Some r))
 
-effect-subtract : (n : CtxNum) (t : List ℕ) (o : Option Termination) (m : Maps) → effect (subtract_found n t o) m ≡ effects.subtract_from n t m o
-effect-subtract n t None m = refl
-effect-subtract n t (Some r) m = at r.place
-  where
-    at : (p : Option CtxNum) → effect (subtract_placed n t r p) m ≡ effects.subtract_at n t m r p
-    at None = refl
-    at (Some p) = effect-cond (nat_eq p.0 n.0) (leave n t r) (refuse NotInContext) (effects.done (returned n t r m)) (effects.refused NotInContext m) m refl refl
+abbrev pub of_serviced_if : Option Service → Accesses (Unit {0})
+of_serviced_if None = Done tt
+of_serviced_if (Some s) = ReadAll (λ m. of_services s (names m))
 
-effect-add_in : (rules : Rules) (at : At) (t : List ℕ) (m : Maps) → effect (add_in rules at t) m ≡ commands.add_in rules at t m
-effect-add_in rules (Live n) t m = effect-in_context (ctx m n) (ReadTerm t (λ o. add_found rules n t o)) (effects.add_to rules n t m (term m t)) m (effect-add rules n t (term m t) m)
-effect-add_in rules (Unmade n) t m = effect-add rules n t (term m t) m
+abbrev pub of_root : Verb → List Descriptor → Accesses (Unit {0})
+of_root ServiceChange ds = of_serviced_if (service_asked ds)
+of_root _ ds = Done tt
 
-effect-subtract_in : (at : At) (t : List ℕ) (m : Maps) → effect (subtract_in at t) m ≡ commands.subtract_in at t m
-effect-subtract_in (Live n) t m = effect-in_context (ctx m n) (ReadTerm t (λ o. subtract_found n t o)) (effects.subtract_from n t m (term m t)) m (effect-subtract n t (term m t) m)
-effect-subtract_in (Unmade n) t m = refl
+effect-of_serviced_if : (o : Option Service) (m : Maps) → effect (of_serviced_if o) m ≡ giving (commands.serviced_if o m) tt
+effect-of_serviced_if None m = refl
+effect-of_serviced_if (Some s) m = effect-of_services s (names m) m
 
-effect-on_name : (rules : Rules) (at : At) (v : Verb) (t : List ℕ) (m : Maps) → effect (on_name rules at v t) m ≡ commands.on_name rules at v t m
-effect-on_name rules at Add t m = effect-add_in rules at t m
-effect-on_name rules at Subtract t m = effect-subtract_in at t m
-effect-on_name rules at Modify t m = refl
-effect-on_name rules at Move t m = refl
-effect-on_name rules at AuditValue t m = refl
-effect-on_name rules at AuditCapability t m = refl
-effect-on_name rules at Notify t m = refl
-effect-on_name rules at ServiceChange t m = refl
+effect-of_root : (v : Verb) (ds : List Descriptor) (m : Maps) → effect (of_root v ds) m ≡ giving (commands.root_maps v ds m) tt
+effect-of_root ServiceChange ds m = effect-of_serviced_if (service_asked ds) m
+effect-of_root Add ds m = refl
+effect-of_root Modify ds m = refl
+effect-of_root Move ds m = refl
+effect-of_root Subtract ds m = refl
+effect-of_root AuditValue ds m = refl
+effect-of_root AuditCapability ds m = refl
+effect-of_root Notify ds m = refl
 
-effect-on_term : (rules : Rules) (at : At) (v : Verb) (r : TermRef) (m : Maps) → effect (on_term rules at v r) m ≡ commands.on_term rules at v r m
-effect-on_term rules at v (ref.Name t) m = effect-on_name rules at v t m
-effect-on_term rules at v ref.Root m = refl
-effect-on_term rules at v ref.All m = refl
-effect-on_term rules at v (ref.Under t) m = refl
-effect-on_term rules at v ref.Choose m = refl
-effect-on_term rules at v (ref.Other t) m = refl
+abbrev pub of_new : Rules → At → Command → Option ℕ → Accesses CmdOutcome
+of_new rules at c None = Done (commands.outcome_of at (commands.reply c c.term (Err NoTerminationLeft) ∷ []))
+of_new rules at c (Some slot) = and_then (of_record rules (place_at at) c (slot_name slot) (ephemeral slot)) (λ x. Done (commands.outcome_of at (commands.new_reply c slot x ∷ [])))
 
-pub effect-program : (rules : Rules) (at : At) (c : Command) (m : Maps) → effect (program rules at c) m ≡ commands.command rules at c m
+effect-of_new : (rules : Rules) (at : At) (c : Command) (slot : Option ℕ) (m : Maps) → effect (of_new rules at c slot) m ≡ commands.on_new rules at c slot m
+effect-of_new rules at c None m = refl
+effect-of_new rules at c (Some slot) m =
+    effect-then (of_record rules (place_at at) c (slot_name slot) (ephemeral slot)) (λ x. Done (commands.outcome_of at (commands.new_reply c slot x ∷ []))) m
+    ∙ ap (λ (o : Outcome (Result (List ReplyPart) Code)). giving o.maps (commands.outcome_of at (commands.new_reply c slot o.answer ∷ []))) (effect-of_record rules (place_at at) c (slot_name slot) (ephemeral slot) m)
+
+-- ---- the command
+
+abbrev pub of_each : Rules → At → Command → List (List ℕ) → Accesses CmdOutcome
+of_each rules at c ts = and_then (of_names rules at c ts) (λ rs. Done (commands.outcome_of at (commands.told c rs)))
+
+effect-of_each : (rules : Rules) (at : At) (c : Command) (m : Maps) → effect (of_each rules at c (targets at c m)) m ≡ commands.on_names rules at c m
+effect-of_each rules at c m =
+    effect-then (of_names rules at c (targets at c m)) (λ rs. Done (commands.outcome_of at (commands.told c rs))) m
+    ∙ ap (λ (o : Outcome (List CommandReply)). giving o.maps (commands.outcome_of at (commands.told c o.answer))) (effect-of_names rules at c (targets at c m) m)
+
+abbrev pub of_gateway : At → Command → Accesses CmdOutcome
+of_gateway at c = and_then (of_root c.verb c.descriptors) (λ _. Done (commands.outcome_of at (commands.reply c Root (Ok (commands.root_parts c)) ∷ [])))
+
+effect-of_gateway : (at : At) (c : Command) (m : Maps) → effect (of_gateway at c) m ≡ commands.on_root at c m
+effect-of_gateway at c m =
+    effect-then (of_root c.verb c.descriptors) (λ _. Done (commands.outcome_of at (commands.reply c Root (Ok (commands.root_parts c)) ∷ []))) m
+    ∙ ap (λ (o : Outcome (Unit {0})). giving o.maps (commands.outcome_of at (commands.reply c Root (Ok (commands.root_parts c)) ∷ []))) (effect-of_root c.verb c.descriptors m)
+
+abbrev pub of_carried : Rules → At → Option ℕ → Command → List (List ℕ) → TermRef → Accesses CmdOutcome
+of_carried rules at slot c ts Root = of_gateway at c
+of_carried rules at slot c ts Choose = of_new rules at c slot
+of_carried rules at slot c ts (Name t) = of_each rules at c ts
+of_carried rules at slot c ts All = of_each rules at c ts
+of_carried rules at slot c ts (Under prefix) = of_each rules at c ts
+of_carried rules at slot c ts (Other text) = of_each rules at c ts
+
+effect-of_carried : (rules : Rules) (at : At) (slot : Option ℕ) (c : Command) (r : TermRef) (m : Maps) → effect (of_carried rules at slot c (targets at c m) r) m ≡ commands.carried rules at slot c m r
+effect-of_carried rules at slot c Root m = effect-of_gateway at c m
+effect-of_carried rules at slot c Choose m = effect-of_new rules at c slot m
+effect-of_carried rules at slot c (Name t) m = effect-of_each rules at c m
+effect-of_carried rules at slot c All m = effect-of_each rules at c m
+effect-of_carried rules at slot c (Under prefix) m = effect-of_each rules at c m
+effect-of_carried rules at slot c (Other text) m = effect-of_each rules at c m
+
+abbrev pub unless_told : At → Command → Option Code → Accesses CmdOutcome → Accesses CmdOutcome
+unless_told at c (Some code) p = Done (commands.outcome_of at (commands.reply c c.term (Err code) ∷ []))
+unless_told at c None p = p
+
+abbrev pub of_rest : Rules → At → Option ℕ → Command → List (List ℕ) → Accesses CmdOutcome
+of_rest rules at slot c ts = and_then (of_tables at slot c ts) (λ x. unless_told at c x (of_carried rules at slot c ts c.term))
+
+abbrev pub of_allowed : Rules → At → Option ℕ → Command → Accesses CmdOutcome
+of_allowed rules at slot c = and_then (of_targets c.term at c) (λ ts. of_rest rules at slot c ts)
+
+unfoldable pub program : Rules → At → Option ℕ → Command → Accesses CmdOutcome
+program rules at slot c = unless_told at c (refusal_by_form at c) (of_allowed rules at slot c)
+
+effect-unless : (at : At) (c : Command) (x : Option Code) (p : Accesses CmdOutcome) (o : Outcome CmdOutcome) (m : Maps) → effect p m ≡ o → effect (unless_told at c x p) m ≡ commands.unless_refused x at c m o
+effect-unless at c (Some code) p o m e = refl
+effect-unless at c None p o m e = e
+
+both_refusals : (x y : Option Code) (at : At) (c : Command) (m : Maps) (o : Outcome CmdOutcome) → commands.unless_refused x at c m (commands.unless_refused y at c m o) ≡ commands.unless_refused (or_else x y) at c m o
+both_refusals (Some code) y at c m o = refl
+both_refusals None y at c m o = refl
+
+pub effect-program : (rules : Rules) (at : At) (slot : Option ℕ) (c : Command) (m : Maps) → effect (program rules at slot c) m ≡ commands.command rules at slot c m
 unfolding program commands.command
-effect-program rules at c m =
-    effect-then (on_term rules at c.verb c.term) (λ result. Done (commands.outcome_of at c result)) m
-    ∙ ap (λ (o : Outcome (Result Unit Code)). commands.answered_by at c o) (effect-on_term rules at c.verb c.term m)
-
--- ---- they stay within its keys
-
-pub new_in_joined : (keys : List Key) (t : List ℕ) (l : List (List ℕ)) → has keys (Term t) ≡ true → NewIn keys l (l ++ t ∷ [])
-new_in_joined keys t l ht q h = either (in_pushed q t l h) (λ a. inl a) (λ e. inr (subst (λ (y : List ℕ). has keys (Term y) ≡ true) (sym (same_name q t e)) ht))
-
-pub new_in_left : (keys : List Key) (t : List ℕ) (c : ContextRecord) → NewIn keys c.members (members_of (unless_empty (left t c)))
-new_in_left keys t c q h = inl (in_without t q c.members (ap (is_in q) (sym (members-unless_empty (left t c))) ∙ h))
-
-module _ (keys : List Key) (n : CtxNum) (t : List ℕ) (hn : has keys (Ctx n) ≡ true) (ht : has keys (Term t) ≡ true) where
-  within-add : (rules : Rules) (o : Option Termination) (m : Maps) → Within keys (add_found rules n t o) m
-  within-add rules None m = tt
-  within-add rules (Some r) m = at r.place
-    where
-      at : (p : Option CtxNum) → Within keys (add_placed rules n t r p) m
-      at (Some p) = tt
-      at None = (
-        hn,
-        within-cond keys (nat_le rules.members (length (members_of (ctx m n)))) (refuse ContextFull) (PutCtx n (Some (joined t (context_of (ctx m n)))) (end_with t (placed r (Some n)))) m
-            tt (hn, new_in_joined keys t (members_of (ctx m n)) ht, (ht, hn, tt)),
-      )
-
-  within-subtract : (o : Option Termination) (m : Maps) → Within keys (subtract_found n t o) m
-  within-subtract None m = tt
-  within-subtract (Some r) m = at r.place
-    where
-      at : (p : Option CtxNum) → Within keys (subtract_placed n t r p) m
-      at None = tt
-      at (Some p) =
-          within-cond keys (nat_eq p.0 n.0) (leave n t r) (refuse NotInContext) m
-          (hn, (hn, new_in_left keys t (context_of (ctx m n)), (ht, tt, tt))) tt
-
-  within-in_context : (c : Option ContextRecord) (p : Accesses (Result Unit Code)) (m : Maps) → Within keys p m → Within keys (in_context c p) m
-  within-in_context None p m w = tt
-  within-in_context (Some c) p m w = w
-
-module _ (keys : List Key) where
-  within-add_in : (rules : Rules) (at : At) (t : List ℕ) (m : Maps) → has keys (Ctx (number_of at)) ≡ true → has keys (Term t) ≡ true → Within keys (add_in rules at t) m
-  within-add_in rules (Live n) t m hn ht = (hn, within-in_context keys n t hn ht (ctx m n) (ReadTerm t (λ o. add_found rules n t o)) m (ht, within-add keys n t hn ht rules (term m t) m))
-  within-add_in rules (Unmade n) t m hn ht = (ht, within-add keys n t hn ht rules (term m t) m)
-
-  within-subtract_in : (at : At) (t : List ℕ) (m : Maps) → has keys (Ctx (number_of at)) ≡ true → has keys (Term t) ≡ true → Within keys (subtract_in at t) m
-  within-subtract_in (Live n) t m hn ht = (hn, within-in_context keys n t hn ht (ctx m n) (ReadTerm t (λ o. subtract_found n t o)) m (ht, within-subtract keys n t hn ht (term m t) m))
-  within-subtract_in (Unmade n) t m hn ht = tt
-
-  within-on_name : (rules : Rules) (at : At) (v : Verb) (t : List ℕ) (m : Maps) → has keys (Ctx (number_of at)) ≡ true → has keys (Term t) ≡ true → Within keys (on_name rules at v t) m
-  within-on_name rules at Add t m hn ht = within-add_in rules at t m hn ht
-  within-on_name rules at Subtract t m hn ht = within-subtract_in at t m hn ht
-  within-on_name rules at Modify t m hn ht = tt
-  within-on_name rules at Move t m hn ht = tt
-  within-on_name rules at AuditValue t m hn ht = tt
-  within-on_name rules at AuditCapability t m hn ht = tt
-  within-on_name rules at Notify t m hn ht = tt
-  within-on_name rules at ServiceChange t m hn ht = tt
-
-  within-on_term : (rules : Rules) (at : At) (v : Verb) (r : TermRef) (m : Maps) → has keys (Ctx (number_of at)) ≡ true → Among (term_keys r m) keys → Within keys (on_term rules at v r) m
-  within-on_term rules at v (ref.Name t) m hn h = within-on_name rules at v t m hn (h (Term t) (has-head (Term t) (place_key (place_of (term m t)))))
-  within-on_term rules at v ref.Root m hn h = tt
-  within-on_term rules at v ref.All m hn h = tt
-  within-on_term rules at v (ref.Under t) m hn h = tt
-  within-on_term rules at v ref.Choose m hn h = tt
-  within-on_term rules at v (ref.Other t) m hn h = tt
-
-pub within-program : (rules : Rules) (at : At) (c : Command) (m : Maps) → Within (command_keys at c m) (program rules at c) m
-unfolding program
-within-program rules at c m =
-    let keys : List Key = command_keys at c m in
-    let n : Key = Ctx (number_of at) in
-    within-then keys (on_term rules at c.verb c.term) (λ result. Done (commands.outcome_of at c result)) m
-    (within-on_term keys rules at c.verb c.term m (has-head n (term_keys c.term m)) (λ k h. has-tail n k (term_keys c.term m) h)) tt
+effect-program rules at slot c m =
+    let ts : List (List ℕ) = targets at c m in
+    let whole : Outcome CmdOutcome = commands.carried rules at slot c m c.term in
+    let rest = λ (l : List (List ℕ)). of_rest rules at slot c l in
+    effect-unless at c (refusal_by_form at c) (of_allowed rules at slot c) (commands.unless_refused (refusal_by_tables at slot c m) at c m whole) m
+    (effect-then (of_targets c.term at c) rest m
+    ∙ ap (λ (o : Outcome (List (List ℕ))). effect (rest o.answer) o.maps) (effect-of_targets c.term at c m)
+    ∙ effect-then (of_tables at slot c ts) (λ x. unless_told at c x (of_carried rules at slot c ts c.term)) m
+    ∙ ap (λ (o : Outcome (Option Code)). effect (unless_told at c o.answer (of_carried rules at slot c ts c.term)) o.maps) (effect-of_tables at slot c m)
+    ∙ effect-unless at c (refusal_by_tables at slot c m) (of_carried rules at slot c ts c.term) whole m (effect-of_carried rules at slot c c.term m))
+    ∙ both_refusals (refusal_by_form at c) (refusal_by_tables at slot c m) at c m whole

@@ -1,14 +1,11 @@
 -- What some writes in a row come to.
-use Rattle.std.proofs.Common.{nat_le, ◌≡◌, ℕ, ◌<◌, Bool, false, cond, List, [], ◌∷◌, Option, None, Some, Ok, length, refl, sym, ap, subst, ◌∙◌}
-use Rattle.std.proofs.lemmas.Bool.{lt-leb}
+use Rattle.std.proofs.Common.{nat_eq, ◌≡◌, ℕ, ◌<◌, Bool, true, false, cond, List, [], ◌∷◌, Option, None, Some, bytes_eq, refl, sym, ap, subst, ◌∙◌}
 use Rattle.gw_base.specs.declared.ids.CtxNum.{CtxNum}
 use Rattle.gw_ctx.specs.Contexts.{ContextRecord, joined, left}
-use Rattle.gw_base.specs.declared.code.Code.TheVariants.{ContextFull}
-use Rattle.gw_base.specs.declared.command_words.Rules.{Rules}
-use Rattle.gw_table.specs.Maps.{Maps, ctx, put_ctx, context_of, members_of}
-use Rattle.gw_table.proofs.Lookups.{put_ctx-put_ctx}
-use Rattle.gw_cmd.specs.Effects.{refused, done, if_room}
-use Rattle.gw_cmd.specs.Refused.{Tells}
+use Rattle.gw_term.specs.declared.record.Termination.{Termination}
+use Rattle.gw_base.proofs.NameTests.{same_name}
+use Rattle.gw_table.specs.Maps.{Maps, term, ctx, put_term, put_ctx, context_of}
+use Rattle.gw_table.proofs.Lookups.{term-put_term, ctx-put_term, put_ctx-put_ctx, same_maps}
 use Rattle.gw_cmd.specs.Moves.{with_member, without_member, unless_none, unless_empty}
 
 -- the context is taken out, gains a member and is put back
@@ -26,10 +23,20 @@ left_by m taken set n t old c before a b e d f g =
     g ∙ ap (λ x. put_ctx x n (Some c)) e ∙ put_ctx-put_ctx m n None (Some c)
     ∙ ap (λ o. put_ctx m n o) (some_left c.members c f ∙ ap (λ (k : ContextRecord). unless_empty k) (d ∙ ap (λ o. left t (context_of o)) (sym b ∙ a)))
 
--- a test that a context is full, where it has room
-pub room : (limit length : ℕ) → length < limit → nat_le limit length ≡ false
-room limit length h = lt-leb limit length h
+twice : {A : Type 0} (b : Bool) (x y z : A) → cond b x (cond b y z) ≡ cond b x z
+twice true x y z = refl
+twice false x y z = refl
 
--- what is done where the context has room
-pub told_with_room : (rules : Rules) (n : CtxNum) (m new x : Maps) → length (members_of (ctx m n)) < rules.members → new ≡ x → Tells (Ok tt) new (if_room rules n m (done x))
-told_with_room rules n m new x h e = subst (λ (b : Bool). Tells (Ok tt) new (cond b (refused ContextFull m) (done x))) (sym (room rules.members (length (members_of (ctx m n))) h)) (e, refl)
+-- the later of two writes under one name holds
+pub put_term-put_term : (m : Maps) (t : List ℕ) (o p : Option Termination) → put_term (put_term m t o) t p ≡ put_term m t p
+put_term-put_term m t o p = same_maps (put_term (put_term m t o) t p) (put_term m t p)
+    (λ q. term-put_term (put_term m t o) t p q ∙ ap (cond (bytes_eq q t) p) (term-put_term m t o q) ∙ twice (bytes_eq q t) p o (term m q) ∙ sym (term-put_term m t p q))
+    (λ q. ctx-put_term (put_term m t o) t p q ∙ ctx-put_term m t o q ∙ sym (ctx-put_term m t p q))
+
+-- a write of what is there changes nothing
+pub put_same : (m : Maps) (t : List ℕ) (o : Option Termination) → o ≡ term m t → put_term m t o ≡ m
+put_same m t o e = same_maps (put_term m t o) m (λ q. term-put_term m t o q ∙ at q (bytes_eq q t) refl) (λ q. ctx-put_term m t o q)
+  where
+    at : (q : List ℕ) (b : Bool) → bytes_eq q t ≡ b → cond b o (term m q) ≡ term m q
+    at q true h = e ∙ ap (λ (y : List ℕ). term m y) (sym (same_name q t h))
+    at q false h = refl

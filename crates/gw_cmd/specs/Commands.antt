@@ -1,71 +1,158 @@
--- A command: what it does to the maps, and its replies (RFC 3525, section 7.2; the order of refusals is own).
-use Rattle.std.specs.Prelude.{ℕ, ◌&&◌, List, [], ◌∷◌, Option, None, Some, Result, Ok, Err, is_ok, is_err}
+-- A command: what it does to the maps, and its replies (RFC 3525, section 7.2).
+use Rattle.std.specs.Prelude.{ℕ, ◌&&◌, not, if◌then◌else◌, Bool, true, false, List, [], ◌∷◌, Option, None, Some, Result, Ok, Err, is_err}
+use Rattle.std.specs.List.{list_any, find, flat_map}
 use Rattle.gw_base.specs.declared.code.Code.{Code}
-use Rattle.gw_base.specs.declared.code.Code.TheVariants.{UnknownContext, IllegalCombination, NotImplemented}
+use Rattle.gw_base.specs.declared.code.Code.TheVariants.{NoTerminationLeft}
+use Rattle.gw_base.specs.declared.ids.CtxNum.{CtxNum}
 use Rattle.gw_base.specs.declared.command_words.Rules.{Rules}
+use Rattle.gw_base.specs.declared.command_words.Service.{Service}
 use Rattle.gw_base.specs.declared.command_words.Verb.{Verb}
-use Rattle.gw_base.specs.declared.command_words.Verb.TheVariants.{Add, Modify, Move, Subtract, AuditValue, AuditCapability, Notify, ServiceChange}
+use Rattle.gw_base.specs.declared.command_words.Verb.TheVariants.{ServiceChange}
 use Rattle.gw_base.specs.declared.term_ref.TermRef.{TermRef}
 use Rattle.gw_base.specs.declared.term_ref.TermRef.TheVariants.{Root, All, Under, Choose, Name, Other}
-use Rattle.gw_ctx.specs.Contexts.{ContextRecord}
+use Rattle.gw_desc.specs.declared.descriptor.Descriptor.{Descriptor}
+use Rattle.gw_desc.specs.declared.values.AuditItem.{AuditItem}
+use Rattle.gw_desc.specs.Values.{item_of}
 use Rattle.gw_msg.specs.declared.message.Command.{Command}
 use Rattle.gw_reply.specs.declared.parts.ReplyPart.{ReplyPart}
+use Rattle.gw_reply.specs.declared.parts.ReplyPart.TheVariants as part
 use Rattle.gw_reply.specs.declared.reply.CommandReply.{CommandReply}
-use Rattle.gw_table.specs.Maps.{Maps, Outcome, term, ctx}
+use Rattle.gw_term.specs.declared.record.Termination.{Termination}
+use Rattle.gw_term.specs.Record.{ephemeral, serviced}
+use Rattle.gw_table.specs.declared.attempts.Attempts.{Attempts}
+use Rattle.gw_table.specs.Folds.{in_order}
+use Rattle.gw_table.specs.Maps.{Maps, Outcome, term, names, put_term}
+use Rattle.gw_table.specs.Reserved.{slot_name}
 use Rattle.gw_cmd.specs.declared.at.At.{At}
-use Rattle.gw_cmd.specs.declared.at.At.TheVariants.{Live, Unmade}
 use Rattle.gw_cmd.specs.declared.outcome.CmdOutcome.{CmdOutcome}
-use Rattle.gw_cmd.specs.Places.{is_unmade}
-use Rattle.gw_cmd.specs.Effects.{refused, add_to, subtract_from}
+use Rattle.gw_cmd.specs.Asked.{is_wildcard, audited, service_asked}
+use Rattle.gw_cmd.specs.Effects.{on_record, on_name}
+use Rattle.gw_cmd.specs.Places.{place_at, is_unmade}
+use Rattle.gw_cmd.specs.Refusals.{refusal}
+use Rattle.gw_cmd.specs.Targets.{targets}
 
--- what is done in a context, unless it has ended
-abbrev pub unless_ended : Option ContextRecord → Maps → Outcome (Result Unit Code) → Outcome (Result Unit Code)
-unless_ended None m o = refused UnknownContext m
-unless_ended (Some c) m o = o
+-- ---- replies
 
-abbrev pub add_in : Rules → At → List ℕ → Maps → Outcome (Result Unit Code)
-add_in rules (Live n) t m = unless_ended (ctx m n) m (add_to rules n t m (term m t))
-add_in rules (Unmade n) t m = add_to rules n t m (term m t)
+abbrev pub reply : Command → TermRef → Result (List ReplyPart) Code → CommandReply
+reply c sent result = record { verb = c.verb; term = sent; result = result }
 
--- a context that is not made yet has nothing to subtract, and this is refused first
-abbrev pub subtract_in : At → List ℕ → Maps → Outcome (Result Unit Code)
-subtract_in (Live n) t m = unless_ended (ctx m n) m (subtract_from n t m (term m t))
-subtract_in (Unmade n) t m = refused IllegalCombination m
+abbrev pub is_error : CommandReply → Bool
+is_error r = is_err r.result
 
-abbrev pub on_name : Rules → At → Verb → List ℕ → Maps → Outcome (Result Unit Code)
-on_name rules at Add t m = add_in rules at t m
-on_name rules at Subtract t m = subtract_in at t m
-on_name rules at Modify t m = refused NotImplemented m
-on_name rules at Move t m = refused NotImplemented m
-on_name rules at AuditValue t m = refused NotImplemented m
-on_name rules at AuditCapability t m = refused NotImplemented m
-on_name rules at Notify t m = refused NotImplemented m
-on_name rules at ServiceChange t m = refused NotImplemented m
+abbrev pub is_done : CommandReply → Bool
+is_done r = not (is_error r)
 
-abbrev pub on_term : Rules → At → Verb → TermRef → Maps → Outcome (Result Unit Code)
-on_term rules at verb (Name t) m = on_name rules at verb t m
-on_term rules at verb Root m = refused NotImplemented m
-on_term rules at verb All m = refused NotImplemented m
-on_term rules at verb (Under t) m = refused NotImplemented m
-on_term rules at verb Choose m = refused NotImplemented m
-on_term rules at verb (Other t) m = refused NotImplemented m
+-- it failed if a reply is an error; a success in a context that is not made yet makes it
+abbrev pub outcome_of : At → List CommandReply → CmdOutcome
+outcome_of at replies = record {
+  replies = replies;
+  failed = list_any is_error replies;
+  made = is_unmade at && list_any is_done replies;
+}
 
--- what is told of a command: nothing of one that was carried out, or why it was not
-abbrev pub told : Result Unit Code → Result (List ReplyPart) Code
-told (Ok done) = Ok []
-told (Err code) = Err code
+abbrev pub with_replies : At → Maps → List CommandReply → Outcome CmdOutcome
+with_replies at m replies = record { maps = m; answer = outcome_of at replies }
 
--- the reply has the command's word and TerminationID
-abbrev pub reply_of : Command → Result Unit Code → CommandReply
-reply_of c result = record { verb = c.verb; term = c.term; result = told result }
+-- one reply to the TerminationID as sent
+abbrev pub refused : At → Command → Code → Maps → Outcome CmdOutcome
+refused at c code m = with_replies at m (reply c c.term (Err code) ∷ [])
 
--- a success in a context that is not made yet makes it
-abbrev pub outcome_of : At → Command → Result Unit Code → CmdOutcome
-outcome_of at c result = record { replies = reply_of c result ∷ []; failed = is_err result; made = is_unmade at && is_ok result }
+-- ---- on terminations by their names
 
-abbrev pub answered_by : At → Command → Outcome (Result Unit Code) → Outcome CmdOutcome
-answered_by at c o = record { maps = o.maps; answer = outcome_of at c o.answer }
+abbrev pub one_reply : CommandReply → Attempts Unit CommandReply
+one_reply r = record { next = tt; answers = r ∷ []; stopped = false }
 
--- Add and Subtract of a termination by its name, without descriptors
-unfoldable pub command : Rules → At → Command → Maps → Outcome CmdOutcome
-command rules at c m = answered_by at c (on_term rules at c.verb c.term m)
+-- one of the targets; none of them stops the others
+abbrev pub on_target : Rules → At → Command → Unit {0} → List ℕ → Maps → Outcome (Attempts Unit CommandReply)
+on_target rules at c u t m =
+    let o = on_name rules (place_at at) c t m in
+    record { maps = o.maps; answer = one_reply (reply c (Name t) o.answer) }
+
+abbrev pub on_targets : Rules → At → Command → List (List ℕ) → Maps → Outcome (Attempts Unit CommandReply)
+on_targets rules at c ts m = in_order (on_target rules at c) tt ts m
+
+abbrev pub error_of : Result (List ReplyPart) Code → Result (List ReplyPart) Code
+error_of (Ok parts) = Ok []
+error_of (Err code) = Err code
+
+abbrev pub error_in : Option CommandReply → Result (List ReplyPart) Code
+error_in None = Ok []
+error_in (Some r) = error_of r.result
+
+-- the first error, if there is one
+abbrev pub first_error : List CommandReply → Result (List ReplyPart) Code
+first_error replies = error_in (find is_error replies)
+
+-- W- with a wildcard has one reply to it as sent
+abbrev pub told : Command → List CommandReply → List CommandReply
+told c replies = if c.wild && is_wildcard c.term then reply c c.term (first_error replies) ∷ [] else replies
+
+abbrev pub on_names : Rules → At → Command → Maps → Outcome CmdOutcome
+on_names rules at c m =
+    let o = on_targets rules at c (targets at c m) m in
+    with_replies at o.maps (told c o.answer.answers)
+
+-- ---- on a termination that is made
+
+-- told by its name where it came into being, else as $
+abbrev pub new_reply : Command → ℕ → Result (List ReplyPart) Code → CommandReply
+new_reply c slot (Ok parts) = reply c (Name (slot_name slot)) (Ok parts)
+new_reply c slot (Err code) = reply c Choose (Err code)
+
+abbrev pub on_new : Rules → At → Command → Option ℕ → Maps → Outcome CmdOutcome
+on_new rules at c None m = refused at c NoTerminationLeft m
+on_new rules at c (Some slot) m =
+    let o = on_record rules (place_at at) c (slot_name slot) (ephemeral slot) m in
+    with_replies at o.maps (new_reply c slot o.answer ∷ [])
+
+-- ---- on ROOT, the gateway itself
+
+-- the termination of a name has this service state
+abbrev pub put_service : Service → List ℕ → Maps → Option Termination → Maps
+put_service s t m None = m
+put_service s t m (Some r) = put_term m t (Some (serviced r s))
+
+abbrev pub all_serviced : Service → List (List ℕ) → Maps → Maps
+all_serviced s [] m = m
+all_serviced s (t ∷ ts) m = all_serviced s ts (put_service s t m (term m t))
+
+-- a service state for every termination, if one is asked for
+abbrev pub serviced_if : Option Service → Maps → Maps
+serviced_if None m = m
+serviced_if (Some s) m = all_serviced s (names m) m
+
+abbrev pub bare_if : Option AuditItem → List ReplyPart
+bare_if None = []
+bare_if (Some item) = part.Bare item ∷ []
+
+abbrev pub bare_told : List ℕ → List ReplyPart
+bare_told word = bare_if (item_of word)
+
+-- every item is told bare
+abbrev pub root_parts : Command → List ReplyPart
+root_parts c = flat_map bare_told (audited c.descriptors)
+
+-- a ServiceChange is for every termination
+abbrev pub root_maps : Verb → List Descriptor → Maps → Maps
+root_maps ServiceChange descriptors m = serviced_if (service_asked descriptors) m
+root_maps _ descriptors m = m
+
+abbrev pub on_root : At → Command → Maps → Outcome CmdOutcome
+on_root at c m = with_replies at (root_maps c.verb c.descriptors m) (reply c Root (Ok (root_parts c)) ∷ [])
+
+-- ---- the command
+
+abbrev pub carried : Rules → At → Option ℕ → Command → Maps → TermRef → Outcome CmdOutcome
+carried rules at slot c m Root = on_root at c m
+carried rules at slot c m Choose = on_new rules at c slot m
+carried rules at slot c m (Name t) = on_names rules at c m
+carried rules at slot c m All = on_names rules at c m
+carried rules at slot c m (Under prefix) = on_names rules at c m
+carried rules at slot c m (Other text) = on_names rules at c m
+
+abbrev pub unless_refused : Option Code → At → Command → Maps → Outcome CmdOutcome → Outcome CmdOutcome
+unless_refused (Some code) at c m o = refused at c code m
+unless_refused None at c m o = o
+
+unfoldable pub command : Rules → At → Option ℕ → Command → Maps → Outcome CmdOutcome
+command rules at slot c m = unless_refused (refusal at slot c m) at c m (carried rules at slot c m c.term)

@@ -1,38 +1,182 @@
--- What a command does to one termination, and what is answered (RFC 3525, section 7.2; which case gets which code, and in which
--- order, is own).
-use Rattle.std.specs.Prelude.{ℕ, if◌then◌else◌, nat_eq, nat_le, List, length, Option, None, Some, Result, Ok, Err}
+-- What a command does to one termination, and what it tells of it (RFC 3525, section 7.2; which case gets which code, and in
+-- which order, is own). It is decided by the termination's record, and by whether the action's context is full.
+use Rattle.std.specs.Prelude.{◌≡◌, ℕ, nat_eq, nat_le, Bool, true, false, not, ◌||◌, if◌then◌else◌, List, [], ◌∷◌, ◌++◌, length, Option, None, Some, Result, Ok, Err}
+use Rattle.std.specs.Option.{is_some, unwrap_or}
+use Rattle.std.specs.List.{flat_map}
 use Rattle.gw_base.specs.declared.code.Code.{Code}
-use Rattle.gw_base.specs.declared.code.Code.TheVariants.{UnknownTermination, AlreadyInContext, ContextFull, NotInContext}
+use Rattle.gw_base.specs.declared.code.Code.TheVariants.{IllegalCombination, AlreadyInContext, ContextFull, NotInContext, InsufficientResources, UnknownCommand, UnknownTermination}
 use Rattle.gw_base.specs.declared.ids.CtxNum.{CtxNum}
 use Rattle.gw_base.specs.declared.command_words.Rules.{Rules}
+use Rattle.gw_base.specs.declared.command_words.Verb.{Verb}
+use Rattle.gw_base.specs.declared.command_words.Verb.TheVariants.{Add, Modify, Move, Subtract, AuditValue, AuditCapability, Notify, ServiceChange}
+use Rattle.gw_desc.specs.declared.descriptor.Descriptor.{Descriptor}
+use Rattle.gw_desc.specs.Checks.{check_code}
+use Rattle.gw_msg.specs.declared.message.Command.{Command}
+use Rattle.gw_reply.specs.declared.parts.FilledStream.{FilledStream}
+use Rattle.gw_reply.specs.declared.parts.ReplyPart.{ReplyPart}
+use Rattle.gw_reply.specs.declared.parts.ReplyPart.TheVariants as part
 use Rattle.gw_term.specs.declared.record.Termination.{Termination}
-use Rattle.gw_table.specs.Maps.{Maps, Outcome, ctx, members_of}
-use Rattle.gw_cmd.specs.Moves.{with_member, entered, returned}
+use Rattle.gw_term.specs.Record.{placed, serviced, reset}
+use Rattle.gw_term.specs.Merge.{merged, filled_by}
+use Rattle.gw_term.specs.Audit.{audit_parts}
+use Rattle.gw_table.specs.Maps.{Maps, Outcome, term, ctx, members_of}
+use Rattle.gw_cmd.specs.Asked.{audited, asks_media, is_some_list, service_asked}
+use Rattle.gw_cmd.specs.declared.change.Change.{Change}
+use Rattle.gw_cmd.specs.declared.change.Change.TheVariants.{Stays, Becomes, Joins, Crosses, Leaves}
+use Rattle.gw_cmd.specs.declared.change.Decided.{Decided}
+use Rattle.gw_cmd.specs.declared.change.Merged.{Merged}
+use Rattle.gw_cmd.specs.Moves.{changed}
+use Rattle.gw_cmd.specs.Places.{same_place}
 
-abbrev pub refused : Code → Maps → Outcome (Result Unit Code)
-refused code m = record { maps = m; answer = Err code }
+-- ---- commands that merge
 
-abbrev pub done : Maps → Outcome (Result Unit Code)
-done m = record { maps = m; answer = Ok tt }
+-- the Locals that were filled, unless Media is audited
+abbrev pub filled_part : List Descriptor → List FilledStream → List ReplyPart
+filled_part descriptors filled = if asks_media descriptors || not (is_some_list filled) then [] else part.Filled filled ∷ []
 
--- something is done where the context has room
-abbrev pub if_room : Rules → CtxNum → Maps → Outcome (Result Unit Code) → Outcome (Result Unit Code)
-if_room rules n m o = if nat_le rules.members (length (members_of (ctx m n))) then refused ContextFull m else o
+-- what was filled, and what is audited of the record after it
+abbrev pub parts_of : List Descriptor → List FilledStream → Termination → List ReplyPart
+parts_of descriptors filled new = filled_part descriptors filled ++ audit_parts (audited descriptors) new
 
--- Add, by where the termination is
-abbrev pub add_at : Rules → CtxNum → List ℕ → Maps → Termination → Option CtxNum → Outcome (Result Unit Code)
-add_at rules n t m r (Some p) = refused AlreadyInContext m
-add_at rules n t m r None = if_room rules n m (done (entered n t r m))
+-- the record after a merge, and what is told of it
+abbrev pub with_parts : List Descriptor → List FilledStream → Termination → Merged
+with_parts descriptors filled new = record { record_after = new; parts = parts_of descriptors filled new }
 
-abbrev pub add_to : Rules → CtxNum → List ℕ → Maps → Option Termination → Outcome (Result Unit Code)
-add_to rules n t m None = refused UnknownTermination m
-add_to rules n t m (Some r) = add_at rules n t m r r.place
+-- unless it is refused
+abbrev pub merged_in : List Descriptor → List FilledStream → Option Code → Termination → Result Merged Code
+merged_in descriptors filled (Some code) new = Err code
+merged_in descriptors filled None new = Ok (with_parts descriptors filled new)
 
--- Subtract, by where the termination is
-abbrev pub subtract_at : CtxNum → List ℕ → Maps → Termination → Option CtxNum → Outcome (Result Unit Code)
-subtract_at n t m r None = refused NotInContext m
-subtract_at n t m r (Some p) = if nat_eq p.0 n.0 then done (returned n t r m) else refused NotInContext m
+-- a list that would hold too many properties comes first
+abbrev pub merging_to : Rules → List Descriptor → (old : Termination) → Option CtxNum → Option Code → Option Termination → Result Merged Code
+merging_to rules descriptors old place refused None = Err InsufficientResources
+merging_to rules descriptors old place refused (Some new) = merged_in descriptors (filled_by rules descriptors old) refused (placed new place)
 
-abbrev pub subtract_from : CtxNum → List ℕ → Maps → Option Termination → Outcome (Result Unit Code)
-subtract_from n t m None = refused UnknownTermination m
-subtract_from n t m (Some r) = subtract_at n t m r r.place
+unfoldable pub merging : Rules → List Descriptor → (old : Termination) → Option CtxNum → Option Code → Result Merged Code
+merging rules descriptors old place refused = merging_to rules descriptors old place refused (merged rules descriptors old)
+
+-- ---- why a termination is refused, by where it is
+
+-- Add wants one that is in no context
+abbrev pub refusal_to_add : Bool → Option CtxNum → Option Code
+refusal_to_add full (Some p) = Some AlreadyInContext
+refusal_to_add full None = if full then Some ContextFull else None
+
+-- Move one that is in another
+abbrev pub refusal_to_move : Bool → CtxNum → Option CtxNum → Option Code
+refusal_to_move full n None = Some NotInContext
+refusal_to_move full n (Some p) =
+    if nat_eq p.0 n.0 then Some AlreadyInContext
+    else if full then Some ContextFull
+    else None
+
+-- the others one that is in the action's
+abbrev pub refusal_elsewhere : Option CtxNum → Option CtxNum → Option Code
+refusal_elsewhere place there = if same_place there place then None else Some NotInContext
+
+-- ---- each command on a termination
+
+abbrev pub joins : CtxNum → Result Merged Code → Result Decided Code
+joins n (Err code) = Err code
+joins n (Ok m) = Ok (record { change = Joins n m.record_after; parts = m.parts })
+
+abbrev pub added : Rules → List Descriptor → Bool → CtxNum → Termination → Result Decided Code
+added rules descriptors full n r = joins n (merging rules descriptors r (Some n) (refusal_to_add full r.place))
+
+-- from the context that it is in; one that is in none was refused
+abbrev pub crosses : Option CtxNum → CtxNum → Result Merged Code → Result Decided Code
+crosses p n (Err code) = Err code
+crosses None n (Ok m) = Err NotInContext
+crosses (Some p) n (Ok m) = Ok (record { change = Crosses p n m.record_after; parts = m.parts })
+
+abbrev pub moved : Rules → List Descriptor → Bool → CtxNum → Termination → Result Decided Code
+moved rules descriptors full n r = crosses r.place n (merging rules descriptors r (Some n) (refusal_to_move full n r.place))
+
+abbrev pub becomes : Result Merged Code → Result Decided Code
+becomes (Err code) = Err code
+becomes (Ok m) = Ok (record { change = Becomes m.record_after; parts = m.parts })
+
+abbrev pub modified : Rules → List Descriptor → Option CtxNum → Termination → Result Decided Code
+modified rules descriptors place r = becomes (merging rules descriptors r place (refusal_elsewhere place r.place))
+
+-- done, unless it is refused
+abbrev pub unless : Option Code → Decided → Result Decided Code
+unless (Some code) d = Err code
+unless None d = Ok d
+
+-- an ephemeral termination is destroyed, another goes to the null context
+abbrev pub what_remains : Termination → Option Termination
+what_remains r = if is_some r.slot then None else Some (reset r)
+
+abbrev pub subtracted : List Descriptor → CtxNum → Termination → Result Decided Code
+subtracted descriptors n r = unless (refusal_elsewhere (Some n) r.place) (record { change = Leaves n (what_remains r); parts = audit_parts (audited descriptors) r })
+
+abbrev pub told_of : List Descriptor → Option CtxNum → Termination → Result Decided Code
+told_of descriptors place r = unless (refusal_elsewhere place r.place) (record { change = Stays; parts = audit_parts (audited descriptors) r })
+
+-- the service state that is asked for, or as it was
+abbrev pub after_change : List Descriptor → Termination → Termination
+after_change descriptors r = serviced r (unwrap_or (service_asked descriptors) r.service)
+
+abbrev pub service_changed : List Descriptor → Option CtxNum → Termination → Result Decided Code
+service_changed descriptors place r = unless (refusal_elsewhere place r.place) (record { change = Becomes (after_change descriptors r); parts = [] })
+
+-- what a command that merges wants of its descriptors: that no code applies to them
+abbrev pub CanMerge : Verb → List Descriptor → Type 0
+CanMerge Add descriptors = check_code Add descriptors ≡ None
+CanMerge Move descriptors = check_code Add descriptors ≡ None
+CanMerge Modify descriptors = check_code Add descriptors ≡ None
+CanMerge Subtract descriptors = Unit {0}
+CanMerge AuditValue descriptors = Unit {0}
+CanMerge ServiceChange descriptors = Unit {0}
+CanMerge AuditCapability descriptors = Unit {0}
+CanMerge Notify descriptors = Unit {0}
+
+-- ---- by the command's word; those that want a context were refused in the null context
+
+abbrev pub decided_in : Rules → Verb → List Descriptor → Bool → CtxNum → Termination → Result Decided Code
+decided_in rules Add descriptors full n r = added rules descriptors full n r
+decided_in rules Move descriptors full n r = moved rules descriptors full n r
+decided_in rules Subtract descriptors full n r = subtracted descriptors n r
+decided_in rules Modify descriptors full n r = modified rules descriptors (Some n) r
+decided_in rules AuditValue descriptors full n r = told_of descriptors (Some n) r
+decided_in rules ServiceChange descriptors full n r = service_changed descriptors (Some n) r
+decided_in rules AuditCapability descriptors full n r = Err UnknownCommand
+decided_in rules Notify descriptors full n r = Err UnknownCommand
+
+abbrev pub decided_in_null : Rules → Verb → List Descriptor → Termination → Result Decided Code
+decided_in_null rules Modify descriptors r = modified rules descriptors None r
+decided_in_null rules AuditValue descriptors r = told_of descriptors None r
+decided_in_null rules ServiceChange descriptors r = service_changed descriptors None r
+decided_in_null rules Add descriptors r = Err IllegalCombination
+decided_in_null rules Move descriptors r = Err IllegalCombination
+decided_in_null rules Subtract descriptors r = Err IllegalCombination
+decided_in_null rules AuditCapability descriptors r = Err UnknownCommand
+decided_in_null rules Notify descriptors r = Err UnknownCommand
+
+-- ---- on the maps
+
+-- a full context takes no more members
+abbrev pub is_full : Rules → CtxNum → Maps → Bool
+is_full rules n m = nat_le rules.members (length (members_of (ctx m n)))
+
+abbrev pub decided : Rules → Option CtxNum → Command → Maps → Termination → Result Decided Code
+decided rules None c m r = decided_in_null rules c.verb c.descriptors r
+decided rules (Some n) c m r = decided_in rules c.verb c.descriptors (is_full rules n m) n r
+
+-- the maps and what is told, after a decision; a refusal leaves all as it was
+abbrev pub done : List ℕ → Maps → Result Decided Code → Outcome (Result (List ReplyPart) Code)
+done t m (Err code) = record { maps = m; answer = Err code }
+done t m (Ok d) = record { maps = changed t d.change m; answer = Ok d.parts }
+
+-- on a termination with this record, which it has in the tables or is about to have
+unfoldable pub on_record : Rules → Option CtxNum → Command → List ℕ → Termination → Maps → Outcome (Result (List ReplyPart) Code)
+on_record rules place c t r m = done t m (decided rules place c m r)
+
+abbrev pub on_found : Rules → Option CtxNum → Command → List ℕ → Option Termination → Maps → Outcome (Result (List ReplyPart) Code)
+on_found rules place c t None m = done t m (Err UnknownTermination)
+on_found rules place c t (Some r) m = on_record rules place c t r m
+
+-- on the termination of a name
+abbrev pub on_name : Rules → Option CtxNum → Command → List ℕ → Maps → Outcome (Result (List ReplyPart) Code)
+on_name rules place c t m = on_found rules place c t (term m t) m

@@ -1,9 +1,15 @@
+pub mod Asked
 pub mod Commands
 pub mod Effects
 pub mod Keys
 pub mod Moves
+pub mod Needs
 pub mod Places
+pub mod Refusals
 pub mod Refused
+pub mod Suits
+pub mod Targets
 pub use Rattle.gw_table.specs.Maps
 pub use Rattle.gw_table.specs.Parts
 pub use Rattle.gw_table.specs.WellFormed
+pub mod KeptForms

@@ -1,20 +1,37 @@
 -- Why a termination is not changed (own).
-use Rattle.std.specs.Prelude.{◌≡◌, Result, Ok, Err}
+use Rattle.std.specs.Prelude.{◌≡◌, List, Some, None, Result, Ok, Err}
 use Rattle.gw_base.specs.declared.code.Code.{Code}
-use Rattle.gw_base.specs.declared.code.Code.TheVariants.{ContextFull}
-use Rattle.gw_ctx.specs.declared.fault.JoinFault.{JoinFault}
-use Rattle.gw_ctx.specs.declared.fault.JoinFault.TheVariants as fault
+use Rattle.gw_base.specs.declared.code.Code.TheVariants.{InsufficientResources}
+use Rattle.gw_base.specs.declared.command_words.Rules.{Rules}
+use Rattle.gw_desc.specs.declared.descriptor.Descriptor.{Descriptor}
+use Rattle.gw_term.specs.declared.fault.ApplyFault.{ApplyFault}
+use Rattle.gw_term.specs.declared.fault.ApplyFault.TheVariants as apply
+use Rattle.gw_term.specs.declared.record.Termination.{Termination}
+use Rattle.gw_term.specs.Merge.{merged, filled_by}
 use Rattle.gw_table.specs.Maps.{Maps, Outcome}
+use Rattle.gw_cmd.specs.declared.merge.MergedCopy.{MergedCopy}
 use Rattle.gw_cmd.specs.declared.refusal.Refusal.{Refusal}
 use Rattle.gw_cmd.specs.declared.refusal.Refusal.TheVariants as refusal
 
--- a full context is an error of the reply
-abbrev pub refusal_of : JoinFault → Refusal
-refusal_of fault.Full = refusal.Code ContextFull
-refusal_of fault.NoMemory = refusal.NoMemory
+-- a list that would hold too many properties is an error of the reply
+abbrev pub refusal_of : ApplyFault → Refusal
+refusal_of (apply.Code code) = refusal.Code code
+refusal_of apply.NoMemory = refusal.NoMemory
 
 -- what a call tells, and the maps that it leaves, but for want of memory
-abbrev pub Tells : Result Unit Refusal → Maps → Outcome (Result Unit Code) → Type 0
-Tells (Ok u) m o = (m ≡ o.maps) × (Ok tt ≡ o.answer)
+abbrev pub Tells : {A : Type 0} → Result A Refusal → Maps → Outcome (Result A Code) → Type 0
+Tells (Ok a) m o = (m ≡ o.maps) × (Ok a ≡ o.answer)
 Tells (Err (refusal.Code code)) m o = (m ≡ o.maps) × (Err code ≡ o.answer)
 Tells (Err refusal.NoMemory) m o = Unit {0}
+
+-- what a call answers that changes nothing, but for want of memory
+abbrev pub Answers : {A : Type 0} → Result A Refusal → Result A Code → Type 0
+Answers (Ok a) o = Ok a ≡ o
+Answers (Err (refusal.Code code)) o = Err code ≡ o
+Answers (Err refusal.NoMemory) o = Unit {0}
+
+-- what a merge of a copy answers, but for want of memory
+abbrev pub Merges : Rules → List Descriptor → Termination → Result MergedCopy Refusal → Type 0
+Merges rules descriptors old (Ok a) = (merged rules descriptors old ≡ Some a.new) × (a.filled ≡ filled_by rules descriptors old)
+Merges rules descriptors old (Err (refusal.Code code)) = (code ≡ InsufficientResources) × (merged rules descriptors old ≡ None)
+Merges rules descriptors old (Err refusal.NoMemory) = Unit {0}

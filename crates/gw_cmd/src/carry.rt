@@ -1,168 +1,253 @@
 //! Carrying one command out.
 
-ghost use Rattle.std.specs.Prelude.{◌≡◌, true, IfOk, OnOk};
-ghost use Rattle.gw_base.specs.declared.key.Key.TheVariants.{Term, Ctx};
+ghost use Rattle.std.specs.Prelude.{◌≡◌, true, false, ◌∷◌, [], ℕ, List, Option, None, Some, Err, IfOk, OnOk};
+ghost use Rattle.gw_base.specs.declared.key.Key.TheVariants.{Term};
+ghost use Rattle.gw_base.specs.declared.command_words.Verb.TheVariants.{ServiceChange};
+ghost use Rattle.gw_base.specs.declared.term_ref.TermRef.TheVariants.{Name};
+ghost use Rattle.gw_base.specs.NameLists.{is_in};
+ghost use Rattle.gw_table.specs.Maps.{term, names, place_of};
 ghost use Rattle.gw_table.specs.Parts.{holds, Holds};
 ghost use Rattle.gw_table.specs.WellFormed.{IsSound};
-ghost use Rattle.gw_cmd.specs.Commands.{add_in, subtract_in, on_name, on_term, told, outcome_of, command as command_done};
-ghost use Rattle.gw_cmd.specs.Keys.{term_keys, command_keys};
-ghost use Rattle.gw_cmd.specs.Places.{number_of};
-ghost use Rattle.gw_cmd.specs.Refused.{Tells};
+ghost use Rattle.gw_cmd.specs.Asked.{is_move};
+ghost use Rattle.gw_cmd.specs.Commands.{reply, outcome_of, on_targets, refused, on_names, on_new as made_new, on_root as root_done, carried as carried_out, command as command_done};
+ghost use Rattle.gw_cmd.specs.Effects.{CanMerge, on_name as name_done};
+ghost use Rattle.gw_cmd.specs.Keys.{command_keys};
+ghost use Rattle.gw_cmd.specs.Places.{place_at};
+ghost use Rattle.gw_cmd.specs.Suits.{HoldsPlace, HoldsMoved, HoldsFound, HoldsSlot, IsUnused, IsReady, HoldsNew};
+ghost use Rattle.gw_cmd.specs.Targets.{targets};
 
+use crate::asked::service_asked;
 use crate::at::At;
-use crate::effects::{add, subtract};
+use crate::effects::{on_name, on_new};
+use crate::forms::refusal_by_form;
 use crate::outcome::CmdOutcome;
 use crate::refusal::Refusal;
+use crate::replies::{one, outcome_of, reply, told};
+use crate::root::{every_serviced, root_parts};
+use crate::tables::refusal_by_tables;
+use crate::targets::targets;
 use gw_base::{Code, Items, NoMemory, Rules, TermName, TermRef, Verb};
 use gw_msg::Command;
-use gw_reply::{CommandReply, ReplyPart};
-use gw_table::Part;
+use gw_reply::CommandReply;
+use gw_table::{Part, slot_name};
 use std::alloc::Global;
 
-/// Adds the termination to the action's context, unless that has ended.
-fn add_in(
+/// One reply to the TerminationID as sent.
+fn refused(alloc: Global, at: At, command: &Command<'_>, code: Code) -> Result<CmdOutcome, NoMemory>
+    ensures { IfOk result (λ done. done ≡ outcome_of at (reply command.now command.now.term (Err code) ∷ [])) }
+{
+    one(alloc, at, reply(command, command.term, Err(code)))
+}
+
+/// The reply of a command on the termination of a name.
+fn on_target(
     alloc: Global,
     rules: &Rules,
     part: &mut Part,
-    at: At,
-    name: TermName,
-) -> Result<(), Refusal>
-    requires sound { IsSound part.old.keys part.old.maps }
-    requires term_key { holds part.old.keys (Term name) ≡ true }
-    requires ctx_key { holds part.old.keys (Ctx (number_of at)) ≡ true }
-    ensures told { Tells result part.new.maps (add_in rules.now at name part.old.maps) }
-    ensures keys { part.new.keys ≡ part.old.keys }
-{
-    match at {
-        At::Live(number) => {
-            if part.ctx(number).is_none() {
-                return Err(Refusal::Code(Code::UnknownContext));
-            }
-            add(alloc, rules, part, number, name)
-        }
-        At::Unmade(number) => add(alloc, rules, part, number, name),
-    }
-}
-
-/// Subtracts the termination from the action's context, unless that has ended or is not made yet.
-fn subtract_in(alloc: Global, part: &mut Part, at: At, name: TermName) -> Result<(), Refusal>
-    requires term_key { holds part.old.keys (Term name) ≡ true }
-    requires ctx_key { holds part.old.keys (Ctx (number_of at)) ≡ true }
-    ensures told { Tells result part.new.maps (subtract_in at name part.old.maps) }
-    ensures keys { part.new.keys ≡ part.old.keys }
-{
-    match at {
-        At::Live(number) => {
-            if part.ctx(number).is_none() {
-                return Err(Refusal::Code(Code::UnknownContext));
-            }
-            subtract(alloc, part, number, name)
-        }
-        At::Unmade(_) => Err(Refusal::Code(Code::IllegalCombination)),
-    }
-}
-
-/// What the command does to the termination of a name.
-fn on_name(
-    alloc: Global,
-    rules: &Rules,
-    part: &mut Part,
-    at: At,
-    verb: Verb,
-    name: TermName,
-) -> Result<(), Refusal>
-    requires sound { IsSound part.old.keys part.old.maps }
-    requires term_key { holds part.old.keys (Term name) ≡ true }
-    requires ctx_key { holds part.old.keys (Ctx (number_of at)) ≡ true }
-    ensures told { Tells result part.new.maps (on_name rules.now at verb name part.old.maps) }
-    ensures keys { part.new.keys ≡ part.old.keys }
-{
-    match verb {
-        Verb::Add => add_in(alloc, rules, part, at, name),
-        Verb::Subtract => subtract_in(alloc, part, at, name),
-        _ => Err(Refusal::Code(Code::NotImplemented)),
-    }
-}
-
-/// What the command does to what it names.
-fn on_term(
-    alloc: Global,
-    rules: &Rules,
-    part: &mut Part,
-    at: At,
-    verb: Verb,
-    term: TermRef,
-) -> Result<(), Refusal>
-    requires sound { IsSound part.old.keys part.old.maps }
-    requires ctx_key { holds part.old.keys (Ctx (number_of at)) ≡ true }
-    requires covered { Holds part.old.keys (term_keys term part.old.maps) }
-    ensures told { Tells result part.new.maps (on_term rules.now at verb term part.old.maps) }
-    ensures keys { part.new.keys ≡ part.old.keys }
-{
-    match term {
-        TermRef::Name(name) => on_name(alloc, rules, part, at, verb, name),
-        _ => Err(Refusal::Code(Code::NotImplemented)),
-    }
-}
-
-/// What is told of a command: nothing of one that was carried out, or why it was not.
-fn told(alloc: Global, outcome: Result<(), Code>) -> Result<Items<ReplyPart>, Code>
-    ensures { result ≡ told outcome }
-{
-    match outcome {
-        Ok(()) => Ok(Items::new(alloc)),
-        Err(code) => Err(code),
-    }
-}
-
-/// The command's reply, and whether it made its context.
-fn answered(
-    alloc: Global,
     at: At,
     command: &Command<'_>,
-    given: Result<(), Code>,
-) -> Result<CmdOutcome, NoMemory>
-    ensures { IfOk result (λ done. done ≡ outcome_of at command.now given) }
+    name: TermName,
+) -> Result<CommandReply, NoMemory>
+    requires sound { IsSound part.old.keys part.old.maps }
+    requires merges { CanMerge command.now.verb command.now.descriptors }
+    requires term_key { HoldsFound part.old.keys name part.old.maps }
+    requires ctx_key { HoldsPlace part.old.keys (place_at at) }
+    requires moved_key { HoldsMoved part.old.keys command.now.verb (place_of (term part.old.maps name)) }
+    ensures maps { OnOk result (part.new.maps ≡ (name_done rules.now (place_at at) command.now name part.old.maps).maps) }
+    ensures answer { IfOk result (λ r. r ≡ reply command.now (Name name) (name_done rules.now (place_at at) command.now name part.old.maps).answer) }
+    ensures keys { part.new.keys ≡ part.old.keys }
 {
-    let failed = given.is_err();
-    let mut replies = Items::new(alloc);
-    replies.push(CommandReply {
-        verb: command.verb,
-        term: command.term,
-        result: told(alloc, given),
-    })?;
-    Ok(CmdOutcome {
-        replies,
-        failed,
-        made: at.is_unmade() && !failed,
-    })
+    let told = match on_name(alloc, rules, part, at.place(), command, name) {
+        Ok(parts) => Ok(parts),
+        Err(Refusal::Code(code)) => Err(code),
+        Err(Refusal::NoMemory) => return Err(NoMemory),
+    };
+    Ok(reply(command, TermRef::Name(name), told))
 }
 
-/// Carries one command out: Add and Subtract of a termination by its name, without descriptors. Any other is answered with error
-/// 501. The work is a few look-ups, and the size of the context.
+/// The replies of a command on the terminations that a wildcard matched, one after another; none stops the others.
+fn on_targets(
+    alloc: Global,
+    rules: &Rules,
+    part: &mut Part,
+    at: At,
+    command: &Command<'_>,
+    named: &[TermName],
+) -> Result<Items<CommandReply>, NoMemory>
+    requires sound { IsSound part.old.keys part.old.maps }
+    requires merges { CanMerge command.now.verb command.now.descriptors }
+    requires term_keys { (t : List ℕ) → is_in t named.now ≡ true → HoldsFound part.old.keys t part.old.maps }
+    requires ctx_key { HoldsPlace part.old.keys (place_at at) }
+    requires stays { is_move command.now.verb ≡ false }
+    ensures maps { OnOk result (part.new.maps ≡ (on_targets rules.now at command.now named.now part.old.maps).maps) }
+    ensures answer { IfOk result (λ replies. replies ≡ (on_targets rules.now at command.now named.now part.old.maps).answer.answers) }
+    ensures keys { part.new.keys ≡ part.old.keys }
+{
+    let mut replies = Items::new(alloc);
+    for name in named {
+        let reply = on_target(alloc, rules, part, at, command, *name)?;
+        replies.push(reply)?;
+    }
+    Ok(replies)
+}
+
+/// The replies of a command on one termination by its name.
+fn on_one(
+    alloc: Global,
+    rules: &Rules,
+    part: &mut Part,
+    at: At,
+    command: &Command<'_>,
+    name: TermName,
+) -> Result<Items<CommandReply>, NoMemory>
+    requires sound { IsSound part.old.keys part.old.maps }
+    requires merges { CanMerge command.now.verb command.now.descriptors }
+    requires term_key { HoldsFound part.old.keys name part.old.maps }
+    requires ctx_key { HoldsPlace part.old.keys (place_at at) }
+    requires moved_key { HoldsMoved part.old.keys command.now.verb (place_of (term part.old.maps name)) }
+    ensures maps { OnOk result (part.new.maps ≡ (on_targets rules.now at command.now (name ∷ []) part.old.maps).maps) }
+    ensures answer { IfOk result (λ replies. replies ≡ (on_targets rules.now at command.now (name ∷ []) part.old.maps).answer.answers) }
+    ensures keys { part.new.keys ≡ part.old.keys }
+{
+    let mut replies = Items::new(alloc);
+    let reply = on_target(alloc, rules, part, at, command, name)?;
+    replies.push(reply)?;
+    Ok(replies)
+}
+
+/// Carries the command out on the terminations that it is for.
+fn on_names(
+    alloc: Global,
+    rules: &Rules,
+    part: &mut Part,
+    at: At,
+    command: &Command<'_>,
+    named: &[TermName],
+) -> Result<CmdOutcome, NoMemory>
+    requires sound { IsSound part.old.keys part.old.maps }
+    requires ready { IsReady part.old.keys at command.now part.old.maps }
+    requires named { named.now ≡ targets at command.now part.old.maps }
+    ensures maps { OnOk result (part.new.maps ≡ (on_names rules.now at command.now part.old.maps).maps) }
+    ensures answer { IfOk result (λ done. done ≡ (on_names rules.now at command.now part.old.maps).answer) }
+    ensures keys { part.new.keys ≡ part.old.keys }
+{
+    let replies = match command.term {
+        TermRef::Name(name) => on_one(alloc, rules, part, at, command, name)?,
+        _ => on_targets(alloc, rules, part, at, command, named)?,
+    };
+    Ok(outcome_of(at, told(alloc, command, replies)?))
+}
+
+/// Carries the command out on a termination that it makes in the slot, if one is owned.
+fn on_slot(
+    alloc: Global,
+    rules: &Rules,
+    part: &mut Part,
+    at: At,
+    slot: Option<u16>,
+    command: &Command<'_>,
+) -> Result<CmdOutcome, NoMemory>
+    requires sound { IsSound part.old.keys part.old.maps }
+    requires merges { CanMerge command.now.verb command.now.descriptors }
+    requires ctx_key { HoldsPlace part.old.keys (place_at at) }
+    requires slot_key { HoldsSlot part.old.keys slot }
+    requires unused { IsUnused slot part.old.maps }
+    ensures maps { OnOk result (part.new.maps ≡ (made_new rules.now at command.now slot part.old.maps).maps) }
+    ensures answer { IfOk result (λ done. done ≡ (made_new rules.now at command.now slot part.old.maps).answer) }
+    ensures keys { part.new.keys ≡ part.old.keys }
+{
+    let Some(slot) = slot else {
+        return refused(alloc, at, command, Code::NoTerminationLeft);
+    };
+    let told = match on_new(alloc, rules, part, at.place(), command, slot) {
+        Ok(parts) => reply(command, TermRef::Name(slot_name(slot)), Ok(parts)),
+        Err(Refusal::Code(code)) => reply(command, TermRef::Choose, Err(code)),
+        Err(Refusal::NoMemory) => return Err(NoMemory),
+    };
+    one(alloc, at, told)
+}
+
+/// Carries the command out on the gateway itself.
+fn on_root(
+    alloc: Global,
+    part: &mut Part,
+    at: At,
+    command: &Command<'_>,
+) -> Result<CmdOutcome, NoMemory>
+    requires term_keys { command.now.verb ≡ ServiceChange → (t : List ℕ) → is_in t (names part.old.maps) ≡ true → holds part.old.keys (Term t) ≡ true }
+    ensures maps { OnOk result (part.new.maps ≡ (root_done at command.now part.old.maps).maps) }
+    ensures answer { IfOk result (λ done. done ≡ (root_done at command.now part.old.maps).answer) }
+    ensures keys { part.new.keys ≡ part.old.keys }
+{
+    let descriptors = command.descriptors.as_slice();
+    if let Verb::ServiceChange = command.verb {
+        if let Some(service) = service_asked(descriptors) {
+            every_serviced(alloc, part, service)?;
+        }
+    }
+    let parts = root_parts(alloc, descriptors)?;
+    one(alloc, at, reply(command, TermRef::Root, Ok(parts)))
+}
+
+/// Carries out a command that is not refused.
+fn carried(
+    alloc: Global,
+    rules: &Rules,
+    part: &mut Part,
+    at: At,
+    slot: Option<u16>,
+    command: &Command<'_>,
+    named: &[TermName],
+) -> Result<CmdOutcome, NoMemory>
+    requires sound { IsSound part.old.keys part.old.maps }
+    requires ready { IsReady part.old.keys at command.now part.old.maps }
+    requires new { HoldsNew part.old.keys slot command.now }
+    requires unused { IsUnused slot part.old.maps }
+    requires named { named.now ≡ targets at command.now part.old.maps }
+    ensures maps { OnOk result (part.new.maps ≡ (carried_out rules.now at slot command.now part.old.maps command.now.term).maps) }
+    ensures answer { IfOk result (λ done. done ≡ (carried_out rules.now at slot command.now part.old.maps command.now.term).answer) }
+    ensures keys { part.new.keys ≡ part.old.keys }
+{
+    match command.term {
+        TermRef::Root => on_root(alloc, part, at, command),
+        TermRef::Choose => on_slot(alloc, rules, part, at, slot, command),
+        _ => on_names(alloc, rules, part, at, command, named),
+    }
+}
+
+/// Carries one command out (RFC 3525, section 7.2): its refusals in their order, and then what it does to each termination
+/// that it is for. `slot` is what an Add of `$` owns. A command by name costs look-ups in the tables and the size of its
+/// context, of its descriptors and of the termination's record; a wildcard one pass of the members, or, in the null context
+/// and of an Add, of all names, and its matches.
 ///
-/// The caller knows that the part has the command's keys.
+/// The caller knows that the tables are sound, that the part has the command's keys, and that no termination has the name of
+/// the slot.
 ///
 /// # Errors
 ///
 /// Want of memory. The part is then spent: nothing is known of it but its keys.
+#[tactic(auto, unfolding(crate::specs::Commands::command))]
 pub fn command(
     alloc: Global,
     rules: &Rules,
     part: &mut Part,
     at: At,
+    slot: Option<u16>,
     command: &Command<'_>,
 ) -> Result<CmdOutcome, NoMemory>
     requires sound { IsSound part.old.keys part.old.maps }
-    requires covered { Holds part.old.keys (command_keys at command.now part.old.maps) }
-    ensures maps { OnOk result (part.new.maps ≡ (command_done rules.now at command.now part.old.maps).maps) }
-    ensures answer { IfOk result (λ done. done ≡ (command_done rules.now at command.now part.old.maps).answer) }
+    requires covered { Holds part.old.keys (command_keys at slot command.now part.old.maps) }
+    requires unused { IsUnused slot part.old.maps }
+    ensures maps { OnOk result (part.new.maps ≡ (command_done rules.now at slot command.now part.old.maps).maps) }
+    ensures answer { IfOk result (λ done. done ≡ (command_done rules.now at slot command.now part.old.maps).answer) }
     ensures keys { part.new.keys ≡ part.old.keys }
 {
-    let result = match on_term(alloc, rules, part, at, command.verb, command.term) {
-        Ok(()) => Ok(()),
-        Err(Refusal::Code(code)) => Err(code),
-        Err(Refusal::NoMemory) => return Err(NoMemory),
-    };
-    answered(alloc, at, command, result)
+    if let Some(code) = refusal_by_form(at, command) {
+        return refused(alloc, at, command, code);
+    }
+    let named = targets(alloc, part, at, command)?;
+    if let Some(code) = refusal_by_tables(part, at, slot, command, &named) {
+        return refused(alloc, at, command, code);
+    }
+    carried(alloc, rules, part, at, slot, command, &named)
 }

@@ -1,91 +1,157 @@
 //! What a command does to one termination.
 
-ghost use Rattle.std.specs.Prelude.{◌≡◌, true, false, ◌∷◌, [], Some, OnOk};
+ghost use Rattle.std.specs.Prelude.{◌≡◌, true, None, OnOk};
 ghost use Rattle.gw_base.specs.declared.key.Key.TheVariants.{Term, Ctx};
-ghost use Rattle.gw_table.specs.Maps.{term, put_term};
+ghost use Rattle.gw_table.specs.Accesses.{PlaceIn};
+ghost use Rattle.gw_table.specs.Maps.{term, put_term, place_of};
 ghost use Rattle.gw_table.specs.Parts.{holds};
+ghost use Rattle.gw_table.specs.Reserved.{slot_name};
 ghost use Rattle.gw_table.specs.WellFormed.{IsSound};
-ghost use Rattle.gw_cmd.specs.Effects.{add_to, subtract_from};
-ghost use Rattle.gw_cmd.specs.Refused.{Tells};
+ghost use Rattle.gw_term.specs.Record.{ephemeral};
+ghost use Rattle.gw_cmd.specs.Effects.{CanMerge, decided as decided_by, on_record, on_name};
+ghost use Rattle.gw_cmd.specs.Moves.{changed};
+ghost use Rattle.gw_cmd.specs.Refused.{Answers, Tells};
+ghost use Rattle.gw_cmd.specs.Suits.{Suits, HoldsPlace, HoldsMoved, HoldsFound};
 
-use crate::members::{join, leave};
+use crate::change::{Change, Decided};
+use crate::decide::{decided_in, decided_in_null};
+use crate::members::{is_full, join, leave};
 use crate::refusal::Refusal;
-use gw_base::{Code, CtxNum, NoMemory, Rules, TermName};
-use gw_table::Part;
+use gw_base::{Code, CtxNum, Items, NoMemory, Rules, TermName};
+use gw_msg::Command;
+use gw_reply::ReplyPart;
+use gw_table::{Part, slot_name};
 use gw_term::Termination;
 use std::alloc::Global;
 
-/// The termination goes where it was not needed. A function of its own, since what a proof knows of a record that is let go
-/// would stand in its caller's proof.
-fn let_go(_termination: Termination) {}
-
-/// The termination's record becomes this one.
-fn put(part: &mut Part, name: TermName, termination: Termination) -> Result<(), NoMemory>
+/// The termination's record becomes this one, or none.
+pub(crate) fn put(
+    part: &mut Part,
+    name: TermName,
+    entry: Option<Termination>,
+) -> Result<(), NoMemory>
     requires { holds part.old.keys (Term name) ≡ true }
-    ensures ok { OnOk result (part.new.maps ≡ put_term part.old.maps name (Some termination)) }
+    ensures ok { OnOk result (part.new.maps ≡ put_term part.old.maps name entry) }
     ensures keys { part.new.keys ≡ part.old.keys }
 {
-    part.set_term(name, Some(termination))?;
+    part.set_term(name, entry)?;
     Ok(())
 }
 
-/// Adds the termination to the context, or says why not.
-pub(crate) fn add(
+/// What a change makes of the tables.
+fn changed(
     alloc: Global,
     rules: &Rules,
     part: &mut Part,
-    number: CtxNum,
     name: TermName,
-) -> Result<(), Refusal>
-    requires sound { IsSound part.old.keys part.old.maps }
-    requires term_key { holds part.old.keys (Term name) ≡ true }
-    requires ctx_key { holds part.old.keys (Ctx number) ≡ true }
-    ensures told { Tells result part.new.maps (add_to rules.now number name part.old.maps (term part.old.maps name)) }
+    change: Change,
+) -> Result<(), NoMemory>
+    requires { Suits rules.now part.old.keys name change part.old.maps }
+    ensures ok { OnOk result (part.new.maps ≡ changed name change part.old.maps) }
     ensures keys { part.new.keys ≡ part.old.keys }
 {
-    let Some(termination) = part.term(&name) else {
-        return Err(Refusal::Code(Code::UnknownTermination));
-    };
-    if termination.place().is_some() {
-        return Err(Refusal::Code(Code::AlreadyInContext));
+    match change {
+        Change::Stays => Ok(()),
+        Change::Becomes(record) => put(part, name, Some(record)),
+        Change::Joins(number, record) => {
+            put(part, name, Some(record))?;
+            join(alloc, rules, part, number, name)
+        }
+        Change::Crosses(from, number, record) => {
+            put(part, name, Some(record))?;
+            leave(part, from, &name)?;
+            join(alloc, rules, part, number, name)
+        }
+        Change::Leaves(number, remains) => {
+            put(part, name, remains)?;
+            leave(part, number, &name)
+        }
     }
-    let mut termination = termination.copy(alloc)?;
-    if let Err(refusal) = join(alloc, rules, part, number, name) {
-        let_go(termination);
-        return Err(refusal);
-    }
-    termination.set_place(Some(number));
-    put(part, name, termination)?;
-    Ok(())
 }
 
-/// Subtracts the termination from the context, or says why not.
-pub(crate) fn subtract(
+/// What is decided of a termination with this record.
+fn decided(
     alloc: Global,
+    rules: &Rules,
+    part: &Part,
+    place: Option<CtxNum>,
+    command: &Command<'_>,
+    old: &Termination,
+) -> Result<Decided, Refusal>
+    requires { CanMerge command.now.verb command.now.descriptors }
+    ensures { Answers result (decided_by rules.now place command.now part.now.maps old.now) }
+{
+    let descriptors = command.descriptors.as_slice();
+    match place {
+        None => decided_in_null(alloc, rules, command.verb, descriptors, old),
+        Some(number) => {
+            let full = is_full(rules, part, number);
+            decided_in(alloc, rules, command.verb, descriptors, full, number, old)
+        }
+    }
+}
+
+/// Carries the command out on the termination of a name.
+#[tactic(auto, unfolding(crate::specs::Effects::on_record))]
+pub(crate) fn on_name(
+    alloc: Global,
+    rules: &Rules,
     part: &mut Part,
-    number: CtxNum,
+    place: Option<CtxNum>,
+    command: &Command<'_>,
     name: TermName,
-) -> Result<(), Refusal>
-    requires term_key { holds part.old.keys (Term name) ≡ true }
-    requires ctx_key { holds part.old.keys (Ctx number) ≡ true }
-    ensures told { Tells result part.new.maps (subtract_from number name part.old.maps (term part.old.maps name)) }
+) -> Result<Items<ReplyPart>, Refusal>
+    requires sound { IsSound part.old.keys part.old.maps }
+    requires merges { CanMerge command.now.verb command.now.descriptors }
+    requires term_key { HoldsFound part.old.keys name part.old.maps }
+    requires ctx_key { HoldsPlace part.old.keys place }
+    requires moved_key { HoldsMoved part.old.keys command.now.verb (place_of (term part.old.maps name)) }
+    ensures told { Tells result part.new.maps (on_name rules.now place command.now name part.old.maps) }
     ensures keys { part.new.keys ≡ part.old.keys }
 {
-    let Some(termination) = part.term(&name) else {
+    let Some(old) = part.term(&name) else {
         return Err(Refusal::Code(Code::UnknownTermination));
     };
-    let Some(place) = termination.place() else {
-        return Err(Refusal::Code(Code::NotInContext));
-    };
-    if place.0 != number.0 {
-        return Err(Refusal::Code(Code::NotInContext));
-    }
-    let mut termination = termination.copy(alloc)?;
-    if let Err(no_memory) = leave(part, number, &name) {
-        let_go(termination);
-        return Err(no_memory.into());
-    }
-    termination.reset();
-    put(part, name, termination)?;
-    Ok(())
+    let decided = decided(alloc, rules, part, place, command, old)?;
+    changed(alloc, rules, part, name, decided.change)?;
+    Ok(decided.parts)
+}
+
+/// What is decided of a termination that is about to be made in a slot.
+fn decided_new(
+    alloc: Global,
+    rules: &Rules,
+    part: &Part,
+    place: Option<CtxNum>,
+    command: &Command<'_>,
+    slot: u16,
+) -> Result<Decided, Refusal>
+    requires { CanMerge command.now.verb command.now.descriptors }
+    ensures { Answers result (decided_by rules.now place command.now part.now.maps (ephemeral slot)) }
+{
+    let new = Termination::ephemeral(alloc, slot);
+    decided(alloc, rules, part, place, command, &new)
+}
+
+/// Carries an Add out on a termination that it makes in a slot.
+#[tactic(auto, unfolding(crate::specs::Effects::on_record))]
+pub(crate) fn on_new(
+    alloc: Global,
+    rules: &Rules,
+    part: &mut Part,
+    place: Option<CtxNum>,
+    command: &Command<'_>,
+    slot: u16,
+) -> Result<Items<ReplyPart>, Refusal>
+    requires sound { IsSound part.old.keys part.old.maps }
+    requires merges { CanMerge command.now.verb command.now.descriptors }
+    requires unused { term part.old.maps (slot_name slot) ≡ None }
+    requires term_key { holds part.old.keys (Term (slot_name slot)) ≡ true }
+    requires ctx_key { HoldsPlace part.old.keys place }
+    ensures told { Tells result part.new.maps (on_record rules.now place command.now (slot_name slot) (ephemeral slot) part.old.maps) }
+    ensures keys { part.new.keys ≡ part.old.keys }
+{
+    let decided = decided_new(alloc, rules, part, place, command, slot)?;
+    changed(alloc, rules, part, slot_name(slot), decided.change)?;
+    Ok(decided.parts)
 }

@@ -1,17 +1,15 @@
 //! Joining and leaving a context of the tables.
 
-ghost use Rattle.std.specs.Prelude.{◌≡◌, true, false, OnOk, length};
+ghost use Rattle.std.specs.Prelude.{◌≡◌, ◌<◌, true, false, OnOk, length};
 ghost use Rattle.gw_base.specs.declared.key.Key.TheVariants.{Ctx};
 ghost use Rattle.gw_base.specs.NameLists.{is_in};
 ghost use Rattle.gw_table.specs.Maps.{ctx, members_of};
 ghost use Rattle.gw_table.specs.Parts.{holds};
-ghost use Rattle.gw_cmd.specs.Effects.{done, if_room};
+ghost use Rattle.gw_cmd.specs.Effects.{is_full};
 ghost use Rattle.gw_cmd.specs.Moves.{with_member, without_member};
-ghost use Rattle.gw_cmd.specs.Refused.{Tells};
 
-use crate::refusal::Refusal;
-use gw_base::{Code, CtxNum, NoMemory, Rules, TermName};
-use gw_ctx::Context;
+use gw_base::{CtxNum, NoMemory, Rules, TermName};
+use gw_ctx::{Context, JoinFault};
 use gw_table::Part;
 use std::alloc::Global;
 
@@ -25,28 +23,37 @@ fn member_count(part: &Part, number: CtxNum) -> usize
     }
 }
 
-/// The name joins the context as its last member, if that has room. A context comes into being with its first.
+/// Whether the context takes no more members.
+pub(crate) fn is_full(rules: &Rules, part: &Part, number: CtxNum) -> bool
+    ensures { result ≡ is_full rules.now number part.now.maps }
+{
+    usize::from(rules.members) <= member_count(part, number)
+}
+
+/// The name joins the context as its last member. A context comes into being with its first. The caller knows that there is
+/// room.
 pub(crate) fn join(
     alloc: Global,
     rules: &Rules,
     part: &mut Part,
     number: CtxNum,
     name: TermName,
-) -> Result<(), Refusal>
+) -> Result<(), NoMemory>
     requires new { is_in name (members_of (ctx part.old.maps number)) ≡ false }
+    requires room { length (members_of (ctx part.old.maps number)) < rules.now.members }
     requires key { holds part.old.keys (Ctx number) ≡ true }
-    ensures told { Tells result part.new.maps (if_room rules.now number part.old.maps (done (with_member number name part.old.maps))) }
+    ensures joined { OnOk result (part.new.maps ≡ with_member number name part.old.maps) }
     ensures keys { part.new.keys ≡ part.old.keys }
 {
-    let limit = usize::from(rules.members);
-    if limit <= member_count(part, number) {
-        return Err(Refusal::Code(Code::ContextFull));
-    }
     let mut context = match part.set_ctx(number, None)? {
         Some(context) => context,
         None => Context::new(alloc),
     };
-    context.join(name, limit)?;
+    match context.join(name, usize::from(rules.members)) {
+        Ok(()) => {}
+        Err(JoinFault::Full) => unreachable!(),
+        Err(JoinFault::NoMemory) => return Err(NoMemory),
+    }
     part.set_ctx(number, Some(context))?;
     Ok(())
 }

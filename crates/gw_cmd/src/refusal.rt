@@ -5,7 +5,8 @@ ghost use Rattle.gw_cmd.specs.declared.refusal.Refusal.TheVariants as refusal;
 ghost use Rattle.gw_cmd.specs.Refused.{refusal_of};
 
 use gw_base::{Code, NoMemory};
-use gw_ctx::JoinFault;
+use gw_term::ApplyFault;
+use std::alloc::AllocError;
 
 /// Why a termination is not changed: an error for its reply, or want of memory for the whole command.
 #[derive(Clone, Copy, Debug)]
@@ -24,13 +25,21 @@ impl From<NoMemory> for Refusal {
     }
 }
 
-impl From<JoinFault> for Refusal {
+impl From<AllocError> for Refusal {
+    ghost from_gives = { λ _ e. e ≡ refusal.NoMemory };
+
+    fn from(_e: AllocError) -> Refusal {
+        Refusal::NoMemory
+    }
+}
+
+impl From<ApplyFault> for Refusal {
     ghost from_gives = { λ fault e. e ≡ refusal_of fault };
 
-    fn from(fault: JoinFault) -> Refusal {
+    fn from(fault: ApplyFault) -> Refusal {
         match fault {
-            JoinFault::Full => Refusal::Code(Code::ContextFull),
-            JoinFault::NoMemory => Refusal::NoMemory,
+            ApplyFault::Code(code) => Refusal::Code(code),
+            ApplyFault::NoMemory => Refusal::NoMemory,
         }
     }
 }

@@ -1,0 +1,130 @@
+//! Tables on which single commands are carried out.
+
+ghost use Rattle.std.specs.Prelude.{◌≡◌, true};
+ghost use Rattle.std.specs.List.{list_any};
+ghost use Rattle.gw_table.specs.Reserved.{is_reserved};
+ghost use Rattle.gw_cmd.specs.Suits.{IsUnused};
+
+use crate::places::Place;
+use cases_text::CaseFault;
+use gw_base::{Config, Rules, TermName};
+use gw_cmd::{CmdOutcome, command};
+use gw_msg::{Command, Item, read_message};
+use gw_table::{Tables, is_reserved, slot_name};
+use std::alloc::Global;
+use std::marker::Model;
+
+/// A gateway's rules and its tables, which are well-formed.
+#[derive(Drop)]
+pub struct Bench {
+    rules: Rules,
+    tables: Tables,
+}
+
+impl Model for Bench {
+    ghost use Rattle.gw_table.specs.Maps.{Maps, coded_maps};
+    ghost use Rattle.gw_table.specs.WellFormed.{AreWellFormed};
+
+    ghost Value = { Maps };
+
+    ghost coded = { coded_maps };
+
+    ghost view = { λ a. a.tables };
+
+    ghost invariant = { λ a. AreWellFormed a.rules.members a.tables };
+}
+
+/// Whether a name is the gateway's own to give.
+fn has_reserved(names: &[TermName]) -> bool
+    ensures { result ≡ list_any is_reserved names.now }
+{
+    names.iter().any(|name| is_reserved(*name))
+}
+
+/// Whether no termination is in the slot that a command owns.
+fn is_unused(tables: &Tables, slot: Option<u16>) -> bool
+    ensures { result ≡ true → IsUnused slot tables.now }
+{
+    match slot {
+        Some(slot) => tables.find_term(&slot_name(slot)).is_none(),
+        None => true,
+    }
+}
+
+impl Bench {
+    /// The tables of a gateway that was just configured.
+    pub fn new(alloc: Global, config: &Config) -> Result<Bench, CaseFault> {
+        if config.members > 64 || has_reserved(config.terms.as_slice()) {
+            return Err(CaseFault::Form);
+        }
+        let Ok(tables) = Tables::provision(alloc, config) else {
+            return Err(CaseFault::NoMemory);
+        };
+        Ok(Bench {
+            rules: Rules {
+                media: config.media,
+                members: config.members as u8,
+            },
+            tables,
+        })
+    }
+
+    /// The tables.
+    pub fn tables(&self) -> &Tables {
+        &self.tables
+    }
+
+    /// The command carried out at its place on a copy of the tables: its replies, and the copy.
+    fn carried(
+        &self,
+        alloc: Global,
+        place: Place,
+        asked: &Command<'_>,
+    ) -> Result<(CmdOutcome, Bench), CaseFault> {
+        if !is_unused(&self.tables, place.slot) {
+            return Err(CaseFault::Form);
+        }
+        let Ok(copy) = self.tables.copy() else {
+            return Err(CaseFault::NoMemory);
+        };
+        let mut part = copy.all();
+        let Ok(outcome) = command(alloc, &self.rules, &mut part, place.at, place.slot, asked) else {
+            return Err(CaseFault::NoMemory);
+        };
+        Ok((
+            outcome,
+            Bench {
+                rules: self.rules,
+                tables: part.tables(),
+            },
+        ))
+    }
+
+    /// The command of this text carried out at its place: its replies, and the tables after it.
+    pub fn asked(
+        &self,
+        alloc: Global,
+        place: Place,
+        text: &[u8],
+    ) -> Result<(CmdOutcome, Bench), CaseFault> {
+        let mut whole = Vec::from_slice(alloc, b"MEGACO/1 mg T=1{C=-{")?;
+        whole.extend_from_slice(text)?;
+        whole.extend_from_slice(b"}}")?;
+        let Ok(message) = read_message(alloc, whole.as_slice()) else {
+            return Err(CaseFault::Form);
+        };
+        let [item] = message.items.as_slice() else {
+            return Err(CaseFault::Form);
+        };
+        let Item::Request(request) = item else {
+            return Err(CaseFault::Form);
+        };
+        let [action] = request.actions.as_slice() else {
+            return Err(CaseFault::Form);
+        };
+        let [asked] = action.commands.as_slice() else {
+            return Err(CaseFault::Form);
+        };
+        self.carried(alloc, place, asked)
+    }
+}

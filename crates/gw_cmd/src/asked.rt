@@ -1,0 +1,239 @@
+//! What a command names and asks.
+
+ghost use Rattle.std.specs.Prelude.{◌≡◌, Some, option_copied};
+ghost use Rattle.std.specs.List.{find};
+ghost use Rattle.gw_desc.specs.declared.values.AuditItem.TheVariants as item;
+ghost use Rattle.gw_desc.specs.Checks.{is_asking, is_audit, is_services};
+ghost use Rattle.gw_desc.specs.Values.{is_parm};
+ghost use Rattle.gw_cmd.specs.Asked.{is_add, is_move, is_modify, is_subtract, is_service_change, brings, is_unsupported, is_root, is_choose_term, is_other_term, is_wildcard, matches, or_nothing, words_in, audited, is_some_list, asks_media, parms_in, value_of, service_for, service_by, service_asked, is_other_method, is_other_delay, method, delay};
+
+use gw_base::{Items, Service, Span, TermName, TermRef, Verb};
+use gw_desc::{
+    AuditItem, AuditItems, Descriptor, ServiceParm, ServiceValue, is_parm, item_of, uint32_of,
+};
+use gw_text::{Token, token_of};
+
+/// Whether the command brings a termination into a context.
+pub(crate) fn brings(verb: Verb) -> bool
+    ensures { result ≡ brings verb }
+{
+    matches!(verb, Verb::Add | Verb::Move)
+}
+
+/// Whether a gateway does not know the command.
+pub(crate) fn is_unsupported(verb: Verb) -> bool
+    ensures { result ≡ is_unsupported verb }
+{
+    matches!(verb, Verb::AuditCapability | Verb::Notify)
+}
+
+pub(crate) fn is_add(verb: Verb) -> bool
+    ensures { result ≡ is_add verb }
+{
+    matches!(verb, Verb::Add)
+}
+
+pub(crate) fn is_move(verb: Verb) -> bool
+    ensures { result ≡ is_move verb }
+{
+    matches!(verb, Verb::Move)
+}
+
+pub(crate) fn is_modify(verb: Verb) -> bool
+    ensures { result ≡ is_modify verb }
+{
+    matches!(verb, Verb::Modify)
+}
+
+pub(crate) fn is_subtract(verb: Verb) -> bool
+    ensures { result ≡ is_subtract verb }
+{
+    matches!(verb, Verb::Subtract)
+}
+
+pub(crate) fn is_service_change(verb: Verb) -> bool
+    ensures { result ≡ is_service_change verb }
+{
+    matches!(verb, Verb::ServiceChange)
+}
+
+/// Whether the gateway itself is named.
+pub(crate) fn is_root(term: &TermRef) -> bool
+    ensures { result ≡ is_root term.now }
+{
+    matches!(term, TermRef::Root)
+}
+
+/// Whether a termination is to be made.
+pub(crate) fn is_choose(term: &TermRef) -> bool
+    ensures { result ≡ is_choose_term term.now }
+{
+    matches!(term, TermRef::Choose)
+}
+
+/// Whether it is a wildcard without a meaning here.
+pub(crate) fn is_other(term: &TermRef) -> bool
+    ensures { result ≡ is_other_term term.now }
+{
+    matches!(term, TermRef::Other(_))
+}
+
+/// Whether all terminations that match are named.
+pub(crate) fn is_wildcard(term: &TermRef) -> bool
+    ensures { result ≡ is_wildcard term.now }
+{
+    matches!(term, TermRef::All | TermRef::Under(_))
+}
+
+/// Whether a wildcard matches the name.
+pub(crate) fn matches(term: TermRef, name: TermName) -> bool
+    ensures { result ≡ matches term name }
+{
+    match term {
+        TermRef::All => true,
+        TermRef::Under(prefix) => name.as_bytes().starts_with(prefix.as_bytes()),
+        _ => false,
+    }
+}
+
+fn is_audit(descriptor: &Descriptor<'_>) -> bool
+    ensures { result ≡ is_audit descriptor.now }
+{
+    matches!(descriptor, Descriptor::Audit(_))
+}
+
+fn is_services(descriptor: &Descriptor<'_>) -> bool
+    ensures { result ≡ is_services descriptor.now }
+{
+    matches!(descriptor, Descriptor::Services(_))
+}
+
+fn find_audit<'a, 'b>(descriptors: &'b [Descriptor<'a>]) -> Option<&'b Descriptor<'a>>
+    ensures { option_copied result ≡ find is_audit descriptors.now }
+{
+    descriptors.iter().find(|d| is_audit(d))
+}
+
+fn words_in<'a, 'b>(descriptor: &'b Descriptor<'a>) -> Option<&'b AuditItems<'a>>
+    ensures { or_nothing (option_copied result) ≡ words_in (Some descriptor.now) }
+{
+    match descriptor {
+        Descriptor::Audit(words) => Some(words),
+        _ => None,
+    }
+}
+
+/// What is to be audited: the words of the first Audit, if there is one.
+pub(crate) fn first_audit<'a, 'b>(descriptors: &'b [Descriptor<'a>]) -> Option<&'b AuditItems<'a>>
+    ensures { or_nothing (option_copied result) ≡ audited descriptors.now }
+{
+    words_in(find_audit(descriptors)?)
+}
+
+/// Whether anything is to be audited.
+pub(crate) fn audits_any(descriptors: &[Descriptor<'_>]) -> bool
+    ensures { result ≡ is_some_list (audited descriptors.now) }
+{
+    match first_audit(descriptors) {
+        Some(words) => !words.is_empty(),
+        None => false,
+    }
+}
+
+fn is_media(word: &Span<'_>) -> bool
+    ensures { result ≡ is_asking item.Media word.now }
+{
+    matches!(item_of(word.as_bytes()), Some(AuditItem::Media))
+}
+
+/// Whether Media is to be audited.
+pub(crate) fn asks_media(descriptors: &[Descriptor<'_>]) -> bool
+    ensures { result ≡ asks_media descriptors.now }
+{
+    match first_audit(descriptors) {
+        Some(words) => words.as_slice().iter().any(is_media),
+        None => false,
+    }
+}
+
+fn find_services<'a, 'b>(descriptors: &'b [Descriptor<'a>]) -> Option<&'b Descriptor<'a>>
+    ensures { option_copied result ≡ find is_services descriptors.now }
+{
+    descriptors.iter().find(|d| is_services(d))
+}
+
+fn parms_in<'a, 'b>(descriptor: &'b Descriptor<'a>) -> Option<&'b Items<ServiceParm<'a>>>
+    ensures { or_nothing (option_copied result) ≡ parms_in (Some descriptor.now) }
+{
+    match descriptor {
+        Descriptor::Services(parms) => Some(parms),
+        _ => None,
+    }
+}
+
+/// The parameters of the first Services, if there is one.
+fn first_services<'a, 'b>(descriptors: &'b [Descriptor<'a>]) -> Option<&'b Items<ServiceParm<'a>>>
+    ensures { or_nothing (option_copied result) ≡ parms_in (find is_services descriptors.now) }
+{
+    parms_in(find_services(descriptors)?)
+}
+
+/// The first parameter of this name.
+fn first_parm<'a, 'b>(wanted: Token, parms: &'b [ServiceParm<'a>]) -> Option<&'b ServiceParm<'a>>
+    ensures { option_copied result ≡ find (is_parm wanted) parms.now }
+{
+    parms.iter().find(|p| is_parm(wanted, p))
+}
+
+/// The value of the first parameter of this name in the first Services.
+fn value_of<'a, 'b>(
+    wanted: Token,
+    descriptors: &'b [Descriptor<'a>],
+) -> Option<&'b ServiceValue<'a>>
+    ensures { option_copied result ≡ value_of wanted descriptors.now }
+{
+    let parms = first_services(descriptors)?;
+    let parm = first_parm(wanted, parms.as_slice())?;
+    parm.value.as_ref()
+}
+
+/// The service state that a Method asks for.
+fn service_by(value: &ServiceValue<'_>) -> Option<Service>
+    ensures { result ≡ service_by value.now }
+{
+    let ServiceValue::Run(text) = value else {
+        return None;
+    };
+    match token_of(text.as_bytes()) {
+        Some(Token::Forced) => Some(Service::OutOfService),
+        Some(Token::Restart) => Some(Service::InService),
+        _ => None,
+    }
+}
+
+/// The service state that a ServiceChange asks for.
+pub(crate) fn service_asked(descriptors: &[Descriptor<'_>]) -> Option<Service>
+    ensures { result ≡ service_asked descriptors.now }
+{
+    service_by(value_of(Token::Method, descriptors)?)
+}
+
+/// Whether the first Method is not carried out.
+pub(crate) fn is_other_method(descriptors: &[Descriptor<'_>]) -> bool
+    ensures { result ≡ is_other_method (method descriptors.now) }
+{
+    match value_of(Token::Method, descriptors) {
+        Some(value) => service_by(value).is_none(),
+        None => false,
+    }
+}
+
+/// Whether the first Delay is not carried out.
+pub(crate) fn is_other_delay(descriptors: &[Descriptor<'_>]) -> bool
+    ensures { result ≡ is_other_delay (delay descriptors.now) }
+{
+    match value_of(Token::Delay, descriptors) {
+        Some(ServiceValue::Run(text)) => matches!(uint32_of(text.as_bytes()), Some(1..)),
+        _ => false,
+    }
+}

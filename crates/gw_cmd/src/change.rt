@@ -1,0 +1,38 @@
+//! What a command makes of a termination.
+
+use gw_base::{CtxNum, Items};
+use gw_reply::ReplyPart;
+use gw_term::Termination;
+
+/// What becomes of a termination and of who is in which context.
+#[derive(Debug, Drop)]
+pub(crate) enum Change {
+    /// Nothing.
+    Stays,
+    /// Its record becomes this one, in the same place.
+    Becomes(Termination),
+    /// It joins the context, with this record.
+    Joins(CtxNum, Termination),
+    /// It leaves the first context and joins the second, with this record.
+    Crosses(CtxNum, CtxNum, Termination),
+    /// It leaves the context, and has this record, or none.
+    Leaves(CtxNum, Option<Termination>),
+}
+
+/// What is decided of a termination that is not refused.
+#[derive(Debug, Drop)]
+pub(crate) struct Decided {
+    /// What becomes of it.
+    pub change: Change,
+    /// What the reply tells of it.
+    pub parts: Items<ReplyPart>,
+}
+
+/// What a merge comes to.
+#[derive(Debug, Drop)]
+pub(crate) struct Merged {
+    /// The record after it.
+    pub record_after: Termination,
+    /// What the reply tells of it.
+    pub parts: Items<ReplyPart>,
+}

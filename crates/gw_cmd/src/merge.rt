@@ -1,0 +1,141 @@
+//! Merges of descriptors into a copy of a termination's record, and what the reply tells of them.
+
+ghost use Rattle.std.specs.Prelude.{◌≡◌, ◌++◌, None, Some, IfOk};
+ghost use Rattle.gw_base.specs.declared.command_words.Verb.TheVariants.{Add as add_verb};
+ghost use Rattle.gw_desc.specs.Checks.{check_code};
+ghost use Rattle.gw_term.specs.Audit.{audit_parts};
+ghost use Rattle.gw_term.specs.Applies.{IsApplied};
+ghost use Rattle.gw_cmd.specs.Asked.{audited};
+ghost use Rattle.gw_term.specs.Record.{placed};
+ghost use Rattle.gw_cmd.specs.Effects.{filled_part, parts_of, with_parts, merging};
+ghost use Rattle.gw_cmd.specs.Refused.{Answers, Merges};
+
+use crate::asked::{asks_media, first_audit};
+use crate::change::Merged;
+use crate::refusal::Refusal;
+use gw_base::{Code, CtxNum, Items, NoMemory, Rules};
+use gw_desc::Descriptor;
+use gw_reply::{AuditReply, ReplyPart};
+use gw_term::{Filled, Termination};
+use std::alloc::Global;
+
+/// What the first Audit asks for, if there is one.
+#[tactic(auto, unfolding(gw_term::specs::Audit::audit_parts))]
+pub(crate) fn audit(
+    alloc: Global,
+    termination: &Termination,
+    descriptors: &[Descriptor<'_>],
+) -> Result<AuditReply, NoMemory>
+    ensures { IfOk result (λ parts. parts ≡ audit_parts (audited descriptors.now) termination.now) }
+{
+    match first_audit(descriptors) {
+        Some(words) => termination.audit(alloc, words),
+        None => Ok(Items::new(alloc)),
+    }
+}
+
+/// The Locals that were filled, unless Media is audited.
+fn filled_part(
+    alloc: Global,
+    descriptors: &[Descriptor<'_>],
+    filled: Filled,
+) -> Result<AuditReply, NoMemory>
+    ensures { IfOk result (λ parts. parts ≡ filled_part descriptors.now filled) }
+{
+    let mut parts = Items::new(alloc);
+    if !asks_media(descriptors) && !filled.is_empty() {
+        parts.push(ReplyPart::Filled(filled))?;
+    }
+    Ok(parts)
+}
+
+/// What was filled, and what is audited of the record after it.
+fn parts_of(
+    alloc: Global,
+    descriptors: &[Descriptor<'_>],
+    filled: Filled,
+    new: &Termination,
+) -> Result<AuditReply, NoMemory>
+    ensures { IfOk result (λ parts. parts ≡ parts_of descriptors.now filled new.now) }
+{
+    let mut parts = filled_part(alloc, descriptors, filled)?;
+    let audited = audit(alloc, new, descriptors)?;
+    parts.append(audited)?;
+    Ok(parts)
+}
+
+/// A record, and the streams whose Local was filled in it.
+#[derive(Debug, Drop)]
+pub(crate) struct MergedCopy {
+    pub new: Termination,
+    pub filled: Filled,
+}
+
+/// The record goes where it was not needed. A function of its own, since what a proof knows of a record that is let go would
+/// stand in its caller's proof.
+fn let_go(_record: Termination) {}
+
+/// The record after the descriptors, a copy.
+fn applied(
+    alloc: Global,
+    rules: &Rules,
+    descriptors: &[Descriptor<'_>],
+    old: &Termination,
+) -> Result<MergedCopy, Refusal>
+    requires { check_code add_verb descriptors.now ≡ None }
+    ensures { Merges rules.now descriptors.now old.now result }
+{
+    let mut new = old.copy(alloc)?;
+    match new.apply(alloc, rules, descriptors) {
+        Ok(filled) => Ok(MergedCopy { new, filled }),
+        Err(fault) => {
+            let_go(new);
+            Err(fault.into())
+        }
+    }
+}
+
+/// The record in its place, and what the reply tells of it.
+fn in_place(
+    alloc: Global,
+    descriptors: &[Descriptor<'_>],
+    applied: MergedCopy,
+    place: Option<CtxNum>,
+) -> Result<Merged, NoMemory>
+    ensures { IfOk result (λ m. m ≡ with_parts descriptors.now applied.filled (placed applied.new place)) }
+{
+    let mut record_after = applied.new;
+    record_after.set_place(place);
+    match parts_of(alloc, descriptors, applied.filled, &record_after) {
+        Ok(parts) => Ok(Merged {
+            record_after,
+            parts,
+        }),
+        Err(no_memory) => {
+            let_go(record_after);
+            Err(no_memory)
+        }
+    }
+}
+
+/// The record after the descriptors, in its place, unless that is refused; a list that would hold too many properties is
+/// refused first.
+#[tactic(auto, unfolding(crate::specs::Effects::merging))]
+pub(crate) fn merging(
+    alloc: Global,
+    rules: &Rules,
+    descriptors: &[Descriptor<'_>],
+    old: &Termination,
+    place: Option<CtxNum>,
+    refused: Option<Code>,
+) -> Result<Merged, Refusal>
+    requires { check_code add_verb descriptors.now ≡ None }
+    ensures { Answers result (merging rules.now descriptors.now old.now place refused) }
+{
+    let applied = applied(alloc, rules, descriptors, old)?;
+    if let Some(code) = refused {
+        let_go(applied.new);
+        return Err(Refusal::Code(code));
+    }
+    Ok(in_place(alloc, descriptors, applied, place)?)
+}

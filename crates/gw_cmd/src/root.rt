@@ -1,0 +1,91 @@
+//! Commands on ROOT, the gateway itself.
+
+ghost use Rattle.std.specs.Prelude.{◌≡◌, true, List, ◌++◌, ℕ, IfOk, OnOk};
+ghost use Rattle.std.specs.List.{flat_map};
+ghost use Rattle.gw_base.specs.declared.key.Key.TheVariants.{Term};
+ghost use Rattle.gw_base.specs.NameLists.{is_in};
+ghost use Rattle.gw_table.specs.Maps.{term, names};
+ghost use Rattle.gw_table.specs.Parts.{holds};
+ghost use Rattle.gw_cmd.specs.Asked.{audited};
+ghost use Rattle.gw_cmd.specs.Commands.{put_service, all_serviced, bare_told};
+
+use crate::asked::first_audit;
+use crate::effects::put;
+use gw_base::{Items, NoMemory, Service, Span, TermName};
+use gw_desc::{Descriptor, item_of};
+use gw_reply::{AuditReply, ReplyPart};
+use gw_table::Part;
+use std::alloc::Global;
+
+/// The termination of a name has this service state, if there is one.
+fn put_service(part: &mut Part, service: Service, name: TermName) -> Result<(), NoMemory>
+    requires { holds part.old.keys (Term name) ≡ true }
+    ensures ok { OnOk result (part.new.maps ≡ put_service service name part.old.maps (term part.old.maps name)) }
+    ensures keys { part.new.keys ≡ part.old.keys }
+{
+    if let Some(mut termination) = part.set_term(name, None)? {
+        termination.set_service(service);
+        put(part, name, Some(termination))?;
+    }
+    Ok(())
+}
+
+/// The terminations of these names have this service state.
+fn all_serviced(part: &mut Part, service: Service, named: &[TermName]) -> Result<(), NoMemory>
+    requires { (t : List ℕ) → is_in t named.now ≡ true → holds part.old.keys (Term t) ≡ true }
+    ensures ok { OnOk result (part.new.maps ≡ all_serviced service named.now part.old.maps) }
+    ensures keys { part.new.keys ≡ part.old.keys }
+{
+    for name in named {
+        put_service(part, service, *name)?;
+    }
+    Ok(())
+}
+
+/// Every termination has this service state.
+pub(crate) fn every_serviced(
+    alloc: Global,
+    part: &mut Part,
+    service: Service,
+) -> Result<(), NoMemory>
+    requires { (t : List ℕ) → is_in t (names part.old.maps) ≡ true → holds part.old.keys (Term t) ≡ true }
+    ensures ok { OnOk result (part.new.maps ≡ all_serviced service (names part.old.maps) part.old.maps) }
+    ensures keys { part.new.keys ≡ part.old.keys }
+{
+    let named = part.names(alloc)?;
+    all_serviced(part, service, &named)
+}
+
+/// The items that the words ask for, each bare.
+fn bare_parts(alloc: Global, words: &[Span<'_>]) -> Result<AuditReply, NoMemory>
+    ensures { IfOk result (λ parts. parts ≡ flat_map bare_told words.now) }
+{
+    let mut parts = Items::new(alloc);
+    for word in words {
+        push_bare(word.as_bytes(), &mut parts)?;
+    }
+    Ok(parts)
+}
+
+/// The item that the word asks for goes last.
+fn push_bare(word: &[u8], parts: &mut AuditReply) -> Result<(), NoMemory>
+    ensures { OnOk result (parts.new ≡ parts.old ++ bare_told word.now) }
+{
+    if let Some(item) = item_of(word) {
+        parts.push(ReplyPart::Bare(item))?;
+    }
+    Ok(())
+}
+
+/// What an Audit of ROOT gives: each item bare.
+pub(crate) fn root_parts(
+    alloc: Global,
+    descriptors: &[Descriptor<'_>],
+) -> Result<AuditReply, NoMemory>
+    ensures { IfOk result (λ parts. parts ≡ flat_map bare_told (audited descriptors.now)) }
+{
+    match first_audit(descriptors) {
+        Some(words) => bare_parts(alloc, words.as_slice()),
+        None => Ok(Items::new(alloc)),
+    }
+}

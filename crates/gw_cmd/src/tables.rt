@@ -1,0 +1,65 @@
+//! Commands that are refused by the tables as they are, or by what is wrong with their descriptors.
+
+ghost use Rattle.std.specs.Prelude.{◌≡◌};
+ghost use Rattle.gw_cmd.specs.Refusals.{has_ended, missing, refusal_by_tables};
+ghost use Rattle.gw_cmd.specs.Targets.{targets};
+
+use crate::at::At;
+use gw_base::{Code, TermName, TermRef};
+use gw_desc::check;
+use gw_msg::Command;
+use gw_table::Part;
+
+/// Whether the action's context has ended.
+fn has_ended(part: &Part, at: At) -> bool
+    ensures { result ≡ has_ended at part.now.maps }
+{
+    match at {
+        At::Live(number) | At::Each(number) => part.ctx(number).is_none(),
+        At::Null | At::Unmade(_) => false,
+    }
+}
+
+/// What is missing: the termination of a name, one that a wildcard matches, or a slot.
+fn missing(
+    part: &Part,
+    at: At,
+    slot: Option<u16>,
+    command: &Command<'_>,
+    named: &[TermName],
+) -> Option<Code>
+    requires { named.now ≡ targets at command.now part.now.maps }
+    ensures { result ≡ missing at slot command.now part.now.maps command.now.term }
+{
+    match command.term {
+        TermRef::Name(name) if part.term(&name).is_none() => Some(Code::UnknownTermination),
+        TermRef::All | TermRef::Under(_) if named.is_empty() => Some(Code::NoWildcardMatch),
+        TermRef::Choose if slot.is_none() => Some(Code::NoTerminationLeft),
+        _ => None,
+    }
+}
+
+/// Why a command is refused that its form allows: the first of `UnknownContext` (the action's context has ended), what is
+/// missing, and what is wrong with its descriptors. The caller hands in the command's targets.
+#[tactic(auto, unfolding(crate::specs::Refusals::refusal_by_tables))]
+pub(crate) fn refusal_by_tables(
+    part: &Part,
+    at: At,
+    slot: Option<u16>,
+    command: &Command<'_>,
+    named: &[TermName],
+) -> Option<Code>
+    requires { named.now ≡ targets at command.now part.now.maps }
+    ensures { result ≡ refusal_by_tables at slot command.now part.now.maps }
+{
+    if has_ended(part, at) {
+        return Some(Code::UnknownContext);
+    }
+    if let Some(code) = missing(part, at, slot, command, named) {
+        return Some(code);
+    }
+    match check(command.verb, command.descriptors.as_slice()) {
+        Ok(()) => None,
+        Err(code) => Some(code),
+    }
+}

@@ -1,0 +1,109 @@
+//! The terminations that a command is for.
+
+ghost use Rattle.std.specs.Prelude.{◌≡◌, IfOk};
+ghost use Rattle.std.specs.List.{filter};
+ghost use Rattle.gw_table.specs.Maps.{names, ctx, members_of};
+ghost use Rattle.gw_cmd.specs.Asked.{matches};
+ghost use Rattle.gw_cmd.specs.Targets.{is_free, those_in, source, matched, targets};
+
+use crate::asked::{is_add, matches};
+use crate::at::At;
+use gw_base::{CtxNum, NoMemory, TermName, TermRef};
+use gw_msg::Command;
+use gw_table::Part;
+use std::alloc::Global;
+
+/// Whether the termination of this name is in the null context.
+fn is_free(part: &Part, name: &TermName) -> bool
+    ensures { result ≡ is_free part.now.maps name.now }
+{
+    match part.term(name) {
+        Some(termination) => termination.place().is_none(),
+        None => true,
+    }
+}
+
+/// The terminations of the null context, in the order of their bytes.
+fn free(alloc: Global, part: &Part) -> Result<Vec<TermName>, NoMemory>
+    ensures { IfOk result (λ list. list.items ≡ filter (is_free part.now.maps) (names part.now.maps)) }
+{
+    let named = part.names(alloc)?;
+    Ok(
+        named
+            .iter()
+            .copied()
+            .filter(|name| is_free(part, name))
+            .collect(alloc)?,
+    )
+}
+
+/// The members of a context in joining order.
+fn members(alloc: Global, part: &Part, number: CtxNum) -> Result<Vec<TermName>, NoMemory>
+    ensures { IfOk result (λ list. list.items ≡ members_of (ctx part.now.maps number)) }
+{
+    match part.ctx(number) {
+        Some(context) => Ok(context.members().iter().copied().collect(alloc)?),
+        None => Ok(Vec::new(alloc)),
+    }
+}
+
+/// Those of the names that the wildcard matches, in the same order.
+fn matching(alloc: Global, term: TermRef, named: &[TermName]) -> Result<Vec<TermName>, NoMemory>
+    ensures { IfOk result (λ list. list.items ≡ filter (matches term) named.now) }
+{
+    Ok(
+        named
+            .iter()
+            .copied()
+            .filter(|name| matches(term, *name))
+            .collect(alloc)?,
+    )
+}
+
+/// Where a wildcard's terminations are: those of an Add in the null context, those of another command in the action's.
+fn source(at: At, command: &Command<'_>) -> Option<CtxNum>
+    ensures { result ≡ source at command.now }
+{
+    if is_add(command.verb) {
+        None
+    } else {
+        at.place()
+    }
+}
+
+/// Those that a wildcard matches. The work is one pass of the members, or of all names and their records.
+#[tactic(auto, unfolding(crate::specs::Targets::matched))]
+fn matched(
+    alloc: Global,
+    part: &Part,
+    at: At,
+    command: &Command<'_>,
+) -> Result<Vec<TermName>, NoMemory>
+    ensures { IfOk result (λ list. list.items ≡ matched at command.now part.now.maps) }
+{
+    let named = match source(at, command) {
+        Some(number) => members(alloc, part, number)?,
+        None => free(alloc, part)?,
+    };
+    matching(alloc, command.term, &named)
+}
+
+/// The names of the terminations that the command is for, in order, as the tables are now.
+pub(crate) fn targets(
+    alloc: Global,
+    part: &Part,
+    at: At,
+    command: &Command<'_>,
+) -> Result<Vec<TermName>, NoMemory>
+    ensures { IfOk result (λ list. list.items ≡ targets at command.now part.now.maps) }
+{
+    match command.term {
+        TermRef::Name(name) => {
+            let mut named = Vec::new(alloc);
+            named.push(name)?;
+            Ok(named)
+        }
+        TermRef::All | TermRef::Under(_) => matched(alloc, part, at, command),
+        _ => Ok(Vec::new(alloc)),
+    }
+}
