@@ -1,2 +1,4 @@
 pub mod Owners
+pub mod Searches
 pub use Rattle.gw_table.specs.Maps
+pub use Rattle.gw_table.specs.Unused

@@ -1,44 +1,97 @@
--- Who owns which context number (own): at the start of a burst the free numbers are listed in cyclic order from the cursor, and
--- the j-th $ place owns the j-th of them, whether it is reached or not.
-use Rattle.std.specs.Prelude.{ℕ, ◌+◌, ◌-◌, List, [], ◌∷◌, ◌++◌, map, length, take, slice_get, Option, is_none}
-use Rattle.std.specs.List.{range_with_len, filter}
+-- Who owns which identifier (own): at the start of a burst the free numbers and the free slots are listed in cyclic order from
+-- the cursors, and the j-th place that needs one owns the j-th of them, whether it is reached or not.
+use Rattle.std.specs.Prelude.{ℕ, ◌+◌, ◌-◌, ◌<◌, ◌≤◌, List, [], ◌∷◌, ◌++◌, map, length, drop, slice_get, Option, is_none, All, filter, flat_map}
+use Rattle.std.specs.List.{range_with_len}
 use Rattle.gw_base.specs.declared.ids.CtxNum.{CtxNum}
 use Rattle.gw_base.specs.declared.ids.Ids.{Ids}
-use Rattle.gw_msg.specs.declared.message.Action.{Action}
-use Rattle.gw_msg.specs.declared.message.Request.{Request}
-use Rattle.gw_reserve.specs.declared.owners.Cursors.{Cursors}
-use Rattle.gw_table.specs.Maps.{Maps, number, ctx}
 use Rattle.gw_base.specs.Choose.{is_choose}
+use Rattle.gw_msg.specs.declared.message.Action.{Action}
+use Rattle.gw_msg.specs.declared.message.Command.{Command}
+use Rattle.gw_msg.specs.declared.message.Request.{Request}
+use Rattle.gw_table.specs.Maps.{Maps, number, term, ctx}
+use Rattle.gw_table.specs.Reserved.{slot_name}
+use Rattle.gw_table.specs.Unused.{owns_slot, owned, AreUnused}
+use Rattle.gw_reserve.specs.declared.owners.Cursors.{Cursors}
 
--- the numbers from 1 to n, from the one after c on and round
-abbrev pub cyclic : ℕ → ℕ → List CtxNum
-cyclic c n = map number (range_with_len (c + 1) (n - c) ++ range_with_len 1 c)
+-- the indices below n, from d on and round
+abbrev pub cyclic : ℕ → ℕ → List ℕ
+cyclic d n = range_with_len d (n - d) ++ range_with_len 0 d
 
--- those that no context has
-abbrev pub free_in : Maps → List CtxNum → List CtxNum
-free_in m numbers = filter (λ n. is_none (ctx m n)) numbers
+-- numbers run from 1
+abbrev pub number_of_index : ℕ → CtxNum
+number_of_index i = number (i + 1)
+
+-- the numbers from 1 to n that no context has, from the one after c on and round
+abbrev pub free_numbers : Maps → ℕ → ℕ → List CtxNum
+free_numbers m c n = filter (λ k. is_none (ctx m k)) (map number_of_index (cyclic c n))
+
+-- the slots below n whose name no termination has, from d on and round
+abbrev pub free_slots : Maps → ℕ → ℕ → List ℕ
+free_slots m d n = filter (λ s. is_none (term m (slot_name s))) (cyclic d n)
 
 -- the j-th of so many places owns the j-th, and nothing past the end
-abbrev pub places : ℕ → List CtxNum → List (Option CtxNum)
-places count numbers = map (λ j. slice_get numbers j) (range_with_len 0 count)
+abbrev pub places : {X : Type 0} → ℕ → List X → List (Option X)
+places count free = map (slice_get free) (range_with_len 0 count)
+
+-- how many of the actions have $
+abbrev pub chosen : List Action → ℕ
+chosen actions = length (filter (λ a. is_choose a.ctx) actions)
+
+-- how many of the commands add $ or RTP/$
+abbrev pub adding : List Command → ℕ
+adding commands = length (filter (λ c. owns_slot c.verb c.term) commands)
+
+abbrev pub all_adding : List Action → ℕ
+all_adding actions = adding (flat_map (λ a. a.commands) actions)
+
+-- how many places of each kind a request has
+abbrev pub number_places : Request → ℕ
+number_places r = chosen r.actions
+
+abbrev pub slot_places : Request → ℕ
+slot_places r = all_adding r.actions
+
+-- what a request owns of what is left
+abbrev pub ids_of : Request → List CtxNum → List ℕ → Ids
+ids_of r numbers slots = record { contexts = places (number_places r) numbers; slots = places (slot_places r) slots }
+
+-- the places of all requests, in their order: each request has the first of what those before it left
+abbrev pub owners_of : List Request → List CtxNum → List ℕ → List Ids
+owners_of [] numbers slots = []
+owners_of (r ∷ rs) numbers slots = ids_of r numbers slots ∷ owners_of rs (drop (number_places r) numbers) (drop (slot_places r) slots)
+
+-- what the places of the requests own
+unfoldable pub owners : Maps → Cursors → ℕ → ℕ → List Request → List Ids
+owners m cursors contexts slots rs = owners_of rs (free_numbers m cursors.context contexts) (free_slots m cursors.slot slots)
+
+-- the numbers and the slots that are owned, in the order of the places
+abbrev pub owned_numbers : List Ids → List CtxNum
+owned_numbers ids = flat_map (λ i. owned i.contexts) ids
+
+abbrev pub owned_slots : List Ids → List ℕ
+owned_slots ids = flat_map (λ i. owned i.slots) ids
 
 -- the last of the numbers, or c
 abbrev pub last_number : ℕ → List CtxNum → ℕ
 last_number c [] = c
 last_number c (n ∷ ns) = last_number n.0 ns
 
--- how many $ places there are
-abbrev pub choose_count : List Action → ℕ
-choose_count asked = length (filter (λ a. is_choose a.ctx) asked)
+-- the slot behind the last of the slots, or d
+abbrev pub behind_last : ℕ → List ℕ → ℕ
+behind_last d [] = d
+behind_last d (s ∷ ss) = behind_last (s + 1) ss
 
--- what the $ places of the request own
-abbrev pub owners : Maps → ℕ → ℕ → Request → Ids
-owners m c n r = record { contexts = places (choose_count r.actions) (free_in m (cyclic c n)); slots = [] }
+-- the cursors afterwards: the last number owned, and the slot behind the last one owned; one of which none was owned stays
+abbrev pub new_cursors : Cursors → List Ids → Cursors
+new_cursors cursors ids = record { context = last_number cursors.context (owned_numbers ids); slot = behind_last cursors.slot (owned_slots ids) }
 
--- the cursor afterwards: the last number owned, if any was
-abbrev pub new_cursor : Maps → ℕ → ℕ → Request → ℕ
-new_cursor m c n r = last_number c (take (choose_count r.actions) (free_in m (cyclic c n)))
+-- what is owned keeps the limits, and is unused
+pub record AreFresh (m : Maps) (most_contexts most_slots : ℕ) (ids : List Ids) : Type 0 where
+  pub unused : AreUnused m (owned_numbers ids) (owned_slots ids)
+  pub numbers : All (λ n. (0 < n.0) × (n.0 ≤ most_contexts)) (owned_numbers ids)
+  pub slots : All (λ s. s < most_slots) (owned_slots ids)
 
--- both cursors
-abbrev pub new_cursors : Maps → Cursors → ℕ → Request → Cursors
-new_cursors m cursors n r = record { context = new_cursor m cursors.context n r; slot = cursors.slot }
+-- cursors are at most the limits
+pub record AreWithin (most_contexts most_slots : ℕ) (cursors : Cursors) : Type 0 where
+  pub context : cursors.context ≤ most_contexts
+  pub slot : cursors.slot ≤ most_slots

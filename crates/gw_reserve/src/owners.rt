@@ -1,13 +1,15 @@
-//! Which context numbers the `$` places of a request own.
+//! Reserving: what the `$` places of a burst's requests own.
 
-ghost use Rattle.std.specs.Prelude.{◌≡◌, ℕ, ◌+◌, ◌-◌, ◌<◌, ◌≤◌, ◌^◌, ◌∷◌, [], IfOk, OnOk, MatchOption, length, take, drop};
-ghost use Rattle.std.specs.List.{filter};
-ghost use Rattle.std.proofs.Common.{get_or};
-ghost use Rattle.gw_table.specs.Maps.{number, ctx};
-ghost use Rattle.gw_reserve.specs.Owners.{cyclic, free_in, places, last_number, choose_count, owners, new_cursor, new_cursors};
+ghost use Rattle.std.specs.Prelude.{◌≡◌, ℕ, ◌≤◌, ◌∷◌, [], IfOk, OnOk, drop};
+ghost use Rattle.gw_table.specs.Maps.{Maps};
+ghost use Rattle.gw_reserve.specs.Owners.{free_numbers, free_slots, new_cursors, number_places, slot_places, ids_of, AreWithin};
+ghost use Rattle.gw_reserve.specs.Searches.{numbers_left, slots_left, cursors_of, most_contexts, most_slots, IsReservation};
 
-use gw_base::{CtxNum, Ids, Items, NoMemory};
-use gw_msg::{Action, Request};
+use crate::numbers::own_numbers;
+use crate::order::{Order, Search};
+use crate::slots::own_slots;
+use gw_base::{Ids, NoMemory};
+use gw_msg::Request;
 use gw_table::Tables;
 use std::alloc::Global;
 
@@ -20,124 +22,89 @@ pub struct Cursors {
     pub slot: u32,
 }
 
-/// A free number, and the place of the order behind it.
+/// What the requests of a burst own, one request after another: each owns the first of what those before it left.
 #[derive(Clone, Copy)]
-struct Free {
-    number: CtxNum,
-    next: u32,
+pub struct Reservation {
+    pub(crate) numbers: Order,
+    pub(crate) slots: Order,
+    pub(crate) number_search: Search,
+    pub(crate) slot_search: Search,
 }
 
-/// The number at a place of the cyclic order.
-fn number_at(cursor: u32, contexts: u32, place: u32) -> CtxNum
-    requires cursor { cursor ≤ contexts }
-    requires contexts { contexts < 2 ^ 16 }
-    requires place { place < contexts }
-    ensures value { result ≡ get_or (cyclic cursor contexts) place (number 0) }
-    ensures small { result.0 ≤ contexts }
-{
-    let behind = contexts - cursor;
-    if place < behind {
-        CtxNum(cursor + 1 + place)
-    } else {
-        CtxNum(1 + (place - behind))
-    }
-}
-
-/// The first free number from a place of the order on.
-fn first_free(tables: &Tables, cursor: u32, contexts: u32, from: u32) -> Option<Free>
-    requires cursor { cursor ≤ contexts }
-    requires contexts { contexts < 2 ^ 16 }
-    requires from { from ≤ contexts }
-    ensures { MatchOption result (free_in tables.now (drop from (cyclic cursor contexts)) ≡ [])
-        (λ f. (free_in tables.now (drop from (cyclic cursor contexts)) ≡ f.number ∷ free_in tables.now (drop f.next (cyclic cursor contexts))) × (f.next ≤ contexts) × (f.number.0 ≤ contexts)) }
-{
-    for place in from..contexts {
-        let number = number_at(cursor, contexts, place);
-        if tables.find_ctx(number).is_none() {
-            return Some(Free {
-                number,
-                next: place + 1,
-            });
+impl Reservation {
+    /// The reservation of a burst, before its first request. The caller knows that there are at most 65,535 contexts and 4,096
+    /// slots, and that the cursors are at most these numbers.
+    pub fn new(contexts: u32, slots: u32, cursors: &Cursors) -> Self
+        requires contexts { contexts ≤ 65535 }
+        requires slots { slots ≤ 4096 }
+        requires cursors { AreWithin contexts slots cursors.now }
+        ensures numbers { (m : Maps) → numbers_left m result ≡ free_numbers m cursors.now.context contexts }
+        ensures slots { (m : Maps) → slots_left m result ≡ free_slots m cursors.now.slot slots }
+        ensures cursors { cursors_of result ≡ cursors.now }
+        ensures most { (most_contexts result ≡ contexts) × (most_slots result ≡ slots) }
+        ensures reservation { IsReservation result }
+    {
+        Reservation {
+            numbers: Order {
+                start: cursors.context,
+                limit: contexts,
+            },
+            slots: Order {
+                start: cursors.slot,
+                limit: slots,
+            },
+            number_search: Search {
+                next: 0,
+                cursor: cursors.context,
+            },
+            slot_search: Search {
+                next: 0,
+                cursor: cursors.slot,
+            },
         }
     }
-    None
-}
 
-/// How many `$` places the actions have.
-fn count_choose(asked: &[Action<'_>]) -> usize
-    ensures { result ≡ choose_count asked.now }
-{
-    let mut count = 0;
-    for action in asked {
-        if action.ctx.is_choose() {
-            count += 1;
+    /// What the places of the burst's next request own, in the tables as they are at the burst's start. Over a whole burst each
+    /// number and each slot is looked at once, from the cursor to the last one owned, or round to the cursor where they run
+    /// out, and so is each command.
+    ///
+    /// # Errors
+    ///
+    /// Want of memory. Nothing is then known of the reservation.
+    pub fn own(
+        &mut self,
+        alloc: Global,
+        tables: &Tables,
+        request: &Request<'_>,
+    ) -> Result<Ids, NoMemory>
+        requires { IsReservation self.old }
+        ensures ids { IfOk result (λ i. i ≡ ids_of request.now (numbers_left tables.now self.old) (slots_left tables.now self.old)) }
+        ensures numbers { OnOk result (numbers_left tables.now self.new ≡ drop (number_places request.now) (numbers_left tables.now self.old)) }
+        ensures slots { OnOk result (slots_left tables.now self.new ≡ drop (slot_places request.now) (slots_left tables.now self.old)) }
+        ensures cursors { IfOk result (λ i. cursors_of self.new ≡ new_cursors (cursors_of self.old) (i ∷ [])) }
+        ensures most { OnOk result ((most_contexts self.new ≡ most_contexts self.old) × (most_slots self.new ≡ most_slots self.old)) }
+        ensures reservation { OnOk result (IsReservation self.new) }
+    {
+        let actions = request.actions.as_slice();
+        let contexts = own_numbers(
+            alloc,
+            tables,
+            self.numbers,
+            &mut self.number_search,
+            actions,
+        )?;
+        let slots = own_slots(alloc, tables, self.slots, &mut self.slot_search, actions)?;
+        Ok(Ids { contexts, slots })
+    }
+
+    /// Where the next burst's search is to begin.
+    pub fn cursors(&self) -> Cursors
+        ensures cursors { result ≡ cursors_of self.now }
+        ensures within { IsReservation self.now → AreWithin (most_contexts self.now) (most_slots self.now) result }
+    {
+        Cursors {
+            context: self.number_search.cursor,
+            slot: self.slot_search.cursor,
         }
     }
-    count
-}
-
-/// What so many `$` places own, and the new cursor.
-fn own(
-    alloc: Global,
-    tables: &Tables,
-    contexts: u32,
-    cursor: u32,
-    count: usize,
-) -> Result<(Items<Option<CtxNum>>, u32), NoMemory>
-    requires cursor { cursor ≤ contexts }
-    requires contexts { contexts < 2 ^ 16 }
-    ensures owned { IfOk result (λ r. r.0 ≡ places count (free_in tables.now (cyclic cursor contexts))) }
-    ensures cursor { IfOk result (λ r. r.1 ≡ last_number cursor (take count (free_in tables.now (cyclic cursor contexts)))) }
-    ensures small { IfOk result (λ r. r.1 ≤ contexts) }
-{
-    let mut owned = Items::new(alloc);
-    let mut next = 0;
-    let mut last = cursor;
-    for _place in 0..count {
-        match first_free(tables, cursor, contexts, next) {
-            Some(free) => {
-                owned.push(Some(free.number))?;
-                next = free.next;
-                last = free.number.0;
-            }
-            None => {
-                owned.push(None)?;
-                next = contexts;
-            }
-        }
-    }
-    Ok((owned, last))
-}
-
-/// What the `$` places of a request own, and the new cursors. The caller knows that there are at most 65,535 contexts and that
-/// the cursor is at most their number. Each number is looked at once, from the one behind the cursor to the last one owned, or
-/// round to the cursor where the numbers run out.
-///
-/// # Errors
-///
-/// Want of memory.
-pub fn reserve(
-    alloc: Global,
-    tables: &Tables,
-    contexts: u32,
-    cursors: &Cursors,
-    request: &Request<'_>,
-) -> Result<(Ids, Cursors), NoMemory>
-    requires cursor { cursors.now.context ≤ contexts }
-    requires contexts { contexts < 2 ^ 16 }
-    ensures ids { IfOk result (λ r. r.0 ≡ owners tables.now cursors.now.context contexts request.now) }
-    ensures cursors { IfOk result (λ r. r.1 ≡ new_cursors tables.now cursors.now contexts request.now) }
-    ensures small { IfOk result (λ r. r.1.context ≤ contexts) }
-{
-    let count = count_choose(request.actions.as_slice());
-    let (owned, context) = own(alloc, tables, contexts, cursors.context, count)?;
-    let ids = Ids {
-        contexts: owned,
-        slots: Items::new(alloc),
-    };
-    let cursors = Cursors {
-        context,
-        slot: cursors.slot,
-    };
-    Ok((ids, cursors))
 }

@@ -1,27 +1,50 @@
--- Actions with what they own (own): the first $ place owns the first number, the next one the next.
-use Rattle.std.specs.Prelude.{if◌then◌else◌, List, [], ◌∷◌, Option, None}
+-- Actions and commands with what they own (own): the first place owns the first identifier, the next one the next, whether the
+-- place is reached or not.
+use Rattle.std.specs.Prelude.{ℕ, Bool, if◌then◌else◌, List, [], ◌∷◌, Option, None}
 use Rattle.gw_base.specs.declared.ids.CtxNum.{CtxNum}
-use Rattle.gw_base.specs.declared.command_words.CtxRef.{CtxRef}
 use Rattle.gw_base.specs.Choose.{is_choose}
+use Rattle.gw_msg.specs.declared.message.Command.{Command}
 use Rattle.gw_msg.specs.declared.message.Action.{Action}
+use Rattle.gw_table.specs.Maps.{Maps}
+use Rattle.gw_table.specs.Unused.{owns_slot, owned, AreUnused}
 
 -- the first of what is owned; past the end nothing is
-abbrev pub first_owned : List (Option CtxNum) → Option CtxNum
+abbrev pub first_owned : {X : Type 0} → List (Option X) → Option X
 first_owned [] = None
 first_owned (o ∷ os) = o
 
-abbrev pub later_owned : List (Option CtxNum) → List (Option CtxNum)
+abbrev pub later_owned : {X : Type 0} → List (Option X) → List (Option X)
 later_owned [] = []
 later_owned (o ∷ os) = os
 
--- what an action owns, and what is left for those behind it
-abbrev pub owned_by : CtxRef → List (Option CtxNum) → Option CtxNum
-owned_by sent owned = if is_choose sent then first_owned owned else None
+-- an Add of $ or RTP/$ owns a slot
+abbrev pub is_adding : Command → Bool
+is_adding c = owns_slot c.verb c.term
 
-abbrev pub owned_after : CtxRef → List (Option CtxNum) → List (Option CtxNum)
-owned_after sent owned = if is_choose sent then later_owned owned else owned
+-- each command with the slot that it owns
+abbrev pub with_slots : List (Option ℕ) → List Command → List (Option ℕ × Command)
+with_slots slots [] = []
+with_slots slots (c ∷ cs) = (if is_adding c then first_owned slots else None, c) ∷ with_slots (if is_adding c then later_owned slots else slots) cs
 
--- each action with the number that it owns, whether it is reached or not
-abbrev pub with_owned : List (Option CtxNum) → List Action → List (Option CtxNum × Action)
-with_owned owned [] = []
-with_owned owned (a ∷ more) = (owned_by a.ctx owned, a) ∷ with_owned (owned_after a.ctx owned) more
+-- the slots behind those of the commands
+abbrev pub slots_behind : List (Option ℕ) → List Command → List (Option ℕ)
+slots_behind slots [] = slots
+slots_behind slots (c ∷ cs) = slots_behind (if is_adding c then later_owned slots else slots) cs
+
+-- an action with the number that it owns, and its commands with their slots
+pub record OwnedAction : Type 0 where
+  pub sent : Action
+  pub number : Option CtxNum
+  pub commands : List (Option ℕ × Command)
+
+abbrev pub owning : List (Option CtxNum) → List (Option ℕ) → Action → OwnedAction
+owning numbers slots a = record { sent = a; number = if is_choose a.ctx then first_owned numbers else None; commands = with_slots slots a.commands }
+
+-- each action of a request with what it owns
+abbrev pub with_owned : List (Option CtxNum) → List (Option ℕ) → List Action → List OwnedAction
+with_owned numbers slots [] = []
+with_owned numbers slots (a ∷ more) = owning numbers slots a ∷ with_owned (if is_choose a.ctx then later_owned numbers else numbers) (slots_behind slots a.commands) more
+
+-- no two places own the same slot, and none of the slots has a termination
+abbrev pub AreFreeSlots : Maps → List (Option ℕ) → Type 0
+AreFreeSlots m slots = AreUnused m [] (owned slots)

@@ -3,8 +3,11 @@
 
 mod actions;
 mod commands;
+mod contexts;
 mod laws;
+mod owned;
+mod replies;
 mod requests;
 
-pub use laws::transactions_keep_tables_well_formed;
+pub use laws::{answers_can_be_read, transactions_keep_tables_well_formed};
 pub use requests::transaction;

@@ -1,0 +1,95 @@
+-- What requests own, one after another: that it is unused, and that it keeps the limits.
+use Rattle.std.proofs.Common.{◌≡◌, ℕ, zero, suc, ◌+◌, ◌<◌, ◌≤◌, true, List, [], ◌∷◌, ◌++◌, length, get_or, take, drop, map, Option, None, Some, refl, sym, ap, subst, ◌∙◌, arith, append_assoc, append-nil, get_or-take}
+use Rattle.std.specs.Prelude.{◌≢◌, All, AllPairs, is_none, flat_map}
+use Rattle.std.proofs.lemmas.List.{length-take}
+use Rattle.std.proofs.lemmas.List.Concat.{flat_map-append}
+use Rattle.std.proofs.lemmas.List.Elements.{All-filter, filter_passes}
+use Rattle.std.proofs.lemmas.List.Kept.{AllPairs-filter}
+use Rattle.gw_base.specs.declared.ids.CtxNum.{CtxNum}
+use Rattle.gw_base.specs.declared.ids.Ids.{Ids}
+use Rattle.gw_msg.specs.declared.message.Request.{Request}
+use Rattle.gw_table.specs.Maps.{Maps, term, ctx}
+use Rattle.gw_table.specs.Reserved.{slot_name}
+use Rattle.gw_reserve.specs.declared.owners.Cursors.{Cursors}
+use Rattle.gw_reserve.specs.Owners.{cyclic, number_of_index, free_numbers, free_slots, number_places, slot_places, ids_of, owners_of, owners, owned_numbers, owned_slots, AreFresh, AreWithin}
+use Rattle.gw_reserve.proofs.Cyclic.{indices_below, indices_apart, numbers_within, numbers_apart}
+use Rattle.gw_reserve.proofs.Places.{owned_places, take_none, Moves}
+
+-- ---- one request more
+
+pub owners_step : (ids new all : List Ids) (i : Ids) (r : Request) (rs : List Request) (left later : List CtxNum) (free after : List ℕ) → new ≡ ids ++ i ∷ [] → i ≡ ids_of r left free → later ≡ drop (number_places r) left → after ≡ drop (slot_places r) free → ids ++ owners_of (r ∷ rs) left free ≡ all
+    → new ++ owners_of rs later after ≡ all
+owners_step ids new all i r rs left later free after a b d e o =
+    ap (λ (l : List Ids). l ++ owners_of rs later after) (a ∙ ap (λ (x : Ids). ids ++ x ∷ []) b)
+    ∙ append_assoc ids (ids_of r left free ∷ []) (owners_of rs later after)
+    ∙ ap (λ (l : List CtxNum). ids ++ ids_of r left free ∷ owners_of rs l after) d
+    ∙ ap (λ (l : List ℕ). ids ++ ids_of r left free ∷ owners_of rs (drop (number_places r) left) l) e ∙ o
+
+pub cursor_step : {X : Type 0} (last : ℕ → List X → ℕ) (moves : Moves last) (f : Ids → List X) (c cursor moved : ℕ) (ids new : List Ids) (i : Ids) → new ≡ ids ++ i ∷ [] → cursor ≡ last c (flat_map f ids) → moved ≡ last cursor (f i) → moved ≡ last c (flat_map f new)
+cursor_step last moves f c cursor moved ids new i a b d =
+    d ∙ ap (λ (k : ℕ). last k (f i)) b ∙ sym (moves.both c (flat_map f ids) (f i))
+    ∙ ap (λ l. last c l) (ap (λ l. flat_map f ids ++ l) (sym (append-nil (f i))) ∙ sym (flat_map-append f ids (i ∷ [])) ∙ ap (λ (l : List Ids). flat_map f l) (sym a))
+
+-- ---- all requests own the first ones
+
+total : (Request → ℕ) → List Request → ℕ
+total f [] = 0
+total f (r ∷ rs) = f r + total f rs
+
+take-plus : {X : Type 0} (k t : ℕ) (l : List X) → take k l ++ take t (drop k l) ≡ take (k + t) l
+take-plus zero t l = let e : t ≡ 0 + t = omega arith in ap (λ (n : ℕ). take n l) e
+take-plus {X} (suc k) t [] = take_none {X = X} t ∙ sym (take_none {X = X} (suc k + t))
+take-plus (suc k) t (x ∷ xs) = let e : suc (k + t) ≡ suc k + t = omega arith in ap (λ l. x ∷ l) (take-plus k t xs) ∙ ap (λ (n : ℕ). take n (x ∷ xs)) e
+
+numbers_are : (rs : List Request) (left : List CtxNum) (free : List ℕ) → owned_numbers (owners_of rs left free) ≡ take (total number_places rs) left
+unfolding total
+numbers_are [] left free = refl
+numbers_are (r ∷ rs) left free =
+    ap (λ (l : List CtxNum). l ++ owned_numbers (owners_of rs (drop (number_places r) left) (drop (slot_places r) free))) (owned_places (number_places r) left)
+    ∙ ap (λ (l : List CtxNum). take (number_places r) left ++ l) (numbers_are rs (drop (number_places r) left) (drop (slot_places r) free))
+    ∙ take-plus (number_places r) (total number_places rs) left
+
+slots_are : (rs : List Request) (left : List CtxNum) (free : List ℕ) → owned_slots (owners_of rs left free) ≡ take (total slot_places rs) free
+unfolding total
+slots_are [] left free = refl
+slots_are (r ∷ rs) left free =
+    ap (λ (l : List ℕ). l ++ owned_slots (owners_of rs (drop (number_places r) left) (drop (slot_places r) free))) (owned_places (slot_places r) free)
+    ∙ ap (λ (l : List ℕ). take (slot_places r) free ++ l) (slots_are rs (drop (number_places r) left) (drop (slot_places r) free))
+    ∙ take-plus (slot_places r) (total slot_places rs) free
+
+-- ---- so they are unused
+
+module _ {X : Type 0} where
+  all_taken : (P : X → Type 0) (k : ℕ) (l : List X) → All P l → All P (take k l)
+  all_taken P k l a i d h = subst (λ (x : X). P x) (sym (get_or-take k l i d (omega (arith, length-take k l)))) (a i d (omega (arith, length-take k l)))
+
+  pairs_taken : (k : ℕ) (l : List X) → AllPairs (λ x y. x ≢ y) l → AllPairs (λ x y. x ≢ y) (take k l)
+  pairs_taken k l a i j d b h e =
+      let small : j < k = omega (arith, length-take k l) in
+      let inside : j < length l = omega (arith, length-take k l) in
+      let less : i < k = omega arith in
+      a i j d b inside (sym (get_or-take k l i d less) ∙ e ∙ get_or-take k l j d small)
+
+  is_nothing : (o : Option X) → is_none o ≡ true → o ≡ None
+  is_nothing None e = refl
+  is_nothing (Some x) e = absurd cc
+
+pub are_fresh : (m : Maps) (cursors : Cursors) (contexts slots : ℕ) (rs : List Request) → AreWithin contexts slots cursors → slots ≤ 4096 → AreFresh m contexts slots (owners m cursors contexts slots rs)
+unfolding owners
+are_fresh m cursors contexts slots rs w h =
+    let numbers : List CtxNum = free_numbers m cursors.context contexts in
+    let free : List ℕ = free_slots m cursors.slot slots in
+    let n : owned_numbers (owners_of rs numbers free) ≡ take (total number_places rs) numbers = numbers_are rs numbers free in
+    let s : owned_slots (owners_of rs numbers free) ≡ take (total slot_places rs) free = slots_are rs numbers free in
+    let slots_below : All (λ x. x < slots) (owned_slots (owners_of rs numbers free)) = subst (λ (l : List ℕ). All (λ x. x < slots) l) (sym s) (all_taken (λ x. x < slots) (total slot_places rs) free (All-filter (λ x. is_none (term m (slot_name x))) (λ x. x < slots) (cyclic cursors.slot slots) (indices_below cursors.slot slots w.slot))) in
+    record {
+      unused = record {
+        numbers_apart = subst (λ (l : List CtxNum). AllPairs (λ x y. x ≢ y) l) (sym n) (pairs_taken (total number_places rs) numbers (AllPairs-filter (λ x y. x ≢ y) (λ k. is_none (ctx m k)) (map number_of_index (cyclic cursors.context contexts)) (numbers_apart cursors.context contexts w.context)));
+        no_contexts = subst (λ (l : List CtxNum). All (λ k. ctx m k ≡ None) l) (sym n) (all_taken (λ k. ctx m k ≡ None) (total number_places rs) numbers (λ i d k. is_nothing (ctx m (get_or numbers i d)) (filter_passes (λ k. is_none (ctx m k)) (map number_of_index (cyclic cursors.context contexts)) i d k)));
+        slots_apart = subst (λ (l : List ℕ). AllPairs (λ x y. x ≢ y) l) (sym s) (pairs_taken (total slot_places rs) free (AllPairs-filter (λ x y. x ≢ y) (λ x. is_none (term m (slot_name x))) (cyclic cursors.slot slots) (indices_apart cursors.slot slots w.slot)));
+        no_terminations = subst (λ (l : List ℕ). All (λ x. term m (slot_name x) ≡ None) l) (sym s) (all_taken (λ x. term m (slot_name x) ≡ None) (total slot_places rs) free (λ i d k. is_nothing (term m (slot_name (get_or free i d))) (filter_passes (λ x. is_none (term m (slot_name x))) (cyclic cursors.slot slots) i d k)));
+        slots_small = λ i d k. omega (arith, slots_below i d k);
+      };
+      numbers = subst (λ (l : List CtxNum). All (λ k. (0 < k.0) × (k.0 ≤ contexts)) l) (sym n) (all_taken (λ k. (0 < k.0) × (k.0 ≤ contexts)) (total number_places rs) numbers (All-filter (λ k. is_none (ctx m k)) (λ k. (0 < k.0) × (k.0 ≤ contexts)) (map number_of_index (cyclic cursors.context contexts)) (numbers_within cursors.context contexts w.context)));
+      slots = slots_below;
+    }

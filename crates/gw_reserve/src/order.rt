@@ -1,0 +1,37 @@
+//! The cyclic order in which free identifiers are looked for.
+
+ghost use Rattle.std.specs.Prelude.{◌≡◌, ℕ, ◌<◌, ◌≤◌, slice_index};
+ghost use Rattle.gw_reserve.specs.Searches.{in_order};
+
+/// So many indices, from a start on and round.
+#[derive(Clone, Copy)]
+pub(crate) struct Order {
+    pub(crate) start: u32,
+    pub(crate) limit: u32,
+}
+
+/// How far the search for free identifiers of one kind has come.
+#[derive(Clone, Copy)]
+pub(crate) struct Search {
+    /// The place of the order at which it goes on.
+    pub(crate) next: u32,
+    /// Where the next burst's search is to begin.
+    pub(crate) cursor: u32,
+}
+
+impl Order {
+    /// The index at a place.
+    pub(crate) fn at(self, place: u32) -> u32
+        requires start { self.start ≤ self.limit }
+        requires place { place < self.limit }
+        ensures value { result ≡ slice_index (in_order self) place }
+        ensures small { result < self.limit }
+    {
+        let behind = self.limit - self.start;
+        if place < behind {
+            self.start + place
+        } else {
+            place - behind
+        }
+    }
+}

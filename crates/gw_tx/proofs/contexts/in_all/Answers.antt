@@ -1,0 +1,52 @@
+use Rattle.std.proofs.Common.{◌≡◌, ℕ, Bool, false, List, [], ◌∷◌, ◌+◌, get_or, drop, Option, refl, sym, ap, subst, ◌∙◌}
+use Rattle.std.specs.Prelude.{◌||◌}
+use Rattle.std.proofs.Math.ListN.{drop_of_length-le}
+use Rattle.gw_base.specs.declared.ids.CtxNum.{CtxNum}
+use Rattle.gw_msg.specs.declared.message.Command.{Command}
+use Rattle.gw_reply.specs.declared.reply.ActionReply.{ActionReply}
+use Rattle.gw_table.specs.declared.attempts.Attempts.{Attempts}
+use Rattle.gw_table.specs.Folds.{behind, in_order}
+use Rattle.gw_table.specs.Maps.{Maps, Outcome, number}
+use Rattle.gw_table.specs.Parts.{Every}
+use Rattle.gw_table.specs.WellFormed.{IsSound}
+use Rattle.gw_table.proofs.Folding.{ended, rest_of, goes_on, ends}
+use Rattle.gw_tx.specs.Owned.{with_slots}
+use Rattle.gw_tx.specs.Transactions.{in_each, in_all}
+use Rattle.gw_tx.proofs.Facts.{commands_keep_sound}
+use Rattle.gw_tx.proofs.Kept.{With, kept_in_each}
+use Rattle.gw_tx.proofs.Steps.{each_is}
+use Rattle.gw_tx.proofs.contexts.in_all.Goals as goal
+use Rattle.gw_tx.proofs.contexts.in_all.Goals.{then-stopped, else-stopped}
+
+pub loop-number-preserved : goal.loop-number-preserved
+loop-number-preserved c =
+    let i : ℕ = c.loop-number.number-index in
+    let n : CtxNum = get_or c.args.numbers.now i (number 0) in
+    let rest : List CtxNum = drop (i + 1) c.args.numbers.now in
+    let split : drop i c.args.numbers.now ≡ n ∷ rest = rest_of c.args.numbers.now i (number 0) n c.loop-number-test.true refl in
+    let asked : List (Option ℕ × Command) = with_slots c.args.slots.now c.args.asked.now in
+    let stopped : c.if-stopped.stopped ≡ (c.loop-number.stopped || c.in_ok-done.done.stopped) = elim c.if-stopped.branch [
+      | then-stopped w ↦ w.stopped-is ∙ w.if-stopped.true ∙ ap (λ (b : Bool). b || c.in_ok-done.done.stopped) (sym w.if-stopped.true)
+      | else-stopped w ↦ w.stopped-is ∙ ap (λ (b : Bool). b || c.in_ok-done.done.stopped) (sym w.if-stopped.false)
+    ] in
+    let now : Outcome (Attempts Bool ActionReply) = ended c.commands.new.part.maps c.if-stopped.stopped (c.action_reply.result ∷ []) false in
+    let did : now ≡ in_each c.args.rules.now asked c.loop-number.stopped n c.loop-number.part.maps =
+    each_is c.args.rules.now asked c.loop-number.stopped c.if-stopped.stopped n c.loop-number.part.maps c.commands.new.part.maps c.in_ok-done.done c.action_reply.result c.in_ok-done.ensures.maps c.in_ok-done.ensures.answer c.action_reply.ensures stopped in
+    let whole : Outcome (Attempts Bool ActionReply) = in_all c.args.rules.now asked c.args.numbers.now c.args.part.now.maps in
+    record {
+      told = ap (λ (l : List ActionReply). behind l (in_order (in_each c.args.rules.now asked) now.answer.next rest now.maps)) c.in_ok-push.ensures.ok
+          ∙ goes_on (in_each c.args.rules.now asked) c.loop-number.stopped n (drop i c.args.numbers.now) rest c.loop-number.part.maps c.loop-number.answers now whole split did refl c.loop-number.invariant.told;
+      kept = subst (λ (m : Maps). With (IsSound Every) c.args.slots.now m) (sym c.in_ok-done.ensures.maps) (kept_in_each c.args.rules.now (commands_keep_sound c.args.rules.now) n c.args.slots.now c.args.asked.now c.loop-number.part.maps c.loop-number.invariant.kept);
+      every = c.in_ok-done.ensures.keys ∙ c.loop-number.invariant.every;
+    }
+
+pub returns : goal.returns
+returns c =
+    let asked : List (Option ℕ × Command) = with_slots c.args.slots.now c.args.asked.now in
+    let none : drop c.loop-number.number-index c.args.numbers.now ≡ [] = drop_of_length-le c.args.numbers.now c.loop-number-test.false in
+    let all = ends (in_each c.args.rules.now asked) c.loop-number.stopped (drop c.loop-number.number-index c.args.numbers.now) c.loop-number.part.maps c.loop-number.answers (in_all c.args.rules.now asked c.args.numbers.now c.args.part.now.maps) none c.loop-number.invariant.told in
+    record {
+      maps = ap (λ (o : Outcome (Attempts Bool ActionReply)). o.maps) all;
+      answer = ap (λ (o : Outcome (Attempts Bool ActionReply)). o.answer) all;
+      keys = c.loop-number.invariant.every ∙ sym c.requires.every;
+    }

@@ -1,0 +1,75 @@
+//! An action for each context.
+
+ghost use Rattle.std.specs.Prelude.{◌≡◌, IfOk, OnOk};
+ghost use Rattle.gw_table.specs.Maps.{numbers};
+ghost use Rattle.gw_table.specs.Parts.{Every};
+ghost use Rattle.gw_table.specs.WellFormed.{IsSound};
+ghost use Rattle.gw_tx.specs.Owned.{with_slots, AreFreeSlots};
+ghost use Rattle.gw_tx.specs.Transactions.{in_all, action_for_each};
+
+use crate::commands::commands;
+use crate::replies::{action_error, action_reply};
+use gw_base::{Code, CtxNum, CtxRef, Items, NoMemory, Rules};
+use gw_cmd::At;
+use gw_msg::Command;
+use gw_reply::ActionReply;
+use gw_table::{Attempts, Part};
+use std::alloc::Global;
+
+/// Carries commands out in each of the contexts. A stop ends the commands of its context alone; that there was one is what the
+/// next would go on from.
+fn in_all(
+    alloc: Global,
+    rules: &Rules,
+    part: &mut Part,
+    slots: &[Option<u16>],
+    asked: &[Command<'_>],
+    numbers: &[CtxNum],
+) -> Result<Attempts<bool, ActionReply>, NoMemory>
+    requires every { part.old.keys ≡ Every }
+    requires sound { IsSound Every part.old.maps }
+    requires unused { AreFreeSlots part.old.maps slots.now }
+    ensures maps { OnOk result (part.new.maps ≡ (in_all rules.now (with_slots slots.now asked.now) numbers.now part.old.maps).maps) }
+    ensures answer { IfOk result (λ done. done ≡ (in_all rules.now (with_slots slots.now asked.now) numbers.now part.old.maps).answer) }
+    ensures keys { part.new.keys ≡ part.old.keys }
+{
+    let mut stopped = false;
+    let mut answers = Items::new(alloc);
+    for number in numbers {
+        let done = commands(alloc, rules, part, At::Each(*number), slots, asked)?;
+        stopped = stopped || done.stopped;
+        answers.push(action_reply(done))?;
+    }
+    Ok(Attempts {
+        next: stopped,
+        answers,
+        stopped: false,
+    })
+}
+
+/// Carries an action with `*` out: in each context that exists when it begins, in rising number.
+pub(crate) fn action_for_each(
+    alloc: Global,
+    rules: &Rules,
+    part: &mut Part,
+    slots: &[Option<u16>],
+    asked: &[Command<'_>],
+) -> Result<Attempts<(), ActionReply>, NoMemory>
+    requires every { part.old.keys ≡ Every }
+    requires sound { IsSound Every part.old.maps }
+    requires unused { AreFreeSlots part.old.maps slots.now }
+    ensures maps { OnOk result (part.new.maps ≡ (action_for_each rules.now (with_slots slots.now asked.now) part.old.maps (numbers part.old.maps)).maps) }
+    ensures answer { IfOk result (λ done. done ≡ (action_for_each rules.now (with_slots slots.now asked.now) part.old.maps (numbers part.old.maps)).answer) }
+    ensures keys { part.new.keys ≡ part.old.keys }
+{
+    let numbers = part.numbers(alloc)?;
+    if numbers.is_empty() {
+        return action_error(alloc, CtxRef::All, Code::NoWildcardMatch);
+    }
+    let done = in_all(alloc, rules, part, slots, asked, &numbers)?;
+    Ok(Attempts {
+        next: (),
+        answers: done.answers,
+        stopped: done.next,
+    })
+}
