@@ -1,2 +1,3 @@
 pub mod Configured
+pub mod Owned
 pub mod Prepared

@@ -7,7 +7,7 @@ use Rattle.gw_base.specs.declared.command_words.Service.TheVariants.{Test, OutOf
 use Rattle.gw_term.specs.declared.record.Termination.{Termination}
 use Rattle.gw_ctx.specs.Contexts.{ContextRecord}
 use Rattle.gw_table.specs.Maps.{Maps, term, ctx, names, numbers}
-use Rattle.gw_engine.specs.State.{Whole}
+use Rattle.gw_engine.specs.State.{GatewayValue}
 
 -- the context that a termination is in; - for the null context
 abbrev pub place_text : Option CtxNum → List ℕ
@@ -50,7 +50,7 @@ kept_line count = codes "kept " ++ decimal count ++ codes "\n"
 
 -- the cursors; the contexts, their numbers rising; the terminations in the order of the bytes of their names; how many replies
 -- are kept
-abbrev pub audit_text : Whole → List ℕ
+abbrev pub audit_text : GatewayValue → List ℕ
 audit_text g =
     cursors_line g.state.context_cursor g.state.slot_cursor
     ++ context_lines g.state.maps (numbers g.state.maps)

@@ -1,5 +1,5 @@
 -- Which configurations make a gateway, which fault another has, and the gateway that is made (limits and their order: own).
-use Rattle.std.specs.Prelude.{◌≡◌, ℕ, Bool, true, false, ◌&&◌, if◌then◌else◌, nat_le, List, [], length, Option, None, Some}
+use Rattle.std.specs.Prelude.{◌≡◌, ℕ, Bool, true, false, ◌&&◌, if◌then◌else◌, nat_le, [], length, Option, None, Some}
 use Rattle.std.specs.List.{list_any}
 use Rattle.gw_base.specs.declared.config.Config.{Config}
 use Rattle.gw_engine.specs.declared.fault.LimitName.{LimitName}
@@ -9,7 +9,7 @@ use Rattle.gw_engine.specs.declared.fault.ConfigFault.TheVariants.{LimitOutOfRan
 use Rattle.gw_table.specs.Maps.{new_maps}
 use Rattle.gw_base.specs.NameLists.{NoDoubles}
 use Rattle.gw_table.specs.Reserved.{is_reserved}
-use Rattle.gw_engine.specs.State.{Whole}
+use Rattle.gw_engine.specs.State.{GatewayValue}
 
 -- n is from low to high
 abbrev pub is_within : ℕ → ℕ → ℕ → Bool
@@ -56,7 +56,7 @@ pub record IsAccepted (c : Config) : Type 0 where
   pub once : NoDoubles c.terms
 
 -- the gateway of the configuration: both cursors are 0, and no reply is kept
-abbrev pub new_gateway : Config → Whole
+abbrev pub new_gateway : Config → GatewayValue
 new_gateway c = record {
   settings = record { mid = c.mid; rules = record { media = c.media; members = c.members }; contexts = c.contexts; slots = c.slots; keep = c.keep };
   state = record { maps = new_maps c.terms; context_cursor = 0; slot_cursor = 0; kept = [] };

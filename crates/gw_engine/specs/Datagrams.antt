@@ -24,8 +24,9 @@ use Rattle.gw_reply.specs.Messages.{reply_text, fault_text}
 use Rattle.gw_engine.specs.declared.datagram.Datagram.{Datagram}
 use Rattle.gw_table.specs.Maps.{Outcome}
 use Rattle.gw_tx.specs.Transactions.{transaction}
-use Rattle.gw_reserve.specs.Owners.{owners, new_cursor}
-use Rattle.gw_engine.specs.State.{State, Whole}
+use Rattle.gw_reserve.specs.declared.owners.Cursors.{Cursors}
+use Rattle.gw_reserve.specs.Owners.{free_numbers, free_slots, ids_of, new_cursors}
+use Rattle.gw_engine.specs.State.{State, GatewayValue}
 
 -- ---- the message of a datagram
 
@@ -38,52 +39,13 @@ IsMessageOf text (Err _) = ⊥
 
 -- ---- which messages are carried out
 
-abbrev pub is_simple_verb : Verb → Bool
-is_simple_verb Add = true
-is_simple_verb Subtract = true
-is_simple_verb Modify = false
-is_simple_verb Move = false
-is_simple_verb AuditValue = false
-is_simple_verb AuditCapability = false
-is_simple_verb Notify = false
-is_simple_verb ServiceChange = false
-
-abbrev pub is_name : TermRef → Bool
-is_name (ref.Name t) = true
-is_name ref.Root = false
-is_name ref.All = false
-is_name (ref.Under t) = false
-is_name ref.Choose = false
-is_name (ref.Other t) = false
-
--- Add or Subtract of a termination by its name, unmarked and without descriptors
-abbrev pub is_simple_command : Command → Bool
-is_simple_command c = is_simple_verb c.verb && is_name c.term && not (c.optional || c.wild) && length c.descriptors == 0
-
--- a context by number or $
-abbrev pub is_simple_context : CtxRef → Bool
-is_simple_context (Num n) = true
-is_simple_context Choose = true
-is_simple_context Null = false
-is_simple_context All = false
-
-abbrev pub is_simple_action : Action → Bool
-is_simple_action a = not a.props && is_simple_context a.ctx && list_all is_simple_command a.commands
-
-abbrev pub is_simple_request : Request → Bool
-is_simple_request r = list_all is_simple_action r.actions
-
-abbrev pub if_simple : Bool → Request → Option Request
-if_simple true r = Some r
-if_simple false r = None
-
--- the one request that a message holds, of these forms
-abbrev pub simple_request : List Item → Option Request
-simple_request [] = None
-simple_request (item.Request r ∷ []) = if_simple (is_simple_request r) r
-simple_request (item.Ack ranges ∷ []) = None
-simple_request (item.Ignored ∷ []) = None
-simple_request (i ∷ (j ∷ more)) = None
+-- the one request that a message holds
+abbrev pub only_request : List Item → Option Request
+only_request [] = None
+only_request (item.Request r ∷ []) = Some r
+only_request (item.Ack ranges ∷ []) = None
+only_request (item.Ignored ∷ []) = None
+only_request (i ∷ (j ∷ more)) = None
 
 -- ---- what is answered
 
@@ -93,46 +55,53 @@ pub record DatagramOutcome : Type 0 where
   pub state : State
 
 -- an error in place of an answer, which changes nothing
-abbrev pub refusal : Whole → Code → DatagramOutcome
+abbrev pub refusal : GatewayValue → Code → DatagramOutcome
 refusal g code = record { bytes = fault_text g.settings.mid code; state = g.state }
 
--- what the $ places of the request own
-abbrev pub owned_by : Whole → Request → Ids
-owned_by g r = owners g.state.maps g.state.context_cursor g.settings.contexts r
+-- what the places of the request own
+unfoldable pub owned_by : GatewayValue → Request → Ids
+owned_by g r = ids_of r (free_numbers g.state.maps g.state.context_cursor g.settings.contexts) (free_slots g.state.maps g.state.slot_cursor g.settings.slots)
+
+abbrev pub cursors_of : State → Cursors
+cursors_of s = record { context = s.context_cursor; slot = s.slot_cursor }
+
+-- where the next search for free identifiers begins
+unfoldable pub cursors_after : GatewayValue → Request → Cursors
+cursors_after g r = new_cursors (cursors_of g.state) (owned_by g r ∷ [])
 
 -- the transaction on the tables as they are, with the identifiers that it owns
-abbrev pub carried : Whole → Request → Outcome TxReply
+abbrev pub carried : GatewayValue → Request → Outcome TxReply
 carried g r = transaction g.settings.rules r (owned_by g r) g.state.maps
 
 -- its reply, and the new tables and cursors
-abbrev pub reply_outcome : Whole → Request → DatagramOutcome
+abbrev pub reply_outcome : GatewayValue → Request → DatagramOutcome
 reply_outcome g r = record {
   bytes = reply_text g.settings.mid (carried g r).answer;
   state = record {
     maps = (carried g r).maps;
-    context_cursor = new_cursor g.state.maps g.state.context_cursor g.settings.contexts r;
-    slot_cursor = g.state.slot_cursor;
+    context_cursor = (cursors_after g r).context;
+    slot_cursor = (cursors_after g r).slot;
     kept = g.state.kept;
   };
 }
 
-abbrev pub request_outcome : Whole → Option Request → DatagramOutcome
+abbrev pub request_outcome : GatewayValue → Option Request → DatagramOutcome
 request_outcome g None = refusal g NotImplemented
 request_outcome g (Some r) = reply_outcome g r
 
-abbrev pub message_outcome : Whole → Result Message Code → DatagramOutcome
-message_outcome g (Ok m) = request_outcome g (simple_request m.items)
+abbrev pub message_outcome : GatewayValue → Result Message Code → DatagramOutcome
+message_outcome g (Ok m) = request_outcome g (only_request m.items)
 message_outcome g (Err code) = refusal g code
 
 -- the datagram has one answer, for the peer that asked, and the state is the one afterwards
-pub record Answers (old : Whole) (asked : Datagram) (answers : List Datagram) (new : Whole) : Type 0 where
+pub record Answers (old : GatewayValue) (asked : Datagram) (answers : List Datagram) (new : GatewayValue) : Type 0 where
   pub message : Result Message Code
   pub read : IsMessageOf asked.bytes message
   pub answer : answers ≡ (record { peer = asked.peer; bytes = (message_outcome old message).bytes }) ∷ []
   pub state : new ≡ record { settings = old.settings; state = (message_outcome old message).state }
 
 -- a burst of one datagram at most
-abbrev pub AnswersBurst : Whole → List Datagram → List Datagram → Whole → Type 0
+abbrev pub AnswersBurst : GatewayValue → List Datagram → List Datagram → GatewayValue → Type 0
 AnswersBurst old [] answers new = (answers ≡ []) × (new ≡ old)
 AnswersBurst old (d ∷ []) answers new = Answers old d answers new
 AnswersBurst old (d ∷ (e ∷ more)) answers new = ⊥

@@ -2,9 +2,9 @@
 use Rattle.std.specs.Prelude.{◌≡◌, true, []}
 use Rattle.gw_engine.specs.declared.gateway.Gateway.TheInside.{Inside}
 use Rattle.gw_engine.specs.Configuration.{is_within, most_contexts, most_slots, most_members, most_kept}
-use Rattle.gw_engine.specs.State.{Whole, IsWellFormed}
+use Rattle.gw_engine.specs.State.{GatewayValue, IsWellFormed}
 
-abbrev pub value_of : Inside → Whole
+abbrev pub value_of : Inside → GatewayValue
 value_of a = record {
   settings = record { mid = a.mid; rules = a.rules; contexts = a.contexts; slots = a.slots; keep = a.keep };
   state = record { maps = a.tables; context_cursor = a.cursors.context; slot_cursor = a.cursors.slot; kept = [] };

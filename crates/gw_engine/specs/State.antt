@@ -28,7 +28,7 @@ pub record Settings : Type 0 where
   pub keep : ℕ
 
 -- what was configured, and the state
-pub record Whole : Type 0 where
+pub record GatewayValue : Type 0 where
   pub settings : Settings
   pub state : State
 
@@ -75,5 +75,5 @@ coded_settings =
     (λ s. (s.mid, (s.rules, (s.contexts, (s.slots, s.keep)))))
     (λ p. record { mid = p.0; rules = p.1.0; contexts = p.1.1.0; slots = p.1.1.1.0; keep = p.1.1.1.1 }) (λ _. refl)
 
-abbrev pub coded_gateway : Coded Whole
+abbrev pub coded_gateway : Coded GatewayValue
 coded_gateway = code_by (Settings × State) (coded× coded_settings coded_state) (λ g. (g.settings, g.state)) (λ p. record { settings = p.0; state = p.1 }) (λ _. refl)

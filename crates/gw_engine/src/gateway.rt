@@ -27,9 +27,9 @@ pub struct Gateway {
 }
 
 impl Model for Gateway {
-    ghost use Rattle.gw_engine.specs.State.{Whole, coded_gateway};
+    ghost use Rattle.gw_engine.specs.State.{GatewayValue, coded_gateway};
 
-    ghost Value = { Whole };
+    ghost Value = { GatewayValue };
 
     ghost coded = { coded_gateway };
 

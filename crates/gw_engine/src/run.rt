@@ -1,65 +1,29 @@
 //! Answering bursts of datagrams.
 
 ghost use Rattle.std.specs.Prelude.{◌≡◌, ◌≤◌, length, IfOk, OnErr, MatchOption, None, Some};
-ghost use Rattle.std.specs.List.{list_all};
-ghost use Rattle.gw_engine.specs.Datagrams.{is_simple_command, is_simple_context, is_simple_action, is_simple_request, simple_request, refusal, reply_outcome, AnswersBurst};
-ghost use Rattle.gw_engine.specs.Preparing.{Prepares, PreparesText};
+ghost use Rattle.gw_engine.specs.Datagrams.{only_request, refusal, reply_outcome, AnswersBurst};
+ghost use Rattle.gw_engine.specs.Preparing.{Prepares, PreparesText, Carries};
 ghost use Rattle.gw_engine.specs.State.{IsWellFormed};
 
 use crate::datagram::Datagram;
 use crate::gateway::Gateway;
-use gw_base::{Code, CtxRef, Items, NoMemory, TermRef, Verb};
-use gw_msg::{Action, Command, Item, ReadFault, Request, read_message};
-use gw_reply::{write_fault, write_reply};
-use gw_reserve::{Cursors, reserve};
+use gw_base::{Code, Items, NoMemory};
+use gw_msg::{Item, ReadFault, Request, read_message};
+use gw_reply::{TxReply, write_fault, write_reply};
+use gw_reserve::{Cursors, Reservation};
 use gw_table::Tables;
 use gw_tx::transaction;
 use std::alloc::Global;
 
-fn is_simple_command(command: &Command<'_>) -> bool
-    ensures { result ≡ is_simple_command command.now }
-{
-    matches!(command.verb, Verb::Add | Verb::Subtract)
-        && matches!(command.term, TermRef::Name(_))
-        && !(command.optional || command.wild)
-        && command.descriptors.is_empty()
-}
-
-fn is_simple_context(sent: CtxRef) -> bool
-    ensures { result ≡ is_simple_context sent }
-{
-    matches!(sent, CtxRef::Num(_) | CtxRef::Choose)
-}
-
-fn are_simple_commands(commands: &[Command<'_>]) -> bool
-    ensures { result ≡ list_all is_simple_command commands.now }
-{
-    commands.iter().all(is_simple_command)
-}
-
-fn is_simple_action(action: &Action<'_>) -> bool
-    ensures { result ≡ is_simple_action action.now }
-{
-    !action.props
-        && is_simple_context(action.ctx)
-        && are_simple_commands(action.commands.as_slice())
-}
-
-fn is_simple_request(request: &Request<'_>) -> bool
-    ensures { result ≡ is_simple_request request.now }
-{
-    request.actions.as_slice().iter().all(is_simple_action)
-}
-
-/// The one request that a message holds, where this gateway carries all of it out.
-fn simple_request<'a, 'b>(items: &'b [Item<'a>]) -> Option<&'b Request<'a>>
-    ensures { MatchOption result (simple_request items.now ≡ None) (λ request. simple_request items.now ≡ Some request.now) }
+/// The one request that a message holds.
+fn only_request<'a, 'b>(items: &'b [Item<'a>]) -> Option<&'b Request<'a>>
+    ensures { MatchOption result (only_request items.now ≡ None) (λ request. only_request items.now ≡ Some request.now) }
 {
     let [item] = items else {
         return None;
     };
     match item {
-        Item::Request(request) if is_simple_request(request) => Some(request),
+        Item::Request(request) => Some(request),
         _ => None,
     }
 }
@@ -69,6 +33,14 @@ fn simple_request<'a, 'b>(items: &'b [Item<'a>]) -> Option<&'b Request<'a>>
 struct Prepared {
     bytes: Vec<u8>,
     change: Option<(Tables, Cursors)>,
+}
+
+/// A request that was carried out: its reply, and what the tables and cursors are afterwards.
+#[derive(Drop)]
+struct Carried {
+    reply: TxReply,
+    tables: Tables,
+    cursors: Cursors,
 }
 
 impl Gateway {
@@ -83,17 +55,30 @@ impl Gateway {
         })
     }
 
-    /// The reply to a request, which is carried out on a copy of the tables.
+    /// Carries a request out on a copy of the tables.
+    fn carry(&self, alloc: Global, request: &Request<'_>) -> Result<Carried, NoMemory>
+        ensures { IfOk result (λ c. Carries self.now request.now c.reply c.tables c.cursors) }
+    {
+        let mut reservation = Reservation::new(self.contexts, self.slots, &self.cursors);
+        let ids = reservation.own(alloc, &self.tables, request)?;
+        let mut part = self.tables.copy()?.all();
+        let reply = transaction(alloc, &self.rules, &mut part, request, &ids)?;
+        Ok(Carried {
+            reply,
+            tables: part.tables(),
+            cursors: reservation.cursors(),
+        })
+    }
+
+    /// The reply to a request.
     fn reply(&self, alloc: Global, request: &Request<'_>) -> Result<Prepared, NoMemory>
         ensures { IfOk result (λ p. Prepares self.now (reply_outcome self.now request.now) p.bytes.items p.change) }
     {
-        let (ids, cursors) = reserve(alloc, &self.tables, self.contexts, &self.cursors, request)?;
-        let mut part = self.tables.copy()?.all();
-        let reply = transaction(alloc, &self.rules, &mut part, request, &ids)?;
-        let bytes = write_reply(alloc, &reply, &self.mid)?;
+        let carried = self.carry(alloc, request)?;
+        let bytes = write_reply(alloc, &carried.reply, &self.mid)?;
         Ok(Prepared {
             bytes,
-            change: Some((part.tables(), cursors)),
+            change: Some((carried.tables, carried.cursors)),
         })
     }
 
@@ -107,7 +92,7 @@ impl Gateway {
             Err(ReadFault::Syntax) => return self.refuse(alloc, Code::SyntaxError),
             Err(ReadFault::NoMemory) => return Err(NoMemory),
         };
-        match simple_request(message.items.as_slice()) {
+        match only_request(message.items.as_slice()) {
             Some(request) => self.reply(alloc, request),
             None => self.refuse(alloc, Code::NotImplemented),
         }
@@ -116,8 +101,7 @@ impl Gateway {
     /// Answers a burst, which has one datagram at most: the caller knows that. The datagram may have any length. The answer is
     /// for the peer of the datagram. The work is linear in the datagram and in the tables, which are copied once.
     ///
-    /// A message that is not one transaction of Add and Subtract by name, without `O-`, `W-` and descriptors, in contexts by
-    /// number or `$` without properties, is answered with error 501 and changes nothing.
+    /// A message that is not one transaction is answered with error 501 and changes nothing.
     ///
     /// # Errors
     ///

@@ -10,7 +10,7 @@ use Rattle.std.specs.declared.io.ErrorKind.{ErrorKind}
 use Rattle.std.specs.declared.io.ErrorKind.TheVariants as kind
 use Rattle.std.specs.declared.io.Error.{Error}
 use Rattle.gw_engine.specs.declared.datagram.Datagram.{Datagram}
-use Rattle.gw_engine.specs.State.{Whole}
+use Rattle.gw_engine.specs.State.{GatewayValue}
 use Rattle.gw_engine.specs.Datagrams.{AnswersBurst}
 use Rattle.gw_program.specs.Faults.{of_error}
 use Rattle.gw_program.specs.Program.{longest_datagram, burst_of, bytes_of, datagram_of, IsAnswerTo, IsOutcome}
@@ -86,7 +86,7 @@ pub fault_told : (known : Option (List ℕ)) (read : Result (List ℕ) Error) (r
 fault_told known read result h e = subst (λ (r : Result (List ℕ) Fault). IfErr r (λ fault. IsOutcome known None None (Err fault))) (sym e) (fault_of known read h)
 
 -- the answer to what was read stands
-pub answer_stands : (known : Option (List ℕ)) (text : List ℕ) (answers : List Datagram) (after : Whole) (written : List ℕ) → IfSome known (λ input. text ≡ input) → length text ≤ longest_datagram
+pub answer_stands : (known : Option (List ℕ)) (text : List ℕ) (answers : List Datagram) (after : GatewayValue) (written : List ℕ) → IfSome known (λ input. text ≡ input) → length text ≤ longest_datagram
     → AnswersBurst start (burst_of text) answers after → written ≡ bytes_of answers → IsAnswerTo known written
 answer_stands known text answers after written read short burst bytes =
     record { text = text; read = read; answered = record { short = short; answers = answers; after = after; burst = burst; bytes = bytes } }

@@ -4,7 +4,7 @@ use Rattle.std.specs.Io.KnownBytes.{Appends, Keeps}
 use Rattle.std.specs.IoError.{error_kind}
 use Rattle.std.specs.declared.io.Error.{Error}
 use Rattle.gw_engine.specs.declared.datagram.Datagram.{Datagram}
-use Rattle.gw_engine.specs.State.{Whole}
+use Rattle.gw_engine.specs.State.{GatewayValue}
 use Rattle.gw_engine.specs.Datagrams.{AnswersBurst}
 use Rattle.gw_program.specs.Faults.{of_error}
 use Rattle.gw_program.specs.Start.{start}
@@ -27,7 +27,7 @@ bytes_of answers = flat_map (λ d. d.bytes) answers
 pub record IsAnswered (text written : List ℕ) : Type 0 where
   pub short : length text ≤ longest_datagram
   pub answers : List Datagram
-  pub after : Whole
+  pub after : GatewayValue
   pub burst : AnswersBurst start (burst_of text) answers after
   pub bytes : written ≡ bytes_of answers
 

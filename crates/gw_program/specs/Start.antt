@@ -1,7 +1,7 @@
 -- The gateway that the program has (own).
 use Rattle.std.specs.Prelude.{[], ◌∷◌, codes}
 use Rattle.gw_base.specs.declared.config.Config.{Config}
-use Rattle.gw_engine.specs.State.{Whole}
+use Rattle.gw_engine.specs.State.{GatewayValue}
 use Rattle.gw_engine.specs.Configuration.{new_gateway}
 
 -- four terminations, 8 contexts of at most 3 members, 4 slots, 4 kept replies
@@ -17,5 +17,5 @@ start_config = record {
 }
 
 -- as it is before the first datagram
-abbrev pub start : Whole
+abbrev pub start : GatewayValue
 start = new_gateway start_config
