@@ -5,6 +5,7 @@ Run it at the top of the repository, after `rt run` in crates/h248gw has built t
 process, the best of several runs; work is instructions by valgrind's callgrind, less those for the empty datagram.
 `--reading` measures the transactions of every day alone, which are most of what a gateway reads: `typical` is that of
 typical.datagram (two Adds with Media, a Local of seven lines, Events and Signals), `short` a Subtract. Each fills a datagram.
+`--carrying` measures what some transactions cost to carry out and to answer, beside what they cost to read.
 """
 import pathlib
 import re
@@ -101,10 +102,37 @@ def reading(nothing):
     return 1 if late else 0
 
 
+LOCAL = (b"v=0\nc=IN IP4 $\nm=audio $ RTP/AVP 0 8 18 101\na=rtpmap:101 telephone-event/8000\na=fmtp:101 0-15\na=ptime:20\n")
+ADDS = (b"Add=T/1{Media{Stream=1{LocalControl{Mode=SendReceive,tdmc/gain=2,tdmc/ec=on}}},Events=2223{al/on}},"
+        b"Add=${Media{Stream=1{LocalControl{Mode=ReceiveOnly,nt/jit=40},Local{" + LOCAL + b"}}}}")
+FIRST = b"Transaction=1{Context=${" + ADDS + b"}"
+CARRIED = {
+    "two Adds by name": b"Transaction=1{Context=${Add=T/1,Add=T/2}",
+    "two Adds with Media, a Local to fill": FIRST,
+    "the same, and a Modify of Media": FIRST + b",Context=-{Modify=T/2{Media{LocalControl{Mode=SendReceive},Remote{" + LOCAL + b"}}}}",
+    "the same Adds, and a Subtract with an audit": FIRST + b",Context=1{Subtract=RTP/0{Audit{Media}}}",
+    "the same Adds, and an AuditValue of all under -": FIRST + b",Context=-{AuditValue=*{Audit{Media,Events}}}",
+}
+
+
+def carrying(nothing):
+    """Instructions for reading a transaction alone in its datagram, and for carrying it out and writing the reply. With an item
+    behind it, it is read and not carried out."""
+    print("| Transaction | reading it | carrying it out, and the reply |")
+    print("|---|---|---|")
+    for name, transaction in CARRIED.items():
+        whole = instructions(HEAD + transaction + b"}") - nothing
+        read = instructions(HEAD + transaction + b"}PN=1{}") - nothing
+        print(f"| {name} | {read} | {whole - read} |")
+    return 0
+
+
 def main():
     nothing = instructions(b"")
     if sys.argv[1:] == ["--reading"]:
         return reading(nothing)
+    if sys.argv[1:] == ["--carrying"]:
+        return carrying(nothing)
     late = False
     print("| Datagram | ms at 65,507 bytes | instructions a byte | work at 64 KB / work at 8 KB |")
     print("|---|---|---|---|")
