@@ -34,7 +34,7 @@ use Rattle.gw_cmd.specs.declared.outcome.CmdOutcome.{CmdOutcome}
 use Rattle.gw_cmd.specs.Commands as commands
 use Rattle.gw_cmd.specs.Effects.{done, decided, on_record, on_found, on_name}
 use Rattle.gw_cmd.specs.Moves.{changed, without_member, with_member}
-use Rattle.gw_cmd.specs.Needs.{named}
+use Rattle.gw_cmd.specs.Needs.{named, named_with}
 use Rattle.gw_cmd.specs.Refusals.{refusal, refusal_by_form, refusal_by_tables}
 use Rattle.gw_cmd.proofs.Kept.{kept_command}
 use Rattle.gw_cmd.proofs.KeptWhole.{whole_is_kept}
@@ -44,26 +44,29 @@ use Rattle.gw_cmd.proofs.Sound.{term-with_member, term-without_member}
 
 -- ---- an Add, without the key of its context or of its termination
 
-module _ (rules : Rules) (n : CtxNum) (t : List ℕ) (ds : List Descriptor) (m : Maps) (keys : List Key) where
-  part : Maps
-  part = restricted keys m
+module _ (rules : Rules) (n : CtxNum) (t : List ℕ) (ds : List Descriptor) (m : Maps) (keys : List Key) (slot : Option ℕ) (o : Bool) where
+  no_context : has keys (Ctx n) ≡ false → ctx (restricted keys m) n ≡ None
+  no_context h = ctx-restricted keys m n ∙ ap (λ b. cond b (ctx m n) None) h
 
-  pub needs_context : has keys (Ctx n) ≡ false → (commands.command rules (Live n) None (named Add t ds) (restricted keys m)).answer ≡ commands.outcome_of (Live n) (commands.reply (named Add t ds) (Name t) (Err UnknownContext) ∷ [])
+  pub needs_context : (w : Bool) → has keys (Ctx n) ≡ false → (commands.command rules (Live n) slot (named_with o w Add t ds) (restricted keys m)).answer ≡ commands.outcome_of (Live n) (commands.reply (named_with o w Add t ds) (Name t) (Err UnknownContext) ∷ [])
   unfolding commands.command refusal_by_form refusal_by_tables
-  needs_context h =
-      let gone : ctx (restricted keys m) n ≡ None = ctx-restricted keys m n ∙ ap (λ b. cond b (ctx m n) None) h in
-      rw gone refl
+  needs_context true h = rw (no_context h) refl
+  needs_context false h = rw (no_context h) refl
 
-  pub needs_termination : has keys (Ctx n) ≡ true → is_some (ctx m n) ≡ true → has keys (Term t) ≡ false → (commands.command rules (Live n) None (named Add t ds) (restricted keys m)).answer ≡ commands.outcome_of (Live n) (commands.reply (named Add t ds) (Name t) (Err UnknownTermination) ∷ [])
+  live : (x : Option ContextRecord) → is_some x ≡ true → is_none x ≡ false
+  live None e = absurd cc
+  live (Some x) e = refl
+
+  there : has keys (Ctx n) ≡ true → is_some (ctx m n) ≡ true → is_none (ctx (restricted keys m) n) ≡ false
+  there k i = live (ctx (restricted keys m) n) (ap (λ (x : Option ContextRecord). is_some x) (ctx-restricted keys m n ∙ ap (λ b. cond b (ctx m n) None) k) ∙ i)
+
+  no_termination : has keys (Term t) ≡ false → term (restricted keys m) t ≡ None
+  no_termination h = term-restricted keys m t ∙ ap (λ b. cond b (term m t) None) h
+
+  pub needs_termination : (w : Bool) → has keys (Ctx n) ≡ true → is_some (ctx m n) ≡ true → has keys (Term t) ≡ false → (commands.command rules (Live n) slot (named_with o w Add t ds) (restricted keys m)).answer ≡ commands.outcome_of (Live n) (commands.reply (named_with o w Add t ds) (Name t) (Err UnknownTermination) ∷ [])
   unfolding commands.command refusal_by_form refusal_by_tables
-  needs_termination k i h =
-      let gone : term (restricted keys m) t ≡ None = term-restricted keys m t ∙ ap (λ b. cond b (term m t) None) h in
-      let there : is_none (ctx (restricted keys m) n) ≡ false = live (ctx (restricted keys m) n) (ap (λ (o : Option ContextRecord). is_some o) (ctx-restricted keys m n ∙ ap (λ b. cond b (ctx m n) None) k) ∙ i) in
-      rw there (rw gone refl)
-    where
-      live : (o : Option ContextRecord) → is_some o ≡ true → is_none o ≡ false
-      live None e = absurd cc
-      live (Some x) e = refl
+  needs_termination true k i h = rw (there k i) (rw (no_termination h) refl)
+  needs_termination false k i h = rw (there k i) (rw (no_termination h) refl)
 
 -- ---- a Move, without the key of the context that its termination is in
 

@@ -1,6 +1,6 @@
 //! What follows from the definitions alone.
 
-ghost use Rattle.std.specs.Prelude.{◌≡◌, ◌∷◌, [], ℕ, List, nat_eq, true, false, is_some, Option};
+ghost use Rattle.std.specs.Prelude.{Bool, ◌≡◌, ◌∷◌, [], ℕ, List, nat_eq, true, false, is_some, Option};
 ghost use Rattle.gw_base.specs.Addresses.{IsAddress};
 ghost use Rattle.gw_base.specs.declared.code.Code.TheVariants.{UnknownContext, UnknownTermination};
 ghost use Rattle.gw_base.specs.declared.command_words.Verb.TheVariants.{Add, Move};
@@ -19,7 +19,7 @@ ghost use Rattle.gw_cmd.specs.declared.at.At.{At};
 ghost use Rattle.gw_cmd.specs.KeptForms.{AreKept, IsAsked, IsSlot, KeepsForms};
 ghost use Rattle.gw_cmd.specs.declared.at.At.TheVariants.{Live};
 ghost use Rattle.gw_cmd.specs.Commands.{reply, outcome_of, command};
-ghost use Rattle.gw_cmd.specs.Needs.{named};
+ghost use Rattle.gw_cmd.specs.Needs.{named, named_with};
 ghost use Rattle.gw_table.specs.Parts.{restricted, overlaid};
 ghost use Rattle.gw_cmd.specs.Keys.{command_keys};
 ghost use Rattle.gw_cmd.specs.Suits.{IsUnused};
@@ -45,10 +45,10 @@ pub fn commands_keep_to_their_keys()
 /// that of its termination that there is no such termination. After a Move without the key of the context that the termination
 /// was in, the termination still stands in that context, where in truth it has left it.
 pub fn keys_are_needed()
-    ensures context { (rules : Rules) (n : CtxNum) (t : List ℕ) (ds : List Descriptor) (m : Maps) (keys : List Key) → has keys (Ctx n) ≡ false
-        → (command rules (Live n) None (named Add t ds) (restricted keys m)).answer ≡ outcome_of (Live n) (reply (named Add t ds) (Name t) (Err UnknownContext) ∷ []) }
-    ensures termination { (rules : Rules) (n : CtxNum) (t : List ℕ) (ds : List Descriptor) (m : Maps) (keys : List Key) → has keys (Ctx n) ≡ true → is_some (ctx m n) ≡ true → has keys (Term t) ≡ false
-        → (command rules (Live n) None (named Add t ds) (restricted keys m)).answer ≡ outcome_of (Live n) (reply (named Add t ds) (Name t) (Err UnknownTermination) ∷ []) }
+    ensures context { (rules : Rules) (n : CtxNum) (t : List ℕ) (ds : List Descriptor) (m : Maps) (keys : List Key) (slot : Option ℕ) (optional wild : Bool) → has keys (Ctx n) ≡ false
+        → (command rules (Live n) slot (named_with optional wild Add t ds) (restricted keys m)).answer ≡ outcome_of (Live n) (reply (named_with optional wild Add t ds) (Name t) (Err UnknownContext) ∷ []) }
+    ensures termination { (rules : Rules) (n : CtxNum) (t : List ℕ) (ds : List Descriptor) (m : Maps) (keys : List Key) (slot : Option ℕ) (optional wild : Bool) → has keys (Ctx n) ≡ true → is_some (ctx m n) ≡ true → has keys (Term t) ≡ false
+        → (command rules (Live n) slot (named_with optional wild Add t ds) (restricted keys m)).answer ≡ outcome_of (Live n) (reply (named_with optional wild Add t ds) (Name t) (Err UnknownTermination) ∷ []) }
     ensures moved { (rules : Rules) (n : CtxNum) (t : List ℕ) (ds : List Descriptor) (m : Maps) (p : CtxNum) (keys : List Key) → AreWellFormed rules.members m → place_of (term m t) ≡ Some p → nat_eq p.0 n.0 ≡ false
         → (command rules (Live n) None (named Move t ds) m).answer.failed ≡ false → has keys (Ctx p) ≡ false
         → (is_in t (members_of (ctx (overlaid keys (command rules (Live n) None (named Move t ds) (restricted keys m)).maps m) p)) ≡ true)
