@@ -1,6 +1,6 @@
 -- What an index tells, and the index with one more pair.
-use Rattle.std.proofs.Common.{◌≡◌, ℕ, ◌+◌, ◌-◌, ◌<◌, ◌≤◌, nat_le, nat_lt, Bool, true, false, cond, List, [], ◌∷◌, ◌++◌, map, length, Option, Some, None, refl, ap, sym, ◌∙◌, length-append, arith}
-use Rattle.std.proofs.lemmas.List.{map-append, length-map}
+use Rattle.std.proofs.Common.{◌≡◌, ℕ, zero, suc, ◌+◌, ◌-◌, ◌<◌, ◌≤◌, ◌||◌, nat_le, nat_lt, Bool, true, false, cond, is_some, List, [], ◌∷◌, ◌++◌, map, length, take, get_or, Option, Some, None, refl, ap, sym, ◌∙◌, length-append, arith}
+use Rattle.std.proofs.lemmas.List.{map-append, length-map, take_more}
 use Rattle.std.proofs.lemmas.Bool.Decides.{nat_tests}
 use Rattle.std.specs.BTreeMap.{get, is_at}
 use Rattle.gw_kept.specs.declared.entry.Entry.{Entry}
@@ -9,18 +9,45 @@ use Rattle.gw_kept.specs.declared.index.Index.{Index}
 use Rattle.gw_kept.specs.declared.class.Class.TheVariants.{New, Over}
 use Rattle.gw_kept.specs.Pairs.{key_of, is_same}
 use Rattle.gw_kept.specs.Classes.{last_place, kept_place, class_of, most_new}
-use Rattle.gw_kept.specs.Index.{key_cmp, IsIndex}
-use Rattle.gw_kept.proofs.Places.{within, among_last, one_more, key_test}
+use Rattle.gw_kept.specs.Index.{key_cmp, is_asked, IsIndex}
+use Rattle.gw_kept.proofs.Places.{within, among_last, one_more, key_test, same_key, same_itself}
+
+-- ---- what is asked
+
+asked_end : (q k : RequestKey) (t : Bool) → (t || false) ≡ cond t true false
+asked_end q k true = refl
+asked_end q k false = refl
+
+asked_step : (s t u : Bool) → (s || cond t true u) ≡ cond t true (s || u)
+asked_step true true u = refl
+asked_step true false u = refl
+asked_step false t u = refl
+
+pub asked_more : (q k : RequestKey) (xs : List (Option RequestKey)) → is_asked q (xs ++ Some k ∷ []) ≡ cond (is_same k q) true (is_asked q xs)
+asked_more q k [] = asked_end q k (is_same k q)
+asked_more q k (None ∷ xs) = asked_more q k xs
+asked_more q k (Some j ∷ xs) = ap (λ (t : Bool). is_same j q || t) (asked_more q k xs) ∙ asked_step (is_same j q) (is_same k q) (is_asked q xs)
+
+pub asked_none : (q : RequestKey) (xs : List (Option RequestKey)) → is_asked q (xs ++ None ∷ []) ≡ is_asked q xs
+asked_none q [] = refl
+asked_none q (None ∷ xs) = asked_none q xs
+asked_none q (Some j ∷ xs) = ap (λ (t : Bool). is_same j q || t) (asked_none q xs)
+
+or_true : (t : Bool) → (t || true) ≡ true
+or_true true = refl
+or_true false = refl
+
+at_head : (key k : RequestKey) (t : Bool) → k ≡ key → (is_same k key || t) ≡ true
+at_head key k t e = let same : is_same k key ≡ true = ap (λ (j : RequestKey). is_same j key) e ∙ same_itself key in rw same refl
+
+pub asked_here : (key : RequestKey) (xs : List (Option RequestKey)) (i : ℕ) (x : Option RequestKey) → i < length xs → x ≡ get_or xs i x → x ≡ Some key → is_asked key xs ≡ true
+asked_here key [] i x h is some = absurd (omega arith)
+asked_here key (None ∷ xs) zero x h is some = absurd cc
+asked_here key (Some k ∷ xs) zero x h is some = let e : k ≡ key = cc in at_head key k (is_asked key xs) e
+asked_here key (None ∷ xs) (suc i) x h is some = asked_here key xs i x (omega arith) is some
+asked_here key (Some k ∷ xs) (suc i) x h is some = ap (λ (t : Bool). is_same k key || t) (asked_here key xs i x (omega arith) is some) ∙ or_true (is_same k key)
 
 -- ---- the kept place
-
-found : (d p : ℕ) (t : Bool) → nat_le d p ≡ t → (t ≡ true) → Some p ≡ within d (Some p)
-found d p t is h = let e : nat_le d p ≡ true = is ∙ h in rw e refl
-
-kept_is : (index : Index) (pairs : List RequestKey) (key : RequestKey) (o : Option ℕ) → IsIndex index pairs → o ≡ get key_cmp index.places key → kept_place index.most key pairs ≡ within (length pairs - index.most) o
-kept_is index pairs key o h e =
-    let d : ℕ = length pairs - index.most in
-    among_last key d pairs ∙ ap (within d) (sym (h.places key) ∙ sym e)
 
 le_true : (d p : ℕ) → d ≤ p → nat_le d p ≡ true
 le_true d p h = grind (arith, nat_tests)
@@ -28,38 +55,111 @@ le_true d p h = grind (arith, nat_tests)
 le_false : (d p : ℕ) → p < d → nat_le d p ≡ false
 le_false d p h = grind (arith, nat_tests)
 
-pub place_kept : (index : Index) (pairs : List RequestKey) (key : RequestKey) (p : ℕ) → IsIndex index pairs → Some p ≡ get key_cmp index.places key → index.total - index.most ≤ p → Some p ≡ kept_place index.most key pairs
-place_kept index pairs key p h e le =
+kept_is : (index : Index) (pairs : List RequestKey) (key : RequestKey) (o : Option ℕ) → o ≡ last_place key pairs → kept_place index.most key pairs ≡ within (length pairs - index.most) o
+kept_is index pairs key o e =
+    let d : ℕ = length pairs - index.most in
+    among_last key d pairs ∙ ap (within d) (sym e)
+
+pub place_kept : (asked : List (Option RequestKey)) (index : Index) (pairs : List RequestKey) (key : RequestKey) (p : ℕ) → IsIndex asked index pairs → Some p ≡ last_place key pairs → index.total - index.most ≤ p → Some p ≡ kept_place index.most key pairs
+place_kept asked index pairs key p h e le =
     let t : nat_le (length pairs - index.most) p ≡ true = le_true (length pairs - index.most) p (omega (arith, h.total, le)) in
-    sym (kept_is index pairs key (Some p) h e ∙ ap (λ (b : Bool). cond b (Some p) None) t)
+    sym (kept_is index pairs key (Some p) e ∙ ap (λ (b : Bool). cond b (Some p) None) t)
 
-pub place_gone : (index : Index) (pairs : List RequestKey) (key : RequestKey) (p : ℕ) → IsIndex index pairs → Some p ≡ get key_cmp index.places key → p < index.total - index.most → None ≡ kept_place index.most key pairs
-place_gone index pairs key p h e less =
+pub place_gone : (asked : List (Option RequestKey)) (index : Index) (pairs : List RequestKey) (key : RequestKey) (p : ℕ) → IsIndex asked index pairs → Some p ≡ last_place key pairs → p < index.total - index.most → None ≡ kept_place index.most key pairs
+place_gone asked index pairs key p h e less =
     let t : nat_le (length pairs - index.most) p ≡ false = le_false (length pairs - index.most) p (omega (arith, h.total, less)) in
-    sym (kept_is index pairs key (Some p) h e ∙ ap (λ (b : Bool). cond b (Some p) None) t)
+    sym (kept_is index pairs key (Some p) e ∙ ap (λ (b : Bool). cond b (Some p) None) t)
 
-pub place_none : (index : Index) (pairs : List RequestKey) (key : RequestKey) → IsIndex index pairs → None ≡ get key_cmp index.places key → None ≡ kept_place index.most key pairs
-place_none index pairs key h e = sym (kept_is index pairs key None h e)
+pub place_none : (index : Index) (pairs : List RequestKey) (key : RequestKey) → None ≡ last_place key pairs → None ≡ kept_place index.most key pairs
+place_none index pairs key e = sym (kept_is index pairs key None e)
 
--- ---- one more pair
+-- ---- a place for each key that is asked
+
+abbrev pub Places : List (Option RequestKey) → List RequestKey → (RequestKey → Option (Option ℕ)) → Type 0
+Places asked pairs places = (q : RequestKey) → places q ≡ cond (is_asked q asked) (Some (last_place q pairs)) None
+
+tells : (t : Bool) (l : Option ℕ) (o : Option (Option ℕ)) → o ≡ cond t (Some l) None → t ≡ is_some o
+tells true l o e = sym (ap (λ (p : Option (Option ℕ)). is_some p) e)
+tells false l o e = sym (ap (λ (p : Option (Option ℕ)). is_some p) e)
+
+-- a key is asked where the index has it
+pub is_there : (asked : List (Option RequestKey)) (pairs : List RequestKey) (places : RequestKey → Option (Option ℕ)) (key : RequestKey) (t : Bool) → Places asked pairs places → is_some (places key) ≡ t → is_asked key asked ≡ t
+is_there asked pairs places key t h e = tells (is_asked key asked) (last_place key pairs) (places key) (h key) ∙ e
+
+other_pair : (asked : List (Option RequestKey)) (pairs : List RequestKey) (key q : RequestKey) → is_same key q ≡ false → cond (is_asked q asked) (Some (last_place q pairs)) None ≡ cond (is_asked q asked) (Some (last_place q (pairs ++ key ∷ []))) None
+other_pair asked pairs key q e =
+    let same : last_place q (pairs ++ key ∷ []) ≡ last_place q pairs = one_more q key pairs ∙ ap (λ (t : Bool). cond t (Some (length pairs)) (last_place q pairs)) e in
+    ap (λ (l : Option ℕ). cond (is_asked q asked) (Some l) None) (sym same)
+
+put_at : (t : Bool) (asked : List (Option RequestKey)) (old : Option (Option ℕ)) (pairs : List RequestKey) (key q : RequestKey) → is_same key q ≡ t → is_asked key asked ≡ true → old ≡ cond (is_asked q asked) (Some (last_place q pairs)) None
+    → cond t (Some (Some (length pairs))) old ≡ cond (is_asked q asked) (Some (last_place q (pairs ++ key ∷ []))) None
+put_at true asked old pairs key q is known h =
+    let same : last_place q (pairs ++ key ∷ []) ≡ Some (length pairs) = one_more q key pairs ∙ ap (λ (t : Bool). cond t (Some (length pairs)) (last_place q pairs)) is in
+    let also : is_asked q asked ≡ true = ap (λ (k : RequestKey). is_asked k asked) (sym (same_key key q is)) ∙ known in
+    sym (ap (λ (l : Option ℕ). cond (is_asked q asked) (Some l) None) same ∙ ap (λ (t : Bool). cond t (Some (Some (length pairs))) None) also)
+put_at false asked old pairs key q is known h = h ∙ other_pair asked pairs key q is
+
+-- one more pair of a key that is asked
+pub put : (asked : List (Option RequestKey)) (old new : RequestKey → Option (Option ℕ)) (pairs : List RequestKey) (key : RequestKey) (place : ℕ) → is_asked key asked ≡ true → place ≡ length pairs → Places asked pairs old
+    → ((q : RequestKey) → new q ≡ cond (is_at (key_cmp key) q) (Some (Some place)) (old q)) → Places asked (pairs ++ key ∷ []) new
+put asked old new pairs key place known size h u q =
+    u q
+    ∙ ap (λ (n : ℕ). cond (is_at (key_cmp key) q) (Some (Some n)) (old q)) size
+    ∙ ap (λ (t : Bool). cond t (Some (Some (length pairs))) (old q)) (key_test key q)
+    ∙ put_at (is_same key q) asked (old q) pairs key q refl known (h q)
+
+pass_at : (t : Bool) (asked : List (Option RequestKey)) (old : Option (Option ℕ)) (pairs : List RequestKey) (key q : RequestKey) → is_same key q ≡ t → is_asked key asked ≡ false → old ≡ cond (is_asked q asked) (Some (last_place q pairs)) None
+    → old ≡ cond (is_asked q asked) (Some (last_place q (pairs ++ key ∷ []))) None
+pass_at true asked old pairs key q is unknown h =
+    let also : is_asked q asked ≡ false = ap (λ (k : RequestKey). is_asked k asked) (sym (same_key key q is)) ∙ unknown in
+    h ∙ ap (λ (t : Bool). cond t (Some (last_place q pairs)) None) also ∙ sym (ap (λ (t : Bool). cond t (Some (last_place q (pairs ++ key ∷ []))) None) also)
+pass_at false asked old pairs key q is unknown h = h ∙ other_pair asked pairs key q is
+
+-- one more pair of another key
+pub pass : (asked : List (Option RequestKey)) (old : RequestKey → Option (Option ℕ)) (pairs : List RequestKey) (key : RequestKey) → is_asked key asked ≡ false → Places asked pairs old → Places asked (pairs ++ key ∷ []) old
+pass asked old pairs key unknown h q = pass_at (is_same key q) asked (old q) pairs key q refl unknown (h q)
+
+-- ---- the keys that are asked
+
+-- a key, and no place
+abbrev pub keyed : Bool → Option (Option ℕ)
+keyed t = cond t (Some None) None
+
+put_key : (s t : Bool) → cond s (Some None) (keyed t) ≡ keyed (cond s true t)
+put_key true t = refl
+put_key false t = refl
+
+pub key_more : (old new : RequestKey → Option (Option ℕ)) (xs : List (Option RequestKey)) (i : ℕ) (x : Option RequestKey) (key : RequestKey) → i < length xs → x ≡ get_or xs i x → x ≡ Some key
+    → ((q : RequestKey) → old q ≡ keyed (is_asked q (take i xs))) → ((q : RequestKey) → new q ≡ cond (is_at (key_cmp key) q) (Some None) (old q)) → (q : RequestKey) → new q ≡ keyed (is_asked q (take (i + 1) xs))
+key_more old new xs i x key h is some f u q =
+    let last : take (i + 1) xs ≡ take i xs ++ Some key ∷ [] = take_more xs i x h ∙ ap (λ (y : Option RequestKey). take i xs ++ y ∷ []) (sym is ∙ some) in
+    u q
+    ∙ ap (λ (t : Bool). cond t (Some None) (old q)) (key_test key q)
+    ∙ ap (cond (is_same key q) (Some None)) (f q)
+    ∙ put_key (is_same key q) (is_asked q (take i xs))
+    ∙ ap keyed (sym (asked_more q key (take i xs)))
+    ∙ ap (λ (l : List (Option RequestKey)). keyed (is_asked q l)) (sym last)
+
+pub no_key_more : (old : RequestKey → Option (Option ℕ)) (xs : List (Option RequestKey)) (i : ℕ) (x : Option RequestKey) → i < length xs → x ≡ get_or xs i x → x ≡ None
+    → ((q : RequestKey) → old q ≡ keyed (is_asked q (take i xs))) → (q : RequestKey) → old q ≡ keyed (is_asked q (take (i + 1) xs))
+no_key_more old xs i x h is none f q =
+    let last : take (i + 1) xs ≡ take i xs ++ None ∷ [] = take_more xs i x h ∙ ap (λ (y : Option RequestKey). take i xs ++ y ∷ []) (sym is ∙ none) in
+    f q ∙ ap keyed (sym (asked_none q (take i xs))) ∙ ap (λ (l : List (Option RequestKey)). keyed (is_asked q l)) (sym last)
+
+-- ---- a new request
 
 pub is_new : (before : ℕ) (pairs : List RequestKey) (o : Option ℕ) → o ≡ None → length pairs - before < most_new → New ≡ class_of before pairs o
 is_new before pairs o e less =
     let t : nat_lt (length pairs - before) most_new ≡ true = grind (arith, nat_tests) in
     sym (ap (class_of before pairs) e ∙ ap (λ (b : Bool). cond b New Over) t)
 
-pub noted : (index next : Index) (pairs : List RequestKey) (key : RequestKey) → IsIndex index pairs
-    → ((q : RequestKey) → get key_cmp next.places q ≡ cond (is_at (key_cmp key) q) (Some index.total) (get key_cmp index.places q))
-    → next.before ≡ index.before → next.total ≡ index.total + 1 → length pairs - index.before < most_new → IsIndex next (pairs ++ key ∷ [])
-noted index next pairs key h u same more less =
+pub noted : (asked : List (Option RequestKey)) (index next : Index) (pairs : List RequestKey) (key : RequestKey) → IsIndex asked index pairs → is_asked key asked ≡ true
+    → ((q : RequestKey) → get key_cmp next.places q ≡ cond (is_at (key_cmp key) q) (Some (Some index.total)) (get key_cmp index.places q))
+    → next.before ≡ index.before → next.total ≡ index.total + 1 → length pairs - index.before < most_new → IsIndex asked next (pairs ++ key ∷ [])
+noted asked index next pairs key h known u same more less =
     let size : length (pairs ++ key ∷ []) ≡ length pairs + 1 = omega (arith, length-append pairs (key ∷ [])) in
     record {
-      places = λ q.
-          u q
-          ∙ ap (λ (t : Bool). cond t (Some index.total) (get key_cmp index.places q)) (key_test key q)
-          ∙ ap (λ (n : ℕ). cond (is_same key q) (Some n) (get key_cmp index.places q)) h.total
-          ∙ ap (cond (is_same key q) (Some (length pairs))) (h.places q)
-          ∙ sym (one_more q key pairs);
+      places = put asked (λ q. get key_cmp index.places q) (λ q. get key_cmp next.places q) pairs key index.total known h.total h.places u;
       total = more ∙ omega (arith, size, h.total);
       before = omega (arith, size, same, h.before);
       few = omega (arith, size, same, h.before, less);
@@ -68,15 +168,8 @@ noted index next pairs key h u same more less =
 
 -- ---- the kept pairs, one by one
 
--- what a map told, and what it tells with one more pair, behind those so far
-pub placed : (old new : RequestKey → Option ℕ) (front : List Entry) (e : Entry) (key : RequestKey) (place : ℕ) → key ≡ key_of e → ((q : RequestKey) → old q ≡ last_place q (map key_of front)) → length front ≡ place
-    → ((q : RequestKey) → new q ≡ cond (is_at (key_cmp key) q) (Some place) (old q)) → (q : RequestKey) → new q ≡ last_place q (map key_of (front ++ e ∷ []))
-placed old new front e key place same h size u q =
-    let len : length (map key_of front) ≡ place = simp length-map size in
-    u q
-    ∙ ap (λ (k : RequestKey). cond (is_at (key_cmp k) q) (Some place) (old q)) same
-    ∙ ap (λ (t : Bool). cond t (Some place) (old q)) (key_test (key_of e) q)
-    ∙ ap (λ (n : ℕ). cond (is_same (key_of e) q) (Some n) (old q)) (sym len)
-    ∙ ap (cond (is_same (key_of e) q) (Some (length (map key_of front)))) (h q)
-    ∙ sym (one_more q (key_of e) (map key_of front))
-    ∙ ap (last_place q) (sym (map-append key_of front (e ∷ [])))
+pub keys_more : (front : List Entry) (e : Entry) (key : RequestKey) → key ≡ key_of e → map key_of front ++ key ∷ [] ≡ map key_of (front ++ e ∷ [])
+keys_more front e key is = ap (λ (k : RequestKey). map key_of front ++ k ∷ []) is ∙ sym (map-append key_of front (e ∷ []))
+
+pub size_of : (front : List Entry) (place : ℕ) → length front ≡ place → place ≡ length (map key_of front)
+size_of front place e = sym (length-map front key_of ∙ e)

@@ -1,3 +1,5 @@
 pub mod Places
 pub mod Indexes
 pub mod Bursts
+pub mod Last
+pub mod Repeats

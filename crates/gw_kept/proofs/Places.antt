@@ -1,5 +1,5 @@
 -- The place of a key's last pair: among the last so many, and with one more pair.
-use Rattle.std.proofs.Common.{◌≡◌, ℕ, zero, suc, ◌+◌, ◌==◌, ◌&&◌, nat_le, Bool, true, false, cond, List, [], ◌∷◌, ◌++◌, length, drop, Option, Some, None, refl, ap, sym, ◌∙◌, add-one, arith, inl, inr}
+use Rattle.std.proofs.Common.{◌≡◌, ℕ, zero, suc, ◌+◌, ◌==◌, ◌&&◌, nat_le, Bool, true, false, cond, List, [], ◌∷◌, ◌++◌, length, drop, bytes_eq, eqb-true, Option, Some, None, refl, ap, sym, ◌∙◌, add-one, arith, inl, inr}
 use Rattle.std.specs.Ordering.{nat_cmp, ordering_then, is_eq}
 use Rattle.std.specs.Cmp.Lexicographic.{slice_cmp}
 use Rattle.std.specs.declared.cmp.Ordering.{Ordering}
@@ -8,6 +8,7 @@ use Rattle.std.specs.Cmp.{nat_cmp_is}
 use Rattle.std.proofs.lemmas.Bool.{cases_order, eq-eqb, ne_eqb}
 use Rattle.std.proofs.lemmas.Bool.Decides.{nat_tests}
 use Rattle.std.proofs.lemmas.Map.Text.{is_eq-slice_cmp}
+use Rattle.std.proofs.lemmas.Slice.Eq.{bytes_eq-Decides}
 use Rattle.gw_kept.specs.declared.entry.RequestKey.{RequestKey}
 use Rattle.gw_kept.specs.Pairs.{is_same}
 use Rattle.gw_kept.specs.Classes.{or_here, last_place}
@@ -85,3 +86,30 @@ key_test a b =
     then_test (nat_cmp a.id b.id) (slice_cmp nat_cmp a.mid b.mid)
     ∙ ap (λ (t : Bool). t && is_eq (slice_cmp nat_cmp a.mid b.mid)) (number_test a.id b.id)
     ∙ ap (λ (t : Bool). a.id == b.id && t) (is_eq-slice_cmp a.mid b.mid)
+
+-- ---- keys that are the same
+
+and_parts : (s t : Bool) → (s && t) ≡ true → (s ≡ true) × (t ≡ true)
+and_parts true t e = (refl, e)
+and_parts false t e = absurd cc
+
+pub same_key : (a b : RequestKey) → is_same a b ≡ true → a ≡ b
+same_key a b e =
+    let parts = and_parts (a.id == b.id) (bytes_eq a.mid b.mid) e in
+    let id : a.id ≡ b.id = eqb-true a.id b.id parts.0 in
+    let mid : a.mid ≡ b.mid = (bytes_eq-Decides a.mid b.mid).0 parts.1 in
+    λ i. record { id = id i; mid = mid i }
+
+pub same_itself : (a : RequestKey) → is_same a a ≡ true
+same_itself a = let id : (a.id == a.id) ≡ true = eq-eqb a.id a.id refl in rw id ((bytes_eq-Decides a.mid a.mid).1 refl)
+
+back_true : (a b : RequestKey) → is_same a b ≡ true → is_same b a ≡ true
+back_true a b e = ap (is_same b) (same_key a b e) ∙ same_itself b
+
+same_tests : (s t : Bool) → (s ≡ true → t ≡ true) → (t ≡ true → s ≡ true) → s ≡ t
+same_tests true t f g = sym (f refl)
+same_tests false true f g = g refl
+same_tests false false f g = refl
+
+pub same_back : (a b : RequestKey) → is_same a b ≡ is_same b a
+same_back a b = same_tests (is_same a b) (is_same b a) (back_true a b) (back_true b a)

@@ -1,6 +1,5 @@
 -- The classes of a burst's items, from the keys alone (own): which request is a repeat, which is new, and which is over.
 use Rattle.std.specs.Prelude.{nat_lt, ◌+◌, ◌-◌, ℕ, if◌then◌else◌, List, [], ◌∷◌, ◌++◌, map, length, Option, Some, None}
-use Rattle.std.specs.Borrow.{Bor}
 use Rattle.circular_buffer.specs.Buffer.{keep_last}
 use Rattle.gw_msg.specs.declared.message.Item.{Item}
 use Rattle.gw_msg.specs.declared.message.Item.TheVariants as item
@@ -20,11 +19,6 @@ abbrev pub key_in : List ℕ → Item → Option RequestKey
 key_in mid (item.Request r) = Some (record { id = r.id.0; mid = mid })
 key_in mid (item.Ack ranges) = None
 key_in mid item.Ignored = None
-
--- what the items of a burst ask, each with its message's mId
-abbrev pub asked : List (List ℕ × Bor Item) → List (Option RequestKey)
-asked [] = []
-asked (i ∷ is) = key_in i.0 i.1.now ∷ asked is
 
 -- the keys of the kept pairs
 abbrev pub keys_of : KeptList → List RequestKey
@@ -69,6 +63,6 @@ classes_behind most old pairs (None ∷ rest) = Nothing ∷ classes_behind most 
 classes_behind most old pairs (Some key ∷ rest) =
     class_at most old key pairs ∷ classes_behind most old (pairs_after (class_at most old key pairs) key pairs) rest
 
--- the classes of a burst
+-- the classes of a burst, by what its items ask
 abbrev pub classes_of : KeptList → List (Option RequestKey) → List Class
 classes_of k = classes_behind k.most (length k.pairs) (keys_of k)

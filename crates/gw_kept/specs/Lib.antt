@@ -3,3 +3,4 @@ pub use Rattle.circular_buffer.specs.Buffer
 pub mod Pairs
 pub mod Classes
 pub mod Index
+pub mod Repeats

@@ -1,5 +1,5 @@
 -- The replies that are kept for repeats (own): pairs of a key, who asked under which number, and the bytes that were sent.
-use Rattle.std.specs.Prelude.{◌==◌, ◌&&◌, nat_lt, ℕ, Bool, if◌then◌else◌, bytes_eq, List, [], ◌∷◌, ◌++◌, length, slice_get, Option, Some, None, refl}
+use Rattle.std.specs.Prelude.{◌≡◌, ◌≤◌, ◌==◌, ◌&&◌, nat_lt, ℕ, Bool, if◌then◌else◌, bytes_eq, List, [], ◌∷◌, ◌++◌, length, slice_get, Option, Some, None, refl}
 use Rattle.std.specs.Option.{option_map}
 use Rattle.std.specs.Coded.{Coded, code_by, coded×, coded_list, coded_ℕ}
 use Rattle.circular_buffer.specs.Buffer.{keep_last}
@@ -10,6 +10,19 @@ use Rattle.gw_kept.specs.declared.entry.RequestKey.{RequestKey}
 pub record KeptList : Type 0 where
   pub pairs : List Entry
   pub most : ℕ
+
+abbrev pub kept_list : List Entry → ℕ → KeptList
+kept_list pairs most = record { pairs = pairs; most = most }
+
+-- how many pairs a list may be told to keep
+abbrev pub most_kept : ℕ
+most_kept = 4096
+
+-- every kept list keeps to its limit, which is 1 to 4,096
+pub record IsBounded (k : KeptList) : Type 0 where
+  pub few : length k.pairs ≤ k.most
+  pub some : 1 ≤ k.most
+  pub limit : k.most ≤ most_kept
 
 abbrev pub key_of : Entry → RequestKey
 key_of e = record { id = e.id.0; mid = e.mid }
@@ -27,13 +40,23 @@ bytes_for key (e ∷ es) = if is_same key (key_of e) then Some e.bytes else byte
 abbrev pub bytes_at : ℕ → List Entry → Option (List ℕ)
 bytes_at place pairs = option_map (λ e. e.bytes) (slice_get pairs place)
 
+-- no two pairs have one key
+abbrev pub AreDistinct : List Entry → Type 0
+AreDistinct [] = Unit {0}
+AreDistinct (e ∷ es) = (bytes_for (key_of e) es ≡ None) × AreDistinct es
+
 -- nothing kept yet
 abbrev pub none_kept : ℕ → KeptList
-none_kept most = record { pairs = []; most = most }
+none_kept most = kept_list [] most
 
 -- the pair goes last, and the last so many are kept
 abbrev pub with_pair : KeptList → Entry → KeptList
-with_pair k e = record { pairs = keep_last k.most (k.pairs ++ e ∷ []); most = k.most }
+with_pair k e = kept_list (keep_last k.most (k.pairs ++ e ∷ [])) k.most
+
+-- one pair after another
+abbrev pub kept_after : KeptList → List Entry → KeptList
+kept_after k [] = k
+kept_after k (e ∷ es) = kept_after (with_pair k e) es
 
 -- the pair that is dropped then, the oldest
 abbrev pub dropped_by : KeptList → Entry → Option Entry
@@ -50,4 +73,4 @@ coded_entry =
     (λ e. (e.mid, (e.id.0, e.bytes))) (λ p. record { mid = p.0; id = record { 0 = p.1.0 }; bytes = p.1.1 }) (λ _. refl)
 
 abbrev pub coded_kept : Coded KeptList
-coded_kept = code_by (List Entry × ℕ) (coded× (coded_list coded_entry) coded_ℕ) (λ k. (k.pairs, k.most)) (λ p. record { pairs = p.0; most = p.1 }) (λ _. refl)
+coded_kept = code_by (List Entry × ℕ) (coded× (coded_list coded_entry) coded_ℕ) (λ k. (k.pairs, k.most)) (λ p. kept_list p.0 p.1) (λ _. refl)

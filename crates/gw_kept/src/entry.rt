@@ -2,8 +2,10 @@
 
 ghost use Rattle.std.specs.Prelude.{◌≡◌};
 ghost use Rattle.gw_kept.specs.Pairs.{key_of, is_same};
+ghost use Rattle.gw_kept.specs.Classes.{key_in};
 
 use gw_base::{Items, Mid, TxId};
+use gw_msg::Item;
 
 /// A reply that is kept for repeats (own to this profile; RFC 3525, Annex D.1, asks that a repeat is not carried out again).
 #[derive(Debug, Drop)]
@@ -16,11 +18,28 @@ pub struct Entry {
     pub bytes: Items<u8>,
 }
 
-/// Who asked, and under which number. Ordered by the number first, which tells most keys apart.
+/// Who asked, and under which number: what a repeat is told by. Ordered by the number first, which tells most keys apart.
 #[derive(Clone, Copy, Debug, PartialEq, Eq, PartialOrd, Ord)]
 pub struct RequestKey {
+    /// The number of the transaction.
     pub id: u32,
+    /// Who asked, byte for byte as sent.
     pub mid: Mid,
+}
+
+impl RequestKey {
+    /// The key of a request in a message of this sender. Another item asks nothing and has none.
+    pub fn of(mid: Mid, item: &Item<'_>) -> Option<RequestKey>
+        ensures { result ≡ key_in mid item.now }
+    {
+        match item {
+            Item::Request(request) => Some(RequestKey {
+                id: request.id.0,
+                mid,
+            }),
+            Item::Ack(_) | Item::Ignored => None,
+        }
+    }
 }
 
 impl Entry {

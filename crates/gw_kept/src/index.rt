@@ -1,26 +1,26 @@
-//! Which requests of a burst are repeats: an index of the pairs' keys, made once for a burst.
+//! Which requests of a burst are repeats: an index of the burst's keys, made once for a burst.
 
-ghost use Rattle.std.specs.Prelude.{◌≡◌, List, IfOk, length, map};
+ghost use Rattle.std.specs.Prelude.{◌≡◌, List, Option, Some, None, IfOk, if◌then◌else◌, length, map, true};
+ghost use Rattle.std.specs.BTreeMap.{get};
 ghost use Rattle.gw_kept.specs.declared.entry.RequestKey.{RequestKey as Key};
 ghost use Rattle.gw_kept.specs.Pairs.{key_of};
-ghost use Rattle.gw_kept.specs.Classes.{key_in, source_at, kept_place, class_at, pairs_after};
-ghost use Rattle.gw_kept.specs.Index.{IsIndex};
+ghost use Rattle.gw_kept.specs.Classes.{source_at, last_place, kept_place, class_at, pairs_after};
+ghost use Rattle.gw_kept.specs.Index.{key_cmp, is_asked, IsIndex};
 
 use crate::class::{Class, Source};
 use crate::entry::{Entry, RequestKey};
 use circular_buffer::HeapCircularBuffer;
-use gw_base::Mid;
-use gw_msg::Item;
 use std::alloc::{AllocError, Global};
 use std::collections::BTreeMap;
 
 /// How many new requests a burst may have.
 const MOST_NEW: usize = 1024;
 
-/// The place of the last pair of each key, counted from the oldest pair that was kept before the burst.
+/// The keys that a burst asks, each with the place of its last pair, if it has one: counted from the oldest pair that was kept
+/// before the burst.
 #[derive(Drop)]
 pub struct Index {
-    pub(crate) places: BTreeMap<RequestKey, usize>,
+    pub(crate) places: BTreeMap<RequestKey, Option<usize>>,
     /// How many pairs are kept at most.
     pub(crate) most: usize,
     /// How many there were before the burst.
@@ -29,33 +29,43 @@ pub struct Index {
     pub(crate) total: usize,
 }
 
-/// The key of a request; another item has none.
-pub fn key_in(mid: Mid, item: &Item<'_>) -> Option<RequestKey>
-    ensures { result ≡ key_in mid item.now }
+/// The keys that are asked, none with a place.
+fn asked_keys(
+    alloc: Global,
+    asked: &[Option<RequestKey>],
+) -> Result<BTreeMap<RequestKey, Option<usize>>, AllocError>
+    ensures { IfOk result (λ places. (q : Key) → get key_cmp places q ≡ (if is_asked q asked.now then Some None else None)) }
 {
-    match item {
-        Item::Request(request) => Some(RequestKey {
-            id: request.id.0,
-            mid,
-        }),
-        Item::Ack(_) | Item::Ignored => None,
+    let mut places = BTreeMap::new(alloc);
+    for item in asked {
+        if let Some(key) = item {
+            places.insert(*key, None)?;
+        }
     }
+    Ok(places)
 }
 
 impl Index {
-    /// The index of the kept pairs.
+    /// The index of what a burst asks, before its first item: one pass over the kept pairs, each looked up among the keys.
     ///
     /// # Errors
     ///
     /// `AllocError` where a growth was refused.
-    pub fn of(alloc: Global, ring: &HeapCircularBuffer<Entry>) -> Result<Index, AllocError>
-        ensures index { IfOk result (λ index. IsIndex index (map key_of ring.now.items)) }
+    pub fn of(
+        alloc: Global,
+        ring: &HeapCircularBuffer<Entry>,
+        asked: &[Option<RequestKey>],
+    ) -> Result<Index, AllocError>
+        ensures index { IfOk result (λ index. IsIndex asked.now index (map key_of ring.now.items)) }
         ensures most { IfOk result (λ index. index.most ≡ ring.now.capacity) }
         ensures before { IfOk result (λ index. index.before ≡ length ring.now.items) }
     {
-        let mut places = BTreeMap::new(alloc);
+        let mut places = asked_keys(alloc, asked)?;
         for (place, entry) in ring.iter().enumerate() {
-            places.insert(entry.key(), place)?;
+            let key = entry.key();
+            if places.contains_key(&key) {
+                places.insert(key, Some(place))?;
+            }
         }
         Ok(Index {
             places,
@@ -76,23 +86,33 @@ impl Index {
         }
     }
 
-    /// The place of the key's last pair, if that is kept.
-    fn kept_place(&self, key: &RequestKey) -> Option<usize>
-        ensures { (pairs : List Key) → IsIndex self.now pairs → result ≡ kept_place self.now.most key.now pairs }
+    /// The place of the key's last pair, kept or not.
+    fn last_place(&self, key: &RequestKey) -> Option<usize>
+        ensures { (asked : List (Option Key)) (pairs : List Key) → IsIndex asked self.now pairs → is_asked key.now asked ≡ true → result ≡ last_place key.now pairs }
     {
         match self.places.get(key) {
-            Some(place) if self.total.saturating_sub(self.most) <= *place => Some(*place),
+            Some(place) => *place,
+            None => None,
+        }
+    }
+
+    /// The place of the key's last pair, if that is kept.
+    fn kept_place(&self, key: &RequestKey) -> Option<usize>
+        ensures { (asked : List (Option Key)) (pairs : List Key) → IsIndex asked self.now pairs → is_asked key.now asked ≡ true → result ≡ kept_place self.now.most key.now pairs }
+    {
+        match self.last_place(key) {
+            Some(place) if self.total.saturating_sub(self.most) <= place => Some(place),
             _ => None,
         }
     }
 
-    /// The class of a request, which is noted if it is new.
+    /// The class of a request that is asked, which is noted if it is new.
     ///
     /// # Errors
     ///
     /// `AllocError` where a growth was refused.
     pub fn class(&mut self, key: RequestKey) -> Result<Class, AllocError>
-        ensures exact { (pairs : List Key) → IsIndex self.old pairs → IfOk result (λ class. (class ≡ class_at self.old.most self.old.before key pairs) × IsIndex self.new (pairs_after class key pairs)) }
+        ensures exact { (asked : List (Option Key)) (pairs : List Key) → IsIndex asked self.old pairs → is_asked key asked ≡ true → IfOk result (λ class. (class ≡ class_at self.old.most self.old.before key pairs) × IsIndex asked self.new (pairs_after class key pairs)) }
         ensures most { self.new.most ≡ self.old.most }
         ensures before { self.new.before ≡ self.old.before }
     {
@@ -102,7 +122,7 @@ impl Index {
         if self.total.saturating_sub(self.before) >= MOST_NEW {
             return Ok(Class::Over);
         }
-        self.places.insert(key, self.total)?;
+        self.places.insert(key, Some(self.total))?;
         self.total = self.total.saturating_add(1);
         Ok(Class::New)
     }

@@ -1,15 +1,14 @@
 //! The kept replies: the last so many, in a ring.
 
-ghost use Rattle.std.specs.Prelude.{◌≡◌, length, IfOk, option_copied};
-ghost use Rattle.gw_kept.specs.Classes.{asked, classes_of};
-ghost use Rattle.gw_kept.specs.Pairs.{bytes_for, bytes_at, none_kept, with_pair, dropped_by};
+ghost use Rattle.std.specs.Prelude.{◌≡◌, ◌≤◌, length, IfOk, option_copied};
+ghost use Rattle.gw_kept.specs.Classes.{classes_of};
+ghost use Rattle.gw_kept.specs.Pairs.{bytes_for, bytes_at, none_kept, with_pair, kept_after, dropped_by, IsBounded};
 
 use crate::class::Class;
 use crate::entry::{Entry, RequestKey};
-use crate::index::{Index, key_in};
+use crate::index::Index;
 use circular_buffer::HeapCircularBuffer;
 use gw_base::{Items, Mid, NoMemory, TxId};
-use gw_msg::Item;
 use std::alloc::Global;
 use std::marker::Model;
 
@@ -20,13 +19,15 @@ pub struct Kept {
 }
 
 impl Model for Kept {
-    ghost use Rattle.gw_kept.specs.Pairs.{KeptList, coded_kept};
+    ghost use Rattle.gw_kept.specs.Pairs.{KeptList, coded_kept, kept_list, IsBounded};
 
     ghost Value = { KeptList };
 
     ghost coded = { coded_kept };
 
-    ghost view = { λ a. record { pairs = a.ring.items; most = a.ring.capacity } };
+    ghost view = { λ a. kept_list a.ring.items a.ring.capacity };
+
+    ghost invariant = { λ a. IsBounded (kept_list a.ring.items a.ring.capacity) };
 }
 
 impl Kept {
@@ -36,6 +37,8 @@ impl Kept {
     ///
     /// Want of memory.
     pub fn new(alloc: Global, most: u32) -> Result<Kept, NoMemory>
+        requires some { 1 ≤ most }
+        requires limit { most ≤ 4096 }
         ensures { IfOk result (λ kept. kept ≡ none_kept most) }
     {
         Ok(Kept {
@@ -43,9 +46,10 @@ impl Kept {
         })
     }
 
-    /// How many pairs there are.
+    /// How many pairs there are: never more than are kept at most.
     pub fn len(&self) -> usize
-        ensures { result ≡ length self.now.pairs }
+        ensures value { result ≡ length self.now.pairs }
+        ensures bounded { IsBounded self.now }
     {
         self.ring.len()
     }
@@ -57,6 +61,15 @@ impl Kept {
         ensures dropped { result ≡ dropped_by self.old entry }
     {
         self.ring.push_back(entry)
+    }
+
+    /// Keeps the pairs of a burst's new requests, one after another; what falls out is let go. It takes no memory.
+    pub fn push_all(&mut self, entries: Vec<Entry>)
+        ensures { self.new ≡ kept_after self.old entries.items }
+    {
+        for entry in entries {
+            self.push(entry);
+        }
     }
 
     /// The reply that was sent to this sender under this number, if it is kept. The pairs are looked through in turn.
@@ -85,10 +98,10 @@ impl Kept {
         }
     }
 
-    /// The classes of a burst's items, each with its message's mId, in order of arrival: told from the keys alone, before
-    /// anything is carried out. A request is a repeat where its reply is among the last kept ones at that point, those of
-    /// the burst's new requests included. An index of the kept pairs is made first, and each request is looked up in it:
-    /// k log k steps for k pairs, and n log (k + n) for n requests.
+    /// The classes of a burst's items, in order of arrival, each told by its key: `RequestKey::of` has it, and what asks
+    /// nothing has none. They are told from the keys alone, before anything is carried out. A request is a repeat where its
+    /// reply is among the last kept ones at that point, those of the burst's new requests included. An index of the burst's
+    /// keys is made first, in which each kept pair is looked up once: n log n steps for n requests, and k log n for k pairs.
     ///
     /// # Errors
     ///
@@ -96,15 +109,16 @@ impl Kept {
     pub fn classify(
         &self,
         alloc: Global,
-        items: &[(Mid, &Item<'_>)],
+        asked: &[Option<RequestKey>],
     ) -> Result<Items<Class>, NoMemory>
-        ensures { IfOk result (λ classes. classes ≡ classes_of self.now (asked items.now)) }
+        ensures classes { IfOk result (λ classes. classes ≡ classes_of self.now asked.now) }
+        ensures bounded { IsBounded self.now }
     {
-        let mut index = Index::of(alloc, &self.ring)?;
+        let mut index = Index::of(alloc, &self.ring, asked)?;
         let mut classes = Items::new(alloc);
-        for (mid, item) in items {
-            let class = match key_in(*mid, item) {
-                Some(key) => index.class(key)?,
+        for item in asked {
+            let class = match item {
+                Some(key) => index.class(*key)?,
                 None => Class::Nothing,
             };
             classes.push(class)?;

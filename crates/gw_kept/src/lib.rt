@@ -5,7 +5,12 @@ mod class;
 mod entry;
 mod index;
 mod kept;
+mod laws;
 
 pub use class::{Class, Source};
-pub use entry::Entry;
+pub use entry::{Entry, RequestKey};
 pub use kept::Kept;
+pub use laws::{
+    classes_go_in_turn, new_pairs_have_keys_of_their_own, pairs_go_in_turn,
+    repeats_get_kept_replies, what_is_no_repeat_is_not_kept,
+};

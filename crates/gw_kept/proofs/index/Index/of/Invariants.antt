@@ -1,10 +1,9 @@
 use Rattle.std.proofs.Common.{◌≡◌, ◌+◌, ◌<◌, ◌^◌, List, ◌++◌, map, length}
 use Rattle.std.specs.BTreeMap.{get}
 use Rattle.gw_kept.specs.declared.entry.Entry.{Entry}
-use Rattle.gw_kept.specs.declared.entry.RequestKey.{RequestKey}
 use Rattle.gw_kept.specs.Pairs.{key_of}
-use Rattle.gw_kept.specs.Classes.{last_place}
 use Rattle.gw_kept.specs.Index.{key_cmp}
+use Rattle.gw_kept.proofs.Indexes.{Places}
 use Rattle.gw_kept.proofs.index.Index.of.Given as goal
 
 abbrev pub invariant-loop-place : goal.invariant-loop-place
@@ -13,5 +12,5 @@ invariant-loop-place l = record {
   front : List Entry;
   split : l.ring.items ≡ front ++ l.entry-iterator;
   size : length front ≡ l.place;
-  places : (q : RequestKey) → get key_cmp l.places q ≡ last_place q (map key_of front);
+  places : Places l.asked (map key_of front) (λ q. get key_cmp l.places q);
 }
