@@ -10,6 +10,7 @@ use Rattle.gw_base.specs.declared.ids.Ids.{Ids}
 use Rattle.gw_msg.specs.declared.message.Request.{Request}
 use Rattle.gw_table.specs.Maps.{Maps, term, ctx}
 use Rattle.gw_table.specs.Reserved.{slot_name}
+use Rattle.gw_table.specs.Unused.{AreUnused}
 use Rattle.gw_reserve.specs.declared.owners.Cursors.{Cursors}
 use Rattle.gw_reserve.specs.Owners.{cyclic, number_of_index, free_numbers, free_slots, number_places, slot_places, ids_of, owners_of, owners, owned_numbers, owned_slots, AreFresh, AreWithin}
 use Rattle.gw_reserve.proofs.Cyclic.{indices_below, indices_apart, numbers_within, numbers_apart}
@@ -92,4 +93,17 @@ are_fresh m cursors contexts slots rs w h =
       };
       numbers = subst (λ (l : List CtxNum). All (λ k. (0 < k.0) × (k.0 ≤ contexts)) l) (sym n) (all_taken (λ k. (0 < k.0) × (k.0 ≤ contexts)) (total number_places rs) numbers (All-filter (λ k. is_none (ctx m k)) (λ k. (0 < k.0) × (k.0 ≤ contexts)) (map number_of_index (cyclic cursors.context contexts)) (numbers_within cursors.context contexts w.context)));
       slots = slots_below;
+    }
+
+-- the slots that are free at the start are unused
+pub free_unused : (m : Maps) (d n : ℕ) → d ≤ n → n ≤ 4096 → AreUnused m [] (free_slots m d n)
+free_unused m d n w h =
+    let free : List ℕ = free_slots m d n in
+    let below : All (λ x. x < n) free = All-filter (λ x. is_none (term m (slot_name x))) (λ x. x < n) (cyclic d n) (indices_below d n w) in
+    record {
+      numbers_apart = λ i j e a b. absurd (omega arith);
+      no_contexts = λ i e a. absurd (omega arith);
+      slots_apart = AllPairs-filter (λ x y. x ≢ y) (λ x. is_none (term m (slot_name x))) (cyclic d n) (indices_apart d n w);
+      no_terminations = λ i e a. is_nothing (term m (slot_name (get_or free i e))) (filter_passes (λ x. is_none (term m (slot_name x))) (cyclic d n) i e a);
+      slots_small = λ i e a. omega (arith, below i e a);
     }

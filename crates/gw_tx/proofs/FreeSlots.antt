@@ -1,7 +1,6 @@
 -- Slots that are free, while commands use them up one after another.
 use Rattle.std.proofs.Common.{◌≡◌, ℕ, suc, ◌<◌, ◌^◌, Bool, true, false, List, [], ◌∷◌, length, get_or, Option, None, Some, arith}
 use Rattle.std.specs.Prelude.{◌≢◌, if◌then◌else◌, All}
-use Rattle.gw_base.specs.declared.ids.Ids.{Ids}
 use Rattle.gw_table.specs.Maps.{Maps, term}
 use Rattle.gw_table.specs.Reserved.{slot_name}
 use Rattle.gw_table.specs.Unused.{owned, AreUnused}
@@ -18,6 +17,14 @@ IsOther (Some s) t = slot_name s ≢ slot_name t
 abbrev pub MakesNone : Option ℕ → Maps → Maps → Type 0
 MakesNone slot m n = (t : ℕ) → IsOther slot t → term m (slot_name t) ≡ None → term n (slot_name t) ≡ None
 
+-- the slot that a command owns, if any, is of a kind
+abbrev pub IsOfKind : (ℕ → Type 0) → Option ℕ → Type 0
+IsOfKind S None = Unit {0}
+IsOfKind S (Some s) = S s
+
+abbrev pub AnySlot : ℕ → Type 0
+AnySlot s = Unit {0}
+
 abbrev pub taken : {X : Type 0} → Bool → List (Option X) → Option X
 taken b slots = if b then first_owned slots else None
 
@@ -30,15 +37,17 @@ free_slot m [] true f = tt
 free_slot m (None ∷ os) true f = tt
 free_slot m (Some s ∷ os) true f = f.no_terminations 0 s (omega arith)
 
--- of all that a request owns, its slots are free
-pub free_of_all : (m : Maps) (ids : Ids) → AreUnused m (owned ids.contexts) (owned ids.slots) → AreFreeSlots m ids.slots
-free_of_all m ids u = record {
-  numbers_apart = λ i j d a b. absurd (omega arith);
-  no_contexts = λ k d h. absurd (omega arith);
-  slots_apart = u.slots_apart;
-  no_terminations = u.no_terminations;
-  slots_small = u.slots_small;
-}
+pub kind_slot : (S : ℕ → Type 0) (slots : List (Option ℕ)) (b : Bool) → All S (owned slots) → IsOfKind S (taken b slots)
+kind_slot S slots false f = tt
+kind_slot S [] true f = tt
+kind_slot S (None ∷ os) true f = tt
+kind_slot S (Some s ∷ os) true f = f 0 s (omega arith)
+
+pub kind_left : (S : ℕ → Type 0) (slots : List (Option ℕ)) (b : Bool) → All S (owned slots) → All S (owned (left b slots))
+kind_left S slots false f = f
+kind_left S [] true f = f
+kind_left S (None ∷ os) true f = f
+kind_left S (Some s ∷ os) true f = λ k d h. f (suc k) d (omega arith)
 
 behind_first : (m : Maps) (s : ℕ) (os : List (Option ℕ)) → AreFreeSlots m (Some s ∷ os) → AreFreeSlots m os
 behind_first m s os f = record {

@@ -2,6 +2,7 @@ pub mod EachContext
 pub mod Facts
 pub mod FreeSlots
 pub mod Kept
+pub mod LaterSlots
 pub mod Steps
 pub mod Whole
 pub mod FormsKept

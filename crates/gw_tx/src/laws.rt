@@ -1,6 +1,6 @@
 //! What follows from the definitions alone.
 
-ghost use Rattle.std.specs.Prelude.{◌≡◌, ℕ, List, Ok as Read};
+ghost use Rattle.std.specs.Prelude.{◌≡◌, ◌++◌, ℕ, List, [], Ok as Read};
 ghost use Rattle.gw_base.specs.Addresses.{IsAddress};
 ghost use Rattle.gw_base.specs.Mids.{IsMid};
 ghost use Rattle.gw_base.specs.declared.command_words.Rules.{Rules};
@@ -15,11 +15,17 @@ ghost use Rattle.gw_table.specs.Maps.{Maps};
 ghost use Rattle.gw_table.specs.Unused.{owned, AreUnused};
 ghost use Rattle.gw_table.specs.WellFormed.{AreWellFormed};
 ghost use Rattle.gw_tx.specs.KeptForms.{AreSlots, IsAskedRequest};
+ghost use Rattle.gw_tx.specs.Owned.{AreFreeSlots};
 ghost use Rattle.gw_tx.specs.Transactions.{transaction};
 
-/// A transaction leaves well-formed tables well-formed, where what it owns is unused in them.
+/// A transaction leaves well-formed tables well-formed, where the slots that it owns are unused in them.
 pub fn transactions_keep_tables_well_formed()
-    ensures { (rules : Rules) (r : Request) (ids : Ids) (m : Maps) → AreUnused m (owned ids.contexts) (owned ids.slots) → AreWellFormed rules.members m → AreWellFormed rules.members (transaction rules r ids m).maps }
+    ensures { (rules : Rules) (r : Request) (ids : Ids) (m : Maps) → AreFreeSlots m ids.slots → AreWellFormed rules.members m → AreWellFormed rules.members (transaction rules r ids m).maps }
+{}
+
+/// A transaction makes no termination but in its own slots: those that later requests own stay free.
+pub fn later_slots_stay_free()
+    ensures { (rules : Rules) (r : Request) (ids : Ids) (m : Maps) (later : List ℕ) → AreUnused m [] (owned ids.slots ++ later) → AreUnused (transaction rules r ids m).maps [] later }
 {}
 
 /// What this gateway sends can be read. A request of the grammar has TerminationIDs and descriptors of their forms; such a request

@@ -9,5 +9,5 @@ mod owned;
 mod replies;
 mod requests;
 
-pub use laws::{answers_can_be_read, transactions_keep_tables_well_formed};
+pub use laws::{answers_can_be_read, later_slots_stay_free, transactions_keep_tables_well_formed};
 pub use requests::transaction;

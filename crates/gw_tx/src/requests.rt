@@ -3,7 +3,7 @@
 ghost use Rattle.std.specs.Prelude.{◌≡◌, IfOk, OnOk};
 ghost use Rattle.gw_table.specs.Parts.{Every};
 ghost use Rattle.gw_table.specs.WellFormed.{IsSound};
-ghost use Rattle.gw_table.specs.Unused.{owned, AreUnused};
+ghost use Rattle.gw_tx.specs.Owned.{AreFreeSlots};
 ghost use Rattle.gw_tx.specs.Transactions.{transaction as transaction_done};
 
 use crate::actions::actions;
@@ -14,7 +14,7 @@ use gw_table::Part;
 use std::alloc::Global;
 
 /// Carries a request out, with what its `$` places own: its actions in order, and the commands of each in order, up to the
-/// first that stops. The caller knows that the part has every key, and that what is owned is unused there. The work is that of
+/// first that stops. The caller knows that the part has every key, and that the slots that are owned are unused there. The work is that of
 /// the commands, in each context for an action with `*`.
 ///
 /// # Errors
@@ -29,7 +29,7 @@ pub fn transaction(
 ) -> Result<TxReply, NoMemory>
     requires every { part.old.keys ≡ Every }
     requires sound { IsSound Every part.old.maps }
-    requires unused { AreUnused part.old.maps (owned ids.now.contexts) (owned ids.now.slots) }
+    requires unused { AreFreeSlots part.old.maps ids.now.slots }
     ensures maps { OnOk result (part.new.maps ≡ (transaction_done rules.now request.now ids.now part.old.maps).maps) }
     ensures answer { IfOk result (λ reply. reply ≡ (transaction_done rules.now request.now ids.now part.old.maps).answer) }
     ensures keys { part.new.keys ≡ part.old.keys }

@@ -14,7 +14,7 @@ use Rattle.gw_table.proofs.Folding.{ended, rest_of, goes_on, stops, ends}
 use Rattle.gw_tx.specs.Owned.{OwnedAction, with_slots, with_owned, slots_behind}
 use Rattle.gw_tx.specs.Transactions.{action, actions}
 use Rattle.gw_tx.proofs.Facts.{commands_keep_sound}
-use Rattle.gw_tx.proofs.FreeSlots.{taken, left}
+use Rattle.gw_tx.proofs.FreeSlots.{AnySlot, taken, left}
 use Rattle.gw_tx.proofs.Kept.{With, kept_action}
 use Rattle.gw_tx.proofs.Steps.{action_is}
 use Rattle.gw_tx.proofs.actions.actions.Goals as goal
@@ -59,14 +59,14 @@ loop-sent-preserved c =
     action_is c.args.rules.now (mine c.number_of-number.result.0) pair c.loop-sent.part.maps c.action.new.part.maps c.in_ok-done.done c.in_ok-done.ensures.maps c.in_ok-done.ensures.answer (ap (λ (o : Option CtxNum). mine o) c.number_of-number.ensures.own) in
     let whole : Outcome (Attempts Unit ActionReply) = actions c.args.rules.now (with_owned c.args.numbers.now c.args.slots.now c.args.asked.now) c.args.part.now.maps in
     let behind_it : c.slots_behind-slots_left.result.now ≡ slots_behind slots sent.commands = c.slots_behind-slots_left.ensures ∙ ap (λ (l : List Command). slots_behind slots l) c.as_slice.ensures in
-    let kept : With (IsSound Every) (slots_behind slots sent.commands) (action c.args.rules.now tt pair c.loop-sent.part.maps).maps = kept_action c.args.rules.now (commands_keep_sound c.args.rules.now) sent (taken (is_choose sent.ctx) numbers) slots c.loop-sent.part.maps c.loop-sent.invariant.kept in
+    let kept : With AnySlot (IsSound Every) (slots_behind slots sent.commands) (action c.args.rules.now tt pair c.loop-sent.part.maps).maps = kept_action c.args.rules.now (commands_keep_sound c.args.rules.now) sent (taken (is_choose sent.ctx) numbers) slots c.loop-sent.part.maps c.loop-sent.invariant.kept in
     let maps : (action c.args.rules.now tt pair c.loop-sent.part.maps).maps ≡ c.action.new.part.maps = ap (λ (o : Outcome (Attempts Unit ActionReply)). o.maps) (sym did) in
     record {
       told = ap (λ (l : List ActionReply). behind l (actions c.args.rules.now (with_owned c.number_of-number.result.1.now c.slots_behind-slots_left.result.now rest) now.maps)) c.in_ok-append.ensures.ok
           ∙ ap (λ (o : List (Option CtxNum)). behind (c.loop-sent.replies ++ now.answer.answers) (actions c.args.rules.now (with_owned o c.slots_behind-slots_left.result.now rest) now.maps)) c.number_of-number.ensures.later
           ∙ ap (λ (o : List (Option ℕ)). behind (c.loop-sent.replies ++ now.answer.answers) (actions c.args.rules.now (with_owned (left (is_choose sent.ctx) numbers) o rest) now.maps)) behind_it
           ∙ goes_on (action c.args.rules.now) tt pair (with_owned numbers slots (drop i c.args.asked.now)) later c.loop-sent.part.maps c.loop-sent.replies now whole pairs did c.if-done.false c.loop-sent.invariant.told;
-      kept = subst (λ (o : List (Option ℕ)). With (IsSound Every) o c.action.new.part.maps) (sym behind_it) (subst (λ (m : Maps). With (IsSound Every) (slots_behind slots sent.commands) m) maps kept);
+      kept = subst (λ (o : List (Option ℕ)). With AnySlot (IsSound Every) o c.action.new.part.maps) (sym behind_it) (subst (λ (m : Maps). With AnySlot (IsSound Every) (slots_behind slots sent.commands) m) maps kept);
       every = c.in_ok-done.ensures.keys ∙ c.loop-sent.invariant.every;
     }
 

@@ -14,7 +14,7 @@ use Rattle.gw_cmd.specs.Suits.{IsUnused}
 use Rattle.gw_tx.specs.Owned.{is_adding, with_slots}
 use Rattle.gw_tx.specs.Transactions.{attempt, commands}
 use Rattle.gw_tx.proofs.Facts.{commands_keep_sound}
-use Rattle.gw_tx.proofs.FreeSlots.{taken, left, free_slot}
+use Rattle.gw_tx.proofs.FreeSlots.{AnySlot, taken, left, free_slot}
 use Rattle.gw_tx.proofs.Kept.{With, kept_command}
 use Rattle.gw_tx.proofs.Steps.{attempt_is}
 use Rattle.gw_tx.proofs.commands.commands.Goals as goal
@@ -58,13 +58,13 @@ loop-sent-preserved c =
     let did : now ≡ attempt c.args.rules.now c.loop-sent.at pair c.loop-sent.part.maps =
     attempt_is c.args.rules.now c.loop-sent.at c.slot_of-slot.result.0 sent c.loop-sent.part.maps c.attempt.new.part.maps c.in_ok-done.done pair c.in_ok-done.ensures.maps c.in_ok-done.ensures.answer c.slot_of-slot.ensures.own refl in
     let whole : Outcome (Attempts At CommandReply) = commands c.args.rules.now c.args.at (with_slots c.args.slots.now c.args.asked.now) c.args.part.now.maps in
-    let kept : With (IsSound Every) (left (is_adding sent) slots) (command c.args.rules.now c.loop-sent.at (taken (is_adding sent) slots) sent c.loop-sent.part.maps).maps = kept_command c.args.rules.now (commands_keep_sound c.args.rules.now) c.loop-sent.at slots sent c.loop-sent.part.maps c.loop-sent.invariant.kept in
+    let kept : With AnySlot (IsSound Every) (left (is_adding sent) slots) (command c.args.rules.now c.loop-sent.at (taken (is_adding sent) slots) sent c.loop-sent.part.maps).maps = kept_command c.args.rules.now (commands_keep_sound c.args.rules.now) c.loop-sent.at slots sent c.loop-sent.part.maps c.loop-sent.invariant.kept in
     let maps : (command c.args.rules.now c.loop-sent.at (taken (is_adding sent) slots) sent c.loop-sent.part.maps).maps ≡ c.attempt.new.part.maps = ap (λ (o : Outcome (Attempts At CommandReply)). o.maps) (sym did) in
     record {
       told = ap (λ (l : List CommandReply). behind l (commands c.args.rules.now now.answer.next (with_slots c.slot_of-slot.result.1.now rest) now.maps)) c.in_ok-append.ensures.ok
           ∙ ap (λ (o : List (Option ℕ)). behind (c.loop-sent.answers ++ now.answer.answers) (commands c.args.rules.now now.answer.next (with_slots o rest) now.maps)) c.slot_of-slot.ensures.later
           ∙ goes_on (attempt c.args.rules.now) c.loop-sent.at pair (with_slots slots (drop i c.args.asked.now)) later c.loop-sent.part.maps c.loop-sent.answers now whole pairs did c.if-done.false c.loop-sent.invariant.told;
-      kept = subst (λ (o : List (Option ℕ)). With (IsSound Every) o c.attempt.new.part.maps) (sym c.slot_of-slot.ensures.later) (subst (λ (m : Maps). With (IsSound Every) (left (is_adding sent) slots) m) maps kept);
+      kept = subst (λ (o : List (Option ℕ)). With AnySlot (IsSound Every) o c.attempt.new.part.maps) (sym c.slot_of-slot.ensures.later) (subst (λ (m : Maps). With AnySlot (IsSound Every) (left (is_adding sent) slots) m) maps kept);
       every = c.in_ok-done.ensures.keys ∙ c.loop-sent.invariant.every;
     }
 

@@ -4,6 +4,7 @@ use Rattle.gw_table.specs.Parts.{Every}
 use Rattle.gw_table.specs.WellFormed.{IsSound}
 use Rattle.gw_tx.specs.Owned.{with_slots}
 use Rattle.gw_tx.specs.Transactions.{commands}
+use Rattle.gw_tx.proofs.FreeSlots.{AnySlot}
 use Rattle.gw_tx.proofs.Kept.{With}
 use Rattle.gw_tx.proofs.commands.commands.Given as goal
 
@@ -11,6 +12,6 @@ use Rattle.gw_tx.proofs.commands.commands.Given as goal
 abbrev pub invariant-loop-sent : goal.invariant-loop-sent
 invariant-loop-sent l = record {
   told : behind l.answers (commands l.rules l.at (with_slots l.left (drop l.sent-index l.asked)) l.part.maps) ≡ commands l.rules l.fn.at (with_slots l.slots l.asked) l.fn.part.maps;
-  kept : With (IsSound Every) l.left l.part.maps;
+  kept : With AnySlot (IsSound Every) l.left l.part.maps;
   every : l.part.keys ≡ Every;
 }

@@ -13,6 +13,7 @@ use Rattle.gw_table.proofs.Folding.{ended, rest_of, goes_on, ends}
 use Rattle.gw_tx.specs.Owned.{with_slots}
 use Rattle.gw_tx.specs.Transactions.{in_each, in_all}
 use Rattle.gw_tx.proofs.Facts.{commands_keep_sound}
+use Rattle.gw_tx.proofs.FreeSlots.{AnySlot}
 use Rattle.gw_tx.proofs.Kept.{With, kept_in_each}
 use Rattle.gw_tx.proofs.Steps.{each_is}
 use Rattle.gw_tx.proofs.contexts.in_all.Goals as goal
@@ -36,7 +37,7 @@ loop-number-preserved c =
     record {
       told = ap (λ (l : List ActionReply). behind l (in_order (in_each c.args.rules.now asked) now.answer.next rest now.maps)) c.in_ok-push.ensures.ok
           ∙ goes_on (in_each c.args.rules.now asked) c.loop-number.stopped n (drop i c.args.numbers.now) rest c.loop-number.part.maps c.loop-number.answers now whole split did refl c.loop-number.invariant.told;
-      kept = subst (λ (m : Maps). With (IsSound Every) c.args.slots.now m) (sym c.in_ok-done.ensures.maps) (kept_in_each c.args.rules.now (commands_keep_sound c.args.rules.now) n c.args.slots.now c.args.asked.now c.loop-number.part.maps c.loop-number.invariant.kept);
+      kept = subst (λ (m : Maps). With AnySlot (IsSound Every) c.args.slots.now m) (sym c.in_ok-done.ensures.maps) (kept_in_each c.args.rules.now (commands_keep_sound c.args.rules.now) n c.args.slots.now c.args.asked.now c.loop-number.part.maps c.loop-number.invariant.kept);
       every = c.in_ok-done.ensures.keys ∙ c.loop-number.invariant.every;
     }
 
