@@ -175,9 +175,10 @@ fn told_of(
     if let Some(code) = refusal_elsewhere(place, old.place()) {
         return Err(Refusal::Code(code));
     }
+    let told = audit(alloc, old, descriptors)?;
     Ok(Decided {
         change: Change::Stays,
-        parts: audit(alloc, old, descriptors)?,
+        parts: told,
     })
 }
 

@@ -1,16 +1,17 @@
 //! What descriptors do to a termination: all of it, or nothing.
 
 ghost use Rattle.std.specs.Prelude.{◌≡◌, ◌≤◌, ◌++◌, IfOk, OnOk, Some};
-ghost use Rattle.gw_term.specs.Merge.{filled_in, filled_of, merged_media, stream_in, local_if};
+ghost use Rattle.gw_desc.specs.declared.descriptor.KeptKind.TheVariants.{Events, Signals, DigitMap, EventBuffer};
+ghost use Rattle.gw_term.specs.Merge.{filled_in, filled_of, merged_media, merged_tail, stream_in, local_if};
 ghost use Rattle.gw_term.specs.Applies.{Gives};
 
-use crate::copies::copied;
+use crate::copies::{Tails, copied};
 use crate::fault::ApplyFault;
 use crate::properties::{merged_properties, merged_service};
 use crate::record::{Stream, Termination};
 use crate::streams::{Merging, Target, merged_stream};
 use crate::tails::merged_tail;
-use gw_base::{Items, NoMemory, Rules};
+use gw_base::{Items, NoMemory, Rules, Service};
 use gw_desc::{Descriptor, KeptKind};
 use gw_reply::{FilledStream, KeptProperty};
 use std::alloc::Global;
@@ -101,6 +102,46 @@ fn stream_in(merging: Option<Merging>) -> Option<Stream>
     }
 }
 
+/// The tails after the descriptors.
+fn merged_tails(
+    alloc: Global,
+    descriptors: &[Descriptor<'_>],
+    old: &Termination,
+) -> Result<Tails, NoMemory>
+    ensures { IfOk result (λ tails. tails ≡ record { events = merged_tail Events descriptors.now old.now.events; signals = merged_tail Signals descriptors.now old.now.signals; digit_map = merged_tail DigitMap descriptors.now old.now.digit_map; event_buffer = merged_tail EventBuffer descriptors.now old.now.event_buffer }) }
+{
+    let events = merged_tail(alloc, KeptKind::Events, descriptors, &old.events)?;
+    let signals = merged_tail(alloc, KeptKind::Signals, descriptors, &old.signals)?;
+    let digit_map = merged_tail(alloc, KeptKind::DigitMap, descriptors, &old.digit_map)?;
+    let event_buffer = merged_tail(alloc, KeptKind::EventBuffer, descriptors, &old.event_buffer)?;
+    Ok(Tails {
+        events,
+        signals,
+        digit_map,
+        event_buffer,
+    })
+}
+
+/// What was merged takes the place of what was kept. A function of its own, since all that was kept is let go here.
+fn adopt(termination: &mut Termination, service: Service, media: Media, tails: Tails)
+    ensures { termination.new ≡ record { place = termination.old.place; service = service; slot = termination.old.slot; properties = media.properties; first = stream_in media.first; second = stream_in media.second; third = stream_in media.third; fourth = stream_in media.fourth; events = tails.events; signals = tails.signals; digit_map = tails.digit_map; event_buffer = tails.event_buffer } }
+{
+    *termination = Termination {
+        place: termination.place,
+        service,
+        slot: termination.slot,
+        properties: media.properties,
+        first: stream_in(media.first),
+        second: stream_in(media.second),
+        third: stream_in(media.third),
+        fourth: stream_in(media.fourth),
+        events: tails.events,
+        signals: tails.signals,
+        digit_map: tails.digit_map,
+        event_buffer: tails.event_buffer,
+    };
+}
+
 impl Termination {
     ghost use Rattle.std.specs.Prelude.{None};
     ghost use Rattle.gw_base.specs.declared.command_words.Verb.TheVariants.{Add as add_verb};
@@ -131,29 +172,9 @@ impl Termination {
     {
         let media = merged_media(alloc, rules, descriptors, self)?;
         let filled = filled_of(alloc, &media)?;
-        let events = merged_tail(alloc, KeptKind::Events, descriptors, &self.events)?;
-        let signals = merged_tail(alloc, KeptKind::Signals, descriptors, &self.signals)?;
-        let digit_map = merged_tail(alloc, KeptKind::DigitMap, descriptors, &self.digit_map)?;
-        let event_buffer = merged_tail(
-            alloc,
-            KeptKind::EventBuffer,
-            descriptors,
-            &self.event_buffer,
-        )?;
-        *self = Termination {
-            place: self.place,
-            service: merged_service(descriptors, self.service),
-            slot: self.slot,
-            properties: media.properties,
-            first: stream_in(media.first),
-            second: stream_in(media.second),
-            third: stream_in(media.third),
-            fourth: stream_in(media.fourth),
-            events,
-            signals,
-            digit_map,
-            event_buffer,
-        };
+        let tails = merged_tails(alloc, descriptors, self)?;
+        let service = merged_service(descriptors, self.service);
+        adopt(self, service, media, tails);
         Ok(filled)
     }
 }

@@ -143,32 +143,76 @@ fn copied_stream_if(alloc: Global, stream: &Option<Stream>) -> Result<Option<Str
     }
 }
 
+/// The streams of a termination. A type of its own, so that what is let go where memory runs out is one value.
+#[derive(Drop)]
+struct Streams {
+    first: Option<Stream>,
+    second: Option<Stream>,
+    third: Option<Stream>,
+    fourth: Option<Stream>,
+}
+
+/// Copies of the streams.
+fn copied_streams(alloc: Global, old: &Termination) -> Result<Streams, AllocError>
+    ensures { IfOk result (λ copy. copy ≡ record { first = old.now.first; second = old.now.second; third = old.now.third; fourth = old.now.fourth }) }
+{
+    let first = copied_stream_if(alloc, &old.first)?;
+    let second = copied_stream_if(alloc, &old.second)?;
+    let third = copied_stream_if(alloc, &old.third)?;
+    let fourth = copied_stream_if(alloc, &old.fourth)?;
+    Ok(Streams {
+        first,
+        second,
+        third,
+        fourth,
+    })
+}
+
+/// What a termination keeps of four descriptors, one value as `Streams` is.
+#[derive(Drop)]
+pub(crate) struct Tails {
+    pub events: Option<KeptTail>,
+    pub signals: Option<KeptTail>,
+    pub digit_map: Option<KeptTail>,
+    pub event_buffer: Option<KeptTail>,
+}
+
+/// Copies of the tails.
+fn copied_tails(alloc: Global, old: &Termination) -> Result<Tails, AllocError>
+    ensures { IfOk result (λ copy. copy ≡ record { events = old.now.events; signals = old.now.signals; digit_map = old.now.digit_map; event_buffer = old.now.event_buffer }) }
+{
+    let events = copied_tail_if(alloc, &old.events)?;
+    let signals = copied_tail_if(alloc, &old.signals)?;
+    let digit_map = copied_tail_if(alloc, &old.digit_map)?;
+    let event_buffer = copied_tail_if(alloc, &old.event_buffer)?;
+    Ok(Tails {
+        events,
+        signals,
+        digit_map,
+        event_buffer,
+    })
+}
+
 /// A copy of all that is kept of a termination.
 fn copied_termination(alloc: Global, old: &Termination) -> Result<Termination, AllocError>
     ensures { IfOk result (λ copy. copy ≡ old.now) }
 {
     let properties = copied_properties(alloc, old.properties.as_slice())?;
-    let first = copied_stream_if(alloc, &old.first)?;
-    let second = copied_stream_if(alloc, &old.second)?;
-    let third = copied_stream_if(alloc, &old.third)?;
-    let fourth = copied_stream_if(alloc, &old.fourth)?;
-    let events = copied_tail_if(alloc, &old.events)?;
-    let signals = copied_tail_if(alloc, &old.signals)?;
-    let digit_map = copied_tail_if(alloc, &old.digit_map)?;
-    let event_buffer = copied_tail_if(alloc, &old.event_buffer)?;
+    let streams = copied_streams(alloc, old)?;
+    let tails = copied_tails(alloc, old)?;
     Ok(Termination {
         place: old.place,
         service: old.service,
         slot: old.slot,
         properties,
-        first,
-        second,
-        third,
-        fourth,
-        events,
-        signals,
-        digit_map,
-        event_buffer,
+        first: streams.first,
+        second: streams.second,
+        third: streams.third,
+        fourth: streams.fourth,
+        events: tails.events,
+        signals: tails.signals,
+        digit_map: tails.digit_map,
+        event_buffer: tails.event_buffer,
     })
 }
 
