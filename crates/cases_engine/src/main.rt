@@ -1,10 +1,12 @@
 //! Cases of the gateway: datagrams, what each is answered, and the tables after them.
 #![tactic(auto)]
 
-mod configuration;
+mod answers;
+mod bursts;
 
-use cases_text::{CaseFault, Desk, decoded, number_of, transcript, write_message};
-use configuration::config_of;
+use answers::{PEER, told};
+use bursts::{add, add_many, run_burst};
+use cases_text::{CaseFault, Desk, config_of, decoded, number_of, split_word, transcript};
 use gw_base::Items;
 use gw_engine::{ConfigFault, Datagram, Gateway};
 use std::alloc::{AllocError, Global};
@@ -13,13 +15,11 @@ use std::io;
 /// What heads the datagrams of the controller that cases are about.
 const CONTROLLER: &[u8] = b"MEGACO/1 [10.0.0.9]:2944 ";
 
-/// The peer that datagrams come from.
-const PEER: u32 = 7;
-
-/// Answers cases with a gateway, which lives until the next is made.
+/// Answers cases with a gateway, which lives until the next is made, and collects datagrams for its next burst.
 #[derive(Drop)]
 struct Engine {
     gateway: Option<Gateway>,
+    burst: Items<Datagram>,
 }
 
 /// Two texts, one behind the other.
@@ -27,23 +27,6 @@ fn joined(alloc: Global, front: &[u8], behind: &[u8]) -> Result<Vec<u8>, AllocEr
     let mut text = Vec::from_slice(alloc, front)?;
     text.extend_from_slice(behind)?;
     Ok(text)
-}
-
-/// A line for each answer.
-fn told(alloc: Global, answers: &[Datagram]) -> Result<Vec<u8>, CaseFault> {
-    let mut out = Vec::new(alloc);
-    if answers.is_empty() {
-        out.extend_from_slice(b"no answer")?;
-    }
-    for answer in answers {
-        if answer.peer != PEER {
-            let peer = format!(in alloc; "to {}: ", answer.peer)?;
-            out.extend_from_slice(peer.as_bytes())?;
-        }
-        write_message(alloc, &mut out, answer.bytes.as_slice())?;
-        out.push(b'\n')?;
-    }
-    Ok(out)
 }
 
 /// The answers to a datagram.
@@ -58,9 +41,11 @@ fn run(alloc: Global, gateway: &mut Gateway, text: &[u8]) -> Result<Vec<u8>, Cas
     }
 }
 
-/// A transaction of so many actions, each of which makes a context with a termination of its own.
-fn one_context_each(alloc: Global, count: u32) -> Result<Vec<u8>, CaseFault> {
-    let mut text = joined(alloc, CONTROLLER, b"Transaction=1{")?;
+/// A transaction of this number and of so many actions, each of which makes a context with a termination of its own.
+fn one_context_each(alloc: Global, id: u32, count: u32) -> Result<Vec<u8>, CaseFault> {
+    let mut text = Vec::from_slice(alloc, CONTROLLER)?;
+    let head = format!(in alloc; "Transaction={id}{{")?;
+    text.extend_from_slice(head.as_bytes())?;
     for number in 0..count {
         let comma = if number == 0 { "" } else { "," };
         let action = format!(in alloc; "{comma}C=${{A=T/{number}}}")?;
@@ -119,10 +104,29 @@ impl Desk for Engine {
                 run(alloc, gateway, text.as_slice())
             }
             b"datagram" => run(alloc, gateway, text.as_slice()),
+            b"+Q" => {
+                add(&mut self.burst, joined(alloc, CONTROLLER, text.as_slice())?)?;
+                Ok(Vec::new(alloc))
+            }
+            b"+datagram" => {
+                add(&mut self.burst, text)?;
+                Ok(Vec::new(alloc))
+            }
+            b"+many" => {
+                add_many(alloc, &mut self.burst, CONTROLLER, text.as_slice())?;
+                Ok(Vec::new(alloc))
+            }
+            b"burst" | b"last" => {
+                let is_whole = call == b"burst".as_slice();
+                run_burst(alloc, gateway, &mut self.burst, is_whole)
+            }
             b"nothing" => run_nothing(alloc, gateway),
             b"each" => {
-                let count = number_of(text.as_slice()).ok_or(CaseFault::Form)?;
-                let text = one_context_each(alloc, count)?;
+                let (id, count) = split_word(text.as_slice());
+                let (Some(id), Some(count)) = (number_of(id), number_of(count)) else {
+                    return Err(CaseFault::Form);
+                };
+                let text = one_context_each(alloc, id, count)?;
                 run(alloc, gateway, text.as_slice())
             }
             b"prefixes" => prefixes(alloc, gateway, text.as_slice()),
@@ -136,5 +140,9 @@ impl Desk for Engine {
 }
 
 fn main(rt: HostRuntime) -> io::Result<()> {
-    transcript(&rt, &mut Engine { gateway: None })
+    let mut engine = Engine {
+        gateway: None,
+        burst: Items::new(rt.alloc()),
+    };
+    transcript(&rt, &mut engine)
 }

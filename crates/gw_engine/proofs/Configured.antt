@@ -1,9 +1,12 @@
 -- Configurations: limits that are kept, and names that are given once.
 use Rattle.std.proofs.Common.{◌≡◌, ℕ, zero, suc, ◌+◌, ◌<◌, Bool, true, false, cond, List, [], ◌∷◌, ◌++◌, length, get_or, take, Option, None, Some, bytes_eq, refl, sym, ap, subst, ◌∙◌, arith}
 use Rattle.std.specs.Prelude.{◌||◌, if◌then◌else◌}
+use Rattle.std.specs.List.{All}
 use Rattle.std.proofs.lemmas.List.{take_more}
+use Rattle.std.proofs.lemmas.List.Elements.{All-push}
 use Rattle.gw_base.specs.declared.config.Config.{Config}
 use Rattle.gw_base.specs.NameLists.{is_in, NoDoubles}
+use Rattle.gw_base.specs.Names.{IsName}
 use Rattle.gw_base.proofs.NameTests.{same_name}
 use Rattle.gw_base.proofs.NamesInLists.{or_left, or_right, itself, pushed}
 use Rattle.gw_engine.specs.declared.fault.LimitName.{LimitName}
@@ -52,18 +55,20 @@ doubled (x ∷ xs) (suc i) d h e n = by_first (bytes_eq (get_or xs i d) x) refl 
         cc
     by_first false a again = again (ap (λ b. b || is_in (get_or xs i d) (take i xs)) (sym a) ∙ e)
 
--- the names so far, none of them twice
+-- the names so far, each of its form and none of them twice
 pub record AreSeen (names seen : List (List ℕ)) : Type 0 where
   pub all : seen ≡ names
   pub once : NoDoubles names
+  pub forms : All IsName names
 
-pub seen_more : (names seen after : List (List ℕ)) (i : ℕ) (t : List ℕ) → i < length names → t ≡ get_or names i t → AreSeen (take i names) seen → is_in t seen ≡ false → after ≡ cond (is_in t seen) seen (seen ++ t ∷ []) → AreSeen (take (i + 1) names) after
-seen_more names seen after i t h e so_far new put =
+pub seen_more : (names seen after : List (List ℕ)) (i : ℕ) (t : List ℕ) → i < length names → t ≡ get_or names i t → IsName t → AreSeen (take i names) seen → is_in t seen ≡ false → after ≡ cond (is_in t seen) seen (seen ++ t ∷ []) → AreSeen (take (i + 1) names) after
+seen_more names seen after i t h e named so_far new put =
     let front : List (List ℕ) = take i names in
     let more : take (i + 1) names ≡ front ++ t ∷ [] = take_more names i t h ∙ ap (λ (x : List ℕ). front ++ x ∷ []) (sym e) in
     record {
       all = put ∙ ap (λ b. cond b seen (seen ++ t ∷ [])) new ∙ ap (λ (l : List (List ℕ)). l ++ t ∷ []) so_far.all ∙ sym more;
       once = subst (λ (l : List (List ℕ)). NoDoubles l) (sym more) (pushed t front so_far.once (ap (is_in t) (sym so_far.all) ∙ new));
+      forms = subst (λ (l : List (List ℕ)). All IsName l) (sym more) (All-push IsName front t so_far.forms named);
     }
 
 pub seen_before : (names seen : List (List ℕ)) (i : ℕ) (t : List ℕ) → i < length names → t ≡ get_or names i t → AreSeen (take i names) seen → is_in t seen ≡ true → ¬ NoDoubles names

@@ -1,3 +1,12 @@
 pub mod Configured
-pub mod Owned
-pub mod Prepared
+pub mod Turns
+pub mod Left
+pub mod Carrying
+pub mod Steps
+pub mod Adopting
+pub mod Hearing
+pub mod NewForms
+pub mod AskedForms
+pub mod RepliesKept
+pub mod ErrorsRead
+pub mod Answered

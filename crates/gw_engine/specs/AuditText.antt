@@ -55,4 +55,4 @@ audit_text g =
     cursors_line g.state.context_cursor g.state.slot_cursor
     ++ context_lines g.state.maps (numbers g.state.maps)
     ++ term_lines g.state.maps (names g.state.maps)
-    ++ kept_line (length g.state.kept)
+    ++ kept_line (length g.state.kept.pairs)

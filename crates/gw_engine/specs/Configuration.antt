@@ -1,11 +1,12 @@
 -- Which configurations make a gateway, which fault another has, and the gateway that is made (limits and their order: own).
-use Rattle.std.specs.Prelude.{◌≡◌, ℕ, Bool, true, false, ◌&&◌, if◌then◌else◌, nat_le, [], length, Option, None, Some}
+use Rattle.std.specs.Prelude.{◌≡◌, ℕ, Bool, true, false, ◌&&◌, if◌then◌else◌, nat_le, length, Option, None, Some}
 use Rattle.std.specs.List.{list_any}
 use Rattle.gw_base.specs.declared.config.Config.{Config}
 use Rattle.gw_engine.specs.declared.fault.LimitName.{LimitName}
 use Rattle.gw_engine.specs.declared.fault.LimitName.TheVariants.{Contexts, Slots, Members, Keep, Terms}
 use Rattle.gw_engine.specs.declared.fault.ConfigFault.{ConfigFault}
 use Rattle.gw_engine.specs.declared.fault.ConfigFault.TheVariants.{LimitOutOfRange, ReservedName, DuplicateName, NoMemory}
+use Rattle.gw_kept.specs.Pairs.{none_kept}
 use Rattle.gw_table.specs.Maps.{new_maps}
 use Rattle.gw_base.specs.NameLists.{NoDoubles}
 use Rattle.gw_table.specs.Reserved.{is_reserved}
@@ -59,5 +60,5 @@ pub record IsAccepted (c : Config) : Type 0 where
 abbrev pub new_gateway : Config → GatewayValue
 new_gateway c = record {
   settings = record { mid = c.mid; rules = record { media = c.media; members = c.members }; contexts = c.contexts; slots = c.slots; keep = c.keep };
-  state = record { maps = new_maps c.terms; context_cursor = 0; slot_cursor = 0; kept = [] };
+  state = record { maps = new_maps c.terms; context_cursor = 0; slot_cursor = 0; kept = none_kept c.keep };
 }

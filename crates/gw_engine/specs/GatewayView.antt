@@ -1,5 +1,5 @@
 -- A gateway's fields, as contracts see them (own).
-use Rattle.std.specs.Prelude.{◌≡◌, true, []}
+use Rattle.std.specs.Prelude.{◌≡◌, true}
 use Rattle.gw_engine.specs.declared.gateway.Gateway.TheInside.{Inside}
 use Rattle.gw_engine.specs.Configuration.{is_within, most_contexts, most_slots, most_members, most_kept}
 use Rattle.gw_engine.specs.State.{GatewayValue, IsWellFormed}
@@ -7,7 +7,7 @@ use Rattle.gw_engine.specs.State.{GatewayValue, IsWellFormed}
 abbrev pub value_of : Inside → GatewayValue
 value_of a = record {
   settings = record { mid = a.mid; rules = a.rules; contexts = a.contexts; slots = a.slots; keep = a.keep };
-  state = record { maps = a.tables; context_cursor = a.cursors.context; slot_cursor = a.cursors.slot; kept = [] };
+  state = record { maps = a.tables; context_cursor = a.cursors.context; slot_cursor = a.cursors.slot; kept = a.kept };
 }
 
 -- the limits are kept, and the state is well-formed

@@ -136,7 +136,7 @@ impl Gateway {
         write_contexts(&self.tables, numbers.as_slice(), &mut out)?;
         let names = self.tables.names(alloc)?;
         write_terms(&self.tables, names.as_slice(), &mut out)?;
-        write_kept(0, &mut out)?;
+        write_kept(self.kept.len() as u32, &mut out)?;
         Ok(out)
     }
 }

@@ -1,20 +1,23 @@
 //! The gateway: what was configured, and its state.
 
 ghost use Rattle.std.specs.Prelude.{◌≡◌, ◌⊎◌, IfOk, OnOk, IfErr};
-ghost use Rattle.std.specs.List.{list_any};
+ghost use Rattle.std.specs.List.{All, list_any};
 ghost use Rattle.gw_base.specs.NameLists.{NoDoubles};
+ghost use Rattle.gw_base.specs.Names.{IsName};
 ghost use Rattle.gw_table.specs.Reserved.{is_reserved};
 ghost use Rattle.gw_engine.specs.Configuration.{first_limit, IsFault, IsAccepted, new_gateway};
 
 use crate::fault::{ConfigFault, LimitName};
 use gw_base::{Config, Mid, Rules, TermName};
+use gw_kept::Kept;
 use gw_reserve::Cursors;
 use gw_table::{Tables, is_reserved};
 use indexmap::IndexSet;
 use std::alloc::Global;
 use std::marker::Model;
 
-/// A media gateway: its configuration, its terminations and contexts, and where the search for free identifiers begins.
+/// A media gateway: its configuration, its terminations and contexts, where the search for free identifiers
+/// begins, and the replies that are kept for repeats.
 #[derive(Drop)]
 pub struct Gateway {
     pub(crate) mid: Mid,
@@ -24,6 +27,7 @@ pub struct Gateway {
     pub(crate) keep: u32,
     pub(crate) cursors: Cursors,
     pub(crate) tables: Tables,
+    pub(crate) kept: Kept,
 }
 
 impl Model for Gateway {
@@ -76,13 +80,16 @@ fn has_reserved(names: &[TermName]) -> bool
     names.iter().any(|name| is_reserved(*name))
 }
 
-/// Tells whether a name is given twice, which is a fault.
+/// Tells whether a name is given twice, which is a fault. Each of them has its form.
 fn check_names(alloc: Global, names: &[TermName]) -> Result<(), ConfigFault>
     ensures ok { OnOk result (NoDoubles names.now) }
+    ensures forms { OnOk result (All IsName names.now) }
     ensures fault { IfErr result (λ e. ((e ≡ ConfigFault.DuplicateName) × ¬ NoDoubles names.now) ⊎ (e ≡ ConfigFault.NoMemory)) }
 {
     let mut seen = IndexSet::new(alloc);
     for name in names {
+        // No effect at run time. The proof reads here that the name has its form.
+        let _ = name.as_bytes();
         if !seen.insert(*name)? {
             return Err(ConfigFault::DuplicateName);
         }
@@ -109,7 +116,11 @@ impl Gateway {
             return Err(ConfigFault::ReservedName);
         }
         check_names(alloc, config.terms.as_slice())?;
+        // No effect at run time. The proof reads here that the mId and the address have their forms.
+        let _ = config.mid.as_bytes();
+        let _ = config.media.as_bytes();
         let tables = Tables::provision(alloc, &config)?;
+        let kept = Kept::new(alloc, config.keep)?;
         Ok(Gateway {
             mid: config.mid,
             rules: Rules {
@@ -124,6 +135,7 @@ impl Gateway {
                 slot: 0,
             },
             tables,
+            kept,
         })
     }
 }

@@ -2,12 +2,16 @@
 #![tactic(auto)]
 
 mod audit;
+mod burst;
 mod datagram;
 mod fault;
 mod gateway;
+mod heard;
+mod laws;
 mod run;
 
 pub use datagram::Datagram;
 pub use fault::{ConfigFault, LimitName};
 pub use gateway::Gateway;
 pub use gw_base::Config;
+pub use laws::answers_are_read_as_messages;

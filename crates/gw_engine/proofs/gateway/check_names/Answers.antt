@@ -16,4 +16,4 @@ returns-then-not-branch-clause-fault c =
 
 pub loop-name-preserved : goal.loop-name-preserved
 loop-name-preserved c =
-    seen_more c.args.names.now c.loop-name.seen.keys c.insert.new.self.keys c.loop-name.name-index c.name-item.result c.loop-name-test.true c.name-item.is c.loop-name.invariant (was_new c.in_ok-insert.field-0 _ c.in_ok-insert.ensures.added c.if-not-branch.false) c.in_ok-insert.ensures.keys
+    seen_more c.args.names.now c.loop-name.seen.keys c.insert.new.self.keys c.loop-name.name-index c.name-item.result c.loop-name-test.true c.name-item.is c.as_bytes.ensures.form c.loop-name.invariant (was_new c.in_ok-insert.field-0 _ c.in_ok-insert.ensures.added c.if-not-branch.false) c.in_ok-insert.ensures.keys

@@ -1,0 +1,165 @@
+-- What a gateway answers to a burst of datagrams, and the state that it leaves: the items in order of arrival, one after another
+-- (RFC 3525, section 8; the order between transactions, who owns identifiers, and the kept replies are own).
+use Rattle.std.specs.Prelude.{◌≡◌, ◌+◌, nat_lt, ℕ, if◌then◌else◌, List, [], ◌∷◌, ◌++◌, drop, Option, None, Some, Result, Ok, Err}
+use Rattle.std.specs.List.{AllZip}
+use Rattle.gw_base.specs.declared.code.Code.{Code}
+use Rattle.gw_base.specs.declared.code.Code.TheVariants.{SyntaxError, VersionNotSupported, InsufficientResources}
+use Rattle.gw_base.specs.declared.ids.CtxNum.{CtxNum}
+use Rattle.gw_base.specs.declared.ids.Ids.{Ids}
+use Rattle.gw_msg.specs.declared.message.Request.{Request}
+use Rattle.gw_msg.specs.declared.message.Item.{Item}
+use Rattle.gw_msg.specs.declared.message.Item.TheVariants as item
+use Rattle.gw_msg.specs.declared.message.Message.{Message}
+use Rattle.gw_msg.specs.declared.fault.ReadFault.TheVariants.{Version, Syntax}
+use Rattle.gw_msg.specs.Grammar.{IsReadingOf}
+use Rattle.gw_reply.specs.declared.reply.TxReply.{TxReply}
+use Rattle.gw_reply.specs.Messages.{reply_text, fault_text}
+use Rattle.gw_kept.specs.Classes.{most_new}
+use Rattle.gw_kept.specs.Pairs.{bytes_for, with_pair}
+use Rattle.gw_kept.specs.declared.entry.Entry.{Entry}
+use Rattle.gw_kept.specs.declared.entry.RequestKey.{RequestKey}
+use Rattle.gw_table.specs.Maps.{Outcome}
+use Rattle.gw_tx.specs.Transactions.{transaction}
+use Rattle.gw_reserve.specs.declared.owners.Cursors.{Cursors}
+use Rattle.gw_reserve.specs.Owners.{free_numbers, free_slots, ids_of, new_cursors, number_places, slot_places}
+use Rattle.gw_engine.specs.declared.datagram.Datagram.{Datagram}
+use Rattle.gw_engine.specs.declared.heard.Heard.{Heard}
+use Rattle.gw_engine.specs.State.{State, Settings, GatewayValue}
+
+-- ---- the messages of datagrams
+
+-- The message that the text spells; 406 where its header has another version; 400 where it is neither.
+abbrev pub IsMessageOf : List ℕ → Result Message Code → Type 0
+IsMessageOf text (Ok m) = IsReadingOf text (Ok m)
+IsMessageOf text (Err VersionNotSupported) = IsReadingOf text (Err Version)
+IsMessageOf text (Err SyntaxError) = IsReadingOf text (Err Syntax)
+IsMessageOf text (Err _) = ⊥
+
+-- who sent the datagram, and its message or error
+pub record IsHeard (d : Datagram) (h : Heard) : Type 0 where
+  pub peer : h.peer ≡ d.peer
+  pub message : IsMessageOf d.bytes h.message
+
+-- ---- between two items
+
+-- Where a burst stands: the state so far; what its requests so far have left of the numbers and slots that were free at its
+-- start; and how many of them were new.
+pub record Progress : Type 0 where
+  pub state : State
+  pub numbers : List CtxNum
+  pub slots : List ℕ
+  pub count : ℕ
+
+-- what one item is answered, and where the burst stands behind it
+pub record Step : Type 0 where
+  pub answers : List Datagram
+  pub after : Progress
+
+-- an answer for a peer
+abbrev pub answer_to : ℕ → List ℕ → List Datagram
+answer_to peer bytes = record { peer = peer; bytes = bytes } ∷ []
+
+-- an answer that changes nothing
+abbrev pub unchanged : Progress → List Datagram → Step
+unchanged p answers = record { answers = answers; after = p }
+
+-- ---- a new request
+
+abbrev pub cursors_of : State → Cursors
+cursors_of s = record { context = s.context_cursor; slot = s.slot_cursor }
+
+-- what the places of a request own: the first of what those before it left
+abbrev pub owned_by : Request → Progress → Ids
+owned_by r p = ids_of r p.numbers p.slots
+
+-- the transaction on the tables as they are, with the identifiers that it owns
+abbrev pub carried : Settings → Request → Progress → Outcome TxReply
+carried s r p = transaction s.rules r (owned_by r p) p.state.maps
+
+-- the text of its reply
+abbrev pub reply_to : Settings → Request → Progress → List ℕ
+reply_to s r p = reply_text s.mid (carried s r p).answer
+
+-- what is kept of it
+abbrev pub entry_for : List ℕ → Request → List ℕ → Entry
+entry_for mid r bytes = record { mid = mid; id = r.id; bytes = bytes }
+
+-- where the next search for free identifiers begins
+unfoldable pub cursors_after : Request → Progress → Cursors
+cursors_after r p = new_cursors (cursors_of p.state) (owned_by r p ∷ [])
+
+abbrev pub state_after : Settings → List ℕ → Request → Progress → State
+state_after s mid r p = record {
+  maps = (carried s r p).maps;
+  context_cursor = (cursors_after r p).context;
+  slot_cursor = (cursors_after r p).slot;
+  kept = with_pair p.state.kept (entry_for mid r (reply_to s r p));
+}
+
+-- It is carried out, and its reply is kept.
+abbrev pub new_step : Settings → (peer : ℕ) → (mid : List ℕ) → Request → Progress → Step
+new_step s peer mid r p = record {
+  answers = answer_to peer (reply_to s r p);
+  after = record { state = state_after s mid r p; numbers = drop (number_places r) p.numbers; slots = drop (slot_places r) p.slots; count = p.count + 1 };
+}
+
+-- ---- one item after another
+
+-- the reply to a request that comes behind too many new ones
+abbrev pub refusal_of : Request → TxReply
+refusal_of r = record { id = r.id; result = Err InsufficientResources }
+
+abbrev pub over_step : Settings → (peer : ℕ) → Request → Progress → Step
+over_step s peer r p = unchanged p (answer_to peer (reply_text s.mid (refusal_of r)))
+
+-- A request whose reply is among the kept ones is a repeat: it gets that reply. Any other is new, if fewer than so many new ones
+-- came before it.
+abbrev pub request_step : Settings → (peer : ℕ) → (mid : List ℕ) → Request → Progress → Option (List ℕ) → Step
+request_step s peer mid r p (Some bytes) = unchanged p (answer_to peer bytes)
+request_step s peer mid r p None = if nat_lt p.count most_new then new_step s peer mid r p else over_step s peer r p
+
+abbrev pub key_of_request : List ℕ → Request → RequestKey
+key_of_request mid r = record { id = r.id.0; mid = mid }
+
+-- an item of a message: what is no request gets no answer
+unfoldable pub item_step : Settings → (peer : ℕ) → (mid : List ℕ) → Item → Progress → Step
+item_step s peer mid (item.Request r) p = request_step s peer mid r p (bytes_for (key_of_request mid r) p.state.kept.pairs)
+item_step s peer mid (item.Ack ranges) p = unchanged p []
+item_step s peer mid item.Ignored p = unchanged p []
+
+-- one after another, each where the one before it left the burst
+unfoldable pub in_turn : {X : Type 0} → (X → Progress → Step) → List X → Progress → Step
+in_turn step [] p = unchanged p []
+in_turn step (x ∷ xs) p =
+    let now = step x p in
+    let rest = in_turn step xs now.after in
+    record { answers = now.answers ++ rest.answers; after = rest.after }
+
+-- the items of a message, or the error of a text that is none
+abbrev pub message_step : Settings → (peer : ℕ) → Result Message Code → Progress → Step
+message_step s peer (Ok m) p = in_turn (item_step s peer m.mid) m.items p
+message_step s peer (Err code) p = unchanged p (answer_to peer (fault_text s.mid code))
+
+abbrev pub heard_step : Settings → Heard → Progress → Step
+heard_step s h p = message_step s h.peer h.message p
+
+-- ---- a burst
+
+-- before its first item: what is free is listed from the cursors on
+abbrev pub start_of : GatewayValue → Progress
+start_of g = record {
+  state = g.state;
+  numbers = free_numbers g.state.maps g.state.context_cursor g.settings.contexts;
+  slots = free_slots g.state.maps g.state.slot_cursor g.settings.slots;
+  count = 0;
+}
+
+unfoldable pub burst_outcome : GatewayValue → List Heard → Step
+burst_outcome g heard = in_turn (heard_step g.settings) heard (start_of g)
+
+-- The answers, in order of arrival and each for the peer that asked, and the state afterwards, are those of the burst's messages.
+pub record AnswersBurst (old : GatewayValue) (burst : List Datagram) (answers : List Datagram) (new : GatewayValue) : Type 0 where
+  pub heard : List Heard
+  pub read : AllZip IsHeard burst heard
+  pub answers_are : answers ≡ (burst_outcome old heard).answers
+  pub state : new ≡ record { settings = old.settings; state = (burst_outcome old heard).after.state }
