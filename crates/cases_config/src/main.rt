@@ -1,9 +1,11 @@
 //! Cases of configurations: texts, and the configuration or the line that each is answered with.
 #![tactic(auto)]
 
-use cases_text::{CaseFault, Desk, decoded, transcript};
+use cases_text::{CaseFault, Desk, decoded, shown, transcript};
+use gw_base::Config;
 use gw_front::{ConfigTextFault, read_config};
 use std::alloc::Global;
+use std::fmt::Display;
 use std::io;
 
 /// The most bytes of a configuration.
@@ -13,29 +15,41 @@ const LONGEST: usize = 16_777_216;
 #[derive(Drop)]
 struct Configurations;
 
+/// A space and a value, as a program shows it.
+fn write_next<T: Display>(alloc: Global, out: &mut Vec<u8>, value: &T) -> Result<(), CaseFault> {
+    let text = shown(alloc, value)?;
+    out.push(b' ')?;
+    Ok(out.extend_from_slice(text.as_slice())?)
+}
+
+/// The configuration in one line.
+fn told(alloc: Global, config: &Config) -> Result<Vec<u8>, CaseFault> {
+    let mut out = shown(alloc, &config.mid)?;
+    write_next(alloc, &mut out, &config.media)?;
+    write_next(alloc, &mut out, &config.contexts)?;
+    write_next(alloc, &mut out, &config.slots)?;
+    write_next(alloc, &mut out, &config.members)?;
+    write_next(alloc, &mut out, &config.keep)?;
+    for term in config.terms.as_slice() {
+        write_next(alloc, &mut out, term)?;
+    }
+    Ok(out)
+}
+
 /// What a text is answered with.
 fn answer(alloc: Global, text: &[u8]) -> Result<Vec<u8>, CaseFault> {
     if text.len() > LONGEST {
         return Err(CaseFault::Form);
     }
-    let config = match read_config(alloc, text) {
-        Ok(config) => config,
+    match read_config(alloc, text) {
+        Ok(config) => told(alloc, &config),
         Err(ConfigTextFault::Line(number)) => {
-            let line = format!(in alloc; "line {number}")?;
-            return Ok(Vec::from_slice(alloc, line.as_bytes())?);
+            let mut out = Vec::from_slice(alloc, b"line")?;
+            write_next(alloc, &mut out, &number)?;
+            Ok(out)
         }
-        Err(ConfigTextFault::NoMemory) => return Err(CaseFault::NoMemory),
-    };
-    let (mid, media) = (config.mid, config.media);
-    let (contexts, slots) = (config.contexts, config.slots);
-    let (members, keep) = (config.members, config.keep);
-    let once = format!(in alloc; "{mid} {media} {contexts} {slots} {members} {keep}")?;
-    let mut out = Vec::from_slice(alloc, once.as_bytes())?;
-    for term in config.terms.as_slice() {
-        let name = format!(in alloc; " {term}")?;
-        out.extend_from_slice(name.as_bytes())?;
+        Err(ConfigTextFault::NoMemory) => Err(CaseFault::NoMemory),
     }
-    Ok(out)
 }
 
 impl Desk for Configurations {

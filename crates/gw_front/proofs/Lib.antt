@@ -1,3 +1,13 @@
-pub mod Values
 pub mod FirstLines
 pub mod Partway
+pub mod Streams
+pub mod Moving
+pub mod HeaderForms
+pub mod AnswerPieces
+pub mod Pieces
+pub mod Courses
+pub mod OneReading
+pub mod Served
+pub mod Values
+pub mod OneFault
+pub mod Outcomes

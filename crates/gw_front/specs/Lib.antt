@@ -1,2 +1,11 @@
 pub mod ConfigTexts
+pub mod Serving
 pub mod Settings
+pub mod Records
+pub mod RecordFaults
+pub mod Headers
+pub mod Inputs
+pub mod Outputs
+pub mod AnswerTexts
+pub mod Replays
+pub mod Replaying

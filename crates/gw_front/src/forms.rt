@@ -9,7 +9,7 @@ use gw_base::{MediaAddr, Mid, TermName};
 use gw_text::Cursor;
 
 /// What stands behind the keyword and its space, if the line begins so.
-fn behind<'a>(line: &'a [u8], keyword: &[u8]) -> Option<&'a [u8]>
+pub(crate) fn behind<'a>(line: &'a [u8], keyword: &[u8]) -> Option<&'a [u8]>
     ensures { MatchOption result ((rest : List ℕ) → line.now ≢ keyword.now ++ rest) (λ rest. line.now ≡ keyword.now ++ rest.now) }
 {
     line.strip_prefix(keyword)
@@ -53,7 +53,7 @@ pub(crate) fn name_behind(line: &[u8]) -> Option<TermName>
 }
 
 /// The number that a text is.
-fn number_of(text: &[u8]) -> Option<u32>
+pub(crate) fn number_of(text: &[u8]) -> Option<u32>
     ensures { MatchOption result ((n : ℕ) → ¬ IsUint32 n text.now) (λ n. IsUint32 n text.now) }
 {
     let mut cursor = Cursor::new(text);

@@ -1,0 +1,5 @@
+use Rattle.gw_front.proofs.OneReading.{bursts_one}
+use Rattle.gw_front.proofs.replay_laws.bursts_are_one.Goals as goal
+
+pub returns : goal.returns
+returns c = bursts_one

@@ -1,0 +1,10 @@
+use Rattle.std.proofs.Common.{◌≡◌, []}
+use Rattle.gw_front.specs.Replaying.{IsSoFar}
+use Rattle.gw_front.proofs.replaying.replay_all.Given as goal
+
+-- the bursts so far were carried out and answered, and the buffer has nothing
+abbrev pub invariant-loop-turn : goal.invariant-loop-turn
+invariant-loop-turn g l = record {
+  so_far : IsSoFar (g.R.Read.remaining l.fn.input) (g.R.Read.remaining l.input) (g.W.Write.contents l.fn.out) (g.W.Write.contents l.out) l.fn.gateway l.gateway l.counts;
+  empty : l.held.items ≡ [];
+}

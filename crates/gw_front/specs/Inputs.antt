@@ -1,0 +1,78 @@
+-- What reading a part of a record tells (own).
+use Rattle.std.specs.Prelude.{◌≡◌, ◌≢◌, ◌∷◌, [], ◌++◌, ℕ, ◌<◌, ◌≤◌, List, length, codes, Option, Result, Ok, Err, IfSome}
+use Rattle.std.specs.Io.KnownBytes.{Consumes, IsAtEnd}
+use Rattle.gw_front.specs.declared.replay_fault.ReplayFault.{ReplayFault}
+use Rattle.gw_front.specs.declared.replay_fault.ReplayFault.TheVariants.{BadHeader, Truncated, TooLong, Read, Write, NoMemory}
+use Rattle.gw_front.specs.declared.burst_reading.Piece.{Piece}
+use Rattle.gw_front.specs.declared.burst_reading.Piece.TheVariants as piece
+use Rattle.gw_front.specs.declared.burst_reading.Next.{Next}
+use Rattle.gw_front.specs.declared.burst_reading.Next.TheVariants as next
+use Rattle.gw_front.specs.Records.{IsRecord, IsBurst, IsLastBurst, most_datagrams}
+use Rattle.gw_front.specs.RecordFaults.{line_feed, IsLongLine, IsCutLine, HasFault, IsFirstFault}
+
+-- the input has fewer bytes than were asked for, if it is told to be cut
+abbrev pub IsShorter : ℕ → Option (List ℕ) → ReplayFault → Type 0
+IsShorter count input Truncated = IfSome input (λ rest. length rest < count)
+IsShorter count input Read = Unit {0}
+IsShorter count input NoMemory = Unit {0}
+IsShorter count input BadHeader = ⊥
+IsShorter count input TooLong = ⊥
+IsShorter count input Write = ⊥
+
+-- the input begins with no line that is short enough
+abbrev pub IsBadLine : Option (List ℕ) → ReplayFault → Type 0
+IsBadLine input BadHeader = IfSome input IsLongLine
+IsBadLine input Truncated = IfSome input IsCutLine
+IsBadLine input Read = Unit {0}
+IsBadLine input NoMemory = ⊥
+IsBadLine input TooLong = ⊥
+IsBadLine input Write = ⊥
+
+-- so many bytes, and another byte than a line feed
+pub record IsUnended (count : ℕ) (text : List ℕ) : Type 0 where
+  pub bytes : List ℕ
+  pub byte : ℕ
+  pub after : List ℕ
+  pub split : text ≡ bytes ++ byte ∷ after
+  pub all : length bytes ≡ count
+  pub other : byte ≢ line_feed
+
+-- the input begins with no datagram of so many bytes and a line feed
+abbrev pub IsBadDatagram : ℕ → Option (List ℕ) → ReplayFault → Type 0
+IsBadDatagram count input BadHeader = IfSome input (IsUnended count)
+IsBadDatagram count input Truncated = IfSome input (λ rest. length rest ≤ count)
+IsBadDatagram count input Read = Unit {0}
+IsBadDatagram count input NoMemory = Unit {0}
+IsBadDatagram count input TooLong = ⊥
+IsBadDatagram count input Write = ⊥
+
+-- the fault, where it is one of the text, is what is at
+abbrev pub IsFaultAt : (ReplayFault → List ℕ → Type 0) → Option (List ℕ) → ReplayFault → Type 0
+IsFaultAt At input BadHeader = IfSome input (At BadHeader)
+IsFaultAt At input Truncated = IfSome input (At Truncated)
+IsFaultAt At input TooLong = IfSome input (At TooLong)
+IsFaultAt At input Read = Unit {0}
+IsFaultAt At input NoMemory = Unit {0}
+IsFaultAt At input Write = ⊥
+
+-- the text was taken from the input
+abbrev pub Takes : (List ℕ → Type 0) → Option (List ℕ) → Option (List ℕ) → Type 0
+Takes Form old new = (text : List ℕ) × Form text × Consumes old new text
+
+-- nothing was taken, and nothing is left
+abbrev pub Ends : Option (List ℕ) → Option (List ℕ) → Type 0
+Ends old new = Consumes old new [] × IsAtEnd new
+
+-- a record was taken, n datagrams of its burst before it
+abbrev pub IsPiece : ℕ → Option (List ℕ) → Option (List ℕ) → Result Piece ReplayFault → Type 0
+IsPiece n old new (Ok (piece.Datagram d)) = (n < most_datagrams) × Takes (IsRecord d) old new
+IsPiece n old new (Ok piece.Stop) = Consumes old new (codes ".\n")
+IsPiece n old new (Ok piece.End) = Ends old new
+IsPiece n old new (Err fault) = IsFaultAt (λ f. HasFault f n) old fault
+
+-- a burst was taken
+abbrev pub IsNext : Option (List ℕ) → Option (List ℕ) → Result Next ReplayFault → Type 0
+IsNext old new (Ok (next.Burst burst)) = Takes (IsBurst burst) old new
+IsNext old new (Ok (next.Last burst)) = Takes (IsLastBurst burst) old new × IsAtEnd new
+IsNext old new (Ok next.End) = Ends old new
+IsNext old new (Err fault) = IsFaultAt IsFirstFault old fault

@@ -1,0 +1,90 @@
+//! Replays: bursts read from an input, carried out, and answered to an output.
+
+ghost use Rattle.std.specs.Prelude.{◌≡◌, [], OnOk};
+ghost use Rattle.gw_front.specs.Replaying.{IsBurstDone};
+ghost use Rattle.gw_front.specs.Replays.{IsReplay};
+
+use crate::answers::write_answers;
+use crate::burst_reading::{Next, next_burst};
+use crate::counted::Counted;
+use crate::counts::Counts;
+use crate::replay_fault::ReplayFault;
+use gw_engine::{Datagram, Gateway};
+use std::alloc::Global;
+use std::io::{BufReader, Read, Write};
+
+/// How many bytes are read at a time, and how many are gathered for one write.
+const PIECE: usize = 65_536;
+
+/// Carries a burst out and writes its answers; the counts with it.
+fn carry_out<W: Write>(
+    alloc: Global,
+    out: &mut W,
+    held: &mut Vec<u8>,
+    gateway: &mut Gateway,
+    burst: &[Datagram],
+    counts: Counts,
+) -> Result<Counts, ReplayFault>
+    requires { held.old.items ≡ [] }
+    ensures done { IsBurstDone burst.now counts (W.contents out.old) (W.contents out.new) gateway.old gateway.new result }
+    ensures empty { OnOk result (held.new.items ≡ []) }
+{
+    let answers = gateway.run(alloc, burst)?;
+    // No replay lives to see so many answers. They could not be told, so this burst's are not written.
+    let Some(counts) = counts.with_burst(burst.len(), answers.len()) else {
+        return Err(ReplayFault::Write);
+    };
+    write_answers(out, held, answers.as_slice())?;
+    Ok(counts)
+}
+
+/// Carries out the bursts of an input, one after another.
+fn replay_all<R: Read, W: Write>(
+    alloc: Global,
+    input: &mut R,
+    out: &mut W,
+    held: &mut Vec<u8>,
+    gateway: &mut Gateway,
+) -> Result<Counts, ReplayFault>
+    requires { held.old.items ≡ [] }
+    ensures { IsReplay (R.remaining input.old) (W.contents out.old) (W.contents out.new) gateway.old gateway.new result }
+{
+    let mut counts = Counts::NONE;
+    for _turn in 0..u64::MAX {
+        match next_burst(alloc, input)? {
+            Next::Burst(burst) => {
+                counts = carry_out(alloc, out, held, gateway, burst.as_slice(), counts)?;
+            }
+            Next::Last(burst) => {
+                return carry_out(alloc, out, held, gateway, burst.as_slice(), counts);
+            }
+            Next::End => return Ok(counts),
+        }
+    }
+    Err(ReplayFault::Read)
+}
+
+/// Carries out the bursts of an input, one after another, and writes the answers of each, when all of them stand, in the form
+/// in which bursts are read: `D <peer> <length>` and a line feed, so many bytes, a line feed; `.` and a line feed end a burst.
+/// At most one burst is kept in memory. Reads and writes that a signal interrupts are tried again.
+///
+/// # Errors
+///
+/// The bursts before the fault were carried out, and their answers are out whole. `BadHeader`, `Truncated` and `TooLong` where
+/// that is wrong first in what follows them; `Read` where a read failed, or after 4,294,967,295 reads; `NoMemory` where a growth
+/// was refused: of the burst in hand nothing was carried out, and nothing is out. `Write` where a write failed or took 0 bytes:
+/// the burst in hand was carried out, and a front of the text of its answers is out.
+pub fn replay<R: Read, W: Write>(
+    alloc: Global,
+    reader: &mut R,
+    writer: &mut W,
+    gateway: &mut Gateway,
+) -> Result<Counts, ReplayFault>
+    ensures { IsReplay (R.remaining reader.old) (W.contents writer.old) (W.contents writer.new) gateway.old gateway.new result }
+{
+    let Ok(mut input) = BufReader::with_capacity(alloc, PIECE, Counted::new(reader)) else {
+        return Err(ReplayFault::NoMemory);
+    };
+    let mut held = Vec::with_capacity(alloc, PIECE)?;
+    replay_all(alloc, &mut input, writer, &mut held, gateway)
+}
