@@ -1,3 +1,3 @@
 pub mod Faults
-pub mod Program
+pub mod Outcomes
 pub mod Start

@@ -1,13 +1,14 @@
-//! The program `h248gw` apart from its streams.
-//!
-//! It reads one datagram from a reader to its end, and writes the answer to a writer.
+//! The program `h248gw` apart from its streams: its commands, their faults and statuses.
 #![tactic(auto)]
 
-mod datagrams;
+mod check;
+mod command_line;
+mod ended;
 mod entry;
 mod fault;
+mod file;
 mod gateway;
-mod writing;
 
-pub use entry::program;
+pub use ended::Ended;
+pub use entry::{program, unreadable_words};
 pub use fault::Fault;

@@ -1,7 +1,13 @@
-//! Tests of the program over streams in memory, and over streams that fail, and of calls that no case shows.
+//! Tests of the program by its words and over streams that fail, of serving, and of calls that no case shows.
 #![tactic(auto)]
 
+#[cfg(test)]
+mod faults;
 #[cfg(test)]
 mod members;
 #[cfg(test)]
 mod program;
+#[cfg(test)]
+mod replay;
+#[cfg(test)]
+mod serving;

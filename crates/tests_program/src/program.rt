@@ -1,21 +1,19 @@
-//! The program over streams in memory, and over streams that fail.
+//! The program by its words: what each command writes and which status it ends with.
 
-use gw_base::NoMemory;
-use gw_engine::{ConfigFault, LimitName};
-use gw_program::{Fault, program};
+use gw_program::program;
+use std::fs::{self, File};
 use std::io::{self, Error, ErrorKind, Read, Write};
+use std::net::Net;
+use std::rt::Files;
+use std::sync::Wait;
 use std::test::Fail;
 
-/// A transaction, and its answer.
-const ASKED: &[u8] = b"MEGACO/1 [10.0.0.9]:2944 Transaction=1{Context=${Add=T/1,Add=T/2}}";
+/// The built-in configuration, as a text.
+const CONFIGURATION: &str =
+    "mid [10.0.0.1]:2944\nmedia 10.0.0.1\ncontexts 8\nslots 4\nmembers 3\nkeep 4\nterm T/1\nterm T/2\nterm T/3\nterm T/4\n";
 
-const ANSWERED: &[u8] = b"MEGACO/1 [10.0.0.1]:2944\nReply=1{Context=1{Add=T/1,Add=T/2}}";
-
-/// What is answered to a text that is no message.
-const REFUSED: &[u8] = b"MEGACO/1 [10.0.0.1]:2944\nError=400{\"Syntax error in message\"}";
-
-/// How many bytes a datagram may have.
-const LONGEST_DATAGRAM: usize = 65_507;
+/// What `check` says of it.
+const CHECKED: &str = "ok terms=4 contexts=8 slots=4 members=3 keep=4\n";
 
 /// A stream that takes and gives nothing.
 #[derive(Drop)]
@@ -37,195 +35,135 @@ impl Write for Broken {
     }
 }
 
-/// A reader that gives a byte at a time, each after a signal.
+/// What a run of the program left.
 #[derive(Drop)]
-struct Slow<'a> {
-    rest: &'a [u8],
-    is_interrupted: bool,
+struct Run {
+    status: u8,
+    out: Vec<u8>,
+    err: Vec<u8>,
 }
 
-impl Read for Slow<'_> {
-    fn read(&mut self, buf: &mut [u8]) -> io::Result<usize> {
-        self.is_interrupted = !self.is_interrupted;
-        if self.is_interrupted {
-            return Err(Error::from(ErrorKind::Interrupted));
-        }
-        let [first, rest @ ..] = self.rest else {
-            return Ok(0);
-        };
-        let [place, ..] = buf else {
-            return Ok(0);
-        };
-        *place = *first;
-        self.rest = rest;
-        Ok(1)
-    }
-}
-
-/// A writer that takes some bytes, one at a time and each after a signal, and then fails, or takes nothing more; or whose
-/// flush fails.
-#[derive(Drop)]
-struct Narrow {
-    taken: Vec<u8>,
-    room: usize,
-    is_interrupted: bool,
-    ends: io::Result<usize>,
-}
-
-impl Write for Narrow {
-    fn write(&mut self, buf: &[u8]) -> io::Result<usize> {
-        self.is_interrupted = !self.is_interrupted;
-        if self.is_interrupted {
-            return Err(Error::from(ErrorKind::Interrupted));
-        }
-        if self.room == 0 {
-            return match &self.ends {
-                Ok(count) => Ok((*count).min(buf.len())),
-                Err(e) => Err(Error::from(e.kind())),
-            };
-        }
-        let [first, ..] = buf else {
-            return Ok(0);
-        };
-        self.room -= 1;
-        self.taken.push(*first)?;
-        Ok(1)
-    }
-
-    fn flush(&mut self) -> io::Result<()> {
-        match &self.ends {
-            Ok(_) => Ok(()),
-            Err(e) => Err(Error::from(e.kind())),
-        }
-    }
-}
-
-#[test]
-fn one_datagram_and_its_answer(rt: HostRuntime) -> Result<(), Fail> {
+/// Runs the program on the words, with no input.
+fn run_of<R: Files + Net + Wait + AllocGlobal>(rt: &R, words: &[&str]) -> Run {
     let (mut out, mut err) = (Vec::new(rt.alloc()), Vec::new(rt.alloc()));
-    let mut asked = ASKED;
-    assert_eq!(rt; program(rt.alloc(), &mut asked, &mut out, &mut err), 0);
-    assert_eq!(rt; out.as_slice(), ANSWERED);
-    assert!(rt; err.is_empty());
-    Ok(())
+    let mut input = b"".as_slice();
+    let status = program(rt, words, &mut input, &mut out, &mut err);
+    Run { status, out, err }
+}
+
+/// Whether the bytes hold the text.
+fn holds(bytes: &[u8], text: &[u8]) -> bool {
+    text.is_empty() || bytes.windows(text.len()).any(|part| part == text)
 }
 
 #[test]
-fn a_datagram_that_comes_slowly(rt: HostRuntime) -> Result<(), Fail> {
-    let (mut out, mut err) = (Vec::new(rt.alloc()), Vec::new(rt.alloc()));
-    let mut asked = Slow {
-        rest: ASKED,
-        is_interrupted: false,
-    };
-    assert_eq!(rt; program(rt.alloc(), &mut asked, &mut out, &mut err), 0);
-    assert_eq!(rt; out.as_slice(), ANSWERED);
-    Ok(())
-}
-
-#[test]
-fn a_datagram_of_each_length(rt: HostRuntime) -> Result<(), Fail> {
-    let cases: [(usize, u8, &[u8], &[u8]); 4] = [
-        (0, 0, REFUSED, b""),
-        (LONGEST_DATAGRAM, 0, REFUSED, b""),
-        (LONGEST_DATAGRAM + 1, 1, b"", b"h248gw: replay too long\n"),
-        (1_000_000, 1, b"", b"h248gw: replay too long\n"),
-    ];
-    for (length, status, answered, line) in cases {
-        let (mut out, mut err) = (Vec::new(rt.alloc()), Vec::new(rt.alloc()));
-        let asked = vec![in rt.alloc(); b' '; length]?;
-        let mut reader = asked.as_slice();
-        assert_eq!(rt;
-            program(rt.alloc(), &mut reader, &mut out, &mut err),
-            status,
-            "{length} bytes"
-        );
-        assert_eq!(rt; out.as_slice(), answered, "{length} bytes");
-        assert_eq!(rt; err.as_slice(), line, "{length} bytes");
-    }
-    Ok(())
-}
-
-#[test]
-fn a_failed_read(rt: HostRuntime) -> Result<(), Fail> {
-    let (mut out, mut err) = (Vec::new(rt.alloc()), Vec::new(rt.alloc()));
-    let mut asked = ASKED.chain(Broken);
-    assert_eq!(rt; program(rt.alloc(), &mut asked, &mut out, &mut err), 1);
-    assert!(rt; out.is_empty());
-    assert_eq!(rt; err.as_slice(), b"h248gw: replay read\n".as_slice());
-    Ok(())
-}
-
-#[test]
-fn a_failed_write(rt: HostRuntime) -> Result<(), Fail> {
+fn a_configuration_is_checked(rt: HostRuntime) -> Result<(), Fail> {
+    let file = "/tmp/h248gw-checked.conf";
+    fs::write(&rt, file, CONFIGURATION)?;
+    let run = run_of(&rt, &["check", file]);
+    assert_eq!(rt; run.status, 0);
+    assert_eq!(rt; run.out.as_slice(), CHECKED.as_bytes());
+    assert!(rt; run.err.is_empty());
+    let mut input = b"".as_slice();
     let mut err = Vec::new(rt.alloc());
-    let mut asked = ASKED;
-    assert_eq!(rt; program(rt.alloc(), &mut asked, &mut Broken, &mut err), 1);
-    assert_eq!(rt; err.as_slice(), b"h248gw: replay write\n".as_slice());
-    let mut asked = ASKED;
+    let words = ["check", file];
     assert_eq!(rt;
-        program(rt.alloc(), &mut asked, &mut Broken, &mut Broken),
+        program(&rt, words.as_slice(), &mut input, &mut Broken, &mut err),
         1
     );
+    assert_eq!(rt; err.as_slice(), b"h248gw: replay write\n".as_slice());
+    fs::remove_file(&rt, file)?;
     Ok(())
 }
 
-// A write that takes 0 bytes, a write that fails, and a flush that fails.
 #[test]
-fn a_front_of_the_answer_is_out_after_a_failed_write(rt: HostRuntime) -> Result<(), Fail> {
-    for room in 0..ANSWERED.len() + 1 {
-        for ends in [Ok(0), Err(Error::from(ErrorKind::BrokenPipe))] {
-            let is_whole = room == ANSWERED.len() && ends.is_ok();
-            let mut out = Narrow {
-                taken: Vec::new(rt.alloc()),
-                room,
-                is_interrupted: false,
-                ends,
-            };
-            let mut err = Vec::new(rt.alloc());
-            let mut asked = ASKED;
-            let status = program(rt.alloc(), &mut asked, &mut out, &mut err);
-            assert_eq!(rt; out.taken.as_slice(), &ANSWERED[..room], "{room} bytes");
-            assert_eq!(rt; status == 0, is_whole, "{room} bytes");
-            assert_eq!(rt; err.is_empty(), is_whole, "{room} bytes");
+fn words_and_their_statuses(rt: HostRuntime) -> Result<(), Fail> {
+    let missing = "/tmp/h248gw-missing.conf";
+    let cases: [(&[&str], u8, &[u8], &[u8]); 8] = [
+        (&["--help"], 0, b"Usage: h248gw [COMMAND]", b""),
+        (&["check", "--help"], 0, b"Usage: h248gw check <FILE>", b""),
+        (&["serve", "--help"], 0, b"[default: 0.0.0.0:2944]", b""),
+        (&["--version"], 0, b"h248gw 0.1.0\n", b""),
+        (&["check"], 2, b"", b"<FILE>"),
+        (&["nonsense"], 2, b"", b"nonsense"),
+        (&["serve", missing, "--bursts", "-1"], 2, b"", b"-1"),
+        (
+            &["check", missing],
+            1,
+            b"",
+            b"h248gw: cannot read /tmp/h248gw-missing.conf\n",
+        ),
+    ];
+    for (words, status, out, err) in cases {
+        let run = run_of(&rt, words);
+        assert_eq!(rt; run.status, status, "{words:?}");
+        assert!(rt; holds(run.out.as_slice(), out), "{words:?}");
+        assert!(rt; holds(run.err.as_slice(), err), "{words:?}");
+        assert_eq!(rt; run.out.is_empty(), out.is_empty(), "{words:?}");
+        assert_eq!(rt; run.err.is_empty(), err.is_empty(), "{words:?}");
+    }
+    Ok(())
+}
+
+#[test]
+fn a_configuration_with_a_fault(rt: HostRuntime) -> Result<(), Fail> {
+    let file = "/tmp/h248gw-fault.conf";
+    let head = "mid [10.0.0.1]:2944\nmedia 10.0.0.1\n";
+    let cases = [
+        ("contexts x\n", "h248gw: config line 3\n"),
+        ("contexts 8\n", "h248gw: config line 4\n"),
+        (
+            "contexts 8\nslots 4\nmembers 65\nkeep 4\n",
+            "h248gw: config limit\n",
+        ),
+        (
+            "contexts 8\nslots 4\nmembers 3\nkeep 0\nterm RTP/0\n",
+            "h248gw: config limit\n",
+        ),
+        (
+            "contexts 8\nslots 4\nmembers 3\nkeep 4\nterm RTP/0\n",
+            "h248gw: config reserved name\n",
+        ),
+        (
+            "contexts 8\nslots 4\nmembers 3\nkeep 4\nterm T/1\nterm T/1\n",
+            "h248gw: config duplicate name\n",
+        ),
+    ];
+    for (rest, line) in cases {
+        fs::write(&rt, file, format!(in rt.alloc(); "{head}{rest}")?)?;
+        let checked = run_of(&rt, &["check", file]);
+        let served = run_of(&rt, &["serve", file, "--listen", "x"]);
+        for run in [checked, served] {
+            assert_eq!(rt; run.status, 1, "{rest}");
+            assert!(rt; run.out.is_empty(), "{rest}");
+            assert_eq!(rt; run.err.as_slice(), line.as_bytes(), "{rest}");
         }
     }
-    Ok(())
-}
-
-// A byte 0 is a byte like others: the text is read, and is no message.
-#[test]
-fn a_text_with_a_byte_0(rt: HostRuntime) -> Result<(), Fail> {
-    let (mut out, mut err) = (Vec::new(rt.alloc()), Vec::new(rt.alloc()));
-    let mut asked = b"MEGACO/1\0".as_slice();
-    assert_eq!(rt; program(rt.alloc(), &mut asked, &mut out, &mut err), 0);
-    assert_eq!(rt; out.as_slice(), REFUSED);
-    assert!(rt; err.is_empty());
+    fs::remove_file(&rt, file)?;
     Ok(())
 }
 
 #[test]
-fn each_fault_has_its_line(rt: HostRuntime) -> Result<(), Fail> {
-    let table = [
-        (
-            Fault::from(ConfigFault::LimitOutOfRange(LimitName::Keep)),
-            "h248gw: config limit",
-        ),
-        (
-            Fault::from(ConfigFault::ReservedName),
-            "h248gw: config reserved name",
-        ),
-        (
-            Fault::from(ConfigFault::DuplicateName),
-            "h248gw: config duplicate name",
-        ),
-        (Fault::from(ConfigFault::NoMemory), "h248gw: no memory"),
-        (Fault::from(NoMemory), "h248gw: no memory"),
-        (Fault::ReplayTooLong, "h248gw: replay too long"),
-        (Fault::ReplayRead, "h248gw: replay read"),
-        (Fault::ReplayWrite, "h248gw: replay write"),
-    ];
-    for (fault, line) in table {
-        assert_eq!(rt; format!(in rt.alloc(); "{fault}")?.as_str(), line);
+fn a_file_that_is_too_long_or_no_file(rt: HostRuntime) -> Result<(), Fail> {
+    let file = "/tmp/h248gw-long.conf";
+    let (longest, line): (u64, &[u8]) = (
+        16_777_216,
+        b"h248gw: cannot read /tmp/h248gw-long.conf\n",
+    );
+    for (length, said) in [
+        (longest, b"h248gw: config line 1\n".as_slice()),
+        (longest + 1, line),
+    ] {
+        File::create(&rt, file)?.set_len(length)?;
+        let run = run_of(&rt, &["check", file]);
+        assert_eq!(rt; run.status, 1, "{length} bytes");
+        assert_eq!(rt; run.err.as_slice(), said, "{length} bytes");
     }
+    fs::remove_file(&rt, file)?;
+    let run = run_of(&rt, &["check", "/tmp"]);
+    assert_eq!(rt;
+        run.err.as_slice(),
+        b"h248gw: cannot read /tmp\n".as_slice()
+    );
     Ok(())
 }

@@ -1,0 +1,153 @@
+//! The command line: its words, and what they ask for.
+
+use clap::{Arg, ArgMatches, Command, Error, value_parser};
+use std::alloc::{AllocError, Global};
+use std::convert::AsStr;
+
+/// The address that is served where the words name none: any of the host, at the port for text.
+const EVERYWHERE: &str = "0.0.0.0:2944";
+
+const ABOUT: &str =
+    "The command side of an H.248 (Megaco) media gateway, version 1 in the text encoding (RFC 3525)
+
+Datagrams from controllers go in, a reply goes out for each transaction. With no words the program replays standard input with a
+configuration of its own: terminations T/1 to T/4, 8 contexts of at most 3 members, 4 slots, 4 kept replies.";
+
+const AFTER: &str = "Exit status:
+  0  done; help too
+  1  a fault; one line on standard error says which
+  2  the command line asks for nothing that there is
+
+Example:
+  h248gw check four.conf
+  h248gw replay four.conf < call.replay
+  h248gw serve four.conf --listen 127.0.0.1:2944";
+
+const CHECK: &str = "Reads a configuration and prints its numbers";
+
+const CHECK_LONG: &str = "Reads a configuration and prints its numbers
+
+Reads FILE, makes the gateway that it describes, and writes one line to standard output:
+  ok terms=4 contexts=8 slots=4 members=3 keep=4";
+
+const REPLAY: &str = "Answers recorded datagrams";
+
+const REPLAY_LONG: &str = "Answers recorded datagrams
+
+Reads FILE and makes its gateway. Reads bursts of datagrams from standard input and writes the answers to standard output, both as
+  D <peer> <length>   a line, then so many bytes and a line feed: a datagram from, or to, a peer
+  .                   a line: the burst ends, and is answered";
+
+const SERVE: &str = "Answers controllers over UDP";
+
+const SERVE_LONG: &str = "Answers controllers over UDP
+
+Reads FILE and makes its gateway. Binds the address, writes a line `listening` to standard output, and answers each datagram to
+where it came from, until it is ended by a signal. The calls of a gateway that ends are lost.";
+
+/// What the words ask for.
+#[derive(Clone, Copy)]
+pub(crate) enum Job<'a> {
+    /// A replay with the built-in configuration.
+    BuiltIn,
+    /// The numbers of a configuration.
+    Check {
+        file: &'a str,
+    },
+    /// A replay.
+    Replay {
+        file: &'a str,
+    },
+    /// Controllers over UDP, for so many bursts or without end.
+    Serve {
+        file: &'a str,
+        listen: &'a str,
+        bursts: Option<u64>,
+    },
+}
+
+/// The configuration file of a command.
+fn file<'a>(alloc: Global) -> Arg<'a> {
+    Arg::new(alloc, "FILE").required(true).help(
+        "The configuration, a text of lines as `contexts 8` and `term T/1`",
+    )
+}
+
+fn check<'a>(alloc: Global) -> Result<Command<'a>, AllocError> {
+    Command::new(alloc, "check")
+        .about(CHECK)
+        .long_about(CHECK_LONG)
+        .arg(file(alloc))
+}
+
+fn replay<'a>(alloc: Global) -> Result<Command<'a>, AllocError> {
+    Command::new(alloc, "replay")
+        .about(REPLAY)
+        .long_about(REPLAY_LONG)
+        .arg(file(alloc))
+}
+
+fn serve<'a>(alloc: Global) -> Result<Command<'a>, AllocError> {
+    let listen = Arg::new(alloc, "ADDR")
+        .long("listen")
+        .default_value(EVERYWHERE)
+        .help("The IP address and port to bind");
+    let bursts = Arg::new(alloc, "N")
+        .long("bursts")
+        .value_parser(value_parser!(u64))
+        .help("Ends after so many bursts, with 0 once the address is bound; without it, never");
+    Command::new(alloc, "serve")
+        .about(SERVE)
+        .long_about(SERVE_LONG)
+        .arg(file(alloc))?
+        .arg(listen)?
+        .arg(bursts)
+}
+
+/// The program's commands.
+fn command<'a>(alloc: Global) -> Result<Command<'a>, AllocError> {
+    Command::new(alloc, "h248gw")
+        .bin_name("h248gw")?
+        .no_binary_name(true)
+        .version("0.1.0")
+        .about(ABOUT)
+        .after_help(AFTER)
+        .subcommand(check(alloc)?)?
+        .subcommand(replay(alloc)?)?
+        .subcommand(serve(alloc)?)
+}
+
+/// The text of an argument that is required or has a default, and so is there.
+fn text_of<'a>(matches: &ArgMatches<'a>, id: &str) -> &'a str {
+    match matches.get_str(id) {
+        Some(text) => text,
+        None => "",
+    }
+}
+
+/// What the matches of a command ask for.
+fn job_of<'a>(name: &str, matches: &ArgMatches<'a>) -> Job<'a> {
+    let file = text_of(matches, "FILE");
+    match name {
+        "check" => Job::Check { file },
+        "replay" => Job::Replay { file },
+        _ => Job::Serve {
+            file,
+            listen: text_of(matches, "ADDR"),
+            bursts: matches.get_one::<u64>("N"),
+        },
+    }
+}
+
+/// What the words ask for.
+///
+/// # Errors
+///
+/// A mistake in the words, a request for help or the version, or want of memory.
+pub(crate) fn read_words<'a, S: AsStr>(alloc: Global, words: &'a [S]) -> Result<Job<'a>, Error> {
+    let matches = command(alloc)?.try_get_matches_from(words)?;
+    match matches.subcommand() {
+        Some((name, inner)) => Ok(job_of(name, inner)),
+        None => Ok(Job::BuiltIn),
+    }
+}
