@@ -1,7 +1,8 @@
 //! A transcript: each line of the input, and below a case its answer.
 
 use crate::fault::CaseFault;
-use std::alloc::Global;
+use crate::split::split_at_byte;
+use std::alloc::{AllocError, Global};
 use std::io::{self, BufRead, BufReader, BufWriter, Write};
 
 /// What answers cases.
@@ -15,29 +16,32 @@ pub trait Desk {
     fn answer(&mut self, alloc: Global, call: &[u8], rest: &[u8]) -> Result<Vec<u8>, CaseFault>;
 }
 
-/// A text up to its first space, and what stands behind the space.
-pub fn split_word(text: &[u8]) -> (&[u8], &[u8]) {
-    match text.iter().position(|byte| *byte == b' ') {
-        Some(place) => (
-            text.get(..place).unwrap_or(text),
-            text.get(place..)
-                .and_then(|rest| rest.get(1..))
-                .unwrap_or(b""),
-        ),
-        None => (text, b""),
+/// A line, and below it what it is answered: each line behind two spaces.
+fn answered(alloc: Global, line: &[u8], answer: &[u8]) -> Result<Vec<u8>, AllocError> {
+    let mut text = Vec::from_slice(alloc, line)?;
+    text.push(b'\n')?;
+    let mut rest = answer;
+    // Each step takes a byte at least.
+    for _step in answer {
+        let (told, behind) = split_at_byte(rest, b'\n');
+        if !told.is_empty() {
+            text.extend_from_slice(b"  ")?;
+            text.extend_from_slice(told)?;
+            text.push(b'\n')?;
+        }
+        rest = behind;
     }
+    Ok(text)
 }
 
-/// Writes an answer below its case: each line behind two spaces.
-fn write_answer<W: Write>(out: &mut W, answer: &[u8]) -> io::Result<()> {
-    for line in answer.split(|byte| *byte == b'\n') {
-        if !line.is_empty() {
-            out.write_all(b"  ")?;
-            out.write_all(line)?;
-            out.write_all(b"\n")?;
-        }
+/// A line, and its answer where it is a case.
+fn told<D: Desk>(alloc: Global, desk: &mut D, line: &[u8]) -> Result<Vec<u8>, CaseFault> {
+    if line.is_empty() || line.starts_with(b"#") {
+        return Ok(answered(alloc, line, b"")?);
     }
-    Ok(())
+    let (call, rest) = split_at_byte(line, b' ');
+    let answer = desk.answer(alloc, call, rest)?;
+    Ok(answered(alloc, line, answer.as_slice())?)
 }
 
 /// Reads cases, one a line, and writes each line with the answer below it. Empty lines and lines that begin with `#` are
@@ -45,7 +49,7 @@ fn write_answer<W: Write>(out: &mut W, answer: &[u8]) -> io::Result<()> {
 ///
 /// # Errors
 ///
-/// A failed read or write; `InvalidData` at a case that has no answer, behind which nothing is written.
+/// A failed read or write; `InvalidData` at a case that has no answer, which is not written, nor anything behind it.
 pub fn transcript<D: Desk>(
     rt: &(impl Input + Print + AllocGlobal),
     desk: &mut D,
@@ -54,14 +58,8 @@ pub fn transcript<D: Desk>(
     let mut out = BufWriter::new(alloc, io::writer(rt))?;
     for line in BufReader::new(alloc, rt.reader())?.lines(alloc) {
         let line = line?;
-        out.write_all(line.as_bytes())?;
-        out.write_all(b"\n")?;
-        if line.as_bytes().is_empty() || line.as_bytes().starts_with(b"#") {
-            continue;
-        }
-        let (call, rest) = split_word(line.as_bytes());
-        let answer = desk.answer(alloc, call, rest)?;
-        write_answer(&mut out, answer.as_slice())?;
+        let text = told(alloc, desk, line.as_bytes())?;
+        out.write_all(text.as_slice())?;
     }
     out.flush()
 }

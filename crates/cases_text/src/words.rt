@@ -1,11 +1,6 @@
-//! Words of cases: numbers, contexts, error codes, and messages of the gateway `[10.0.0.1]:2944`.
+//! Words of cases: numbers, contexts and error codes.
 
-use crate::escape::write_encoded;
 use gw_base::{Code, CtxNum, CtxRef};
-use std::alloc::{AllocError, Global};
-
-/// What heads each message of the gateway that cases are about.
-const HEADER: &[u8] = b"MEGACO/1 [10.0.0.1]:2944\n";
 
 /// Every error code.
 const CODES: [Code; 20] = [
@@ -65,19 +60,4 @@ pub fn code_of(number: &[u8]) -> Option<Code> {
         .iter()
         .copied()
         .find(|code| u32::from(code.number()) == number)
-}
-
-/// Writes a message as a case has it, `H` and a space in place of the gateway's header.
-///
-/// # Errors
-///
-/// `AllocError` where a growth was refused.
-pub fn write_message(alloc: Global, out: &mut Vec<u8>, text: &[u8]) -> Result<(), AllocError> {
-    match text.strip_prefix(HEADER) {
-        Some(body) => {
-            out.extend_from_slice(b"H ")?;
-            write_encoded(alloc, out, body)
-        }
-        None => write_encoded(alloc, out, text),
-    }
 }
