@@ -1,0 +1,142 @@
+#!/usr/bin/env python3
+"""Measures h248gw on replays: transactions a second, the work of one transaction and its parts, and how both grow.
+
+Run it at the top of the repository, after `rt run` in crates/h248gw has built the program. Work is instructions by
+valgrind's callgrind, as the difference of two runs, so that what is done once is left out; time is that of the whole process,
+the best of three. The typical transactions are those of every day, in pairs: two Adds with Media, one of them with a Local to
+fill, and a Subtract of both.
+
+`--rates` measures 20,000 of them in bursts of 1, 16 and 256 datagrams, with 4 and with 400 terminations, and 200,000.
+`--tables` measures one transaction as the tables grow, the copy that each burst makes of them apart.
+`--bursts` measures new transactions and repeats in bursts of 64 and of 1,024, with 4,096 kept replies.
+"""
+import pathlib
+import re
+import subprocess
+import sys
+import tempfile
+import time
+
+PROGRAM = "crates/h248gw/out/h248gw"
+HEAD = b"MEGACO/1 [10.0.0.9]:2944 "
+ADDS = (b"Transaction=%d{Context=${Add=T/%d{Media{Stream=1{LocalControl{Mode=SendReceive}}},Events=2223{al/on}},"
+        b"Add=${Media{Stream=1{LocalControl{Mode=ReceiveOnly},Local{\nv=0\nc=IN IP4 $\nm=audio $ RTP/AVP 0\na=ptime:20\n}}}}}}")
+SUBTRACT = b"Transaction=%d{Context=%d{Subtract=*}}"
+AUDIT = b"Transaction=%d{Context=-{AuditValue=T/1{Audit{}}}}"
+
+
+def record(body):
+    datagram = HEAD + body
+    return b"D 7 %d\n%s\n" % (len(datagram), datagram)
+
+
+def bursts(bodies, size):
+    """The bodies as datagrams, so many in a burst."""
+    out = []
+    for place in range(0, len(bodies), size):
+        out += [record(body) for body in bodies[place:place + size]] + [b".\n"]
+    return b"".join(out)
+
+
+def typical(count, terms):
+    """Pairs of transactions: a call is made and ended."""
+    bodies = []
+    for pair in range(count // 2):
+        bodies.append(ADDS % (2 * pair + 1, pair % terms + 1))
+        bodies.append(SUBTRACT % (2 * pair + 2, pair % 65535 + 1))
+    return bodies
+
+
+def config(folder, terms, keep=4, slots=4096):
+    path = pathlib.Path(folder) / f"{terms}-{keep}.conf"
+    names = "".join(f"term T/{number}\n" for number in range(1, terms + 1))
+    path.write_text(f"mid [10.0.0.1]:2944\nmedia 10.0.0.1\ncontexts 65535\nslots {slots}\nmembers 64\nkeep {keep}\n{names}")
+    return str(path)
+
+
+def seconds(conf, replay):
+    best = None
+    for _ in range(3):
+        start = time.perf_counter()
+        subprocess.run([PROGRAM, "replay", conf], input=replay, stdout=subprocess.DEVNULL, check=True)
+        took = time.perf_counter() - start
+        best = took if best is None else min(best, took)
+    return best
+
+
+def instructions(conf, replay, out="/dev/null"):
+    run = subprocess.run(["valgrind", "--tool=callgrind", f"--callgrind-out-file={out}", PROGRAM, "replay", conf],
+                         input=replay, stdout=subprocess.DEVNULL, stderr=subprocess.PIPE, check=True)
+    return int(re.search(rb"Collected : (\d+)", run.stderr).group(1))
+
+
+def inclusive(out, word):
+    """Instructions in functions whose name has the word, with what they call."""
+    text = subprocess.run(["callgrind_annotate", "--inclusive=yes", "--threshold=100", out], capture_output=True, check=True).stdout.decode()
+    found = [int(line.split()[0].replace(",", "")) for line in text.splitlines() if word in line and re.match(r"\s*[\d,]+ ", line)]
+    return max(found, default=0)
+
+
+# Functions that stay whole in the built program. The rest of `run` is reading, telling repeats, keeping replies and the copy.
+PARTS = {"carrying commands out": "gw_tx::commands::commands", "writing replies": "gw_engine::burst::text_of",
+         "all of `run`": "gw_engine::gateway::Gateway::run"}
+
+
+def rates(folder):
+    print("| Terminations | datagrams in a burst | transactions a second | instructions for one |")
+    print("|---|---|---|---|")
+    for terms in (4, 400):
+        conf = config(folder, terms)
+        for size in (1, 16, 256):
+            took = seconds(conf, bursts(typical(20_000, terms), size))
+            work = instructions(conf, bursts(typical(2_048, terms), size)) - instructions(conf, bursts(typical(1_024, terms), size))
+            print(f"| {terms} | {size} | {20_000 / took:,.0f} | {work / 1_024:,.0f} |")
+    conf = config(folder, 4)
+    small, large = (seconds(conf, bursts(typical(count, 4), 16)) for count in (20_000, 200_000))
+    print(f"\n200,000 in bursts of 16 take {large / small:.2f} times as long as 20,000.")
+    out = pathlib.Path(folder) / "callgrind"
+    whole = instructions(conf, bursts(typical(4_096, 4), 16), out)
+    print("\n| Part | of all instructions |\n|---|---|")
+    for name, word in PARTS.items():
+        print(f"| {name} | {100 * inclusive(out, word) / whole:.0f}% |")
+
+
+def tables(folder):
+    print("| Terminations | instructions for a transaction | the copy for a burst |")
+    print("|---|---|---|")
+    for terms in (4, 400, 40_000):
+        conf = config(folder, terms, slots=0)
+        moves = [b"Transaction=%d{Context=${Add=T/1,Subtract=T/1}}" % number for number in range(1, 257)]
+        few, many = instructions(conf, bursts(moves[:128], 256)), instructions(conf, bursts(moves, 256))
+        twice = instructions(conf, bursts(moves[:128], 64))
+        print(f"| {terms:,} | {(many - few) / 128:,.0f} | {twice - few:,.0f} |")
+
+
+def repeats(folder):
+    conf = config(folder, 4, keep=4_096)
+    full = [AUDIT % number for number in range(1, 4_097)]
+    before = bursts(full, 256)
+    base = instructions(conf, before)
+    print("| Burst, 4,096 replies kept | instructions for each |")
+    print("|---|---|")
+    for count in (64, 1_024):
+        # So many transactions in at most 256 datagrams, four in each where there are more.
+        each = max(1, count // 256)
+        for name, first in (("new transactions", 10_000), ("repeats", 1)):
+            numbers = range(first, first + count)
+            bodies = [b" ".join(AUDIT % number for number in numbers[place:place + each]) for place in range(0, count, each)]
+            work = instructions(conf, before + bursts(bodies, 256)) - base
+            print(f"| {count:,} {name} | {work / count:,.0f} |")
+
+
+def main():
+    with tempfile.TemporaryDirectory() as folder:
+        chosen = sys.argv[1:] or ["--rates", "--tables", "--bursts"]
+        for word, measure in (("--rates", rates), ("--tables", tables), ("--bursts", repeats)):
+            if word in chosen:
+                measure(folder)
+                print()
+
+
+if __name__ == "__main__":
+    main()

@@ -1,0 +1,255 @@
+#!/usr/bin/env python3
+"""Loads `h248gw serve` over the loopback, and says whether it kept its promises.
+
+Run it at the top of the repository, after `rt run` in crates/h248gw has built the program; `--program PATH` names another one. Each
+part starts the program anew on a free port, and ends it by SIGTERM. It fails at the first promise that is not kept.
+
+  load    four senders, each with at most 64 datagrams on the way, 20,000 in all: calls are set up and ended. Every request is
+          answered once, and at the end the tables hold the calls that were left standing and no other.
+  flood   100,000 datagrams of random bytes, as fast as they can be sent; then a good one, which is answered.
+  memory  VmRSS after 20,000 and after 200,000 transactions, which set up a call and end it: within 5 percent.
+  longest a datagram of 65,507 bytes, which is answered; over IPv6, where there is, one of 65,508, which is not.
+"""
+import collections
+import os
+import pathlib
+import random
+import re
+import selectors
+import signal
+import socket
+import subprocess
+import sys
+import tempfile
+import time
+
+LINES, KEPT = 400, 4096
+CONFIG = "mid [10.0.0.1]:2944\nmedia 10.0.0.1\ncontexts 1000\nslots 1000\nmembers 3\nkeep %d\n" % KEPT
+CONFIG += "".join("term L/%d\n" % line for line in range(LINES))
+HEAD = b"MEGACO/1 [10.0.0.1]:2944\n"
+REPLY = re.compile(rb"Reply=(\d+)\{Context=(\d+)\{")
+SENDERS, ON_THE_WAY, TRANSACTIONS = 4, 64, 20_000
+LONGEST = 65_507
+# After so many seconds without an answer one is lost.
+SILENCE = 2
+
+
+class Gateway:
+    """The program, serving on a port of the loopback."""
+
+    def __init__(self, program, config, family=socket.AF_INET):
+        self.family = family
+        host, form = ("127.0.0.1", "%s:%d") if family == socket.AF_INET else ("::1", "[%s]:%d")
+        with socket.socket(family, socket.SOCK_DGRAM) as probe:
+            probe.bind((host, 0))
+            self.address = probe.getsockname()
+        listen = form % self.address[:2]
+        self.process = subprocess.Popen([program, "serve", config, "--listen", listen], stdout=subprocess.PIPE)
+        wanted(self.process.stdout.readline() == b"listening\n", "it listens")
+
+    def socket(self):
+        client = socket.socket(self.family, socket.SOCK_DGRAM)
+        client.connect(self.address)
+        return client
+
+    def ask(self, client, datagram, seconds=10):
+        """The answer to a datagram, which is sent again each half second."""
+        client.settimeout(0.5)
+        end = time.monotonic() + seconds
+        while time.monotonic() < end:
+            client.send(datagram)
+            try:
+                return client.recv(65_536)
+            except TimeoutError:
+                pass
+        return None
+
+    def resident(self):
+        """VmRSS in KB."""
+        status = pathlib.Path("/proc/%d/status" % self.process.pid).read_text()
+        return int(re.search(r"VmRSS:\s+(\d+)", status).group(1))
+
+    def end(self):
+        self.process.send_signal(signal.SIGTERM)
+        wanted(self.process.wait(10) == -signal.SIGTERM, "SIGTERM ends it")
+
+
+class Sender:
+    """A controller: sets up calls on lines of its own and ends them, so that the last `left` calls stand at the end."""
+
+    def __init__(self, gateway, number, count, left):
+        self.client = gateway.socket()
+        self.client.setblocking(False)
+        self.head = b"MEGACO/1 [10.0.1.%d]:2944 " % (number + 1)
+        share = LINES // SENDERS
+        self.free = collections.deque(range(number * share, (number + 1) * share))
+        self.count, self.left = count, left
+        self.calls = (count + left) // 2
+        self.sent = 0
+        self.waiting = {}
+        self.standing = collections.deque()
+        self.answered = collections.Counter()
+
+    def request(self, verb, line, context):
+        self.sent += 1
+        if verb == "Add":
+            body = b"Context=${Add=L/%d,Add=$}" % line
+        else:
+            body = b"Context=%d{W-Subtract=*}" % context
+        self.waiting[self.sent] = (verb, line, context)
+        self.client.send(self.head + b"Transaction=%d{%s}" % (self.sent, body))
+
+    def send(self):
+        """Sends what may be on the way: ends a call where one stands that need not stay."""
+        while self.sent < self.count and len(self.waiting) < ON_THE_WAY:
+            adds = self.calls - (self.count - self.sent)
+            if self.standing and (adds >= 0 or not self.free or len(self.standing) > self.left):
+                self.request("Subtract", *self.standing.popleft())
+            elif self.free and self.calls:
+                self.calls -= 1
+                self.request("Add", self.free.popleft(), None)
+            else:
+                return
+
+    def take(self):
+        """Takes the answers that are there."""
+        while True:
+            try:
+                answer = self.client.recv(65_536)
+            except BlockingIOError:
+                return
+            found = REPLY.match(answer, len(HEAD))
+            wanted(found and b"Error" not in answer, "an answer without an error: %r" % answer)
+            number, context = map(int, found.groups())
+            self.answered[number] += 1
+            verb, line, _ = self.waiting.pop(number, (None, None, None))
+            if verb == "Add":
+                self.standing.append((line, context))
+            elif verb == "Subtract":
+                self.free.append(line)
+
+
+def wanted(is_so, what):
+    if not is_so:
+        sys.exit("not so: " + what)
+
+
+def driven(senders, seconds=60):
+    """Lets the senders send until each has all its answers; how long it took."""
+    start = time.monotonic()
+    with selectors.DefaultSelector() as selector:
+        for sender in senders:
+            selector.register(sender.client, selectors.EVENT_READ, sender)
+            sender.send()
+        while any(sender.sent < sender.count or sender.waiting for sender in senders):
+            ready = selector.select(SILENCE)
+            wanted(ready and time.monotonic() - start < seconds, "an answer to each request")
+            for key, _ in ready:
+                key.data.take()
+                key.data.send()
+    return time.monotonic() - start
+
+
+def audited(gateway, number, context):
+    """What an audit of a context, of all or of none names, for each context: a transaction of a number of its own."""
+    client = gateway.socket()
+    answer = gateway.ask(client, b"MEGACO/1 [10.0.2.1]:2944 Transaction=%d{Context=%s{AuditValue=*{Audit{}}}}" % (number, context))
+    tables = collections.defaultdict(list)
+    for number, names in re.findall(rb"Context=(\d+|-)\{([^}]*)\}", answer or b""):
+        tables[number] = re.findall(rb"AuditValue=([^,]*)", names)
+    return tables
+
+
+def load(gateway):
+    count, left = TRANSACTIONS // SENDERS, 10
+    senders = [Sender(gateway, number, count, left) for number in range(SENDERS)]
+    seconds = driven(senders)
+    time.sleep(0.3)
+    for sender in senders:
+        sender.take()
+        wanted(sorted(sender.answered) == list(range(1, count + 1)), "an answer to each request")
+        wanted(set(sender.answered.values()) == {1}, "one answer to each request")
+    standing = {b"%d" % context: b"L/%d" % line for sender in senders for line, context in sender.standing}
+    wanted(len(standing) == SENDERS * left, "as many calls as were left standing")
+    tables = audited(gateway, 1, b"*")
+    wanted({number: names[0] for number, names in tables.items()} == standing, "the calls that were left standing")
+    wanted(all(len(names) == 2 and names[1].startswith(b"RTP/") for names in tables.values()), "two ends of each call")
+    wanted(len(audited(gateway, 2, b"-")[b"-"]) == LINES - len(standing), "every other line in the null context")
+    print("load: %d datagrams answered once each, %.0f a second, %d calls left" % (TRANSACTIONS, TRANSACTIONS / seconds, len(standing)))
+
+
+def flood(gateway):
+    chance = random.Random(1)
+    client = gateway.socket()
+    client.setblocking(False)
+    starts = [b"", b"MEGACO/1 ", b"MEGACO/1 [10.0.0.9]:2944 Transaction=1{Context=${", b"!/1 a T=1{C=-{MF=L/1{M{"]
+    for _ in range(100_000):
+        try:
+            client.send(chance.choice(starts) + chance.randbytes(chance.randrange(400)))
+        except BlockingIOError:
+            time.sleep(0.001)
+    good = b"MEGACO/1 [10.0.0.9]:2944 Transaction=1{Context=-{AuditValue=L/1{Audit{}}}}"
+    answer = gateway.ask(gateway.socket(), good)
+    wanted(answer == HEAD + b"Reply=1{Context=-{AuditValue=L/1}}", "an answer behind the flood: %r" % answer)
+    print("flood: 100,000 random datagrams, and then an answer")
+
+
+def memory(gateway):
+    sender = Sender(gateway, 0, 0, 0)
+    resident = []
+    for count in (TRANSACTIONS, 10 * TRANSACTIONS):
+        sender.calls += (count - sender.count) // 2
+        sender.count = count
+        seconds = driven([sender], 300)
+        resident.append(gateway.resident())
+    before, after = resident
+    wanted(abs(after - before) <= before * 0.05, "memory within 5 percent: %d KB, then %d KB" % (before, after))
+    print("memory: %d KB after %d transactions, %d KB after ten times as many (%.0f a second)"
+          % (before, TRANSACTIONS, after, 9 * TRANSACTIONS / seconds))
+
+
+def of_length(length):
+    """A good datagram of that length."""
+    body = b"Transaction=1{Context=-{AuditValue=L/1{Audit{}}}}"
+    head = b"MEGACO/1 [10.0.0.9]:2944 ;"
+    return head + b"c" * (length - len(head) - len(body) - 1) + b"\n" + body
+
+
+def longest(gateway):
+    answer = gateway.ask(gateway.socket(), of_length(LONGEST))
+    wanted(answer == HEAD + b"Reply=1{Context=-{AuditValue=L/1}}", "an answer to 65,507 bytes: %r" % answer)
+    print("longest: 65,507 bytes answered over IPv%d" % (4 if gateway.family == socket.AF_INET else 6))
+    if gateway.family == socket.AF_INET6:
+        wanted(gateway.ask(gateway.socket(), of_length(LONGEST + 1), 2) is None, "no answer to 65,508 bytes")
+        print("longest: 65,508 bytes dropped")
+
+
+def families():
+    """Those of the loopback."""
+    yield socket.AF_INET
+    try:
+        with socket.socket(socket.AF_INET6, socket.SOCK_DGRAM) as probe:
+            probe.bind(("::1", 0))
+            yield socket.AF_INET6
+    except OSError:
+        pass
+
+
+def main():
+    program = os.path.abspath(sys.argv[2] if sys.argv[1:2] == ["--program"] else "crates/h248gw/out/h248gw")
+    with tempfile.TemporaryDirectory() as folder:
+        config = os.path.join(folder, "bench.conf")
+        pathlib.Path(config).write_text(CONFIG)
+        parts = [(part, socket.AF_INET) for part in (load, flood, memory)] + [(longest, family) for family in families()]
+        for part, family in parts:
+            gateway = Gateway(program, config, family)
+            try:
+                part(gateway)
+                gateway.end()
+            finally:
+                gateway.process.kill()
+    print("SIGTERM ended it each time")
+
+
+if __name__ == "__main__":
+    main()
