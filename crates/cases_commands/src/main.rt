@@ -2,13 +2,11 @@
 #![tactic(auto)]
 
 mod bench;
-mod configuration;
 mod places;
 mod texts;
 
 use bench::Bench;
-use cases_text::{CaseFault, Desk, decoded, split_word, transcript};
-use configuration::config_of;
+use cases_text::{CaseFault, Desk, config_of, decoded, split_word, transcript};
 use places::place_of;
 use std::alloc::Global;
 use std::io;

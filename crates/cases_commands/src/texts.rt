@@ -1,6 +1,6 @@
 //! Replies and tables as a case has them.
 
-use cases_text::{CaseFault, split_word, write_encoded};
+use cases_text::{CaseFault, split_at_byte, write_encoded, write_number, write_state};
 use gw_base::{CtxNum, CtxRef, Items, Mid, TermName, TxId};
 use gw_cmd::CmdOutcome;
 use gw_ctx::Context;
@@ -52,8 +52,8 @@ fn write_context(
     number: CtxNum,
     context: &Context,
 ) -> Result<(), AllocError> {
-    let front = format!(in alloc; "context {}", number.0)?;
-    out.extend_from_slice(front.as_bytes())?;
+    out.extend_from_slice(b"context ")?;
+    write_number(alloc, out, u64::from(number.0))?;
     for name in context.members().as_slice() {
         out.push(b' ')?;
         out.extend_from_slice(name.as_bytes())?;
@@ -66,15 +66,15 @@ fn write_context(
 fn write_term(
     alloc: Global,
     out: &mut Vec<u8>,
-    name: TermName,
+    name: &TermName,
     termination: &Termination,
 ) -> Result<(), AllocError> {
-    let service = termination.service();
-    let line = match termination.place() {
-        Some(place) => format!(in alloc; "term {name} {} {service:?}\n", place.0)?,
-        None => format!(in alloc; "term {name} - {service:?}\n")?,
-    };
-    out.extend_from_slice(line.as_bytes())
+    out.extend_from_slice(b"term ")?;
+    out.extend_from_slice(name.as_bytes())?;
+    out.push(b' ')?;
+    write_state(alloc, out, termination.place(), termination.service())?;
+    out.push(b'\n')?;
+    Ok(())
 }
 
 /// A line for each context, the numbers rising, and for each termination, in the order of the bytes of their names.
@@ -90,42 +90,88 @@ pub fn tables_text(alloc: Global, tables: &Tables) -> Result<Vec<u8>, CaseFault>
     }
     for name in names.iter() {
         if let Some(termination) = tables.find_term(name) {
-            write_term(alloc, &mut out, *name, termination)?;
+            write_term(alloc, &mut out, name, termination)?;
         }
     }
     Ok(out)
 }
 
 /// What a line of the tables is about: its first two words.
-fn entry_of(line: &[u8]) -> (&[u8], &[u8]) {
-    let (kind, rest) = split_word(line);
-    let (name, _) = split_word(rest);
-    (kind, name)
+fn entry_of(line: &[u8]) -> &[u8] {
+    let mut is_second = false;
+    for (place, byte) in line.iter().enumerate() {
+        if *byte == b' ' {
+            if is_second {
+                return &line[..place];
+            }
+            is_second = true;
+        }
+    }
+    line
 }
 
-/// Whether a line of the text is about the same.
-fn has_entry(text: &[u8], line: &[u8]) -> bool {
-    text.split(|byte| *byte == b'\n')
-        .any(|other| entry_of(other) == entry_of(line))
+/// Whether a line stands in the text.
+fn has_line(text: &[u8], line: &[u8]) -> bool {
+    let mut rest = text;
+    // Each step takes a byte at least.
+    for _step in text {
+        let (other, behind) = split_at_byte(rest, b'\n');
+        if other == line {
+            return true;
+        }
+        rest = behind;
+    }
+    false
+}
+
+/// Whether a line of the text is about this entry.
+fn has_entry(text: &[u8], entry: &[u8]) -> bool {
+    let mut rest = text;
+    // Each step takes a byte at least.
+    for _step in text {
+        let (other, behind) = split_at_byte(rest, b'\n');
+        if entry_of(other) == entry {
+            return true;
+        }
+        rest = behind;
+    }
+    false
+}
+
+/// Each line that is new or another.
+fn write_new(out: &mut Vec<u8>, before: &[u8], after: &[u8]) -> Result<(), AllocError> {
+    let mut rest = after;
+    // Each step takes a byte at least.
+    for _step in after {
+        let (line, behind) = split_at_byte(rest, b'\n');
+        if !line.is_empty() && !has_line(before, line) {
+            out.extend_from_slice(line)?;
+            out.push(b'\n')?;
+        }
+        rest = behind;
+    }
+    Ok(())
+}
+
+/// Each entry that is gone.
+fn write_gone(out: &mut Vec<u8>, before: &[u8], after: &[u8]) -> Result<(), AllocError> {
+    let mut rest = before;
+    // Each step takes a byte at least.
+    for _step in before {
+        let (line, behind) = split_at_byte(rest, b'\n');
+        let entry = entry_of(line);
+        if !entry.is_empty() && !has_entry(after, entry) {
+            out.extend_from_slice(b"no ")?;
+            out.extend_from_slice(entry)?;
+            out.push(b'\n')?;
+        }
+        rest = behind;
+    }
+    Ok(())
 }
 
 /// Each line that is new or another, and each entry that is gone.
 pub fn write_changes(out: &mut Vec<u8>, before: &[u8], after: &[u8]) -> Result<(), AllocError> {
-    for line in after.split(|byte| *byte == b'\n') {
-        if !before.split(|byte| *byte == b'\n').any(|old| old == line) {
-            out.extend_from_slice(line)?;
-            out.push(b'\n')?;
-        }
-    }
-    for line in before.split(|byte| *byte == b'\n') {
-        if !has_entry(after, line) {
-            let (kind, name) = entry_of(line);
-            out.extend_from_slice(b"no ")?;
-            out.extend_from_slice(kind)?;
-            out.push(b' ')?;
-            out.extend_from_slice(name)?;
-            out.push(b'\n')?;
-        }
-    }
-    Ok(())
+    write_new(out, before, after)?;
+    write_gone(out, before, after)
 }

@@ -1,6 +1,6 @@
 //! A descriptor as one line: what is kept as sent stands in it as sent.
 
-use cases_text::{CaseFault, decoded, write_encoded};
+use cases_text::{CaseFault, decoded, shown, write_encoded, write_number};
 use gw_base::Span;
 use gw_desc::{
     Descriptor, KeptKind, MediaPart, Part, PartFault, Property, ServiceParm, ServiceValue, Sign,
@@ -61,8 +61,8 @@ fn media_part(alloc: Global, out: &mut Vec<u8>, part: &MediaPart<'_>) -> Result<
     match part {
         MediaPart::Outside(part) => stream_part(alloc, out, part),
         MediaPart::Stream(id, parts) => {
-            let number = format!(in alloc; "Stream {}", *id)?;
-            put(out, number.as_bytes())?;
+            put(out, b"Stream ")?;
+            write_number(alloc, out, u64::from(*id))?;
             for item in parts.as_slice() {
                 put(out, b" .")?;
                 stream_part(alloc, out, item)?;
@@ -179,8 +179,20 @@ fn told(alloc: Global, text: &[u8]) -> Result<Vec<u8>, CaseFault> {
             Ok(out)
         }
         Err(PartFault::NoMemory) => Err(CaseFault::NoMemory),
-        Err(fault) => Ok(format!(in alloc; "{fault}")?.into_bytes()),
+        Err(fault) => shown(alloc, &fault),
     }
+}
+
+/// So many of so many.
+pub fn write_share(
+    alloc: Global,
+    out: &mut Vec<u8>,
+    part: u64,
+    whole: usize,
+) -> Result<(), AllocError> {
+    write_number(alloc, out, part)?;
+    put(out, b" of ")?;
+    write_number(alloc, out, whole as u64)
 }
 
 /// How many of the text's proper prefixes are no descriptor.
@@ -192,8 +204,10 @@ fn prefixes(alloc: Global, text: &[u8]) -> Result<Vec<u8>, CaseFault> {
             none = none.saturating_add(1);
         }
     }
-    let told = format!(in alloc; "{none} of {} are no descriptor", text.len())?;
-    Ok(told.into_bytes())
+    let mut out = Vec::new(alloc);
+    write_share(alloc, &mut out, none, text.len())?;
+    put(&mut out, b" are no descriptor")?;
+    Ok(out)
 }
 
 /// The answer to a case of these calls.

@@ -1,10 +1,11 @@
 //! A message as one line: its sender, and its tree.
 
-use crate::descriptors::write_descriptor;
-use cases_text::{CaseFault, decoded, write_encoded};
+use crate::descriptors::{write_descriptor, write_share};
+use cases_text::{CaseFault, decoded, named, shown, write_encoded, write_number};
 use gw_base::CtxRef;
 use gw_msg::{AckRange, Action, Command, Item, Message, ReadFault, Request, read_message};
 use std::alloc::{AllocError, Global};
+use std::fmt::Debug;
 
 /// A tree that is being written.
 #[derive(Drop)]
@@ -19,21 +20,26 @@ impl Outline {
     }
 
     fn number(&mut self, number: u32) -> Result<(), AllocError> {
-        let digits = format!(in self.alloc; "{number}")?;
-        self.put(digits.as_bytes())
+        write_number(self.alloc, &mut self.text, u64::from(number))
     }
 
-    fn command(&mut self, command: &Command<'_>) -> Result<(), AllocError> {
-        let word = format!(in self.alloc; "; {:?}", command.verb)?;
-        self.put(word.as_bytes())?;
+    /// A value as it stands in the code.
+    fn named<T: Debug>(&mut self, value: &T) -> Result<(), CaseFault> {
+        let name = named(self.alloc, value)?;
+        Ok(self.put(name.as_slice())?)
+    }
+
+    fn command(&mut self, command: &Command<'_>) -> Result<(), CaseFault> {
+        self.put(b"; ")?;
+        self.named(&command.verb)?;
         if command.optional {
             self.put(b" optional")?;
         }
         if command.wild {
             self.put(b" wild")?;
         }
-        let term = format!(in self.alloc; " {:?}", command.term)?;
-        self.put(term.as_bytes())?;
+        self.put(b" ")?;
+        self.named(&command.term)?;
         for descriptor in command.descriptors.as_slice() {
             self.put(b" + ")?;
             write_descriptor(self.alloc, &mut self.text, descriptor)?;
@@ -41,7 +47,7 @@ impl Outline {
         Ok(())
     }
 
-    fn action(&mut self, action: &Action<'_>) -> Result<(), AllocError> {
+    fn action(&mut self, action: &Action<'_>) -> Result<(), CaseFault> {
         match action.ctx {
             CtxRef::Null => self.put(b" in -")?,
             CtxRef::All => self.put(b" in *")?,
@@ -60,7 +66,7 @@ impl Outline {
         Ok(())
     }
 
-    fn request(&mut self, request: &Request<'_>) -> Result<(), AllocError> {
+    fn request(&mut self, request: &Request<'_>) -> Result<(), CaseFault> {
         self.put(b"request ")?;
         self.number(request.id.0)?;
         for action in request.actions.as_slice() {
@@ -80,7 +86,7 @@ impl Outline {
         Ok(())
     }
 
-    fn message(&mut self, message: &Message<'_>) -> Result<(), AllocError> {
+    fn message(&mut self, message: &Message<'_>) -> Result<(), CaseFault> {
         write_encoded(self.alloc, &mut self.text, message.mid.as_bytes())?;
         self.put(b": ")?;
         for item in message.items.as_slice() {
@@ -107,7 +113,7 @@ fn told(alloc: Global, text: &[u8]) -> Result<Vec<u8>, CaseFault> {
             Ok(outline.text)
         }
         Err(ReadFault::NoMemory) => Err(CaseFault::NoMemory),
-        Err(fault) => Ok(format!(in alloc; "{fault}")?.into_bytes()),
+        Err(fault) => shown(alloc, &fault),
     }
 }
 
@@ -128,8 +134,10 @@ fn prefixes(alloc: Global, text: &[u8]) -> Result<Vec<u8>, CaseFault> {
             none = none.saturating_add(1);
         }
     }
-    let told = format!(in alloc; "{none} of {} have a syntax error", text.len())?;
-    Ok(told.into_bytes())
+    let mut out = Vec::new(alloc);
+    write_share(alloc, &mut out, none, text.len())?;
+    out.extend_from_slice(b" have a syntax error")?;
+    Ok(out)
 }
 
 /// The answer to a case of these calls.

@@ -1,52 +1,40 @@
 //! Names, mIds, addresses, TerminationIDs, and the table of error codes.
 
-use cases_text::{CaseFault, code_of, decoded, split_word, write_encoded};
+use cases_text::{CaseFault, code_of, decoded, named, shown, split_word, write_encoded};
 use gw_base::{MediaAddr, Mid, NameFault, NoMemory, TermName, TermRef};
 use gw_desc::PartFault;
 use gw_msg::ReadFault;
 use std::alloc::Global;
 use std::cmp::Ordering;
+use std::fmt::Display;
 
 /// What was read, as it is shown.
-fn read_back(alloc: Global, shown: &str) -> Result<Vec<u8>, CaseFault> {
+fn read_back<T: Display>(alloc: Global, value: &T) -> Result<Vec<u8>, CaseFault> {
+    let text = shown(alloc, value)?;
     let mut out = Vec::from_slice(alloc, b"read ")?;
-    write_encoded(alloc, &mut out, shown.as_bytes())?;
+    write_encoded(alloc, &mut out, text.as_slice())?;
     Ok(out)
 }
 
-fn fault(alloc: Global, fault: NameFault) -> Result<Vec<u8>, CaseFault> {
-    Ok(format!(in alloc; "{fault}")?.into_bytes())
+/// What was read or its fault, as they are shown.
+fn told<T: Display + Drop>(
+    alloc: Global,
+    read: Result<T, NameFault>,
+) -> Result<Vec<u8>, CaseFault> {
+    match read {
+        Ok(value) => read_back(alloc, &value),
+        Err(fault) => shown(alloc, &fault),
+    }
 }
 
 fn words(alloc: Global, text: &str) -> Result<Vec<u8>, CaseFault> {
     Ok(Vec::from_slice(alloc, text.as_bytes())?)
 }
 
-fn name(alloc: Global, text: &[u8]) -> Result<Vec<u8>, CaseFault> {
-    match TermName::read(text) {
-        Ok(name) => read_back(alloc, format!(in alloc; "{name}")?.as_str()),
-        Err(e) => fault(alloc, e),
-    }
-}
-
-fn mid(alloc: Global, text: &[u8]) -> Result<Vec<u8>, CaseFault> {
-    match Mid::read(text) {
-        Ok(mid) => read_back(alloc, format!(in alloc; "{mid}")?.as_str()),
-        Err(e) => fault(alloc, e),
-    }
-}
-
-fn media(alloc: Global, text: &[u8]) -> Result<Vec<u8>, CaseFault> {
-    match MediaAddr::read(text) {
-        Ok(media) => read_back(alloc, format!(in alloc; "{media}")?.as_str()),
-        Err(e) => fault(alloc, e),
-    }
-}
-
 fn term(alloc: Global, text: &[u8]) -> Result<Vec<u8>, CaseFault> {
     match TermRef::read(text) {
-        Ok(term) => Ok(format!(in alloc; "{term:?}")?.into_bytes()),
-        Err(e) => fault(alloc, e),
+        Ok(term) => named(alloc, &term),
+        Err(fault) => shown(alloc, &fault),
     }
 }
 
@@ -82,10 +70,12 @@ fn code(alloc: Global, number: &[u8]) -> Result<Vec<u8>, CaseFault> {
 
 /// The texts of want of memory, by the crate that tells it.
 fn no_memory(alloc: Global) -> Result<Vec<u8>, CaseFault> {
-    let part = PartFault::NoMemory;
-    let read = ReadFault::NoMemory;
-    let texts = format!(in alloc; "{NoMemory}\n{part}\n{read}")?;
-    Ok(texts.into_bytes())
+    let mut out = shown(alloc, &NoMemory)?;
+    out.push(b'\n')?;
+    out.extend_from_slice(shown(alloc, &PartFault::NoMemory)?.as_slice())?;
+    out.push(b'\n')?;
+    out.extend_from_slice(shown(alloc, &ReadFault::NoMemory)?.as_slice())?;
+    Ok(out)
 }
 
 /// The answer to a case of these calls.
@@ -93,9 +83,9 @@ pub fn answer(alloc: Global, call: &[u8], rest: &[u8]) -> Result<Vec<u8>, CaseFa
     let text = decoded(alloc, rest)?;
     let text = text.as_slice();
     match call {
-        b"name" => name(alloc, text),
-        b"mid" => mid(alloc, text),
-        b"media" => media(alloc, text),
+        b"name" => told(alloc, TermName::read(text)),
+        b"mid" => told(alloc, Mid::read(text)),
+        b"media" => told(alloc, MediaAddr::read(text)),
         b"term" => term(alloc, text),
         b"order" => order(alloc, text),
         b"senders" => senders(alloc, text),

@@ -1,6 +1,8 @@
 //! Scans at the front of a text: what each takes, with `%|` where the cursor stands behind it.
 
-use cases_text::{CaseFault, decoded, split_word, write_encoded};
+use cases_text::{
+    CaseFault, decoded, named, shown, split_at_byte, split_word, write_encoded, write_number,
+};
 use gw_text::{Cursor, ScanFault, token_of};
 use std::alloc::Global;
 
@@ -39,8 +41,7 @@ fn cut(
             write_encoded(alloc, &mut out, left)?;
         }
         Err(fault) => {
-            let fault = format!(in alloc; "{fault}")?;
-            out.extend_from_slice(fault.as_bytes())?;
+            out.extend_from_slice(shown(alloc, &fault)?.as_slice())?;
             if left != text {
                 out.extend_from_slice(b", and the cursor moved")?;
             }
@@ -55,8 +56,8 @@ fn uint32(alloc: Global, text: &[u8]) -> Result<Vec<u8>, CaseFault> {
     match cursor.uint32() {
         Ok(number) => {
             let mut out = cut(alloc, text, &mut cursor, Ok(number.span))?;
-            let value = format!(in alloc; " is {}", number.value)?;
-            out.extend_from_slice(value.as_bytes())?;
+            out.extend_from_slice(b" is ")?;
+            write_number(alloc, &mut out, u64::from(number.value))?;
             Ok(out)
         }
         Err(fault) => cut(alloc, text, &mut cursor, Err(fault)),
@@ -76,7 +77,7 @@ fn balanced(alloc: Global, asked: &[u8]) -> Result<Vec<u8>, CaseFault> {
 
 fn token(alloc: Global, text: &[u8]) -> Result<Vec<u8>, CaseFault> {
     match token_of(text) {
-        Some(token) => Ok(format!(in alloc; "{token:?}")?.into_bytes()),
+        Some(token) => named(alloc, &token),
         None => Ok(Vec::from_slice(alloc, b"no token")?),
     }
 }
@@ -100,13 +101,20 @@ fn steps(alloc: Global, asked: &[u8]) -> Result<Vec<u8>, CaseFault> {
     let (steps, text) = split_word(asked);
     let mut cursor = Cursor::new(text);
     let mut out = Vec::new(alloc);
-    for step in steps.split(|byte| *byte == b',') {
+    let mut later = steps;
+    // Each turn takes a byte at least.
+    for _turn in steps {
+        if later.is_empty() {
+            break;
+        }
+        let (step, behind) = split_at_byte(later, b',');
         let answer: &[u8] = if look(&mut cursor, step)? {
             b"yes "
         } else {
             b"no "
         };
         out.extend_from_slice(answer)?;
+        later = behind;
     }
     out.extend_from_slice(b"%|")?;
     let left = rest(alloc, &mut cursor, text)?;

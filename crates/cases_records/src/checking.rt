@@ -2,7 +2,7 @@
 
 ghost use Rattle.std.specs.Prelude.{◌≤◌, ◌<◌};
 
-use cases_text::{CaseFault, decoded, number_of, split_word, write_encoded};
+use cases_text::{CaseFault, decoded, number_of, split_word, write_encoded, write_number};
 use gw_base::{Code, MediaAddr, Verb};
 use gw_desc::{Descriptor, check, fill_local};
 use gw_msg::{Item, read_message};
@@ -43,8 +43,11 @@ pub fn with_descriptors<A: Asks>(
 
 /// A code's number and its text.
 pub fn told(alloc: Global, code: Code) -> Result<Vec<u8>, CaseFault> {
-    let text = format!(in alloc; "{} {}", code.number(), code.text())?;
-    Ok(text.into_bytes())
+    let mut out = Vec::new(alloc);
+    write_number(alloc, &mut out, u64::from(code.number()))?;
+    out.push(b' ')?;
+    out.extend_from_slice(code.text().as_bytes())?;
+    Ok(out)
 }
 
 fn verb_of(word: &[u8]) -> Option<Verb> {
@@ -84,15 +87,14 @@ fn checked(alloc: Global, asked: &[u8]) -> Result<Vec<u8>, CaseFault> {
 fn filled(alloc: Global, asked: &[u8]) -> Result<Vec<u8>, CaseFault> {
     let (slot, rest) = split_word(asked);
     let (stream, text) = split_word(rest);
-    let (Some(slot), Some(stream)) = (number_of(slot), number_of(stream)) else {
+    let slot = number_of(slot).ok_or(CaseFault::Form)?;
+    let stream = number_of(stream).ok_or(CaseFault::Form)?;
+    if slot >= 4_096 || stream == 0 || stream > 4 {
         return Err(CaseFault::Form);
-    };
+    }
     let Ok(media) = MediaAddr::read(b"10.0.0.1") else {
         return Err(CaseFault::Form);
     };
-    if slot >= 4_096 || !(1..=4).contains(&stream) {
-        return Err(CaseFault::Form);
-    }
     let Ok((local, told)) = fill_local(alloc, text, &media, slot as u16, stream as u8) else {
         return Err(CaseFault::NoMemory);
     };
@@ -104,14 +106,16 @@ fn filled(alloc: Global, asked: &[u8]) -> Result<Vec<u8>, CaseFault> {
 
 /// A list of so many parts, with commas between them.
 fn listed(alloc: Global, call: &[u8], count: u32) -> Result<Vec<u8>, CaseFault> {
+    let (front, behind): (&[u8], &[u8]) = match call {
+        b"properties" => (b"p", b"=1,"),
+        b"streams" => (b"ST=", b"{L{}},"),
+        _ => (b"x", b","),
+    };
     let mut text = Vec::new(alloc);
     for number in 0..count {
-        let part = match call {
-            b"properties" => format!(in alloc; "p{number:x}=1,")?,
-            b"streams" => format!(in alloc; "ST={number}{{L{{}}}},")?,
-            _ => format!(in alloc; "x,")?,
-        };
-        text.extend_from_slice(part.as_bytes())?;
+        text.extend_from_slice(front)?;
+        write_number(alloc, &mut text, u64::from(number))?;
+        text.extend_from_slice(behind)?;
     }
     Ok(text)
 }

@@ -1,7 +1,7 @@
 //! A termination, what descriptors do to it, and what it answers.
 
 use crate::checking::{Asks, told, with_descriptors};
-use cases_text::{CaseFault, decoded, number_of, write_message};
+use cases_text::{CaseFault, decoded, number_of, write_message, write_state};
 use gw_base::{CtxNum, CtxRef, Items, MediaAddr, Mid, Rules, Service, TermRef, TxId, Verb};
 use gw_desc::{Descriptor, check};
 use gw_reply::{ActionReply, CommandReply, ReplyPart, TxReply, write_reply};
@@ -95,12 +95,15 @@ impl Record {
 
     /// Where it is, and its service state.
     fn state(&self, alloc: Global) -> Result<Vec<u8>, CaseFault> {
-        let service = self.termination.service();
-        let text = match self.termination.place() {
-            Some(place) => format!(in alloc; "in {} {service:?}", place.0)?,
-            None => format!(in alloc; "in - {service:?}")?,
-        };
-        Ok(text.into_bytes())
+        let mut out = Vec::from_slice(alloc, b"in ")?;
+        let (place, service) = (self.termination.place(), self.termination.service());
+        write_state(alloc, &mut out, place, service)?;
+        Ok(out)
+    }
+
+    /// Another termination takes the place of this one. A function of its own, since this one is let go here.
+    fn put(&mut self, termination: Termination) {
+        self.termination = termination;
     }
 
     /// The answer to a step.
@@ -108,12 +111,9 @@ impl Record {
         let asked = decoded(alloc, rest)?;
         let asked = asked.as_slice();
         match call {
-            b"provisioned" => self.termination = Termination::provisioned(alloc),
+            b"provisioned" => self.put(Termination::provisioned(alloc)),
             b"ephemeral" => match number_of(asked) {
-                Some(slot) if slot < 4_096 => self.termination = Termination::ephemeral(
-                    alloc,
-                    slot as u16,
-                ),
+                Some(slot) if slot < 4_096 => self.put(Termination::ephemeral(alloc, slot as u16)),
                 _ => return Err(CaseFault::Form),
             },
             b"reset" => self.termination.reset(),
@@ -124,7 +124,7 @@ impl Record {
                 _ => Service::InService,
             }),
             b"copy" => match self.termination.copy(alloc) {
-                Ok(copy) => self.termination = copy,
+                Ok(copy) => self.put(copy),
                 Err(_) => return Err(CaseFault::NoMemory),
             },
             b"state" => return self.state(alloc),

@@ -3,7 +3,7 @@
 
 mod trees;
 
-use cases_text::{CaseFault, Desk, code_of, decoded, transcript, write_message};
+use cases_text::{CaseFault, Desk, code_of, decoded, transcript, write_message, write_number};
 use gw_base::Mid;
 use gw_reply::{write_fault, write_reply};
 use std::alloc::Global;
@@ -33,8 +33,8 @@ impl Desk for Replies {
             return Err(CaseFault::NoMemory);
         };
         let mut out = Vec::new(alloc);
-        let size = format!(in alloc; "{} bytes: ", text.len())?;
-        out.extend_from_slice(size.as_bytes())?;
+        write_number(alloc, &mut out, text.len() as u64)?;
+        out.extend_from_slice(b" bytes: ")?;
         write_message(alloc, &mut out, text.as_slice())?;
         Ok(out)
     }
