@@ -1,13 +1,11 @@
 pub mod Booleans
 pub mod Enclosures
 pub mod KeyTests
-pub mod Known
 pub mod NameForms
 pub mod NameTests
 pub mod NamesInLists
 pub mod Paddings
 pub mod Ports
-pub mod SpelledLaws
 pub mod TermClasses
 pub mod TermNames
 pub mod Views

@@ -1,19 +1,16 @@
 -- A text of the form of a TerminationID has one class.
-use Rattle.std.proofs.Common.{◌≡◌, inl, inr, ℕ, length, length-append, Bool, true, false, ◌==◌, ◌-◌, ◌||◌, List, [], ◌∷◌, ◌++◌, map, take, refl, ap, sym, subst, ◌∙◌, arith}
+use Rattle.std.proofs.Common.{◌≡◌, inl, inr, ℕ, length, length-append, Bool, true, false, ◌==◌, ◌-◌, ◌||◌, List, [], ◌∷◌, ◌++◌, map, take, refl, ap, sym, ◌∙◌, arith}
 use Rattle.std.specs.Prelude.{codes}
 use Rattle.std.specs.Char.{to_ascii_lowercase}
 use Rattle.std.specs.List.{list_any}
 use Rattle.std.proofs.lemmas.List.{take_at}
 use Rattle.std.proofs.lemmas.List.Folds.{list_any-append}
-use Rattle.std.proofs.lemmas.Bool.{or_cases, or_left, or_right, eqb-true, cases_eq}
-use Rattle.gw_base.specs.Bytes.{byte, last_byte, is_one_of}
-use Rattle.gw_base.specs.Spelled.{Spelled}
+use Rattle.std.proofs.lemmas.Bool.{or_cases, or_left, or_right, eqb-true}
+use Rattle.gw_base.specs.Bytes.{byte, is_one_of}
 use Rattle.gw_base.specs.Wildcards.{is_wildcard, IsRoot, IsUnder}
-use Rattle.gw_base.specs.TermRefs.{IsChoose, IsClass, IsTerm}
+use Rattle.gw_base.specs.TermRefs.{IsChoose, IsClass}
 use Rattle.gw_base.specs.declared.term_ref.TermRef.{TermRef}
 use Rattle.gw_base.specs.declared.term_ref.TermRef.TheVariants.{Root, All, Choose, Under, Name, Other}
-use Rattle.gw_base.proofs.Known.{Known, known_like, known_and, known_or, known_same}
-use Rattle.gw_base.proofs.NameForms.{name_known, term_text_known}
 
 -- ---- wildcards
 
@@ -98,39 +95,7 @@ under_front prefix text h =
 one_front : (p q text : List ℕ) → IsUnder p text → IsUnder q text → p ≡ q
 one_front p q text h k = sym (under_front p text h) ∙ under_front q text k
 
--- a name that ends in `/`, and `*`
-abbrev HasUnder : List ℕ → Type 0
-HasUnder text = (prefix : List ℕ) × IsUnder prefix text
-
-under_known : (text : List ℕ) → Known (HasUnder text)
-under_known text =
-    known_like
-    (λ h. (front_of text, record { split = h.0; name = h.1.0; slash = h.1.1 }))
-    (λ u. let h = subst (λ (p : List ℕ). IsUnder p text) (sym (under_front u.0 text u.1)) u.1 in (h.split, (h.name, h.slash)))
-    (known_and (known_same text (front_of text ++ codes "*")) (known_and (name_known (front_of text)) (cases_eq (last_byte (front_of text)) (byte (codes "/")))))
-
 -- ---- the class of a text
-
-class_by : (text : List ℕ) → Known (IsRoot text) → Known (text ≡ codes "*") → Known (IsChoose text) → Known (HasUnder text) → (wild : Bool) → list_any is_wildcard text ≡ wild → (t : TermRef) × IsClass t text
-class_by text (inl h) a c u wild e = (Root, h)
-class_by text (inr r) (inl h) c u wild e = (All, h)
-class_by text (inr r) (inr a) (inl h) u wild e = (Choose, h)
-class_by text (inr r) (inr a) (inr c) (inl h) wild e = (Under h.0, h.1)
-class_by text (inr r) (inr a) (inr c) (inr u) true e = (Other text, (refl, e, a, c, λ prefix h. u (prefix, h)))
-class_by text (inr r) (inr a) (inr c) (inr u) false e = (Name text, (refl, e, r))
-
-class_known : (text : List ℕ) → (t : TermRef) × IsClass t text
-class_known text =
-    class_by text (known_same _ _) (known_same _ _) (known_or (known_same _ _) (known_same _ _)) (under_known text) (list_any is_wildcard text) refl
-
--- the reference that a text is
-pub term_or_none : (text : List ℕ) → Spelled IsTerm text
-term_or_none text =
-    elim (term_text_known text) [
-      | inl h ↦ let c = class_known text in inl (c.0, (h, c.1))
-      | inr n ↦ inr (λ t s. n s.0)
-    ]
-
 pub one_class : (t u : TermRef) (text : List ℕ) → IsClass t text → IsClass u text → t ≡ u
 one_class Root Root text h k = refl
 one_class Root All text h k = absurd (root_plain text (all_wild text k) h)

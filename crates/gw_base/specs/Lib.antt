@@ -10,6 +10,5 @@ pub mod Names
 pub mod Padding
 pub mod PaddingLaw
 pub mod Reads
-pub mod Spelled
 pub mod TermRefs
 pub mod Wildcards

@@ -5,7 +5,7 @@ ghost use Rattle.gw_base.specs.Codes.{number_of, text_of};
 
 /// Why a message, a transaction, an action or a command was refused. The numbers are those of H.248.8; the texts are this
 /// profile's own.
-#[derive(Clone, Copy, Debug, PartialEq, Eq, Hash)]
+#[derive(Clone, Copy, Debug, PartialEq, Eq)]
 pub enum Code {
     /// 400: the datagram is no message.
     SyntaxError,

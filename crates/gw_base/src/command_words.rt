@@ -4,7 +4,7 @@ use crate::ids::CtxNum;
 use crate::media::MediaAddr;
 
 /// A ContextID as an action has it (RFC 3525, section 8.1.2 and Annex B.2, `ContextID`).
-#[derive(Clone, Copy, Debug, PartialEq, Eq, Hash)]
+#[derive(Clone, Copy, PartialEq, Eq)]
 pub enum CtxRef {
     /// `-`: the null context.
     Null,
@@ -17,7 +17,7 @@ pub enum CtxRef {
 }
 
 /// A command (RFC 3525, section 7.2).
-#[derive(Clone, Copy, Debug, PartialEq, Eq, Hash)]
+#[derive(Clone, Copy, Debug, PartialEq, Eq)]
 pub enum Verb {
     /// Puts a termination into the action's context.
     Add,
@@ -38,7 +38,7 @@ pub enum Verb {
 }
 
 /// The service state of a termination (RFC 3525, section 7.1.5).
-#[derive(Clone, Copy, Debug, PartialEq, Eq, Hash)]
+#[derive(Clone, Copy, PartialEq, Eq)]
 pub enum Service {
     /// `Test`: it is being tested.
     Test,
@@ -49,7 +49,7 @@ pub enum Service {
 }
 
 /// What of its configuration a gateway needs to carry a command out.
-#[derive(Clone, Copy, Debug, PartialEq, Eq)]
+#[derive(Clone, Copy, PartialEq, Eq)]
 pub struct Rules {
     /// The address that a `$` of an ephemeral termination's Local becomes.
     pub media: MediaAddr,

@@ -6,7 +6,7 @@ use crate::mid::Mid;
 use crate::name::TermName;
 
 /// A gateway's configuration, as it was read. Its limits are tested where a gateway is made of it.
-#[derive(Debug, Drop)]
+#[derive(Drop)]
 pub struct Config {
     /// The gateway's own mId, which heads each answer.
     pub mid: Mid,

@@ -68,9 +68,3 @@ impl<const N: usize> fmt::Display for Inline<N> {
         Ok(())
     }
 }
-
-impl<const N: usize> fmt::Debug for Inline<N> {
-    fn fmt<W: fmt::Write>(&self, f: &mut fmt::Formatter<W>) -> fmt::Result {
-        write!(f, "{self}")
-    }
-}

@@ -4,7 +4,7 @@ use crate::ids::CtxNum;
 use crate::name::TermName;
 
 /// An entry of the tables, or all of them (own): what a transaction may read and change is a list of keys.
-#[derive(Clone, Copy, Debug, PartialEq, Eq)]
+#[derive(Clone, Copy, PartialEq, Eq)]
 pub enum Key {
     /// The termination of a name.
     Term(TermName),

@@ -15,7 +15,7 @@ use std::marker::Model;
 const ADDRESS_MAX: usize = 45;
 
 /// An IPv4 or IPv6 address as text: 1 to 45 hexadecimal digits, dots and colons, kept inline as sent.
-#[derive(Clone, Copy, PartialEq, Eq, PartialOrd, Ord, Hash)]
+#[derive(Clone, Copy, PartialEq, Eq, PartialOrd, Ord)]
 pub struct MediaAddr {
     text: Inline<ADDRESS_MAX>,
 }
@@ -85,11 +85,5 @@ impl fmt::Display for MediaAddr {
     fn fmt<W: fmt::Write>(&self, f: &mut fmt::Formatter<W>) -> fmt::Result {
         let text = self.text;
         write!(f, "{text}")
-    }
-}
-
-impl fmt::Debug for MediaAddr {
-    fn fmt<W: fmt::Write>(&self, f: &mut fmt::Formatter<W>) -> fmt::Result {
-        write!(f, "{self}")
     }
 }

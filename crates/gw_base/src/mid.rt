@@ -27,7 +27,7 @@ const PORT_MAX: u32 = 65_535;
 
 /// An mId as sent: an address in brackets or a domain name in angle brackets, each with a port or without, or a device name.
 /// Kept inline, compared and ordered byte for byte: another spelling of the same host is another sender.
-#[derive(Clone, Copy, PartialEq, Eq, PartialOrd, Ord, Hash)]
+#[derive(Clone, Copy, PartialEq, Eq, PartialOrd, Ord)]
 pub struct Mid {
     text: Inline<BRACKETED_MAX>,
 }
@@ -211,11 +211,5 @@ impl fmt::Display for Mid {
     fn fmt<W: fmt::Write>(&self, f: &mut fmt::Formatter<W>) -> fmt::Result {
         let text = self.text;
         write!(f, "{text}")
-    }
-}
-
-impl fmt::Debug for Mid {
-    fn fmt<W: fmt::Write>(&self, f: &mut fmt::Formatter<W>) -> fmt::Result {
-        write!(f, "{self}")
     }
 }

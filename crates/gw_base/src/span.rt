@@ -5,7 +5,7 @@ ghost use Rattle.std.specs.Prelude.{◌≡◌};
 use std::marker::Model;
 
 /// A text that stands in another one and is not copied, as a part of what was read from a datagram. Contracts see its bytes.
-#[derive(Debug, Drop)]
+#[derive(Drop)]
 pub struct Span<'a> {
     bytes: &'a [u8],
 }

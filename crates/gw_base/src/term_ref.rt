@@ -14,7 +14,7 @@ use std::fmt;
 use std::marker::Model;
 
 /// A TerminationID with a wildcard that this profile gives no meaning to: 1 to 64 bytes, kept inline as sent.
-#[derive(Clone, Copy, PartialEq, Eq, Hash)]
+#[derive(Clone, Copy, PartialEq, Eq)]
 pub struct Pattern {
     text: Inline<NAME_MAX>,
 }
@@ -33,7 +33,7 @@ impl Model for Pattern {
 }
 
 /// A TerminationID as a command has it.
-#[derive(Clone, Copy, Debug, PartialEq, Eq, Hash)]
+#[derive(Clone, Copy, Debug, PartialEq, Eq)]
 pub enum TermRef {
     /// `ROOT`, in any case: the gateway itself.
     Root,

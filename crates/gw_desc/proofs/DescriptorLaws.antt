@@ -7,13 +7,11 @@ use Rattle.gw_text.specs.Runs.{is_byte, NoMore}
 use Rattle.gw_text.specs.Forms.{IsWord, IsSign, IsToken, Braced, BracedOrEmpty}
 use Rattle.gw_text.specs.Bracket.{IsBracket}
 use Rattle.gw_text.specs.Tokens.{token_of}
-use Rattle.gw_text.specs.Reader.{Reader, ◌>>=◌, braced_at, braced_or_empty_at, bracket_read}
+use Rattle.gw_text.specs.Reader.{Reader, ◌>>=◌, braced_at, braced_or_empty_at, bracket_read, word_read}
 use Rattle.gw_text.specs.declared.token.Token.{Token}
 use Rattle.gw_text.specs.declared.token.Token.TheVariants as token
-use Rattle.gw_text.proofs.Signs.{sign_ends, sign_other, sign_end, some_is}
-use Rattle.gw_text.proofs.ReadsUp.{ReadsUp, Same, Skipped, UpTo, Any, BeginsWith, up_as, up_next, up_from, up_to, up_then, up_last, up_if_ahead, same_up, skipped_up, up_shrinks}
-use Rattle.gw_text.proofs.Links.{safe_apart, safe_is_solid, both_begins, both_ends, with_second}
-use Rattle.gw_text.proofs.Lists.{BracesUp, up_braced, up_braced_or_empty}
+use Rattle.gw_text.proofs.FormLaws.{sign_ends, sign_other, sign_end, some_is, BeginsWith, safe_apart, safe_is_solid, both_begins, both_ends, with_second, bracket_begins, ahead_ends}
+use Rattle.gw_text.proofs.ReaderLaws.{ReadsUp, Same, Skipped, UpTo, Any, up_as, up_next, up_from, up_to, up_then, up_last, up_if_ahead, same_up, skipped_up, up_shrinks, BracesUp, up_braced, up_braced_or_empty, up_bracket}
 use Rattle.gw_desc.specs.declared.descriptor.Descriptor.{Descriptor}
 use Rattle.gw_desc.specs.declared.descriptor.Descriptor.TheVariants as descriptor
 use Rattle.gw_desc.specs.declared.descriptor.KeptKind.{KeptKind}
@@ -21,12 +19,11 @@ use Rattle.gw_desc.specs.declared.descriptor.KeptKind.TheVariants as kept
 use Rattle.gw_desc.specs.declared.descriptor.MediaPart.{MediaPart}
 use Rattle.gw_desc.specs.declared.descriptor.ServiceParm.{ServiceParm}
 use Rattle.gw_desc.specs.declared.descriptor.Tail.{Tail}
-use Rattle.gw_desc.specs.Parts.{Shrinks}
+use Rattle.gw_text.specs.Parts.{Shrinks}
 use Rattle.gw_desc.specs.Grammar.{Kept, SpellsTail, SpellsMediaPart, SpellsServiceParm, kept_token, is_descriptor, IsOtherWord, IsDropped, SpellsDescriptor}
-use Rattle.gw_desc.specs.Reading.{word_read, tail_at, media_part_at, service_parm_at, dropped_at, keep_at, descriptor_rest, descriptor_at, AfterTail, AfterDescriptor}
-use Rattle.gw_desc.proofs.Texts.{ahead_ends, word_reads, kept_solid, kept_begins}
+use Rattle.gw_desc.specs.Reading.{tail_at, media_part_at, service_parm_at, dropped_at, keep_at, descriptor_rest, descriptor_at, AfterTail, AfterDescriptor}
+use Rattle.gw_desc.proofs.Texts.{first_two, last_two, with_first_part, word_reads, kept_solid, kept_begins}
 use Rattle.gw_desc.proofs.TailLaws.{tail_reads, tail_ends, tail_other, sign_after_tail}
-use Rattle.gw_text.proofs.BracketLaws.{up_bracket, bracket_begins}
 use Rattle.gw_desc.proofs.MediaLaws.{braced_ends, media_part_reads, media_part_braces}
 use Rattle.gw_desc.proofs.ServiceLaws.{service_parm_reads, service_parm_braces, AfterServiceParm}
 
@@ -66,15 +63,15 @@ dropped_ends t front rest q n =
 dropped_to : (t : Tail (List ℕ)) (text : List ℕ) → Dropped t text → IsDropped text
 dropped_to t text h =
     elim h [
-      | inl b ↦ let c = b.second.1 in inl (with_second b (record { front = c.front; back = c.back; split = c.split; first = c.first.1; second = (t, c.second) }))
-      | inr s ↦ inr (t, s)
+      | inl b ↦ let c = b.second.1 in let d = first_two (with_second b (record { front = c.front; back = c.back; split = c.split; first = c.first.1; second = (t, c.second) })) in with_first_part d (inr d.first)
+      | inr s ↦ record { front = []; back = text; split = refl; first = inl refl; second = (t, s) }
     ]
 
 dropped_from : (text : List ℕ) → IsDropped text → (t : Tail (List ℕ)) × Dropped t text
 dropped_from text h =
-    elim h [
-      | inl b ↦ let c = b.second in (c.second.0, inl (with_second b (c.front, record { front = c.front; back = c.back; split = c.split; first = (refl, c.first); second = c.second.1 })))
-      | inr s ↦ (s.0, inr s.1)
+    elim h.first [
+      | inl none ↦ (h.second.0, inr (subst (SpellsTail h.second.0) (sym (h.split ∙ ap (λ (x : List ℕ). x ++ h.back) none)) h.second.1))
+      | inr p ↦ let b = last_two (with_first_part h p) in let c = b.second in (c.second.0, inl (with_second b (c.front, record { front = c.front; back = c.back; split = c.split; first = (refl, c.first); second = c.second.1 })))
     ]
 
 -- ---- behind the word

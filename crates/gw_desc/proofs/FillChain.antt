@@ -8,7 +8,7 @@ use Rattle.std.proofs.lemmas.List.Sums.{length-filter}
 use Rattle.std.proofs.lemmas.Slice.Eq.{bytes_eq-Decides}
 use Rattle.gw_base.specs.Bytes.{is_one_of}
 use Rattle.gw_text.specs.Runs.{begins}
-use Rattle.gw_desc.specs.Fill.{line_ends, field_ends, ends_of, lines_of, fields_of, laid, has_choose, with_field, put, is_connection, is_media, filled_line, is_fillable_line, filled_text, filled, is_fillable, port_of}
+use Rattle.gw_desc.specs.Fill.{line_ends, field_ends, ends_of, lines_of, fields_of, laid, has_choose, with_field, put, is_connection, is_media_line, filled_line, is_fillable_line, filled_text, filled, is_fillable, port_of}
 use Rattle.gw_desc.specs.FillSteps.{IsWhole, is_field_end, IsPut, IsFilledOnce, IsChain, IsReached}
 use Rattle.gw_desc.proofs.Fills.{none_passes, ends_next, laid_again}
 
@@ -181,7 +181,7 @@ two_bytes a b (x ∷ (y ∷ ys)) more h = h
 connection_by_front : IsByFront is_connection
 connection_by_front text more h = two_bytes 99 61 text more h
 
-media_by_front : IsByFront is_media
+media_by_front : IsByFront is_media_line
 media_by_front text more h = two_bytes 109 61 text more h
 
 -- ---- steps
@@ -205,22 +205,22 @@ unfolding put
 put_reached IsStep is_kind place new line step one kind true choose = rw choose ((with_field place new line) ∷ [], (step line (with_field place new line) (line_put is_kind place new line one kind choose), refl))
 put_reached IsStep is_kind place new line step one kind false choose = rw choose ([], refl)
 
-line_by : (address port line : List ℕ) → list_any (is_one_of line_ends) line ≡ false → (c m : Bool) → is_connection line ≡ c → is_media line ≡ m → IsReached (IsFilledOnce address port) line (filled_line address port line)
+line_by : (address port line : List ℕ) → list_any (is_one_of line_ends) line ≡ false → (c m : Bool) → is_connection line ≡ c → is_media_line line ≡ m → IsReached (IsFilledOnce address port) line (filled_line address port line)
 unfolding filled_line
 line_by address port line one true m is other = rw is (put_reached (IsFilledOnce address port) is_connection 2 address line (λ old text s. inl s) one is (has_choose 2 line) refl)
-line_by address port line one false true is other = rw (is, other) (put_reached (IsFilledOnce address port) is_media 1 port line (λ old text s. inr s) one other (has_choose 1 line) refl)
+line_by address port line one false true is other = rw (is, other) (put_reached (IsFilledOnce address port) is_media_line 1 port line (λ old text s. inr s) one other (has_choose 1 line) refl)
 line_by address port line one false false is other = rw (is, other) ([], refl)
 
 line_reached : (address port line : List ℕ) → list_any (is_one_of line_ends) line ≡ false → IsReached (IsFilledOnce address port) line (filled_line address port line)
-line_reached address port line one = line_by address port line one (is_connection line) (is_media line) refl refl
+line_reached address port line one = line_by address port line one (is_connection line) (is_media_line line) refl refl
 
 step_before : (address port rest old text : List ℕ) → begins (is_one_of line_ends) rest ≡ true → IsFilledOnce address port old text → IsFilledOnce address port (old ++ rest) (text ++ rest)
 step_before address port rest old text ends (inl s) = inl (put_before is_connection 2 address old text rest connection_by_front ends s)
-step_before address port rest old text ends (inr s) = inr (put_before is_media 1 port old text rest media_by_front ends s)
+step_before address port rest old text ends (inr s) = inr (put_before is_media_line 1 port old text rest media_by_front ends s)
 
 step_behind : (address port front old text : List ℕ) → IsWhole line_ends front → IsFilledOnce address port old text → IsFilledOnce address port (front ++ old) (front ++ text)
 step_behind address port front old text w (inl s) = inl (put_behind is_connection 2 address front old text w s)
-step_behind address port front old text w (inr s) = inr (put_behind is_media 1 port front old text w s)
+step_behind address port front old text w (inr s) = inr (put_behind is_media_line 1 port front old text w s)
 
 -- ---- lines
 
@@ -249,7 +249,7 @@ filled_reached address port text =
 
 -- ---- where there is none
 
-line_same : (address port line : List ℕ) → (c m : Bool) → is_connection line ≡ c → is_media line ≡ m → (t u : Bool) → has_choose 2 line ≡ t → has_choose 1 line ≡ u → is_fillable_line line ≡ false → filled_line address port line ≡ line
+line_same : (address port line : List ℕ) → (c m : Bool) → is_connection line ≡ c → is_media_line line ≡ m → (t u : Bool) → has_choose 2 line ≡ t → has_choose 1 line ≡ u → is_fillable_line line ≡ false → filled_line address port line ≡ line
 unfolding filled_line is_fillable_line put
 line_same address port line true m is other true u x y none = absurd (let clash : true ≡ false = rw (is, x) at none in cc)
 line_same address port line true m is other false u x y none = rw (is, x) refl
@@ -265,7 +265,7 @@ lines_same : (address port : List ℕ) (lines : List (List ℕ)) → list_any is
 lines_same address port [] h = refl
 lines_same address port (line ∷ lines) h =
     let n = neither (is_fillable_line line) (list_any is_fillable_line lines) h in
-    let same = line_same address port line (is_connection line) (is_media line) refl refl (has_choose 2 line) (has_choose 1 line) refl refl n.0 in
+    let same = line_same address port line (is_connection line) (is_media_line line) refl refl (has_choose 2 line) (has_choose 1 line) refl refl n.0 in
     let rest = lines_same address port lines n.1 in
     rw (same, rest) refl
 

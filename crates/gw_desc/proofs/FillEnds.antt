@@ -7,7 +7,7 @@ use Rattle.std.proofs.lemmas.List.Sums.{length-filter, count_by-le-length}
 use Rattle.std.proofs.lemmas.List.Folds.{list_any-append}
 use Rattle.std.proofs.lemmas.Slice.Eq.{bytes_eq-Decides}
 use Rattle.gw_base.specs.Bytes.{is_one_of, is_digit}
-use Rattle.gw_desc.specs.Fill.{line_ends, field_ends, ends_of, lines_of, fields_of, laid, has_choose, with_field, put, is_connection, is_media, filled_line, is_fillable_line, filled_text, filled, is_fillable, port_of}
+use Rattle.gw_desc.specs.Fill.{line_ends, field_ends, ends_of, lines_of, fields_of, laid, has_choose, with_field, put, is_connection, is_media_line, filled_line, is_fillable_line, filled_text, filled, is_fillable, port_of}
 use Rattle.gw_desc.specs.FillSteps.{IsWhole}
 use Rattle.gw_base.specs.Addresses.{IsAddress, is_address_byte}
 use Rattle.gw_desc.proofs.Fills.{parts_next, parts_last}
@@ -156,24 +156,24 @@ connection_stays : (new line text : List ℕ) → IsAfter 2 new line text → is
 connection_stays new line text a kind =
     ap is_connection a.is ∙ two_front 99 61 a.fields (codes "$" ++ a.behind) (new ++ a.behind) (long_enough 2 new line text a) (ap is_connection (sym a.was) ∙ kind)
 
-media_front : (fields behind more : List ℕ) → 1 ≤ length fields → is_media (fields ++ (codes "$" ++ behind)) ≡ true → is_media (fields ++ more) ≡ true
+media_front : (fields behind more : List ℕ) → 1 ≤ length fields → is_media_line (fields ++ (codes "$" ++ behind)) ≡ true → is_media_line (fields ++ more) ≡ true
 media_front [] behind more le h = absurd (omega (arith, le))
 media_front (x ∷ []) behind more le h = absurd (let second : false ≡ true = (and_parts (109 == x) false h).1 in cc)
 media_front (x ∷ (y ∷ ys)) behind more le h = h
 
-media_stays : (new line text : List ℕ) → IsAfter 1 new line text → is_media line ≡ true → is_media text ≡ true
-media_stays new line text a kind = ap is_media a.is ∙ media_front a.fields a.behind (new ++ a.behind) (long_enough 1 new line text a) (ap is_media (sym a.was) ∙ kind)
+media_stays : (new line text : List ℕ) → IsAfter 1 new line text → is_media_line line ≡ true → is_media_line text ≡ true
+media_stays new line text a kind = ap is_media_line a.is ∙ media_front a.fields a.behind (new ++ a.behind) (long_enough 1 new line text a) (ap is_media_line (sym a.was) ∙ kind)
 
 -- a line is of one kind
 first_is : (a : ℕ) (x : ℕ) (t : Bool) → (a == x) && t ≡ true → x ≡ a
 first_is a x t h = sym (eqb-true a x (and_parts (a == x) t h).0)
 
-not_media : (line : List ℕ) → is_connection line ≡ true → is_media line ≡ false
+not_media : (line : List ℕ) → is_connection line ≡ true → is_media_line line ≡ false
 not_media [] h = absurd cc
 not_media (x ∷ []) h = let e = first_is 99 x false h in rw e refl
 not_media (x ∷ (y ∷ ys)) h = let e = first_is 99 x ((61 == y) && true) h in rw e refl
 
-not_connection : (line : List ℕ) → is_media line ≡ true → is_connection line ≡ false
+not_connection : (line : List ℕ) → is_media_line line ≡ true → is_connection line ≡ false
 not_connection [] h = absurd cc
 not_connection (x ∷ []) h = let e = first_is 109 x false h in rw e refl
 not_connection (x ∷ (y ∷ ys)) h = let e = first_is 109 x ((61 == y) && true) h in rw e refl
@@ -196,10 +196,10 @@ connection_done address line h one kind false choose =
     let other = not_media line kind in
     record { left = rw (choose, kind, other, choose) refl; one = rw choose one }
 
-media_done : (port line : List ℕ) → IsInert port → list_any (is_one_of line_ends) line ≡ false → is_media line ≡ true → (t : Bool) → has_choose 1 line ≡ t → IsDone (put 1 port line)
+media_done : (port line : List ℕ) → IsInert port → list_any (is_one_of line_ends) line ≡ false → is_media_line line ≡ true → (t : Bool) → has_choose 1 line ≡ t → IsDone (put 1 port line)
 unfolding put is_fillable_line
 media_done port line h one kind true choose =
-    let a = after_put is_media 1 port line one kind choose in
+    let a = after_put is_media_line 1 port line one kind choose in
     let stays = media_stays port line (with_field 1 port line) a kind in
     let other = not_connection (with_field 1 port line) stays in
     let none = no_choose_left 1 port line h choose in
@@ -209,14 +209,14 @@ media_done port line h one kind false choose =
     let other = not_connection line kind in
     record { left = rw (choose, kind, other, choose) refl; one = rw choose one }
 
-line_by : (address port line : List ℕ) → IsInert address → IsInert port → list_any (is_one_of line_ends) line ≡ false → (c m : Bool) → is_connection line ≡ c → is_media line ≡ m → IsDone (filled_line address port line)
+line_by : (address port line : List ℕ) → IsInert address → IsInert port → list_any (is_one_of line_ends) line ≡ false → (c m : Bool) → is_connection line ≡ c → is_media_line line ≡ m → IsDone (filled_line address port line)
 unfolding filled_line is_fillable_line
 line_by address port line a p one true m is other = rw is (connection_done address line a one is (has_choose 2 line) refl)
 line_by address port line a p one false true is other = rw (is, other) (media_done port line p one other (has_choose 1 line) refl)
 line_by address port line a p one false false is other = rw (is, other) (record { left = rw (is, other) refl; one = one })
 
 line_done : (address port line : List ℕ) → IsInert address → IsInert port → list_any (is_one_of line_ends) line ≡ false → IsDone (filled_line address port line)
-line_done address port line a p one = line_by address port line a p one (is_connection line) (is_media line) refl refl
+line_done address port line a p one = line_by address port line a p one (is_connection line) (is_media_line line) refl refl
 
 -- ---- all lines
 

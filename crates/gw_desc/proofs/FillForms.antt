@@ -9,9 +9,8 @@ use Rattle.gw_base.specs.Addresses.{is_address_byte, IsAddress}
 use Rattle.gw_text.specs.Lexical.{nul, backslash, right_brace, is_blank}
 use Rattle.gw_text.specs.Runs.{IsRun, begins}
 use Rattle.gw_text.specs.Octets.{EndsKept}
-use Rattle.gw_text.proofs.Links.{is_another}
-use Rattle.gw_text.proofs.OctetsLemmas.{are_octets, octets_are, are_are}
-use Rattle.gw_desc.specs.Fill.{is_connection, is_media}
+use Rattle.gw_text.proofs.FormLaws.{is_another, are_octets, octets_are, are_are}
+use Rattle.gw_desc.specs.Fill.{is_connection, is_media_line}
 use Rattle.gw_desc.specs.KeptTexts.{IsKeptOctets}
 use Rattle.gw_desc.specs.FillSteps.{is_plain_byte, IsPlain, IsPut, IsFilledOnce, IsChain, IsReached}
 
@@ -166,7 +165,7 @@ put_kept is_kind place new old text plain s k =
 
 pub step_kept : (address port old text : List ℕ) → IsPlain address → IsPlain port → IsFilledOnce address port old text → IsKeptOctets old → IsKeptOctets text
 step_kept address port old text a p (inl s) k = put_kept is_connection 2 address old text a s k
-step_kept address port old text a p (inr s) k = put_kept is_media 1 port old text p s k
+step_kept address port old text a p (inr s) k = put_kept is_media_line 1 port old text p s k
 
 chain_kept : (address port old : List ℕ) (texts : List (List ℕ)) (new : List ℕ) → IsPlain address → IsPlain port → IsChain (IsFilledOnce address port) old texts new → IsKeptOctets old → IsKeptOctets new
 chain_kept address port old [] new a p s k = subst IsKeptOctets s k

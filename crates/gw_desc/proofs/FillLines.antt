@@ -1,8 +1,8 @@
 -- A line with a text put in the place of a field, and a text with its lines filled, from one part to the next.
-use Rattle.std.proofs.Common.{◌≡◌, ℕ, suc, Bool, true, false, ◌||◌, ◌&&◌, if◌then◌else◌, List, [], ◌∷◌, ◌++◌, codes, bytes_eq, refl, ap, sym, ◌∙◌, append_assoc}
-use Rattle.std.specs.List.{list_any, starts_with}
+use Rattle.std.proofs.Common.{◌≡◌, ℕ, suc, Bool, true, false, ◌||◌, if◌then◌else◌, List, [], ◌∷◌, ◌++◌, codes, bytes_eq, refl, ap, sym, ◌∙◌, append_assoc, Result, Ok, Err, OnOk, IfOk}
+use Rattle.std.specs.List.{list_any}
 use Rattle.gw_base.specs.Bytes.{is_one_of}
-use Rattle.gw_desc.specs.Fill.{line_ends, field_ends, fields_of, has_choose, with_field, put, filled_line, is_fillable_line, filled_text, is_fillable}
+use Rattle.gw_desc.specs.Fill.{line_ends, field_ends, has_choose, with_field, put, filled_line, is_fillable_line, filled_text, is_fillable}
 use Rattle.gw_desc.proofs.Fills.{parts_next, ends_next, parts_last, ends_last, laid_again}
 
 -- ---- fields
@@ -37,6 +37,43 @@ put_last new line none = rw (parts_last (is_one_of field_ends) line none, ends_l
 pub put_past : (place n : ℕ) (new line : List ℕ) → place ≡ suc n → list_any (is_one_of field_ends) line ≡ false → (put place new line ≡ line) × (has_choose place line ≡ false)
 unfolding put has_choose
 put_past place n new line later none = rw (later, parts_last (is_one_of field_ends) line none) (refl, refl)
+
+-- ---- as it is written
+
+-- three pieces behind what was written
+written : (out o1 o2 o3 piece back whole : List ℕ) (end : ℕ) → o1 ≡ out ++ piece → o2 ≡ o1 ++ end ∷ [] → o3 ≡ o2 ++ back → whole ≡ piece ++ end ∷ back → o3 ≡ out ++ whole
+written out o1 o2 o3 piece back whole end first second third is =
+    third
+    ∙ ap (λ (x : List ℕ). x ++ back) (second ∙ ap (λ (x : List ℕ). x ++ end ∷ []) first)
+    ∙ append_assoc (out ++ piece) (end ∷ []) back
+    ∙ append_assoc out piece (end ∷ back)
+    ∙ sym (ap (λ (x : List ℕ). out ++ x) is)
+
+-- the field stands first, and what is behind it stays
+pub first_written : (place : ℕ) (new line field back out o1 o2 o3 : List ℕ) (end : ℕ) (told : Bool) → place ≡ 0 → line ≡ field ++ end ∷ back → list_any (is_one_of field_ends) field ≡ false → is_one_of field_ends end ≡ true
+    → o1 ≡ out ++ (if bytes_eq field (codes "$") then new else field) → o2 ≡ o1 ++ end ∷ [] → o3 ≡ o2 ++ back → told ≡ bytes_eq field (codes "$")
+    → (o3 ≡ out ++ put place new line) × (told ≡ has_choose place line)
+first_written place new line field back out o1 o2 o3 end told at split none ends first second third said =
+    let e = put_first new line field back end split none ends in (
+      written out o1 o2 o3 (if bytes_eq field (codes "$") then new else field) back (put place new line) end first second third (ap (λ (p : ℕ). put p new line) at ∙ e.0),
+      said ∙ sym e.1 ∙ sym (ap (λ (p : ℕ). has_choose p line) at),
+    )
+
+-- the field stands behind this part, which stays
+later_line : (place n : ℕ) (new line field back out o1 o2 o3 : List ℕ) (end : ℕ) → (put place new line ≡ (field ++ end ∷ []) ++ put n new back) → o1 ≡ out ++ field → o2 ≡ o1 ++ end ∷ [] → o3 ≡ o2 ++ put n new back → o3 ≡ out ++ put place new line
+later_line place n new line field back out o1 o2 o3 end is first second third =
+    written out o1 o2 o3 field (put n new back) (put place new line) end first second third (is ∙ append_assoc field (end ∷ []) (put n new back))
+
+pub later_text : {T E : Type 0} (r : Result T E) (place n : ℕ) (new line field back out o1 o2 o3 : List ℕ) (end : ℕ) → place ≡ suc n → line ≡ field ++ end ∷ back → list_any (is_one_of field_ends) field ≡ false → is_one_of field_ends end ≡ true
+    → o1 ≡ out ++ field → o2 ≡ o1 ++ end ∷ [] → OnOk r (o3 ≡ o2 ++ put n new back) → OnOk r (o3 ≡ out ++ put place new line)
+later_text (Ok x) place n new line field back out o1 o2 o3 end later split none ends first second third =
+    later_line place n new line field back out o1 o2 o3 end (put_later place n new line field back end later split none ends).0 first second third
+later_text (Err x) place n new line field back out o1 o2 o3 end later split none ends first second third = tt
+
+pub later_told : {E : Type 0} (r : Result Bool E) (place n : ℕ) (new line field back : List ℕ) (end : ℕ) → place ≡ suc n → line ≡ field ++ end ∷ back → list_any (is_one_of field_ends) field ≡ false → is_one_of field_ends end ≡ true
+    → IfOk r (λ told. told ≡ has_choose n back) → IfOk r (λ told. told ≡ has_choose place line)
+later_told (Ok x) place n new line field back end later split none ends said = said ∙ sym (put_later place n new line field back end later split none ends).1
+later_told (Err x) place n new line field back end later split none ends said = tt
 
 -- ---- lines
 

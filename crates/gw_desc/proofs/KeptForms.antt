@@ -9,7 +9,7 @@ use Rattle.gw_text.specs.Runs.{IsRun}
 use Rattle.gw_text.specs.Octets.{is_octet, EndsIn, EndsKept, IsOctets, IsOctetsOf}
 use Rattle.gw_text.specs.Forms.{IsWord, Separated, Braced}
 use Rattle.gw_text.specs.Group.{IsGroup}
-use Rattle.gw_desc.specs.Grammar.{IsValue, request_depth, SpellsProperty, SpellsTail, SpellsEquals, SpellsOptionalGroup, SpellsStreamPart, SpellsMediaPart, SpellsDescriptor}
+use Rattle.gw_desc.specs.Grammar.{IsValue, request_depth, SpellsProperty, SpellsTail, SpellsEquals, SpellsOptionalGroup, IsThere, SpellsStreamPart, SpellsMediaPart, SpellsDescriptor}
 use Rattle.gw_desc.specs.declared.descriptor.Descriptor.{Descriptor}
 use Rattle.gw_desc.specs.declared.descriptor.Descriptor.TheVariants as descriptor
 use Rattle.gw_desc.specs.declared.descriptor.MediaPart.{MediaPart}
@@ -28,18 +28,17 @@ property_kept p text h = record {
   value = subst IsValue (sym h.second.second.0) h.second.second.1;
 }
 
-equals_kept : (equals : Bool) (w : Option (List ℕ)) (text : List ℕ) → SpellsEquals equals w text → IsOptional (IsKeptWord equals) w
-equals_kept false None text h = tt
-equals_kept false (Some w) text h = absurd h
-equals_kept true None text h = tt
-equals_kept true (Some w) text h = (refl, subst IsWord (sym h.second.0) h.second.1)
+equals_kept : (equals : Bool) (w : Option (List ℕ)) (text : List ℕ) → SpellsEquals equals w text → (IsThere w → equals ≡ true) → IsOptional (IsKeptWord equals) w
+equals_kept equals None text h behind = tt
+equals_kept false (Some w) text h behind = let e : false ≡ true = behind tt in absurd cc
+equals_kept true (Some w) text h behind = (refl, subst IsWord (sym h.second.0) h.second.1)
 
 group_kept : (g : Option (List ℕ)) (text : List ℕ) → SpellsOptionalGroup g text → IsOptional (IsGroup request_depth) g
 group_kept None text h = tt
 group_kept (Some g) text h = subst (IsGroup request_depth) (sym h.second.0) h.second.1
 
 pub tail_kept : (t : Tail (List ℕ)) (text : List ℕ) → SpellsTail t text → IsKeptTail t
-tail_kept t text h = record { word = equals_kept t.equals t.word h.words.front h.words.first; group = group_kept t.group h.words.back h.words.second; some = h.some }
+tail_kept t text h = record { word = equals_kept t.equals t.word h.words.front h.words.first h.behind; group = group_kept t.group h.words.back h.words.second; some = h.some }
 
 -- ---- octets
 

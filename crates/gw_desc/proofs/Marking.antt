@@ -1,16 +1,15 @@
 -- Numbers that are marked by a bit each.
-use Rattle.std.proofs.Common.{◌≡◌, ◌≢◌, ℕ, zero, ◌/◌, ◌%◌, ◌^◌, ◌<◌, ◌==◌, not, Bool, true, false, ◌||◌, List, [], ◌∷◌, ◌++◌, ◌+◌, length, drop, get_or, replicate, refl, sym, ◌∙◌, ap, arith, bit_and, bit_or, inl, inr}
+use Rattle.std.proofs.Common.{◌≡◌, ◌≢◌, ℕ, zero, ◌/◌, ◌%◌, ◌^◌, ◌<◌, ◌==◌, not, Bool, true, false, ◌||◌, List, [], ◌∷◌, ◌++◌, ◌+◌, length, drop, get_or, replicate, refl, sym, ◌∙◌, ap, arith, bit_and, inl, inr}
 use Rattle.std.specs.List.{list_any}
 use Rattle.std.proofs.Math.ListN.{length-set}
 use Rattle.std.proofs.Math.Nat.{div-add-mod}
-use Rattle.std.proofs.Math.Dec.{eqb}
 use Rattle.std.proofs.lemmas.Bool.{eqb-false, eqb-true, ne_eqb}
 use Rattle.std.proofs.lemmas.Nat.{pow_apart, pow_pos, and_or_apart, and_or_self}
 use Rattle.std.proofs.lemmas.List.{get_or-set_other, get_or-set_same, get_or-replicate, get_or_past, length-replicate}
 use Rattle.std.proofs.lemmas.Bool.Decides.{eqb_tells, leb_tells}
 use Rattle.std.specs.Int.Bits.{and_zero_l}
 use Rattle.std.proofs.lemmas.Grind.{get_or-set_at}
-use Rattle.gw_desc.specs.Marks.{is_marked, marked}
+use Rattle.gw_desc.specs.Marks.{is_marked, with_mark}
 use Rattle.gw_desc.specs.Twice.{has_number_twice}
 use Rattle.gw_desc.specs.Checks.{number_in, numbers_in}
 use Rattle.gw_desc.specs.declared.descriptor.MediaPart.{MediaPart}
@@ -20,16 +19,16 @@ use Rattle.gw_desc.proofs.Counting.{at_place}
 abbrev mark : List ℕ → ℕ → ℕ
 mark seen q = bit_and (get_or seen (q / 64) 0) (2 ^ (q % 64))
 
-mark-self : (seen : List ℕ) (n : ℕ) → n / 64 < length seen → mark (marked seen n) n ≢ 0
-unfolding marked
+mark-self : (seen : List ℕ) (n : ℕ) → n / 64 < length seen → mark (with_mark seen n) n ≢ 0
+unfolding with_mark
 mark-self seen n h none =
     let bit = 2 ^ (n % 64) in
     let gone : bit ≡ 0 = sym (and_or_self bit (get_or seen (n / 64) 0)) ∙ sym (ap (λ w. bit_and w bit) (get_or-set_same seen (n / 64) _ 0 h)) ∙ none in
     let some : 0 < bit = pow_pos (n % 64) in
     absurd (omega arith)
 
-mark-other : (seen : List ℕ) (n q : ℕ) → n / 64 < length seen → q ≢ n → mark (marked seen n) q ≡ mark seen q
-unfolding marked
+mark-other : (seen : List ℕ) (n q : ℕ) → n / 64 < length seen → q ≢ n → mark (with_mark seen n) q ≡ mark seen q
+unfolding with_mark
 mark-other seen n q h other =
     let bit = 2 ^ (q % 64) in
     elim (eqb_tells (q / 64) (n / 64)) [
@@ -37,16 +36,16 @@ mark-other seen n q h other =
       | inr t ↦ ap (λ w. bit_and w bit) (get_or-set_other seen (n / 64) (q / 64) _ 0 t.1)
     ]
 
-pub length-marked : (seen : List ℕ) (n : ℕ) → length (marked seen n) ≡ length seen
-unfolding marked
+pub length-marked : (seen : List ℕ) (n : ℕ) → length (with_mark seen n) ≡ length seen
+unfolding with_mark
 length-marked seen n = length-set seen (n / 64) _
 
 -- what is marked afterwards: that number, and what was
-marked_one : (seen : List ℕ) (n q : ℕ) (t : Bool) → (n == q) ≡ t → n / 64 < length seen → is_marked (marked seen n) q ≡ (t || is_marked seen q)
+marked_one : (seen : List ℕ) (n q : ℕ) (t : Bool) → (n == q) ≡ t → n / 64 < length seen → is_marked (with_mark seen n) q ≡ (t || is_marked seen q)
 unfolding is_marked
 marked_one seen n q true e h =
     let same : n ≡ q = eqb-true n q e in
-    ap (λ (k : ℕ). not (mark (marked seen n) k == 0)) (sym same) ∙ ap not (ne_eqb (mark (marked seen n) n) 0 (mark-self seen n h))
+    ap (λ (k : ℕ). not (mark (with_mark seen n) k == 0)) (sym same) ∙ ap not (ne_eqb (mark (with_mark seen n) n) 0 (mark-self seen n h))
 marked_one seen n q false e h =
     ap (λ (m : ℕ). not (m == 0)) (mark-other seen n q h (λ same. eqb-false n q e (sym same)))
 
@@ -56,7 +55,7 @@ or_swap false true true d = refl
 or_swap false true false d = refl
 or_swap false false c d = refl
 
-any_marked : (seen : List ℕ) (n : ℕ) (rest : List ℕ) → n / 64 < length seen → list_any (is_marked (marked seen n)) rest ≡ (list_any (λ q. n == q) rest || list_any (is_marked seen) rest)
+any_marked : (seen : List ℕ) (n : ℕ) (rest : List ℕ) → n / 64 < length seen → list_any (is_marked (with_mark seen n)) rest ≡ (list_any (λ q. n == q) rest || list_any (is_marked seen) rest)
 any_marked seen n [] h = refl
 any_marked seen n (q ∷ qs) h =
     rw (marked_one seen n q (n == q) refl h, any_marked seen n qs h) (or_swap (n == q) (is_marked seen q) (list_any (λ k. n == k) qs) (list_any (is_marked seen) qs))
@@ -69,7 +68,7 @@ or_turn false false c = refl
 
 -- a number that has no mark yet, and those behind it
 pub mark_next : (seen : List ℕ) (n : ℕ) (rest : List ℕ) → length seen ≡ 1024 → n < 2 ^ 16 → is_marked seen n ≡ false
-    → (list_any (is_marked seen) (n ∷ rest) || has_number_twice (n ∷ rest)) ≡ (list_any (is_marked (marked seen n)) rest || has_number_twice rest)
+    → (list_any (is_marked seen) (n ∷ rest) || has_number_twice (n ∷ rest)) ≡ (list_any (is_marked (with_mark seen n)) rest || has_number_twice rest)
 unfolding has_number_twice
 mark_next seen n rest room small none =
     rw (none, any_marked seen n rest (omega (arith, room, div-add-mod n 64))) (or_turn (list_any (is_marked seen) rest) (list_any (λ q. n == q) rest) (has_number_twice rest))
@@ -110,7 +109,7 @@ past_other seen parts i p h is none = ap (left_twice seen) (next_part parts i p 
 
 pub past_number : (seen : List ℕ) (parts : List MediaPart) (i n : ℕ) (p : MediaPart) → i < length parts → p ≡ get_or parts i p → number_in p ≡ n ∷ []
     → length seen ≡ 1024 → n < 2 ^ 16 → is_marked seen n ≡ false
-    → left_twice seen (numbers_in (drop i parts)) ≡ left_twice (marked seen n) (numbers_in (drop (i + 1) parts))
+    → left_twice seen (numbers_in (drop i parts)) ≡ left_twice (with_mark seen n) (numbers_in (drop (i + 1) parts))
 past_number seen parts i n p h is one room small none =
     ap (left_twice seen) (next_part parts i p h is ∙ ap (λ (front : List ℕ). front ++ numbers_in (drop (i + 1) parts)) one)
     ∙ mark_next seen n (numbers_in (drop (i + 1) parts)) room small none

@@ -14,20 +14,16 @@ use Rattle.gw_text.specs.Tokens.{token_of}
 use Rattle.gw_text.specs.Reader.{Reader, ◌>>=◌, word_as, number_up_to, octets_read, braced_at}
 use Rattle.gw_text.specs.declared.token.Token.{Token}
 use Rattle.gw_text.specs.declared.token.Token.TheVariants as token
-use Rattle.gw_text.proofs.ReadsUp.{ReadsUp, Same, Skipped, UpTo, Any, BeginsWith, up_as, up_from, up_to, up_skipped, up_then, up_last, up_done, up_sign, up_byte, up_space, same_up, skipped_up, up_shrinks}
-use Rattle.gw_text.proofs.Leaves.{up_word, up_number_up_to}
-use Rattle.gw_text.proofs.Links.{safe_apart, digit_apart, both_begins, both_ends, with_second, word_solid, number_solid}
-use Rattle.gw_text.proofs.Lists.{BracesUp, up_braced}
-use Rattle.gw_text.proofs.OctetsScans.{up_octets}
+use Rattle.gw_text.proofs.FormLaws.{BeginsWith, safe_apart, digit_apart, both_begins, both_ends, with_second, word_solid, number_solid, ahead_ends}
+use Rattle.gw_text.proofs.ReaderLaws.{ReadsUp, Same, Skipped, UpTo, Any, up_as, up_from, up_to, up_skipped, up_then, up_last, up_done, up_sign, up_byte, up_space, same_up, skipped_up, up_shrinks, up_word, up_number_up_to, BracesUp, up_braced, up_octets}
 use Rattle.gw_desc.specs.declared.descriptor.Property.{Property}
 use Rattle.gw_desc.specs.declared.descriptor.MediaPart.{MediaPart}
 use Rattle.gw_desc.specs.declared.descriptor.MediaPart.TheVariants as media
 use Rattle.gw_desc.specs.declared.descriptor.StreamPart.{StreamPart}
 use Rattle.gw_desc.specs.declared.descriptor.StreamPart.TheVariants as part
-use Rattle.gw_desc.specs.Parts.{Shrinks}
+use Rattle.gw_text.specs.Parts.{Shrinks}
 use Rattle.gw_desc.specs.Grammar.{SpellsProperty, SpellsOctets, SpellsStreamPart, stream_digits, stream_max, IsStreamId, SpellsMediaPart}
 use Rattle.gw_desc.specs.Reading.{property_at, octets_text_at, stream_rest, stream_part_at, stream_at, media_rest, media_part_at}
-use Rattle.gw_desc.proofs.Texts.{ahead_ends}
 use Rattle.gw_desc.proofs.PropertyLaws.{property_reads, property_braces}
 
 -- ---- tokens

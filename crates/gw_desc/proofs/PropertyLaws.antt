@@ -9,21 +9,16 @@ use Rattle.gw_text.specs.Sign.{sign_at}
 use Rattle.gw_text.specs.Forms.{IsWord, IsSign}
 use Rattle.gw_text.specs.Bracket.{IsBracket}
 use Rattle.gw_text.specs.Quoted.{IsQuoted}
-use Rattle.gw_text.specs.Reader.{Reader, ◌>>=◌, quoted_read, group_read, if_begins, if_sign, bracket_read}
-use Rattle.gw_text.proofs.Signs.{sign_ends, sign_other}
-use Rattle.gw_text.proofs.ReadsUp.{ReadsUp, Same, Skipped, UpTo, Any, BeginsWith, up_as, up_next, up_from, up_skipped, up_then, up_last, up_done, up_close, up_if_sign, up_if_begins, up_up, begins_wider, byte_is_solid, same_up, up_shrinks}
-use Rattle.gw_text.proofs.Links.{safe_apart, both_begins, both_ends, both_other, begins_ends, with_second, word_begins, word_solid}
-use Rattle.gw_text.proofs.Lists.{BracesUp}
-use Rattle.gw_text.proofs.OctetsScans.{up_quoted}
-use Rattle.gw_text.proofs.Spans.{up_group, group_begins, quoted_begins}
+use Rattle.gw_text.specs.Reader.{Reader, ◌>>=◌, quoted_read, group_read, if_begins, if_sign, bracket_read, word_read}
+use Rattle.gw_text.proofs.FormLaws.{sign_ends, sign_other, BeginsWith, begins_wider, byte_is_solid, safe_apart, both_begins, both_ends, both_other, begins_ends, with_second, word_begins, word_solid, group_begins, quoted_begins, bracket_begins}
+use Rattle.gw_text.proofs.ReaderLaws.{ReadsUp, Same, Skipped, UpTo, Any, up_as, up_next, up_from, up_skipped, up_then, up_last, up_done, up_close, up_if_sign, up_if_begins, up_up, same_up, up_shrinks, BracesUp, up_quoted, up_group, up_bracket}
 use Rattle.gw_desc.specs.declared.descriptor.Property.{Property}
 use Rattle.gw_desc.specs.declared.descriptor.Sign.{Sign}
 use Rattle.gw_desc.specs.declared.descriptor.Sign.TheVariants.{Equal, NotEqual, Less, Greater}
-use Rattle.gw_desc.specs.Parts.{Shrinks}
+use Rattle.gw_text.specs.Parts.{Shrinks}
 use Rattle.gw_desc.specs.Grammar.{Kept, request_depth, SpellsGroup, IsValue, sign_byte, SpellsProperty}
-use Rattle.gw_desc.specs.Reading.{word_read, value_at, relation_at, property_at}
+use Rattle.gw_desc.specs.Reading.{value_at, relation_at, property_at}
 use Rattle.gw_desc.proofs.Texts.{safe_is_not, word_reads, kept_solid}
-use Rattle.gw_text.proofs.BracketLaws.{up_bracket, bracket_begins}
 
 -- ---- values
 

@@ -7,20 +7,15 @@ use Rattle.gw_text.specs.Sign.{sign_at}
 use Rattle.gw_text.specs.Forms.{IsWord, IsSign, IsSomeRun}
 use Rattle.gw_text.specs.Bracket.{is_run_byte}
 use Rattle.gw_text.specs.Quoted.{IsQuoted}
-use Rattle.gw_text.specs.Reader.{◌>>=◌, quoted_read}
-use Rattle.gw_text.proofs.Signs.{sign_ends, sign_other, some_is}
-use Rattle.gw_text.proofs.ReadsUp.{ReadsUp, Same, Any, BeginsWith, up_as, up_next, up_skipped, up_then, up_last, up_done, up_if_sign, up_if_begins, begins_wider, byte_is_solid, same_up, up_shrinks}
-use Rattle.gw_text.proofs.Links.{space_bytes, safe_apart, is_solid_by, is_another, run_begins, begins_ends, both_begins, both_ends, with_second}
-use Rattle.gw_text.proofs.BracketLaws.{up_run}
-use Rattle.gw_text.proofs.Lists.{BracesUp}
-use Rattle.gw_text.proofs.OctetsScans.{up_quoted}
-use Rattle.gw_text.proofs.Spans.{quoted_begins}
+use Rattle.gw_text.specs.Reader.{◌>>=◌, quoted_read, word_read, run_read}
+use Rattle.gw_text.proofs.FormLaws.{sign_ends, sign_other, some_is, BeginsWith, begins_wider, byte_is_solid, space_bytes, safe_apart, is_solid_by, is_another, run_begins, begins_ends, both_begins, both_ends, with_second, quoted_begins}
+use Rattle.gw_text.proofs.ReaderLaws.{ReadsUp, Same, Any, up_as, up_next, up_skipped, up_then, up_last, up_done, up_if_sign, up_if_begins, same_up, up_shrinks, up_run, BracesUp, up_quoted}
 use Rattle.gw_desc.specs.declared.descriptor.ServiceParm.{ServiceParm}
 use Rattle.gw_desc.specs.declared.descriptor.ServiceValue.{ServiceValue}
 use Rattle.gw_desc.specs.declared.descriptor.ServiceValue.TheVariants as value
-use Rattle.gw_desc.specs.Parts.{Shrinks}
+use Rattle.gw_text.specs.Parts.{Shrinks}
 use Rattle.gw_desc.specs.Grammar.{Kept, SpellsServiceValue, SpellsOptionalValue, SpellsServiceParm}
-use Rattle.gw_desc.specs.Reading.{word_read, run_read, service_value_at, service_rest, service_parm_at}
+use Rattle.gw_desc.specs.Reading.{service_value_at, service_rest, service_parm_at}
 use Rattle.gw_desc.proofs.Texts.{word_reads, kept_solid}
 
 -- ---- runs

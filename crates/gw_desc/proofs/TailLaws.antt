@@ -1,22 +1,19 @@
 -- The reader of a tail reads its form.
-use Rattle.std.proofs.Common.{◌≡◌, ◌⊎◌, inl, inr, ℕ, Bool, true, false, List, [], ◌++◌, Option, Some, None, refl, ap, sym, subst, ◌∙◌}
+use Rattle.std.proofs.Common.{◌≡◌, ◌⊎◌, inl, inr, ℕ, Bool, true, false, List, [], ◌++◌, Option, Some, None, refl, ap, sym, subst, ◌∙◌, append-nil}
 use Rattle.gw_base.specs.Lang.{Both, ◌▹◌}
 use Rattle.gw_text.specs.Lexical.{is_safe, is_solid, equals_sign, left_brace, is_space_start, comma, right_brace}
 use Rattle.gw_text.specs.Space.{IsSpace}
 use Rattle.gw_text.specs.Runs.{begins, is_byte, NoMore}
 use Rattle.gw_text.specs.Sign.{sign_at}
 use Rattle.gw_text.specs.Forms.{IsWord, IsSign}
-use Rattle.gw_text.specs.Reader.{◌>>=◌, group_read, if_begins}
-use Rattle.gw_text.proofs.Skips.{no_space}
-use Rattle.gw_text.proofs.Signs.{sign_ends, sign_other}
-use Rattle.gw_text.proofs.ReadsUp.{ReadsUp, Same, Skipped, Any, BeginsWith, up_as, up_next, up_skipped, up_then, up_last, up_done, up_if_sign, up_if_ahead, up_if_begins, begins_wider, byte_is_solid, same_up, up_shrinks, both_split}
-use Rattle.gw_text.proofs.Links.{safe_apart, both_begins, both_ends, both_other, begins_ends, with_second}
-use Rattle.gw_text.proofs.Spans.{up_group, group_begins}
+use Rattle.gw_text.specs.Reader.{◌>>=◌, group_read, if_begins, word_read}
+use Rattle.gw_text.proofs.FormLaws.{no_space, sign_ends, sign_other, BeginsWith, begins_wider, byte_is_solid, both_split, safe_apart, both_begins, both_ends, both_other, begins_ends, with_second, group_begins, ahead_ends}
+use Rattle.gw_text.proofs.ReaderLaws.{ReadsUp, Same, Skipped, Any, up_as, up_next, up_skipped, up_then, up_last, up_done, up_if_sign, up_if_ahead, up_if_begins, same_up, up_shrinks, up_group}
 use Rattle.gw_desc.specs.declared.descriptor.Tail.{Tail}
-use Rattle.gw_desc.specs.Parts.{Shrinks}
-use Rattle.gw_desc.specs.Grammar.{Kept, request_depth, SpellsGroup, SpellsEquals, SpellsOptionalGroup, IsThere, SpellsTail}
-use Rattle.gw_desc.specs.Reading.{word_read, optional_group_at, group_tail_at, word_tail_at, bare_tail_at, tail_at, AfterTail}
-use Rattle.gw_desc.proofs.Texts.{first_two, last_two, sign_takes_space, ahead_ends, ahead_other, safe_is_not, word_reads, kept_solid, kept_begins}
+use Rattle.gw_text.specs.Parts.{Shrinks}
+use Rattle.gw_desc.specs.Grammar.{Kept, request_depth, SpellsGroup, SpellsOptionalWord, SpellsEquals, SpellsOptionalGroup, IsThere, SpellsTail}
+use Rattle.gw_desc.specs.Reading.{optional_group_at, group_tail_at, word_tail_at, bare_tail_at, tail_at, AfterTail}
+use Rattle.gw_desc.proofs.Texts.{first_two, last_two, with_first_part, sign_takes_space, ahead_other, safe_is_not, word_reads, kept_solid, kept_begins}
 
 -- ---- groups
 
@@ -112,29 +109,38 @@ behind_reads =
 
 -- ---- in other words
 
+-- `=` alone
+equals_alone : (text : List ℕ) → IsSign equals_sign text → (IsSign equals_sign ▹ SpellsOptionalWord None) text
+equals_alone text h = record { front = text; back = []; split = sym (append-nil text); first = h; second = refl }
+
+alone_equals : (text : List ℕ) → (IsSign equals_sign ▹ SpellsOptionalWord None) text → IsSign equals_sign text
+alone_equals text h = subst (IsSign equals_sign) (sym (append-nil h.front) ∙ ap (λ (x : List ℕ). h.front ++ x) (sym h.second) ∙ sym h.split) h.first
+
 tail_to : (t : Tail (List ℕ)) (text : List ℕ) → (Both (IsSign equals_sign) (BehindEquals t) text ⊎ BareTail t text) → SpellsTail t text
 tail_to t text h =
     elim h [
       | inl b ↦ elim b.second [
-        | inl g ↦ subst (λ (u : Tail (List ℕ)). SpellsTail u text) g.1 (record { words = with_second b (record { front = []; back = b.back; split = refl; first = no_space; second = g.2 }); some = λ e. inr tt })
-        | inr w ↦ let c = w.1 in subst (λ (u : Tail (List ℕ)). SpellsTail u text) c.second.1 (record { words = first_two (with_second b (with_second c c.second.2)); some = λ e. inl tt })
+        | inl g ↦
+            let d = with_second b (record { front = []; back = b.back; split = refl; first = no_space; second = g.2 }) in
+            subst (λ (u : Tail (List ℕ)). SpellsTail u text) g.1 (record { words = with_first_part d (equals_alone d.front d.first); behind = λ w. absurd w; some = λ e. inr tt })
+        | inr w ↦ let c = w.1 in subst (λ (u : Tail (List ℕ)). SpellsTail u text) c.second.1 (record { words = first_two (with_second b (with_second c c.second.2)); behind = λ w. refl; some = λ e. inl tt })
       ]
-      | inr g ↦ subst (λ (u : Tail (List ℕ)). SpellsTail u text) g.1 (record { words = record { front = []; back = text; split = refl; first = refl; second = g.2 }; some = λ e. absurd cc })
+      | inr g ↦ subst (λ (u : Tail (List ℕ)). SpellsTail u text) g.1 (record { words = record { front = []; back = text; split = refl; first = refl; second = g.2 }; behind = λ w. absurd w; some = λ e. absurd cc })
     ]
 
 bare_back : (g : Option (List ℕ)) (text front back : List ℕ) → text ≡ front ++ back → front ≡ [] → SpellsOptionalGroup g back → SpellsOptionalGroup g text
 bare_back g text front back split none h = subst (SpellsOptionalGroup g) (sym (split ∙ ap (λ (x : List ℕ). x ++ back) none)) h
 
-parts_from : (equals : Bool) (word group : Option (List ℕ)) (text : List ℕ) → (SpellsEquals equals word ▹ SpellsOptionalGroup group) text → (equals ≡ true → IsThere word ⊎ IsThere group) → Both (IsSign equals_sign) (BehindEquals (tail_of equals word group)) text ⊎ BareTail (tail_of equals word group) text
-parts_from false None group text b some = inr (group, refl, bare_back group text b.front b.back b.split b.first b.second)
-parts_from false (Some w) group text b some = absurd (b.first)
-parts_from true None None text b some =
+parts_from : (equals : Bool) (word group : Option (List ℕ)) (text : List ℕ) → (SpellsEquals equals word ▹ SpellsOptionalGroup group) text → (IsThere word → equals ≡ true) → (equals ≡ true → IsThere word ⊎ IsThere group) → Both (IsSign equals_sign) (BehindEquals (tail_of equals word group)) text ⊎ BareTail (tail_of equals word group) text
+parts_from false None group text b behind some = inr (group, refl, bare_back group text b.front b.back b.split b.first b.second)
+parts_from false (Some w) group text b behind some = let e : false ≡ true = behind tt in absurd cc
+parts_from true None None text b behind some =
     elim (some refl) [
       | inl n ↦ absurd n
       | inr n ↦ absurd n
     ]
-parts_from true None (Some g) text b some = let c = sign_takes_space equals_sign b in inl (with_second c (inl (g, refl, c.second)))
-parts_from true (Some w) group text b some = let c = last_two b in inl (with_second c (inr (w, with_second c.second (group, refl, c.second.second))))
+parts_from true None (Some g) text b behind some = let c = sign_takes_space equals_sign (with_first_part b (alone_equals b.front b.first)) in inl (with_second c (inl (g, refl, c.second)))
+parts_from true (Some w) group text b behind some = let c = last_two b in inl (with_second c (inr (w, with_second c.second (group, refl, c.second.second))))
 
 pub tail_reads : ReadsUp tail_at SpellsTail AfterTail Same Same
 unfolding tail_at
@@ -142,7 +148,7 @@ tail_reads =
     up_as (up_if_sign equals_sign (if_begins (is_byte left_brace) group_tail_at word_tail_at) bare_tail_at BehindEquals BareTail AfterTail Same Same refl same_up
     behind_reads (optional_reads (tail_of false None))
     (λ t front rest q n. group_other equals_sign refl q.0 front rest q.2 n.equals))
-    tail_to (λ t text h. parts_from t.equals t.word t.group text h.words h.some)
+    tail_to (λ t text h. parts_from t.equals t.word t.group text h.words h.behind h.some)
 
 pub tail_shrinks : Shrinks tail_at
 tail_shrinks = up_shrinks tail_reads
@@ -164,9 +170,8 @@ brace_after_tail = sign_after_tail right_brace refl refl refl refl
 -- ---- what a tail does not go on with
 
 equals_ends : (e : Bool) (w : Option (List ℕ)) (front rest : List ℕ) → SpellsEquals e w front → NoMore is_safe rest → NoMore is_safe (front ++ rest)
-equals_ends false None front rest h n = ap (λ (x : List ℕ). begins is_safe (x ++ rest)) h ∙ n
-equals_ends false (Some w) front rest h n = absurd h
-equals_ends true None front rest h n = sign_ends is_safe equals_sign front rest safe_apart refl h
+equals_ends false w front rest h n = ap (λ (x : List ℕ). begins is_safe (x ++ rest)) h ∙ n
+equals_ends true None front rest h n = sign_ends is_safe equals_sign front rest safe_apart refl (alone_equals front h)
 equals_ends true (Some w) front rest h n = both_ends is_safe equals_sign (Kept IsWord w) front rest safe_apart refl h
 
 pub tail_ends : (t : Tail (List ℕ)) (front rest : List ℕ) → SpellsTail t front → AfterTail rest → NoMore is_safe (front ++ rest)
@@ -176,9 +181,8 @@ tail_ends t front rest h n =
     ∙ equals_ends t.equals t.word b.front (b.back ++ rest) b.first (group_ends is_safe safe_apart refl t.group b.back rest b.second n.word)
 
 equals_other : (b : ℕ) → is_byte b equals_sign ≡ false → (e : Bool) (w : Option (List ℕ)) (front rest : List ℕ) → SpellsEquals e w front → sign_at b rest ≡ None → sign_at b (front ++ rest) ≡ None
-equals_other b other false None front rest h n = ap (λ (x : List ℕ). sign_at b (x ++ rest)) h ∙ n
-equals_other b other false (Some w) front rest h n = absurd h
-equals_other b other true None front rest h n = sign_other equals_sign b front rest refl other h
+equals_other b other false w front rest h n = ap (λ (x : List ℕ). sign_at b (x ++ rest)) h ∙ n
+equals_other b other true None front rest h n = sign_other equals_sign b front rest refl other (alone_equals front h)
 equals_other b other true (Some w) front rest h n = both_other equals_sign b (Kept IsWord w) front rest refl other h
 
 -- no tail begins with another sign

@@ -1,20 +1,17 @@
 -- Texts of two forms and more.
-use Rattle.std.proofs.Common.{◌≡◌, ℕ, Bool, true, false, List, [], ◌∷◌, ◌++◌, Some, None, refl, ap, sym, ◌∙◌, append_assoc}
+use Rattle.std.proofs.Common.{◌≡◌, ℕ, true, false, List, [], ◌∷◌, ◌++◌, Some, None, refl, ap, sym, ◌∙◌, append_assoc}
 use Rattle.std.specs.List.{concat}
-use Rattle.std.proofs.lemmas.Bool.{eqb-true}
 use Rattle.gw_base.specs.Lang.{Both, ◌▹◌}
-use Rattle.gw_text.specs.Lexical.{is_safe, is_solid, is_space_start}
+use Rattle.gw_text.specs.Lexical.{is_safe, is_solid}
 use Rattle.gw_text.specs.Space.{IsSpacePiece, Each, IsSpace}
 use Rattle.gw_text.specs.Runs.{begins, is_byte, NoMore}
 use Rattle.gw_text.specs.Sign.{sign_at}
 use Rattle.gw_text.specs.Forms.{IsWord, IsSign}
-use Rattle.gw_text.proofs.Signs.{some_is, sign_space}
-use Rattle.gw_text.proofs.ReadsUp.{ReadsUp, Same, BeginsWith, up_as, both_split, begins_append, byte_is_solid, up_shrinks}
-use Rattle.gw_text.proofs.Leaves.{up_word}
-use Rattle.gw_text.proofs.Links.{is_another, begins_ends, begins_no_sign, space_ends, word_solid, word_begins}
-use Rattle.gw_desc.specs.Parts.{Shrinks}
+use Rattle.gw_text.proofs.FormLaws.{some_is, sign_space, BeginsWith, both_split, begins_append, byte_is_solid, is_another, begins_no_sign, word_solid, word_begins}
+use Rattle.gw_text.proofs.ReaderLaws.{ReadsUp, Same, up_as, up_shrinks, up_word}
+use Rattle.gw_text.specs.Parts.{Shrinks}
+use Rattle.gw_text.specs.Reader.{word_read}
 use Rattle.gw_desc.specs.Grammar.{Kept}
-use Rattle.gw_desc.specs.Reading.{word_read}
 
 -- ---- three parts
 
@@ -79,13 +76,7 @@ sign_takes_space b h = let c = h.second in record {
 
 -- ---- the byte behind white space
 
--- the bytes of the form begin with the byte, white space aside
-pub ahead_ends : (p : ℕ → Bool) (b : ℕ) (Q : List ℕ → Type 0) → ((c : ℕ) → is_space_start c ≡ true → p c ≡ false) → p b ≡ false → ((text : List ℕ) → Q text → begins (is_byte b) text ≡ true) → (front rest : List ℕ) → Both IsSpace Q front → NoMore p (front ++ rest)
-ahead_ends p b Q apart other first front rest h =
-    ap (begins p) (both_split IsSpace Q front rest h)
-    ∙ space_ends p apart h.front (h.back ++ rest) h.first (begins_ends (is_byte b) p (λ c e. ap p (eqb-true c b e) ∙ other) h.back rest (first h.back h.second))
-
--- so another sign does not come next
+-- where the bytes of the form begin with a byte, white space aside, another sign does not come next
 pub ahead_other : (a b : ℕ) (Q : List ℕ → Type 0) → is_solid a ≡ true → is_byte a b ≡ false → ((text : List ℕ) → Q text → begins (is_byte a) text ≡ true) → (front rest : List ℕ) → Both IsSpace Q front → sign_at b (front ++ rest) ≡ None
 ahead_other a b Q solid other first front rest h =
     ap (sign_at b) (both_split IsSpace Q front rest h)

@@ -53,19 +53,19 @@ abbrev pub is_connection : List ℕ → Bool
 is_connection line = starts_with (λ a b. a == b) line (codes "c=")
 
 -- media
-abbrev pub is_media : List ℕ → Bool
-is_media line = starts_with (λ a b. a == b) line (codes "m=")
+abbrev pub is_media_line : List ℕ → Bool
+is_media_line line = starts_with (λ a b. a == b) line (codes "m=")
 
 -- the address as the third field of a c= line, or the port as the second of an m= line, where `$` stood there
 unfoldable pub filled_line : List ℕ → List ℕ → List ℕ → List ℕ
 filled_line address port line =
     if is_connection line then put 2 address line
-    else if is_media line then put 1 port line
+    else if is_media_line line then put 1 port line
     else line
 
 -- the line has such a `$`
 unfoldable pub is_fillable_line : List ℕ → Bool
-is_fillable_line line = (is_connection line && has_choose 2 line) || (is_media line && has_choose 1 line)
+is_fillable_line line = (is_connection line && has_choose 2 line) || (is_media_line line && has_choose 1 line)
 
 -- ---- a Local
 

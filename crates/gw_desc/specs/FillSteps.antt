@@ -5,7 +5,7 @@ use Rattle.gw_base.specs.Bytes.{is_one_of}
 use Rattle.gw_text.specs.Lexical.{nul, backslash, right_brace, is_blank}
 use Rattle.gw_text.specs.Runs.{begins}
 use Rattle.gw_text.specs.Forms.{IsSomeRun}
-use Rattle.gw_desc.specs.Fill.{line_ends, field_ends, ends_of, is_connection, is_media}
+use Rattle.gw_desc.specs.Fill.{line_ends, field_ends, ends_of, is_connection, is_media_line}
 
 -- nothing, or a text whose last byte is one of these
 abbrev pub IsWhole : List ℕ → List ℕ → Type 0
@@ -33,7 +33,7 @@ pub record IsPut (is_kind : List ℕ → Bool) (place : ℕ) (new old text : Lis
 
 -- One step: the third field of a c= line becomes the address, or the second of an m= line the port.
 abbrev pub IsFilledOnce : (address port : List ℕ) → List ℕ → List ℕ → Type 0
-IsFilledOnce address port old text = IsPut is_connection 2 address old text ⊎ IsPut is_media 1 port old text
+IsFilledOnce address port old text = IsPut is_connection 2 address old text ⊎ IsPut is_media_line 1 port old text
 
 -- by such steps, through these texts
 abbrev pub IsChain : (List ℕ → List ℕ → Type 0) → List ℕ → List (List ℕ) → List ℕ → Type 0

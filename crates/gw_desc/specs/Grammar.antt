@@ -2,10 +2,10 @@
 -- on both sides. What is kept as sent is not looked into (own).
 use Rattle.std.specs.Prelude.{◌≡◌, ◌⊎◌, ℕ, Bool, true, false, List, [], ◌∷◌, Option, Some, None, codes}
 use Rattle.gw_base.specs.Bytes.{byte}
-use Rattle.gw_base.specs.Lang.{◌▹◌, OptionalOf, IsText}
+use Rattle.gw_base.specs.Lang.{◌▹◌, Optional, OptionalOf, IsText}
 use Rattle.gw_text.specs.Lexical.{equals_sign, left_brace, right_brace}
 use Rattle.gw_text.specs.Space.{IsSpace}
-use Rattle.gw_text.specs.Forms.{IsWord, IsSign, IsSomeRun, IsNumber, IsToken, Braced, BracedOrEmpty}
+use Rattle.gw_text.specs.Forms.{IsWord, IsSign, OptionalIf, IsSomeRun, IsNumber, IsToken, Braced, BracedOrEmpty}
 use Rattle.gw_text.specs.Quoted.{IsQuoted}
 use Rattle.gw_text.specs.Octets.{IsOctetsOf}
 use Rattle.gw_text.specs.Bracket.{IsBracket, is_run_byte}
@@ -43,12 +43,13 @@ SpellsGroup = Kept (IsGroup request_depth)
 
 -- ---- tails
 
--- [EQUAL [word]]
+-- [word]
+abbrev pub SpellsOptionalWord : Option (List ℕ) → List ℕ → Type 0
+SpellsOptionalWord = OptionalOf (Kept IsWord)
+
+-- [EQUAL [word]], and whether EQUAL is there
 abbrev pub SpellsEquals : Bool → Option (List ℕ) → List ℕ → Type 0
-SpellsEquals false None text = text ≡ []
-SpellsEquals false (Some word) text = ⊥
-SpellsEquals true None text = IsSign equals_sign text
-SpellsEquals true (Some word) text = (IsSign equals_sign ▹ Kept IsWord word) text
+SpellsEquals equals word = OptionalIf (IsSign equals_sign ▹ SpellsOptionalWord word) equals
 
 -- [LWSP group]
 abbrev pub SpellsOptionalGroup : Option (List ℕ) → List ℕ → Type 0
@@ -62,6 +63,8 @@ IsThere (Some span) = Unit {0}
 -- what follows the word of a descriptor that is kept (own): [EQUAL [word]] [LWSP group]
 pub record SpellsTail (t : Tail (List ℕ)) (text : List ℕ) : Type 0 where
   pub words : (SpellsEquals t.equals t.word ▹ SpellsOptionalGroup t.group) text
+  -- no word without `=`
+  pub behind : IsThere t.word → t.equals ≡ true
   -- not `=` alone
   pub some : t.equals ≡ true → IsThere t.word ⊎ IsThere t.group
 
@@ -157,7 +160,7 @@ IsTail text = (t : Tail (List ℕ)) × SpellsTail t text
 
 -- what follows it, which is dropped (own): [LWSP bracket] tail
 abbrev pub IsDropped : List ℕ → Type 0
-IsDropped text = (IsSpace ▹ IsBracket ▹ IsTail) text ⊎ IsTail text
+IsDropped = Optional (IsSpace ▹ IsBracket) ▹ IsTail
 
 -- ammParameter, auditDescriptor, serviceChangeDescriptor; any other word is own
 abbrev pub SpellsDescriptor : Descriptor → List ℕ → Type 0

@@ -6,5 +6,5 @@ unfoldable pub is_marked : List ℕ → ℕ → Bool
 is_marked seen number = not (bit_and (slice_index_or seen (number / 64) 0) (2 ^ (number % 64)) == 0)
 
 -- the words once it has
-unfoldable pub marked : List ℕ → ℕ → List ℕ
-marked seen number = slice_set seen (number / 64) (bit_or (slice_index_or seen (number / 64) 0) (2 ^ (number % 64)))
+unfoldable pub with_mark : List ℕ → ℕ → List ℕ
+with_mark seen number = slice_set seen (number / 64) (bit_or (slice_index_or seen (number / 64) 0) (2 ^ (number % 64)))

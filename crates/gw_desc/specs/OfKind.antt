@@ -1,6 +1,5 @@
 -- Which of them is of which kind, as the code asks (own).
 use Rattle.std.specs.Prelude.{ℕ, Bool, List}
-use Rattle.gw_text.specs.declared.token.Token.{Token}
 use Rattle.gw_desc.specs.declared.descriptor.Descriptor.{Descriptor}
 use Rattle.gw_desc.specs.declared.descriptor.MediaPart.{MediaPart}
 use Rattle.gw_desc.specs.declared.descriptor.StreamPart.{StreamPart}

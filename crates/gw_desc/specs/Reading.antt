@@ -4,7 +4,7 @@ use Rattle.gw_text.specs.Lexical.{is_safe, equals_sign, left_brace, right_brace,
 use Rattle.gw_text.specs.SpaceScan.{skip}
 use Rattle.gw_text.specs.Runs.{is_byte, NoMore}
 use Rattle.gw_text.specs.Sign.{byte_at, sign_at}
-use Rattle.gw_text.specs.Reader.{Reader, ◌>>=◌, word_as, run_as, bracket_read, number_up_to, octets_read, quoted_read, group_read, if_sign, if_begins, if_ahead, braced_at, braced_or_empty_at}
+use Rattle.gw_text.specs.Reader.{Reader, ◌>>=◌, word_as, word_read, run_read, bracket_read, number_up_to, octets_read, quoted_read, group_read, if_sign, if_begins, if_ahead, braced_at, braced_or_empty_at}
 use Rattle.gw_text.specs.Tokens.{token_of}
 use Rattle.gw_text.specs.declared.token.Token.{Token}
 use Rattle.gw_text.specs.declared.token.Token.TheVariants as token
@@ -24,14 +24,6 @@ use Rattle.gw_desc.specs.declared.descriptor.Sign.{Sign}
 use Rattle.gw_desc.specs.declared.descriptor.Sign.TheVariants.{Equal, NotEqual, Less, Greater}
 use Rattle.gw_desc.specs.declared.descriptor.Tail.{Tail}
 use Rattle.gw_desc.specs.Grammar.{request_depth, sign_byte, stream_digits, stream_max}
-
--- a word, as sent
-abbrev pub word_read : Reader (List ℕ)
-word_read = word_as (λ word. Some word)
-
--- a run, as sent
-abbrev pub run_read : Reader (List ℕ)
-run_read = run_as (λ run. Some run)
 
 -- ---- tails
 

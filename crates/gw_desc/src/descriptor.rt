@@ -6,7 +6,7 @@ use gw_base::{Items, Span};
 pub type AuditItems<'a> = Items<Span<'a>>;
 
 /// A descriptor of a command, of a datagram that lives as long as `'a`.
-#[derive(Debug, Drop)]
+#[derive(Drop)]
 pub enum Descriptor<'a> {
     /// `Media`: its parts in the order sent, at least one.
     Media(Items<MediaPart<'a>>),
@@ -21,7 +21,7 @@ pub enum Descriptor<'a> {
 }
 
 /// Which descriptor is kept as sent.
-#[derive(Clone, Copy, Debug, PartialEq, Eq, Hash)]
+#[derive(Clone, Copy, PartialEq, Eq)]
 pub enum KeptKind {
     /// `Events` (RFC 3525, section 7.1.9): which events are to be told of.
     Events,
@@ -34,7 +34,7 @@ pub enum KeptKind {
 }
 
 /// A part of a Media descriptor (RFC 3525, section 7.1.4).
-#[derive(Debug, Drop)]
+#[derive(Drop)]
 pub enum MediaPart<'a> {
     /// A stream part outside a Stream, which is of stream 1.
     Outside(StreamPart<'a>),
@@ -45,7 +45,7 @@ pub enum MediaPart<'a> {
 }
 
 /// A part of a stream (RFC 3525, sections 7.1.6 to 7.1.8).
-#[derive(Debug, Drop)]
+#[derive(Drop)]
 pub enum StreamPart<'a> {
     /// `Local`: the octets between its braces, without the white space round them.
     Local(Span<'a>),
@@ -57,7 +57,7 @@ pub enum StreamPart<'a> {
 
 /// A property: its name, the sign behind it and its value, as sent. A message has them as spans of its datagram; what keeps a
 /// property has them as texts of its own.
-#[derive(Debug, Drop)]
+#[derive(Drop)]
 pub struct Property<T> {
     /// A word.
     pub name: T,
@@ -68,7 +68,7 @@ pub struct Property<T> {
 }
 
 /// What stands between a property's name and its value.
-#[derive(Clone, Copy, Debug, PartialEq, Eq, Hash)]
+#[derive(Clone, Copy, PartialEq, Eq)]
 pub enum Sign {
     /// `=`
     Equal,
@@ -82,7 +82,7 @@ pub enum Sign {
 
 /// What follows the word of a descriptor that is kept as sent. Where `equals` holds a word or a group stands behind it. A
 /// message has it as spans of its datagram; what keeps a tail has it as texts of its own.
-#[derive(Debug, Drop)]
+#[derive(Drop)]
 pub struct Tail<T> {
     /// Whether `=` stands behind the descriptor's word.
     pub equals: bool,
@@ -93,7 +93,7 @@ pub struct Tail<T> {
 }
 
 /// A parameter of a Services descriptor (RFC 3525, sections 7.1.13 and 7.2.8; Annex B.2, `serviceChangeParm`).
-#[derive(Debug, Drop)]
+#[derive(Drop)]
 pub struct ServiceParm<'a> {
     /// A word.
     pub name: Span<'a>,
@@ -102,7 +102,7 @@ pub struct ServiceParm<'a> {
 }
 
 /// The value of a Services parameter.
-#[derive(Debug, Drop)]
+#[derive(Drop)]
 pub enum ServiceValue<'a> {
     /// A quoted text, its quotation marks included.
     Quoted(Span<'a>),

@@ -1,14 +1,13 @@
 //! Descriptors, as they are read. After a fault nothing is said of the cursor.
 
 ghost use Rattle.gw_desc.specs.Reading.{descriptor_at, dropped_at, keep_at};
-ghost use Rattle.gw_desc.specs.Parts.{Finds};
+ghost use Rattle.gw_text.specs.Parts.{Finds};
 
 use crate::descriptor::{Descriptor, KeptKind, Tail};
-use crate::fault::PartFault;
-use crate::lists::{Part, braced, braced_or_empty};
 use crate::tails::tail;
 use gw_base::Span;
-use gw_text::{Cursor, Token, token_of};
+use gw_text::parts::{Part, braced, braced_or_empty};
+use gw_text::{Cursor, PartFault, Token, token_of};
 use std::alloc::Global;
 
 /// What follows another word, which is dropped: a bracket perhaps, and the tail that is answered.

@@ -12,7 +12,7 @@ ghost use Rattle.gw_desc.specs.FillSteps.{IsFilledOnce, IsPlain, IsReached};
 ghost use Rattle.gw_desc.specs.Grammar.{SpellsDescriptor, SpellsProperty, SpellsTail};
 ghost use Rattle.gw_desc.specs.KeptTexts.{HasKeptTexts, IsKeptOctets, IsKeptProperty, IsKeptTail};
 ghost use Rattle.gw_desc.specs.Reading.{AfterDescriptor, AfterTail, descriptor_at, tail_at};
-ghost use Rattle.gw_desc.specs.Parts.{IsOne, ReadsEach, ReadsOnly};
+ghost use Rattle.gw_text.specs.Parts.{IsOne, ReadsEach, ReadsOnly};
 
 /// Reading a descriptor takes a text of the grammar and nothing else, and each such text; it spells one descriptor.
 pub fn descriptors_are_read()

@@ -1,13 +1,11 @@
-//! Descriptors of H.248 version 1 in the text encoding, as they are read, and the lists that messages are made of.
+//! Descriptors of H.248 version 1 in the text encoding, as they are read.
 #![tactic(auto)]
 
 mod checks;
 mod descriptor;
 mod descriptors;
-mod fault;
 mod fill;
 mod laws;
-mod lists;
 mod properties;
 mod services;
 mod spans;
@@ -20,12 +18,10 @@ pub use descriptor::{
     AuditItems, Descriptor, KeptKind, MediaPart, Property, ServiceParm, ServiceValue, Sign,
     StreamPart, Tail,
 };
-pub use fault::PartFault;
 pub use fill::fill_local;
 pub use laws::{
     descriptors_are_read, fills_go_step_by_step, kept_texts_have_their_forms, tails_are_read,
 };
-pub use lists::{Part, braced, items, list, optional_braced, sign, token};
 pub use tails::{optional_group, tail};
 pub use values::{
     AuditItem, Mode, is_mode, is_parm, is_service_states, item_of, mode_of, mode_set_by,

@@ -1,14 +1,13 @@
 //! Properties: a name, a sign and a value, which is kept as sent. After a fault nothing is said of the cursor.
 
 ghost use Rattle.gw_desc.specs.Reading.{property_at, relation_at, value_at};
-ghost use Rattle.gw_desc.specs.Parts.{Finds};
+ghost use Rattle.gw_text.specs.Parts.{Finds};
 
 use crate::descriptor::{Property, Sign};
-use crate::fault::PartFault;
-use crate::lists::{Part, sign};
-use crate::spans::{group, word};
+use crate::spans::group;
 use gw_base::Span;
-use gw_text::Cursor;
+use gw_text::parts::{Part, sign, word};
+use gw_text::{Cursor, PartFault};
 use std::alloc::Global;
 
 /// The value of a property, as sent.

@@ -1,14 +1,12 @@
 //! The parameters of a Services descriptor, as they are read. After a fault nothing is said of the cursor.
 
 ghost use Rattle.gw_desc.specs.Reading.{service_parm_at, service_value_at};
-ghost use Rattle.gw_desc.specs.Parts.{Finds};
+ghost use Rattle.gw_text.specs.Parts.{Finds};
 
 use crate::descriptor::{ServiceParm, ServiceValue};
-use crate::fault::PartFault;
-use crate::lists::Part;
-use crate::spans::word;
 use gw_base::Span;
-use gw_text::Cursor;
+use gw_text::parts::{Part, word};
+use gw_text::{Cursor, PartFault};
 use std::alloc::Global;
 
 /// What stands behind `=`.

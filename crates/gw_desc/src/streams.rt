@@ -1,13 +1,12 @@
 //! The parts of a Media descriptor, as they are read. After a fault nothing is said of the cursor.
 
 ghost use Rattle.gw_desc.specs.Reading.{media_part_at, octets_text_at, stream_at, stream_part_at, stream_rest};
-ghost use Rattle.gw_desc.specs.Parts.{Gives, Finds};
+ghost use Rattle.gw_text.specs.Parts.{Gives, Finds};
 
 use crate::descriptor::{MediaPart, StreamPart};
-use crate::fault::PartFault;
-use crate::lists::{Part, braced, sign, token};
 use gw_base::Span;
-use gw_text::{Cursor, Token};
+use gw_text::parts::{Part, braced, sign, token};
+use gw_text::{Cursor, PartFault, Token};
 use std::alloc::Global;
 
 /// The most digits of a stream's number (RFC 3525, section 7.1.6).

@@ -1,13 +1,13 @@
 //! What follows the word of a descriptor that is kept as sent.
 
 ghost use Rattle.gw_desc.specs.Reading.{optional_group_at, tail_at, word_tail_at};
-ghost use Rattle.gw_desc.specs.Parts.{Finds};
+ghost use Rattle.gw_text.specs.Parts.{Finds};
 
 use crate::descriptor::Tail;
-use crate::fault::PartFault;
-use crate::spans::{group, word};
+use crate::spans::group;
 use gw_base::Span;
-use gw_text::Cursor;
+use gw_text::parts::word;
+use gw_text::{Cursor, PartFault};
 
 /// Takes the group behind the white space, if a brace comes next there; else nothing. Braces may lie 8 deep (own to
 /// this profile).

@@ -1,7 +1,7 @@
 //! The classes of a burst's items.
 
 /// What is done with an item of a burst.
-#[derive(Clone, Copy, Debug, PartialEq, Eq)]
+#[derive(Clone, Copy, PartialEq, Eq)]
 pub enum Class {
     /// A request that is carried out, and whose reply is kept.
     New,
@@ -14,7 +14,7 @@ pub enum Class {
 }
 
 /// Where the reply of a repeat is.
-#[derive(Clone, Copy, Debug, PartialEq, Eq)]
+#[derive(Clone, Copy, PartialEq, Eq)]
 pub enum Source {
     /// Among the kept pairs at the burst's start: the place from the oldest on, which is 0.
     Kept(usize),

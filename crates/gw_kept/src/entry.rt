@@ -8,7 +8,7 @@ use gw_base::{Items, Mid, TxId};
 use gw_msg::Item;
 
 /// A reply that is kept for repeats (own to this profile; RFC 3525, Annex D.1, asks that a repeat is not carried out again).
-#[derive(Debug, Drop)]
+#[derive(Drop)]
 pub struct Entry {
     /// Who asked, as sent.
     pub mid: Mid,
@@ -19,7 +19,7 @@ pub struct Entry {
 }
 
 /// Who asked, and under which number: what a repeat is told by. Ordered by the number first, which tells most keys apart.
-#[derive(Clone, Copy, Debug, PartialEq, Eq, PartialOrd, Ord)]
+#[derive(Clone, Copy, PartialEq, Eq, PartialOrd, Ord)]
 pub struct RequestKey {
     /// The number of the transaction.
     pub id: u32,

@@ -3,7 +3,7 @@ use Rattle.std.proofs.Common.{◌≡◌, ℕ, zero, suc, List, [], ◌∷◌, �
 use Rattle.gw_base.specs.Lang.{◌▹◌}
 use Rattle.gw_text.specs.Lexical.{comma}
 use Rattle.gw_text.specs.Forms.{IsSign, Separated}
-use Rattle.gw_text.proofs.Links.{with_second}
+use Rattle.gw_text.proofs.FormLaws.{with_second}
 use Rattle.gw_msg.specs.declared.message.Command.{Command}
 use Rattle.gw_msg.specs.Grammar.{SpellsCommand, SpellsContextProperty, ContextProperty, SpellsContents}
 

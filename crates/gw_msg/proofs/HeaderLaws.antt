@@ -13,9 +13,8 @@ use Rattle.gw_text.specs.Sign.{byte_at, prefix_at}
 use Rattle.gw_text.specs.Scans.{sep_at}
 use Rattle.gw_text.specs.Forms.{IsInAnyCase}
 use Rattle.gw_text.specs.Reader.{Reader, ◌>>=◌, found, number_up_to, if_prefix}
-use Rattle.gw_text.proofs.ReadsUp.{ReadsUp, Same, Skipped, UpTo, Any, BeginsWith, up_as, up_skipped, up_then, up_byte, up_space, up_if_prefix, both_split}
-use Rattle.gw_text.proofs.Leaves.{up_number_up_to, up_sep_last}
-use Rattle.gw_text.proofs.Links.{space_bytes, is_solid_by, digit_apart, both_begins, sep_ends, with_second}
+use Rattle.gw_text.proofs.FormLaws.{BeginsWith, both_split, space_bytes, is_solid_by, digit_apart, both_begins, sep_ends, with_second}
+use Rattle.gw_text.proofs.ReaderLaws.{ReadsUp, Same, Skipped, UpTo, Any, up_as, up_skipped, up_then, up_byte, up_space, up_if_prefix, up_number_up_to, up_sep_last}
 use Rattle.gw_msg.specs.Grammar.{version_digits, version_max, IsVersion, IsMegacop, IsHeader}
 use Rattle.gw_msg.specs.Reading.{version_at, header_at}
 

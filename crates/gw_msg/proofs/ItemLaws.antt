@@ -18,24 +18,17 @@ use Rattle.gw_text.specs.Tokens.{token_of}
 use Rattle.gw_text.specs.Reader.{Reader, ◌>>=◌, found, word_as, solid_as, number_at, number_up_to, group_read, quoted_read, if_end, braced_at, items_at}
 use Rattle.gw_text.specs.declared.token.Token.{Token}
 use Rattle.gw_text.specs.declared.token.Token.TheVariants as token
-use Rattle.gw_text.proofs.Skips.{skip_is, skip_stays}
-use Rattle.gw_text.proofs.Signs.{some_is, sign_ends, sign_other, sign_none}
-use Rattle.gw_text.proofs.ReadsUp.{ReadsUp, Same, Skipped, UpTo, Any, BeginsWith, bind_some, both_split, begins_append, begins_wider, begins_some, byte_is_solid, skip_solid, up_as, up_from, up_next, up_to, up_skipped, up_then, up_last, up_done, up_sign, up_close, up_space, up_if_byte, up_if_begins, up_if_begins_from, up_shrinks, same_up, skipped_up}
-use Rattle.gw_text.proofs.Leaves.{up_number, up_number_up_to, up_sep}
-use Rattle.gw_text.proofs.Links.{safe_apart, digit_apart, solid_apart, digit_is_safe, number_solid, begins_ends, no_byte, both_begins, both_ends, both_no_more, sep_ends, with_second}
-use Rattle.gw_text.proofs.Lists.{BracesUp, up_braced}
-use Rattle.gw_text.proofs.Items.{ItemsUp, ToEnd, Ended, up_items, at_end, spaced_begins}
-use Rattle.gw_text.proofs.OctetsScans.{up_quoted}
-use Rattle.gw_text.proofs.Spans.{up_group, group_begins, quoted_begins}
-use Rattle.gw_desc.specs.Parts.{Shrinks, ShrinksMore}
-use Rattle.gw_desc.proofs.Texts.{ahead_ends}
+use Rattle.gw_text.proofs.FormLaws.{skip_is, skip_stays, some_is, sign_ends, sign_other, sign_none, BeginsWith, bind_some, both_split, begins_append, begins_wider, begins_some, byte_is_solid, skip_solid, safe_apart, digit_apart, solid_apart, digit_is_safe, number_solid, begins_ends, no_byte, both_begins, both_ends, both_no_more, sep_ends, with_second, at_end, spaced_begins, group_begins, quoted_begins, ahead_ends}
+use Rattle.gw_text.proofs.ReaderLaws.{ReadsUp, Same, Skipped, UpTo, Any, up_as, up_from, up_next, up_to, up_skipped, up_then, up_last, up_done, up_sign, up_close, up_space, up_if_byte, up_if_begins, up_if_begins_from, up_shrinks, same_up, skipped_up, up_number, up_number_up_to, up_sep, BracesUp, up_braced, ItemsUp, ToEnd, Ended, up_items, up_quoted, up_group}
+use Rattle.gw_text.specs.Parts.{Shrinks, ShrinksMore}
 use Rattle.gw_msg.specs.declared.message.Action.{Action}
 use Rattle.gw_msg.specs.declared.message.AckRange.{AckRange}
 use Rattle.gw_msg.specs.declared.message.Item.{Item}
 use Rattle.gw_msg.specs.declared.message.Item.TheVariants as item
 use Rattle.gw_msg.specs.declared.message.Message.{Message}
 use Rattle.gw_msg.specs.Grammar.{SpellsAction, SpellsRange, SpellsItem, IsSomeUint32, IsOptionalQuoted, SpellsError, SpellsBody, SpellsMid, SpellsContent, reply_depth, code_digits, code_max}
-use Rattle.gw_msg.specs.Words.{is_error, is_error_start, mid_of}
+use Rattle.gw_msg.specs.Words.{is_error, is_error_start}
+use Rattle.gw_msg.specs.NameWords.{mid_of}
 use Rattle.gw_msg.specs.Reading.{token_in, nothing_at, action_at, request_at, reply_at, pending_at, last_at, range_at, ack_at, item_behind, item_at, quoted_or_nothing, error_at, error_body_at, body_at, content_at}
 use Rattle.gw_msg.proofs.Starts.{error_starts, no_error_start, transaction_starts, reply_starts, pending_starts, ack_starts}
 use Rattle.gw_msg.proofs.Steps.{Done, Dropped, nothing_more, nothing_behind}

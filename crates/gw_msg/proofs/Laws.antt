@@ -11,31 +11,30 @@ use Rattle.gw_base.specs.declared.command_words.Verb.{Verb}
 use Rattle.gw_text.specs.Lexical.{is_safe, is_solid, is_space_start, comma, dash, equals_sign, left_brace, right_brace}
 use Rattle.gw_text.specs.Runs.{begins, NoMore}
 use Rattle.gw_text.specs.Sign.{prefix_at, sign_at}
-use Rattle.gw_text.specs.Forms.{IsToken, IsWord, IsSign, IsInAnyCase, Separated}
+use Rattle.gw_text.specs.Forms.{IsToken, IsSign, IsInAnyCase, Separated}
 use Rattle.gw_text.specs.Reader.{Reader, ◌>>=◌, word_as, or_else, if_sign, list_at}
 use Rattle.gw_text.specs.declared.token.Token.TheVariants as token
-use Rattle.gw_text.proofs.Signs.{some_is, sign_ends, sign_other, sign_shrinks}
-use Rattle.gw_text.proofs.TokenWords.{no_mark}
-use Rattle.gw_text.proofs.ReadsUp.{ReadsUp, Same, Skipped, UpTo, Any, BeginsWith, bind_some, both_split, begins_append, begins_some, up_as, up_from, up_next, up_to, up_skipped, up_then, up_last, up_done, up_sign, up_close, up_if_sign, up_if_begins, up_shrinks, same_up}
-use Rattle.gw_text.proofs.Links.{safe_apart, digit_apart, word_solid, both_begins, both_ends, begins_ends, with_second}
-use Rattle.gw_text.proofs.Lists.{NoSign, ListsUp, BracesUp, up_list, up_optional, separated_begins}
+use Rattle.gw_text.proofs.FormLaws.{some_is, sign_ends, sign_other, sign_shrinks, BeginsWith, bind_some, both_split, begins_append, begins_some, safe_apart, digit_apart, word_solid, both_begins, both_ends, begins_ends, with_second, separated_begins}
+use Rattle.gw_text.proofs.ReaderLaws.{ReadsUp, Same, Skipped, UpTo, Any, up_as, up_from, up_next, up_to, up_skipped, up_then, up_last, up_done, up_sign, up_close, up_if_sign, up_if_begins, up_shrinks, same_up, NoSign, ListsUp, BracesUp, up_list, up_optional}
 use Rattle.gw_desc.specs.declared.descriptor.Descriptor.{Descriptor}
 use Rattle.gw_desc.specs.declared.descriptor.Tail.{Tail}
-use Rattle.gw_desc.specs.declared.fault.PartFault.{PartFault}
-use Rattle.gw_desc.specs.declared.fault.PartFault.TheVariants.{Syntax, NoMemory}
-use Rattle.gw_desc.specs.Parts.{Gives, Finds, Shrinks}
-use Rattle.gw_desc.specs.Grammar.{Kept, SpellsEquals, SpellsOptionalGroup, SpellsTail, SpellsDescriptor}
+use Rattle.gw_text.specs.declared.fault.PartFault.{PartFault}
+use Rattle.gw_text.specs.declared.fault.PartFault.TheVariants.{Syntax, NoMemory}
+use Rattle.gw_text.specs.Parts.{Gives, Finds, Shrinks}
+use Rattle.gw_desc.specs.Grammar.{SpellsOptionalGroup, SpellsTail, SpellsDescriptor}
 use Rattle.gw_desc.specs.Reading.{optional_group_at, tail_at, AfterTail, descriptor_at, AfterDescriptor}
-use Rattle.gw_desc.proofs.TailLaws.{WithoutGroup, optional_group_reads, group_ends, tail_reads, comma_after_tail, brace_after_tail}
+use Rattle.gw_desc.proofs.TailLaws.{WithoutGroup, optional_group_reads, group_ends, tail_reads, tail_ends, comma_after_tail, brace_after_tail}
 use Rattle.gw_desc.proofs.DescriptorLaws.{descriptor_reads, descriptor_braces}
 use Rattle.gw_msg.specs.declared.message.Command.{Command}
 use Rattle.gw_msg.specs.declared.message.Action.{Action}
 use Rattle.gw_msg.specs.Grammar.{command_token, SpellsVerb, SpellsTerm, SpellsMark, may_be_wild, has_group, SpellsDetailsOf, SpellsDetails, SpellsCommand, SpellsContextId, IsPropertyToken, SpellsContextProperty, SpellsAction}
 use Rattle.gw_msg.proofs.ActionParts.{SpellsPart, parts_of, some_parts, some_commands, to_parts, of_parts, so_many, so_many-length}
-use Rattle.gw_msg.specs.Words.{verb_of, is_context, is_context_property, is_context_property_start, term_of}
+use Rattle.gw_msg.specs.Words.{verb_of, is_context, is_context_property, is_context_property_start}
+use Rattle.gw_msg.specs.NameWords.{term_of}
 use Rattle.gw_msg.specs.Reading.{mark_at, only_if, token_in, is_allowed, details_of, command_at, context_id_at, context_property_at, property_then, commands_from, commands_at, contents_at, action_at}
 use Rattle.gw_msg.proofs.Starts.{case_begins, property_starts, no_context_property_start, verb_starts}
 use Rattle.gw_msg.proofs.Steps.{NoPrefix, Done, Dropped, nothing_more, nothing_behind, mark_reads, mark_begins, up_only_if}
+use Rattle.gw_msg.proofs.TokenMarks.{no_mark}
 use Rattle.gw_msg.proofs.WordLaws.{verb_reads, context_reads, property_word_reads, property_word_solid, token_solid, term_reads, term_solid, context_id_reads, context_id_solid}
 
 -- behind what stands just there, a sign, and then a reader of what begins with no white space
@@ -203,16 +202,6 @@ command_no_property = command_begins no_context_property_start refl refl refl re
 
 -- ---- properties
 
-equals_parts_end : (equals : Bool) (word group : Option (List ℕ)) (front rest : List ℕ) → (SpellsEquals equals word ▹ SpellsOptionalGroup group) front → NoMore is_safe rest → NoMore is_safe (front ++ rest)
-equals_parts_end false None group front rest b n =
-    ap (begins is_safe) (both_split (SpellsEquals false None) (SpellsOptionalGroup group) front rest b ∙ ap (λ (x : List ℕ). x ++ (b.back ++ rest)) b.first)
-    ∙ group_ends is_safe safe_apart refl group b.back rest b.second n
-equals_parts_end false (Some w) group front rest b n = absurd (b.first)
-equals_parts_end true None group front rest b n = both_ends is_safe equals_sign (SpellsOptionalGroup group) front rest safe_apart refl b
-equals_parts_end true (Some w) group front rest b n =
-    ap (begins is_safe) (both_split (SpellsEquals true (Some w)) (SpellsOptionalGroup group) front rest b)
-    ∙ both_ends is_safe equals_sign (Kept IsWord w) b.front (b.back ++ rest) safe_apart refl b.first
-
 abbrev SomeTail : Unit {0} → List ℕ → Type 0
 SomeTail u text = (t : Tail (List ℕ)) × (tt ≡ u) × SpellsTail t text
 
@@ -222,7 +211,7 @@ context_property_reads =
     up_as (up_then (token_in is_context_property) (λ u text. tail_at text >>= λ t. Some (tt, t.1)) (Dropped IsPropertyToken) (λ u. SomeTail) (NoMore is_safe) AfterTail Same Same Same
     property_word_reads
     (λ u. up_last tail_at (λ t. tt) SpellsTail AfterTail Same Same tail_reads)
-    (λ u v front rest q n. equals_parts_end q.0.equals q.0.word q.0.group front rest q.2.words n.word))
+    (λ u v front rest q n. tail_ends q.0 front rest q.2 n))
     (λ u text h. with_second h.1 (h.1.second.0, h.1.second.2))
     (λ u text b. (tt, with_second b (b.second.0, refl, b.second.1)))
 

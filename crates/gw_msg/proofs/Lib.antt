@@ -1,4 +1,6 @@
+pub mod NameTests
 pub mod WordLemmas
+pub mod TokenMarks
 pub mod Starts
 pub mod Steps
 pub mod WordLaws

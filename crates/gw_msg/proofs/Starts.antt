@@ -11,7 +11,7 @@ use Rattle.gw_text.specs.Forms.{IsInAnyCase}
 use Rattle.gw_text.specs.Tokens.{Spelling, table, is_spelling, find_token, token_of}
 use Rattle.gw_text.specs.declared.token.Token.{Token}
 use Rattle.gw_text.specs.declared.token.Token.TheVariants as token
-use Rattle.gw_text.proofs.Signs.{some_is}
+use Rattle.gw_text.proofs.FormLaws.{some_is}
 use Rattle.gw_base.specs.declared.command_words.Verb.{Verb}
 use Rattle.gw_base.specs.declared.command_words.Verb.TheVariants as verb
 use Rattle.gw_msg.specs.Words.{is_error_start, is_context_property_start}

@@ -7,8 +7,8 @@ use Rattle.gw_text.specs.Runs.{begins, is_byte}
 use Rattle.gw_text.specs.Sign.{prefix_at}
 use Rattle.gw_text.specs.Forms.{IsInAnyCase}
 use Rattle.gw_text.specs.Reader.{Reader, ◌>>=◌, if_byte}
-use Rattle.gw_text.proofs.Links.{both_begins, begins_ends, no_byte}
-use Rattle.gw_text.proofs.ReadsUp.{ReadsUp, Same, BeginsWith, up_as, up_done, up_if_prefix, up_if_byte}
+use Rattle.gw_text.proofs.FormLaws.{both_begins, begins_ends, no_byte, BeginsWith}
+use Rattle.gw_text.proofs.ReaderLaws.{ReadsUp, Same, up_as, up_done, up_if_prefix, up_if_byte}
 use Rattle.gw_msg.specs.Grammar.{SpellsMark}
 use Rattle.gw_msg.specs.Reading.{mark_at, only_if}
 

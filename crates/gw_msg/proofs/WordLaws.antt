@@ -22,12 +22,11 @@ use Rattle.gw_text.specs.Reader.{◌>>=◌, word_as, solid_as, number_at}
 use Rattle.gw_text.specs.Tokens.{token_of}
 use Rattle.gw_text.specs.declared.token.Token.{Token}
 use Rattle.gw_text.specs.declared.token.Token.TheVariants as token
-use Rattle.gw_text.proofs.Signs.{some_is}
-use Rattle.gw_text.proofs.ReadsUp.{ReadsUp, Same, BeginsWith, up_as, up_last, up_then, up_done, begins_wider}
-use Rattle.gw_text.proofs.Leaves.{up_word, up_solid, up_number}
-use Rattle.gw_text.proofs.Links.{space_bytes, is_solid_by, digit_apart, run_begins, word_solid, number_begins, number_solid, both_begins}
+use Rattle.gw_text.proofs.FormLaws.{some_is, BeginsWith, begins_wider, space_bytes, is_solid_by, digit_apart, run_begins, word_solid, number_begins, number_solid, both_begins}
+use Rattle.gw_text.proofs.ReaderLaws.{ReadsUp, Same, up_as, up_last, up_then, up_done, up_word, up_solid, up_number}
 use Rattle.gw_msg.specs.Grammar.{IsPropertyToken, command_token, SpellsVerb, SpellsTerm, SpellsContextId, SpellsMid}
-use Rattle.gw_msg.specs.Words.{verb_for, verb_of, is_context, is_context_property, is_error, term_of, mid_of}
+use Rattle.gw_msg.specs.Words.{verb_for, verb_of, is_context, is_context_property, is_error}
+use Rattle.gw_msg.specs.NameWords.{term_of, mid_of}
 use Rattle.gw_msg.specs.Reading.{only_if, token_in, if_mark, context_number_at, context_id_at}
 use Rattle.gw_msg.proofs.Starts.{one_of}
 use Rattle.gw_msg.proofs.Steps.{Done, Dropped, nothing_behind, nothing_more, other_than, up_mark, up_only_if}

@@ -1,40 +1,52 @@
 -- What a word stands for as a TerminationID or as an mId is what gw_base reads it as, and what the grammar says of it.
-use Rattle.std.proofs.Common.{◌≡◌, ℕ, List, Some, None, Ok, Err, sym, ◌∙◌}
+use Rattle.std.proofs.Common.{◌≡◌, ℕ, Bool, true, false, cond, List, Some, None, Ok, Err, refl, ap, sym, subst, ◌∙◌}
+use Rattle.std.specs.Bool.{Decides}
 use Rattle.gw_base.specs.Mids.{IsMid, longest_mid}
 use Rattle.gw_base.specs.Reads.{ReadsAs}
 use Rattle.gw_base.specs.TermRefs.{ReadsTerm}
 use Rattle.gw_base.specs.declared.fault.NameFault.{NameFault}
 use Rattle.gw_base.specs.declared.term_ref.TermRef.{TermRef}
-use Rattle.gw_base.proofs.NameForms.{mid_or_none, mid_refused, term_refused}
-use Rattle.gw_base.proofs.SpelledLaws.{value_is, value_one, value_none}
-use Rattle.gw_base.proofs.TermClasses.{term_or_none, one_class}
+use Rattle.gw_base.proofs.NameForms.{mid_refused, term_refused}
+use Rattle.gw_base.proofs.TermClasses.{one_class}
 use Rattle.gw_msg.specs.Grammar.{SpellsTerm, SpellsMid}
-use Rattle.gw_msg.specs.Words.{term_of, mid_of}
+use Rattle.gw_msg.specs.NameWords.{is_term_text, term_class, term_of, is_mid, mid_of}
+use Rattle.gw_msg.proofs.NameTests.{decides_term_text, class_fits, decides_mid}
+
+-- ---- the value where a test holds
+
+chosen : {V P : Type 0} (t : Bool) → Decides t P → (v w : V) → cond t (Some v) None ≡ Some w → P × (v ≡ w)
+chosen true d v w e = let same : v ≡ w = cc in (d.0 refl, same)
+chosen false d v w e = absurd cc
+
+chosen_none : {V P : Type 0} (t : Bool) → Decides t P → (v : V) → ¬ P → cond t (Some v) None ≡ None
+chosen_none true d v n = absurd (n (d.0 refl))
+chosen_none false d v n = refl
 
 -- ---- TerminationIDs
 
 pub term_is : (t : TermRef) (w : List ℕ) → term_of w ≡ Some t → SpellsTerm t w
-term_is t w e = value_is SpellsTerm w (term_or_none w) t e
+term_is t w e = let c = chosen (is_term_text w) (decides_term_text w) (term_class w) t e in subst (λ (u : TermRef). SpellsTerm u w) c.1 (c.0, class_fits w)
 
 pub term_again : (t : TermRef) (w : List ℕ) → SpellsTerm t w → term_of w ≡ Some t
-term_again t w h = value_one SpellsTerm w (term_or_none w) t (λ u k. one_class u t w k.1 h.1) h
+term_again t w h =
+    ap (λ (b : Bool). cond b (Some (term_class w)) None) ((decides_term_text w).1 h.0) ∙ ap (λ (u : TermRef). Some u) (one_class (term_class w) t w (class_fits w) h.1)
 
 pub term_read : (w : List ℕ) (t : TermRef) → ReadsTerm w (Ok t) → term_of w ≡ Some t
 term_read w t h = term_again t w h
 
 pub term_not_read : (w : List ℕ) (e : NameFault) → ReadsTerm w (Err e) → term_of w ≡ None
-term_not_read w e h = value_none SpellsTerm w (term_or_none w) (λ t s. term_refused w e h s.0)
+term_not_read w e h = chosen_none (is_term_text w) (decides_term_text w) (term_class w) (term_refused w e h)
 
 -- ---- mIds
 
 pub mid_is : (mid w : List ℕ) → mid_of w ≡ Some mid → SpellsMid mid w
-mid_is mid w e = value_is SpellsMid w (mid_or_none w) mid e
+mid_is mid w e = let c = chosen (is_mid w) (decides_mid w) w mid e in (sym c.1, c.0)
 
 pub mid_again : (mid w : List ℕ) → SpellsMid mid w → mid_of w ≡ Some mid
-mid_again mid w h = value_one SpellsMid w (mid_or_none w) mid (λ other k. k.0 ∙ sym h.0) h
+mid_again mid w h = ap (λ (b : Bool). cond b (Some w) None) ((decides_mid w).1 h.1) ∙ ap (λ (x : List ℕ). Some x) (sym h.0)
 
 pub mid_read : (w mid : List ℕ) → ReadsAs IsMid (longest_mid w) w (Ok mid) → mid_of w ≡ Some mid
 mid_read w mid h = mid_again mid w h
 
 pub mid_not_read : (w : List ℕ) (e : NameFault) → ReadsAs IsMid (longest_mid w) w (Err e) → mid_of w ≡ None
-mid_not_read w e h = value_none SpellsMid w (mid_or_none w) (λ mid s. mid_refused w e h s.1)
+mid_not_read w e h = chosen_none (is_mid w) (decides_mid w) w (mid_refused w e h)

@@ -10,7 +10,7 @@ use Rattle.gw_base.specs.declared.command_words.Verb.{Verb}
 use Rattle.gw_base.specs.declared.command_words.Verb.TheVariants as verb
 use Rattle.gw_text.specs.Lexical.{comma, equals_sign, left_brace, right_brace}
 use Rattle.gw_text.specs.Space.{IsSpace, IsSep}
-use Rattle.gw_text.specs.Forms.{IsSign, IsInAnyCase, IsToken, IsNumber, IsUint32, Separated, Spaced, Braced, OptionalBraced}
+use Rattle.gw_text.specs.Forms.{IsSign, IsInAnyCase, OptionalIf, IsToken, IsNumber, IsUint32, Separated, Spaced, Braced, OptionalBraced}
 use Rattle.gw_text.specs.Quoted.{IsQuoted}
 use Rattle.gw_text.specs.Group.{IsGroup}
 use Rattle.gw_text.specs.declared.token.Token.{Token}
@@ -48,10 +48,9 @@ SpellsVerb v = IsToken (command_token v)
 abbrev pub SpellsTerm : TermRef → List ℕ → Type 0
 SpellsTerm = IsTerm
 
--- `O-` or `W-` in front of a command, in any case, or nothing
+-- [`O-`] or [`W-`] in front of a command, in any case, and whether it is there
 abbrev pub SpellsMark : List ℕ → Bool → List ℕ → Type 0
-SpellsMark mark true text = IsInAnyCase mark text
-SpellsMark mark false text = text ≡ []
+SpellsMark mark = OptionalIf (IsInAnyCase mark)
 
 -- the commands that `W-` may stand in front of: subtractRequest and auditRequest
 abbrev pub may_be_wild : Verb → Bool

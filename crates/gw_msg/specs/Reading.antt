@@ -23,10 +23,11 @@ use Rattle.gw_msg.specs.declared.fault.ReadFault.{ReadFault}
 use Rattle.gw_msg.specs.declared.fault.ReadFault.TheVariants.{Version, Syntax, NoMemory}
 use Rattle.gw_desc.specs.Reading.{optional_group_at, tail_at, descriptor_at}
 use Rattle.gw_desc.specs.declared.descriptor.Descriptor.{Descriptor}
-use Rattle.gw_desc.specs.declared.fault.PartFault.{PartFault}
-use Rattle.gw_desc.specs.declared.fault.PartFault.TheVariants as part
+use Rattle.gw_text.specs.declared.fault.PartFault.{PartFault}
+use Rattle.gw_text.specs.declared.fault.PartFault.TheVariants as part
 use Rattle.gw_msg.specs.Grammar.{may_be_wild, has_group, reply_depth, code_digits, code_max, spoken_version, version_digits, version_max}
-use Rattle.gw_msg.specs.Words.{verb_of, is_context, is_context_property, is_context_property_start, is_error, is_error_start, term_of, mid_of}
+use Rattle.gw_msg.specs.Words.{verb_of, is_context, is_context_property, is_context_property_start, is_error, is_error_start}
+use Rattle.gw_msg.specs.NameWords.{term_of, mid_of}
 
 -- ---- steps
 

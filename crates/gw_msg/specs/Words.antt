@@ -1,18 +1,11 @@
--- What the words of a message stand for, as they are read one by one (own; tokens and names: RFC 3525, Annex B.2).
+-- What the words of a message that are tokens stand for (own; the tokens: RFC 3525, Annex B.2).
 use Rattle.std.specs.Prelude.{ℕ, Bool, true, false, List, Option, Some, None, codes}
 use Rattle.gw_base.specs.Bytes.{is_one_of}
-use Rattle.gw_base.specs.Spelled.{value_in}
-use Rattle.gw_base.specs.declared.term_ref.TermRef.{TermRef}
 use Rattle.gw_base.specs.declared.command_words.Verb.{Verb}
 use Rattle.gw_base.specs.declared.command_words.Verb.TheVariants as verb
-use Rattle.gw_base.proofs.NameForms.{mid_or_none}
-use Rattle.gw_base.proofs.TermClasses.{term_or_none}
 use Rattle.gw_text.specs.Tokens.{token_of}
 use Rattle.gw_text.specs.declared.token.Token.{Token}
 use Rattle.gw_text.specs.declared.token.Token.TheVariants as token
-use Rattle.gw_msg.specs.Grammar.{SpellsTerm, SpellsMid}
-
--- ---- tokens
 
 -- the command that a token names
 abbrev pub verb_for : Option Token → Option Verb
@@ -55,13 +48,3 @@ is_context_property_start b = is_one_of (codes "TtPpEeCc") b
 -- of the tokens that may begin a body, Error alone begins with an E
 abbrev pub is_error_start : ℕ → Bool
 is_error_start b = is_one_of (codes "Ee") b
-
--- ---- names
-
--- the TerminationID that a word spells
-abbrev pub term_of : List ℕ → Option TermRef
-term_of word = value_in SpellsTerm word (term_or_none word)
-
--- the mId that a word spells
-abbrev pub mid_of : List ℕ → Option (List ℕ)
-mid_of word = value_in SpellsMid word (mid_or_none word)

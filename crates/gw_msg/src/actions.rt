@@ -1,6 +1,6 @@
 //! The actions of a transaction and their commands, as they are read.
 
-ghost use Rattle.gw_desc.specs.Parts.{Gives, Finds};
+ghost use Rattle.gw_text.specs.Parts.{Gives, Finds};
 ghost use Rattle.gw_msg.specs.Reading.{details_of, command_at, context_property_at, commands_at, action_at};
 
 use crate::message::{Action, Command};
@@ -9,10 +9,9 @@ use crate::words::{
     verb,
 };
 use gw_base::Items;
-use gw_desc::{
-    Descriptor, Part, PartFault, list, optional_braced, optional_group, sign, tail, token,
-};
-use gw_text::{Cursor, Token};
+use gw_desc::{Descriptor, optional_group, tail};
+use gw_text::parts::{Part, list, optional_braced, sign, token};
+use gw_text::{Cursor, PartFault, Token};
 use std::alloc::Global;
 
 /// What stands behind a TerminationID: the command's descriptors, or a group, which is read and dropped.

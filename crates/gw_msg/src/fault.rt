@@ -3,7 +3,7 @@
 ghost use Rattle.std.specs.Prelude.{◌≡◌};
 ghost use Rattle.gw_msg.specs.Reading.{fault_of};
 
-use gw_desc::PartFault;
+use gw_text::PartFault;
 use thiserror::Error;
 
 /// Why a text gives no message.

@@ -1,13 +1,13 @@
 //! The body of a message: its items, or an error.
 
-ghost use Rattle.gw_desc.specs.Parts.{Gives, Finds};
+ghost use Rattle.gw_text.specs.Parts.{Gives, Finds};
 ghost use Rattle.gw_msg.specs.Reading.{request_at, reply_at, pending_at, last_at, range_at, ack_at, item_at, quoted_or_nothing, error_at, error_body_at, body_at, content_at};
 
 use crate::message::{AckRange, Item, Message, Request};
 use crate::words::{is_error_next, mid};
 use gw_base::{Items, TxId};
-use gw_desc::{Part, PartFault, braced, items, sign, token};
-use gw_text::{Cursor, Token};
+use gw_text::parts::{Part, braced, items, sign, token};
+use gw_text::{Cursor, PartFault, Token};
 use std::alloc::Global;
 
 /// How deep groups may lie in a reply.

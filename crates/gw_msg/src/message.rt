@@ -5,7 +5,7 @@ use gw_desc::Descriptor;
 
 /// A message: who sent it, and what it holds in the order sent. What is kept as sent are spans of its datagram, which lives as
 /// long as `'a`.
-#[derive(Debug, Drop)]
+#[derive(Drop)]
 pub struct Message<'a> {
     /// The sender's mId, byte for byte.
     pub mid: Mid,
@@ -14,7 +14,7 @@ pub struct Message<'a> {
 }
 
 /// One part of a message's body.
-#[derive(Debug, Drop)]
+#[derive(Drop)]
 pub enum Item<'a> {
     /// A transaction to be carried out.
     Request(Request<'a>),
@@ -26,7 +26,7 @@ pub enum Item<'a> {
 
 /// Transactions whose replies have arrived (RFC 3525, Annex D.1): the numbers from the first to the last, both among
 /// them. The two are equal where one number stands alone.
-#[derive(Clone, Copy, Debug, PartialEq, Eq)]
+#[derive(Clone, Copy, PartialEq, Eq)]
 pub struct AckRange {
     /// The first number. It may be above the last.
     pub first: u32,
@@ -35,7 +35,7 @@ pub struct AckRange {
 }
 
 /// A transaction request (RFC 3525, section 8.2.1).
-#[derive(Debug, Drop)]
+#[derive(Drop)]
 pub struct Request<'a> {
     /// The number that its reply repeats.
     pub id: TxId,
@@ -44,7 +44,7 @@ pub struct Request<'a> {
 }
 
 /// An action: what is asked of one context (RFC 3525, section 8 and Annex B.2, `actionRequest`).
-#[derive(Debug, Drop)]
+#[derive(Drop)]
 pub struct Action<'a> {
     /// The context that the commands are for (section 8.1.2).
     pub ctx: CtxRef,
@@ -55,7 +55,7 @@ pub struct Action<'a> {
 }
 
 /// A command (RFC 3525, section 7.2).
-#[derive(Debug, Drop)]
+#[derive(Drop)]
 pub struct Command<'a> {
     /// What is to be done.
     pub verb: Verb,

@@ -1,7 +1,7 @@
 //! Reading a whole message.
 
 ghost use Rattle.std.specs.Prelude.{◌≡◌, ◌≢◌, ◌⊎◌, ℕ, List, Result, Err};
-ghost use Rattle.gw_desc.specs.Parts.{Finds};
+ghost use Rattle.gw_text.specs.Parts.{Finds};
 ghost use Rattle.gw_msg.specs.Reading.{IsAnswer, version_at, header_at, message_of};
 ghost use Rattle.gw_msg.specs.Grammar.{IsReadingOf, Spells, HasVersionFault};
 ghost use Rattle.gw_msg.specs.declared.message.Message.{Message as SpelledMessage};
@@ -11,8 +11,7 @@ ghost use Rattle.gw_msg.specs.declared.fault.ReadFault.TheVariants.{Version, NoM
 use crate::fault::ReadFault;
 use crate::items::content;
 use crate::message::Message;
-use gw_desc::PartFault;
-use gw_text::Cursor;
+use gw_text::{Cursor, PartFault};
 use std::alloc::Global;
 
 /// The version that this gateway speaks.

@@ -3,14 +3,14 @@
 ghost use Rattle.std.specs.Prelude.{◌≡◌, Some};
 ghost use Rattle.gw_text.specs.Runs.{begins};
 ghost use Rattle.gw_text.specs.Reader.{word_as, solid_as};
-ghost use Rattle.gw_desc.specs.Parts.{Finds};
+ghost use Rattle.gw_text.specs.Parts.{Finds};
 ghost use Rattle.gw_msg.specs.Grammar.{may_be_wild, has_group};
-ghost use Rattle.gw_msg.specs.Words.{verb_of, is_context_property, is_context_property_start, is_error_start, term_of, mid_of};
+ghost use Rattle.gw_msg.specs.Words.{verb_of, is_context_property, is_context_property_start, is_error_start};
+ghost use Rattle.gw_msg.specs.NameWords.{term_of, mid_of};
 ghost use Rattle.gw_msg.specs.Reading.{mark_at, context_id_at};
 
 use gw_base::{CtxNum, CtxRef, Mid, TermRef, Verb};
-use gw_desc::PartFault;
-use gw_text::{Cursor, Token, token_of};
+use gw_text::{Cursor, PartFault, Token, token_of};
 
 /// Whether the bytes come next, in any case; they are taken.
 #[tactic(auto, unfolding(crate::specs::Reading::mark_at))]

@@ -13,7 +13,7 @@ pub type KeptTail = Tail<Items<u8>>;
 pub type AuditReply = Items<ReplyPart>;
 
 /// A part of a command reply.
-#[derive(Debug, Drop)]
+#[derive(Drop)]
 pub enum ReplyPart {
     /// A Media with the Locals in which the gateway chose a value.
     Filled(Items<FilledStream>),
@@ -26,7 +26,7 @@ pub enum ReplyPart {
 }
 
 /// A stream whose Local was filled.
-#[derive(Debug, Drop)]
+#[derive(Drop)]
 pub struct FilledStream {
     /// Its number, 1 to 4.
     pub number: u8,
@@ -35,7 +35,7 @@ pub struct FilledStream {
 }
 
 /// What a termination keeps of its media.
-#[derive(Debug, Drop)]
+#[derive(Drop)]
 pub struct MediaReply {
     /// Its service state.
     pub service: Service,
@@ -46,7 +46,7 @@ pub struct MediaReply {
 }
 
 /// What a termination keeps of a stream.
-#[derive(Debug, Drop)]
+#[derive(Drop)]
 pub struct StreamReply {
     /// Its number, 1 to 4.
     pub number: u8,

@@ -4,7 +4,7 @@ use crate::parts::ReplyPart;
 use gw_base::{Code, CtxRef, Items, TermRef, TxId, Verb};
 
 /// The reply to one transaction.
-#[derive(Debug, Drop)]
+#[derive(Drop)]
 pub struct TxReply {
     /// The number of the request.
     pub id: TxId,
@@ -13,7 +13,7 @@ pub struct TxReply {
 }
 
 /// The reply to one action, in one context.
-#[derive(Debug, Drop)]
+#[derive(Drop)]
 pub struct ActionReply {
     /// The context: its number once it was made, else as sent.
     pub ctx: CtxRef,
@@ -22,7 +22,7 @@ pub struct ActionReply {
 }
 
 /// The reply to one command on one termination, or on all that a wildcard matched.
-#[derive(Debug, Drop)]
+#[derive(Drop)]
 pub struct CommandReply {
     /// The command.
     pub verb: Verb,

@@ -9,8 +9,10 @@ use Rattle.gw_text.specs.Space.{Each}
 use Rattle.gw_text.specs.SpaceScan.{space_len, skip}
 use Rattle.gw_text.specs.Forms.{IsSomeRun}
 use Rattle.gw_text.specs.Longest.{IsLongest}
-use Rattle.gw_text.specs.Quoted.{IsQuoted, quoted_len}
-use Rattle.gw_text.specs.Bracket.{is_run_byte, run_at, is_bracket_byte, IsBracketPiece, IsBracket, some_len, piece_len, over, bracket_from, bracket_rest, span_before, inner_rest, bracket_ends, bracket_at}
+use Rattle.gw_text.specs.Quoted.{IsQuoted}
+use Rattle.gw_text.specs.QuotedScan.{quoted_len}
+use Rattle.gw_text.specs.Bracket.{is_run_byte, is_bracket_byte, IsBracketPiece, IsBracket}
+use Rattle.gw_text.specs.BracketScan.{run_at, some_len, piece_len, over, bracket_from, bracket_rest, span_before, inner_rest, bracket_ends, bracket_at}
 use Rattle.gw_text.specs.Reader.{found, bracket_read, run_as}
 use Rattle.gw_text.specs.declared.fault.ScanFault.{ScanFault}
 use Rattle.gw_text.specs.declared.fault.ScanFault.TheVariants.{Unexpected}

@@ -8,8 +8,10 @@ use Rattle.gw_text.specs.Runs.{begins, run_len, NoMore}
 use Rattle.gw_text.specs.Space.{IsSep}
 use Rattle.gw_text.specs.SpaceScan.{space_len, skip}
 use Rattle.gw_text.specs.Forms.{IsWord}
-use Rattle.gw_text.specs.Quoted.{IsQuoted, quoted_len}
-use Rattle.gw_text.specs.Octets.{IsOctets, octets_ends}
+use Rattle.gw_text.specs.Quoted.{IsQuoted}
+use Rattle.gw_text.specs.QuotedScan.{quoted_len}
+use Rattle.gw_text.specs.Octets.{IsOctets}
+use Rattle.gw_text.specs.OctetsScan.{octets_ends}
 use Rattle.gw_text.specs.Group.{Pieces, nothing, space, quoted, word, mark, octets, group, text_of, is_mark, after_word, after_mark, after, begins_octets, is_word_first, AreValid, IsGroup, open_text, GoesDeeper, AreOpen, IsTooDeep}
 use Rattle.gw_text.specs.GroupScan.{Step, place, passed, octets_passed, step_at, group_rest, group_found, balanced_at}
 use Rattle.gw_text.specs.declared.group.Before.{Before}

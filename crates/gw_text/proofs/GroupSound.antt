@@ -8,8 +8,8 @@ use Rattle.gw_text.specs.Lexical.{nul, quote_mark, left_brace, right_brace, is_s
 use Rattle.gw_text.specs.Runs.{begins, NoMore}
 use Rattle.gw_text.specs.SpaceScan.{space_len}
 use Rattle.gw_text.specs.Forms.{IsWord}
-use Rattle.gw_text.specs.Quoted.{quoted_len}
-use Rattle.gw_text.specs.Octets.{octets_ends}
+use Rattle.gw_text.specs.QuotedScan.{quoted_len}
+use Rattle.gw_text.specs.OctetsScan.{octets_ends}
 use Rattle.gw_text.specs.Group.{Pieces, nothing, space, quoted, word, mark, octets, group, text_of, after_word, after_mark, after, begins_octets, is_word_first, AreValid, IsGroup, open_text, GoesDeeper, AreOpen, IsTooDeep, HasNoGroup}
 use Rattle.gw_text.specs.GroupScan.{Step, place, passed, octets_passed, brace_at, step_at, go_on, group_from, group_rest, group_found, balanced_at}
 use Rattle.gw_text.specs.declared.group.Before.{Before}

@@ -8,8 +8,10 @@ use Rattle.gw_text.specs.Runs.{run_len, NoMore}
 use Rattle.gw_text.specs.Space.{IsSep}
 use Rattle.gw_text.specs.SpaceScan.{space_len}
 use Rattle.gw_text.specs.Forms.{IsWord}
-use Rattle.gw_text.specs.Quoted.{IsQuoted, quoted_len}
-use Rattle.gw_text.specs.Octets.{IsOctets, octets_ends}
+use Rattle.gw_text.specs.Quoted.{IsQuoted}
+use Rattle.gw_text.specs.QuotedScan.{quoted_len}
+use Rattle.gw_text.specs.Octets.{IsOctets}
+use Rattle.gw_text.specs.OctetsScan.{octets_ends}
 use Rattle.gw_text.specs.Group.{is_mark, after_word, after_mark, begins_octets}
 use Rattle.gw_text.specs.GroupScan.{Step, place, passed, octets_passed, brace_at, opened, marked, spaced, step_at, go_on, group_from, group_rest}
 use Rattle.gw_text.specs.declared.group.Before.{Before}

@@ -2,10 +2,10 @@ pub mod Fronts
 pub mod TokenLemmas
 pub mod TokenLetters
 pub mod TokenTable
-pub mod TokenWords
 pub mod RunLemmas
 pub mod SpaceLemmas
 pub mod SpacePieces
+pub mod SpaceParts
 pub mod Scanned
 pub mod Skips
 pub mod Signs
@@ -15,6 +15,7 @@ pub mod Links
 pub mod Lists
 pub mod Loops
 pub mod Items
+pub mod PartLoops
 pub mod OctetsLemmas
 pub mod OctetsPlain
 pub mod TrimLemmas
@@ -24,3 +25,5 @@ pub mod GroupPasses
 pub mod GroupSound
 pub mod Spans
 pub mod BracketLaws
+pub mod FormLaws
+pub mod ReaderLaws

@@ -138,6 +138,12 @@ pub begins_no_sign : (p : ℕ → Bool) (b : ℕ) → ((c : ℕ) → p c ≡ tru
 begins_no_sign p b solid other [] h = absurd cc
 begins_no_sign p b solid other (c ∷ cs) h = no_sign b c cs (solid_start (is_space_start c) (solid c h)) (is_another c b p other h)
 
+-- bytes that begin with a byte end, white space aside, what neither goes on with
+pub ahead_ends : (p : ℕ → Bool) (b : ℕ) (Q : List ℕ → Type 0) → ((c : ℕ) → is_space_start c ≡ true → p c ≡ false) → p b ≡ false → ((text : List ℕ) → Q text → begins (is_byte b) text ≡ true) → (front rest : List ℕ) → Both IsSpace Q front → NoMore p (front ++ rest)
+ahead_ends p b Q apart other first front rest h =
+    ap (begins p) (both_split IsSpace Q front rest h)
+    ∙ space_ends p apart h.front (h.back ++ rest) h.first (begins_ends (is_byte b) p (λ c e. ap p (eqb-true c b e) ∙ other) h.back rest (first h.back h.second))
+
 -- ---- with other second parts
 
 -- the same text, where its second part has another form too

@@ -4,7 +4,8 @@ use Rattle.std.specs.List.{list_all}
 use Rattle.std.proofs.lemmas.Bool.{eqb-true}
 use Rattle.gw_text.specs.Lexical.{nul, backslash, right_brace, is_blank}
 use Rattle.gw_text.specs.Runs.{IsRun}
-use Rattle.gw_text.specs.Octets.{is_octet, EndsIn, IsOctets, octets_from}
+use Rattle.gw_text.specs.Octets.{is_octet, EndsIn, IsOctets}
+use Rattle.gw_text.specs.OctetsScan.{octets_from}
 use Rattle.gw_text.proofs.RunLemmas.{and_true}
 use Rattle.gw_text.proofs.Signs.{some_is}
 

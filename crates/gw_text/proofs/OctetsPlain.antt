@@ -5,7 +5,7 @@ use Rattle.std.proofs.lemmas.List.{take-append-drop, length-take}
 use Rattle.std.proofs.lemmas.List.Folds.{list_all_more}
 use Rattle.gw_text.specs.Lexical.{nul, backslash, right_brace, is_blank}
 use Rattle.gw_text.specs.Runs.{IsRun}
-use Rattle.gw_text.specs.Octets.{is_plain, end_behind, solid_end, octets_ends}
+use Rattle.gw_text.specs.OctetsScan.{is_plain, end_behind, solid_end, octets_ends}
 use Rattle.gw_text.proofs.RunLemmas.{and_true, at_byte}
 use Rattle.gw_text.proofs.OctetsLemmas.{are_octets, keep_end, octets_again}
 

@@ -4,8 +4,10 @@ use Rattle.std.proofs.lemmas.List.{take-append-drop, take-append-le, take_at, dr
 use Rattle.std.proofs.lemmas.Bool.{eqb-true}
 use Rattle.gw_text.specs.Lexical.{right_brace, quote_mark, backslash, is_blank}
 use Rattle.gw_text.specs.Runs.{begins, is_byte, run_len}
-use Rattle.gw_text.specs.Octets.{IsOctets, IsTrimmed, IsOctetsOf, octets_from, octets_ends, octets_found, octets_at, trimmed}
-use Rattle.gw_text.specs.Quoted.{is_quotable, IsQuoted, quoted_end, quoted_from, quoted_len, span_found, quoted_at}
+use Rattle.gw_text.specs.Octets.{IsOctets, IsTrimmed, IsOctetsOf}
+use Rattle.gw_text.specs.OctetsScan.{octets_from, octets_ends, octets_found, octets_at, trimmed}
+use Rattle.gw_text.specs.Quoted.{is_quotable, IsQuoted}
+use Rattle.gw_text.specs.QuotedScan.{quoted_end, quoted_from, quoted_len, span_found, quoted_at}
 use Rattle.gw_text.specs.Reader.{found, octets_read, quoted_read}
 use Rattle.gw_text.specs.declared.fault.ScanFault.{ScanFault}
 use Rattle.gw_text.specs.declared.fault.ScanFault.TheVariants.{Unexpected}

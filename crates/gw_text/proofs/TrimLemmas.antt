@@ -5,7 +5,8 @@ use Rattle.std.proofs.lemmas.List.{append-nil, take-append-drop, take_at, drop_a
 use Rattle.std.proofs.lemmas.Bool.{eqb-true}
 use Rattle.gw_text.specs.Lexical.{backslash, is_blank}
 use Rattle.gw_text.specs.Runs.{IsRun, begins, run_len}
-use Rattle.gw_text.specs.Octets.{EndsKept, IsTrimmed, trimmed}
+use Rattle.gw_text.specs.Octets.{EndsKept, IsTrimmed}
+use Rattle.gw_text.specs.OctetsScan.{trimmed}
 use Rattle.gw_text.proofs.RunLemmas.{and_true, run_again, run_is}
 use Rattle.gw_text.proofs.OctetsLemmas.{keep_end}
 

@@ -1,5 +1,5 @@
 -- The forms of words and numbers, of signs, and of lists (RFC 3525, Annex B.2).
-use Rattle.std.specs.Prelude.{◌≡◌, ℕ, ◌<◌, ◌≤◌, false, Bool, List, [], ◌∷◌, length, Option, Some}
+use Rattle.std.specs.Prelude.{◌≡◌, ℕ, ◌<◌, ◌≤◌, true, false, Bool, List, [], ◌∷◌, length, Option, Some}
 use Rattle.std.specs.Str.Parse.{digits_value}
 use Rattle.gw_base.specs.Bytes.{is_digit}
 use Rattle.gw_base.specs.Lang.{◌▹◌, IsText}
@@ -48,6 +48,11 @@ HasNoNumber most max TooDeep text = ⊥
 -- the sign b, with LWSP on both sides: EQUAL, LBRKT, RBRKT, COMMA
 abbrev pub IsSign : ℕ → List ℕ → Type 0
 IsSign b = IsSpace ▹ IsText (b ∷ []) ▹ IsSpace
+
+-- [Form], and whether it is there
+abbrev pub OptionalIf : (List ℕ → Type 0) → Bool → List ℕ → Type 0
+OptionalIf Form true text = Form text
+OptionalIf Form false text = text ≡ []
 
 -- a word that stands for a value
 pub record IsWordFor {V : Type 0} (of : List ℕ → Option V) (v : V) (text : List ℕ) : Type 0 where

@@ -3,8 +3,8 @@ use Rattle.std.specs.Prelude.{◌==◌, ◌≤◌, nat_le, ◌+◌, ◌-◌, ℕ
 use Rattle.gw_text.specs.Lexical.{nul, quote_mark, left_brace, right_brace, is_safe, is_solid}
 use Rattle.gw_text.specs.Runs.{run_len}
 use Rattle.gw_text.specs.SpaceScan.{space_len}
-use Rattle.gw_text.specs.Quoted.{quoted_len}
-use Rattle.gw_text.specs.Octets.{octets_ends}
+use Rattle.gw_text.specs.QuotedScan.{quoted_len}
+use Rattle.gw_text.specs.OctetsScan.{octets_ends}
 use Rattle.gw_text.specs.Scans.{Scan}
 use Rattle.gw_text.specs.Group.{after_word, after_mark}
 use Rattle.gw_text.specs.declared.group.Before.{Before}

@@ -1,11 +1,8 @@
 -- A quoted text: `"`, printable bytes and tabs, and `"` (RFC 3525, Annex B.2, quotedString).
-use Rattle.std.specs.Prelude.{◌==◌, ℕ, ◌+◌, Bool, ◌||◌, ◌&&◌, not, nat_le, if◌then◌else◌, List, [], ◌∷◌, take, drop, Option, Some, None, Result, Ok, Err}
+use Rattle.std.specs.Prelude.{◌==◌, ℕ, Bool, ◌||◌, ◌&&◌, not, nat_le, List, [], ◌∷◌}
 use Rattle.gw_base.specs.Lang.{◌▹◌, IsText}
 use Rattle.gw_text.specs.Lexical.{tab, space, tilde, quote_mark}
-use Rattle.gw_text.specs.Runs.{IsRun, begins, is_byte, run_len}
-use Rattle.gw_text.specs.Scans.{Scan}
-use Rattle.gw_text.specs.declared.fault.ScanFault.{ScanFault}
-use Rattle.gw_text.specs.declared.fault.ScanFault.TheVariants.{Unexpected}
+use Rattle.gw_text.specs.Runs.{IsRun}
 
 -- what may stand between the quotes: a tab, or a byte from the space to `~`, but no `"`
 abbrev pub is_quotable : ℕ → Bool
@@ -14,24 +11,3 @@ is_quotable b = not (b == quote_mark) && (b == tab || (nat_le space b && nat_le 
 -- the whole, quotes among it
 abbrev pub IsQuoted : List ℕ → Type 0
 IsQuoted = IsText (quote_mark ∷ []) ▹ IsRun is_quotable ▹ IsText (quote_mark ∷ [])
-
--- ---- as it is scanned
-
--- the length of the quoted text behind its first quote, of which inner bytes may stand between the quotes
-abbrev pub quoted_end : ℕ → List ℕ → Option ℕ
-quoted_end inner rest = if begins (is_byte quote_mark) rest then Some (inner + 2) else None
-
-abbrev pub quoted_from : List ℕ → Option ℕ
-quoted_from [] = None
-quoted_from (b ∷ bs) = if b == quote_mark then quoted_end (run_len is_quotable bs) (drop (run_len is_quotable bs) bs) else None
-
--- the length of the quoted text at the front
-unfoldable pub quoted_len : List ℕ → Option ℕ
-quoted_len text = quoted_from text
-
-abbrev pub span_found : List ℕ → Option ℕ → Result (List ℕ × List ℕ) ScanFault
-span_found text None = Err Unexpected
-span_found text (Some len) = Ok (take len text, drop len text)
-
-unfoldable pub quoted_at : Scan (List ℕ)
-quoted_at text = span_found text (quoted_len text)

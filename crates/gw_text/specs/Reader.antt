@@ -5,10 +5,10 @@ use Rattle.gw_text.specs.Runs.{begins, is_byte}
 use Rattle.gw_text.specs.SpaceScan.{skip}
 use Rattle.gw_text.specs.Sign.{byte_at, sign_at, prefix_at}
 use Rattle.gw_text.specs.Scans.{word_at, solid_at, number_within, uint32_at}
-use Rattle.gw_text.specs.Octets.{octets_at}
-use Rattle.gw_text.specs.Quoted.{quoted_at}
+use Rattle.gw_text.specs.OctetsScan.{octets_at}
+use Rattle.gw_text.specs.QuotedScan.{quoted_at}
 use Rattle.gw_text.specs.GroupScan.{balanced_at}
-use Rattle.gw_text.specs.Bracket.{bracket_at, run_at}
+use Rattle.gw_text.specs.BracketScan.{bracket_at, run_at}
 use Rattle.gw_text.specs.declared.fault.ScanFault.{ScanFault}
 
 -- a value, and what is left
@@ -33,6 +33,10 @@ word_as of text = do
   w ← found (word_at text)
   v ← of w.0
   Some (v, w.1)
+
+-- a word, as sent
+abbrev pub word_read : Reader (List ℕ)
+word_read = word_as (λ word. Some word)
 
 -- bytes up to the next white space that stand for a value
 abbrev pub solid_as : {V : Type 0} → (List ℕ → Option V) → Reader V
@@ -70,6 +74,10 @@ run_as of text = do
   r ← found (run_at text)
   v ← of r.0
   Some (v, r.1)
+
+-- a run, as sent
+abbrev pub run_read : Reader (List ℕ)
+run_read = run_as (λ run. Some run)
 
 -- ---- one of two
 

@@ -1,7 +1,8 @@
 -- White space as it is scanned (own), byte by byte, with one flag: whether a comment was begun. That this is the longest
 -- LWSP is what `Cursor::lwsp` promises.
-use Rattle.std.specs.Prelude.{ℕ, ◌+◌, Bool, true, false, ◌==◌, if◌then◌else◌, List, [], ◌∷◌, drop}
-use Rattle.gw_text.specs.Lexical.{nul, semicolon, is_blank, is_eol}
+use Rattle.std.specs.Prelude.{ℕ, ◌+◌, Bool, true, false, ◌==◌, if◌then◌else◌, List, [], ◌∷◌, drop, Option, Some, None}
+use Rattle.gw_text.specs.Lexical.{nul, semicolon, is_blank, is_eol, is_comment_byte}
+use Rattle.gw_text.specs.Runs.{begins, run_len}
 
 -- The length of the longest white space at the front of a text, of which passed bytes lie behind, and best is the
 -- length of the longest found there.
@@ -20,3 +21,12 @@ space_len text = space_len_from false 0 0 text
 -- the text without the white space at its front
 unfoldable pub skip : List ℕ → List ℕ
 skip text = drop (space_len text) text
+
+-- the length of a comment of which the `;` and so many bytes were passed, where the end of its line comes next
+abbrev pub ended_len : ℕ → List ℕ → Option ℕ
+ended_len passed rest = if begins is_eol rest then Some (passed + 2) else None
+
+-- the length of the comment at the front, the end of its line included, if one stands there
+abbrev pub comment_len : List ℕ → Option ℕ
+comment_len [] = None
+comment_len (b ∷ bs) = if b == semicolon then ended_len (run_len is_comment_byte bs) (drop (run_len is_comment_byte bs) bs) else None

@@ -3,11 +3,12 @@
 ghost use Rattle.std.specs.Prelude.{◌≡◌, ◌≤◌, true, false, length, drop, IfSome, MatchOption};
 ghost use Rattle.gw_text.specs.Lexical.{right_bracket};
 ghost use Rattle.gw_text.specs.Runs.{begins, is_byte, run_len};
-ghost use Rattle.gw_text.specs.Bracket.{is_run_mark, is_run_byte, is_bracket_byte, piece_len, bracket_rest, bracket_at, IsLeft, IsSpanLen};
+ghost use Rattle.gw_text.specs.Bracket.{is_run_mark, is_run_byte, is_bracket_byte};
+ghost use Rattle.gw_text.specs.BracketScan.{piece_len, bracket_rest, bracket_at, IsLeft, IsSpanLen};
 
 use crate::class::is_safe;
-use crate::lengths::space_len;
 use crate::octets::quoted_len;
+use crate::space::space_len;
 
 fn is_run_mark(b: u8) -> bool
     ensures { result ≡ is_run_mark b }
@@ -82,7 +83,7 @@ fn bracket_rest<'a>(text: &'a [u8]) -> Option<&'a [u8]>
 }
 
 /// The length of the bracket at the front.
-#[tactic(auto, unfolding(crate::specs::Bracket::bracket_at))]
+#[tactic(auto, unfolding(crate::specs::BracketScan::bracket_at))]
 pub fn bracket_len(text: &[u8]) -> Option<usize>
     ensures value { IsSpanLen text.now result (bracket_at text.now) }
     ensures within { IfSome result (λ len. len ≤ length text.now) }

@@ -1,7 +1,7 @@
 //! Classes of bytes (RFC 3525, Annex B.2).
 
 ghost use Rattle.std.specs.Prelude.{◌≡◌};
-ghost use Rattle.gw_text.specs.Lexical.{is_eol, is_blank, is_safe, is_solid};
+ghost use Rattle.gw_text.specs.Lexical.{is_eol, is_blank, is_comment_byte, is_safe, is_solid};
 
 /// The end of a line: CR or LF.
 pub fn is_eol(b: u8) -> bool
@@ -15,6 +15,13 @@ pub fn is_blank(b: u8) -> bool
     ensures { result ≡ is_blank b }
 {
     b == b' ' || b == b'\t' || is_eol(b)
+}
+
+/// A byte of a comment, behind its `;` and before the end of its line: any but byte 0.
+pub fn is_comment_byte(b: u8) -> bool
+    ensures { result ≡ is_comment_byte b }
+{
+    !is_eol(b) && b != 0
 }
 
 /// A byte with which no white space begins.

@@ -8,9 +8,12 @@ ghost use Rattle.gw_text.specs.Space.{IsSpace, IsSep};
 ghost use Rattle.gw_text.specs.SpaceScan.{skip};
 ghost use Rattle.gw_text.specs.Runs.{begins, first, is_byte};
 ghost use Rattle.gw_text.specs.Forms.{IsWord, IsSolid, IsSomeRun, IsNumber, IsUint32, HasNoNumber, IsSign, IsInAnyCase};
-ghost use Rattle.gw_text.specs.Octets.{IsOctets, IsOctetsOf, octets_at};
-ghost use Rattle.gw_text.specs.Quoted.{IsQuoted, quoted_at};
-ghost use Rattle.gw_text.specs.Bracket.{IsBracket, is_run_byte, run_at, bracket_at};
+ghost use Rattle.gw_text.specs.Octets.{IsOctets, IsOctetsOf};
+ghost use Rattle.gw_text.specs.OctetsScan.{octets_at};
+ghost use Rattle.gw_text.specs.Quoted.{IsQuoted};
+ghost use Rattle.gw_text.specs.QuotedScan.{quoted_at};
+ghost use Rattle.gw_text.specs.Bracket.{IsBracket, is_run_byte};
+ghost use Rattle.gw_text.specs.BracketScan.{run_at, bracket_at};
 ghost use Rattle.gw_text.specs.Group.{IsGroup, IsTooDeep, HasNoGroup};
 ghost use Rattle.gw_text.specs.GroupScan.{balanced_at};
 ghost use Rattle.gw_text.specs.Longest.{IsLongest};
@@ -20,13 +23,14 @@ ghost use Rattle.gw_text.specs.Scans.{Takes, lwsp_at, sep_at, word_at, solid_at,
 use crate::bracket::{bracket_len, run_len};
 use crate::fault::ScanFault;
 use crate::group::group_len;
-use crate::lengths::{digits_len, solid_len, space_len, word_len};
+use crate::lengths::{digits_len, solid_len, word_len};
 use crate::number::number_of;
 use crate::octets::{octets_ends, quoted_len, trimmed};
+use crate::space::space_len;
 use std::marker::Model;
 
 /// A 32-bit number in a text.
-#[derive(Clone, Copy, Debug)]
+#[derive(Clone, Copy)]
 pub struct Uint32<'a> {
     /// Its digits.
     pub span: &'a [u8],
@@ -209,7 +213,7 @@ impl<'a> Cursor<'a> {
     /// # Errors
     ///
     /// `Unexpected` where no closing brace comes, or a byte 0 before it.
-    #[tactic(auto, unfolding(crate::specs::Octets::octets_at))]
+    #[tactic(auto, unfolding(crate::specs::OctetsScan::octets_at))]
     pub fn octets(&mut self) -> Result<&'a [u8], ScanFault>
         ensures exact { Takes (λ span. span.now) self.old result self.new (octets_at self.old) }
         ensures span { IfOk result (λ span. (body : List ℕ) × (self.old ≡ body ++ self.new) × (begins (is_byte right_brace) self.new ≡ true) × IsOctetsOf span.now body) }
@@ -226,7 +230,7 @@ impl<'a> Cursor<'a> {
     /// # Errors
     ///
     /// `Unexpected` where no quoted text comes next.
-    #[tactic(auto, unfolding(crate::specs::Quoted::quoted_at))]
+    #[tactic(auto, unfolding(crate::specs::QuotedScan::quoted_at))]
     pub fn quoted(&mut self) -> Result<&'a [u8], ScanFault>
         ensures exact { Takes (λ span. span.now) self.old result self.new (quoted_at self.old) }
         ensures span { IfOk result (λ span. (self.old ≡ span.now ++ self.new) × IsQuoted span.now) }
@@ -243,7 +247,7 @@ impl<'a> Cursor<'a> {
     /// # Errors
     ///
     /// `Unexpected` where no such byte comes next.
-    #[tactic(auto, unfolding(crate::specs::Bracket::run_at))]
+    #[tactic(auto, unfolding(crate::specs::BracketScan::run_at))]
     pub fn run(&mut self) -> Result<&'a [u8], ScanFault>
         ensures exact { Takes (λ span. span.now) self.old result self.new (run_at self.old) }
         ensures span { IfOk result (λ span. IsLongest (IsSomeRun is_run_byte) self.old span.now self.new) }

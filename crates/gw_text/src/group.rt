@@ -8,8 +8,9 @@ ghost use Rattle.gw_text.specs.declared.group.Before.TheVariants as before;
 
 use crate::class::{is_safe, is_solid};
 use crate::fault::ScanFault;
-use crate::lengths::{space_len, word_len};
+use crate::lengths::word_len;
 use crate::octets::{octets_ends, quoted_len};
+use crate::space::space_len;
 use crate::token::{Token, token_of};
 
 /// What stands before a place in a group, white space aside.

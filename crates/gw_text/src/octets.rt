@@ -3,8 +3,9 @@
 ghost use Rattle.std.specs.Prelude.{◌≡◌, ◌≤◌, ◌<◌, length, take, slice_index, IfSome};
 ghost use Rattle.gw_text.specs.Lexical.{is_blank, right_brace};
 ghost use Rattle.gw_text.specs.Runs.{IsRun, run_len};
-ghost use Rattle.gw_text.specs.Octets.{is_plain, solid_end, octets_ends, trimmed};
-ghost use Rattle.gw_text.specs.Quoted.{is_quotable, quoted_len};
+ghost use Rattle.gw_text.specs.OctetsScan.{is_plain, solid_end, octets_ends, trimmed};
+ghost use Rattle.gw_text.specs.Quoted.{is_quotable};
+ghost use Rattle.gw_text.specs.QuotedScan.{quoted_len};
 
 use crate::class::is_blank;
 use memchr::memchr3;
@@ -47,7 +48,7 @@ pub fn octets_ends(text: &[u8]) -> Option<(usize, usize)>
 }
 
 /// The same, byte by byte.
-#[tactic(auto, using(crate::proofs::RunLemmas::at_byte), unfolding(crate::specs::Octets::octets_ends))]
+#[tactic(auto, using(crate::proofs::RunLemmas::at_byte), unfolding(crate::specs::OctetsScan::octets_ends))]
 fn escaped_ends(text: &[u8]) -> Option<(usize, usize)>
     ensures value { result ≡ octets_ends text.now }
     ensures within { IfSome result (λ ends. (ends.0 < length text.now) × (ends.1 ≤ ends.0)) }
@@ -97,7 +98,7 @@ fn quotable_len(text: &[u8]) -> usize
 }
 
 /// The length of the quoted text at the front, its quotes among it.
-#[tactic(auto, unfolding(crate::specs::Quoted::quoted_len))]
+#[tactic(auto, unfolding(crate::specs::QuotedScan::quoted_len))]
 pub fn quoted_len(text: &[u8]) -> Option<usize>
     ensures value { result ≡ quoted_len text.now }
     ensures within { IfSome result (λ len. len ≤ length text.now) }

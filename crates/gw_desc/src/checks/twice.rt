@@ -5,7 +5,7 @@ ghost use Rattle.std.specs.List.{count_by, list_any};
 ghost use Rattle.gw_desc.specs.Checks.{has_twice, has_kind_twice, has_part_twice, is_twice, is_media_twice, is_stream_twice, numbers_in, number_in, first_stream, first_in};
 ghost use Rattle.gw_desc.specs.Twice.{has_number_twice};
 ghost use Rattle.gw_desc.specs.OfKind.{is_part_of};
-ghost use Rattle.gw_desc.specs.Marks.{is_marked, marked};
+ghost use Rattle.gw_desc.specs.Marks.{is_marked, with_mark};
 
 use super::counts::{OfKind, has_two, up_to_two};
 use super::kinds::{is_audit, is_services, same_kept};
@@ -141,11 +141,11 @@ fn bit_of(number: u16) -> u64
 }
 
 /// Marks the number; whether it was marked.
-#[tactic(auto, unfolding(crate::specs::Marks::is_marked, crate::specs::Marks::marked))]
+#[tactic(auto, unfolding(crate::specs::Marks::is_marked, crate::specs::Marks::with_mark))]
 fn mark(seen: &mut [u64], number: u16) -> bool
     requires { length seen.old ≡ 1024 }
     ensures told { result ≡ is_marked seen.old number }
-    ensures after { seen.new ≡ marked seen.old number }
+    ensures after { seen.new ≡ with_mark seen.old number }
     ensures small { number < 2 ^ 16 }
 {
     let bit = bit_of(number);

@@ -1,5 +1,5 @@
 use Rattle.std.proofs.Common.{◌<◌, ℕ, List, length, Some, ap, sym, subst, ◌∙◌, arith}
-use Rattle.gw_text.specs.Bracket.{bracket_rest}
+use Rattle.gw_text.specs.BracketScan.{bracket_rest}
 use Rattle.gw_text.proofs.BracketLaws.{bracket_closes, bracket_goes_on, bracket_fails, piece_shrinks}
 use Rattle.gw_text.proofs.bracket.bracket_rest.Goals as goal
 

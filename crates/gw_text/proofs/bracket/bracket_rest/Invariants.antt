@@ -1,5 +1,5 @@
 use Rattle.std.proofs.Common.{◌≡◌, ◌≤◌, length}
-use Rattle.gw_text.specs.Bracket.{bracket_rest}
+use Rattle.gw_text.specs.BracketScan.{bracket_rest}
 use Rattle.gw_text.proofs.bracket.bracket_rest.Given as goal
 
 abbrev pub invariant-loop-left : goal.invariant-loop-left

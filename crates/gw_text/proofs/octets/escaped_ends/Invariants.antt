@@ -1,5 +1,5 @@
 use Rattle.std.proofs.Common.{◌≡◌, ◌≤◌, false, drop}
-use Rattle.gw_text.specs.Octets.{octets_from}
+use Rattle.gw_text.specs.OctetsScan.{octets_from}
 use Rattle.gw_text.proofs.octets.escaped_ends.Given as goal
 
 abbrev pub invariant-loop-i : goal.invariant-loop-i

@@ -1,5 +1,5 @@
 use Rattle.std.proofs.Common.{◌≡◌, ◌≤◌, length}
-use Rattle.gw_text.specs.Octets.{solid_end}
+use Rattle.gw_text.specs.OctetsScan.{solid_end}
 use Rattle.gw_text.proofs.octets.solid_end.Given as goal
 
 abbrev pub invariant-loop-front : goal.invariant-loop-front

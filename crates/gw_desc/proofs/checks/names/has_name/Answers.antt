@@ -1,7 +1,5 @@
-use Rattle.std.proofs.Common.{◌≡◌, ◌∙◌, ◌||◌, ap, sym, refl, true, false, rules}
-use Rattle.std.specs.List.{list_any}
+use Rattle.std.proofs.Common.{◌≡◌, ◌∙◌, sym, refl, true, false, rules}
 use Rattle.gw_text.specs.Tokens.{is_same_word}
-use Rattle.gw_desc.specs.Checks.{names_of}
 use Rattle.gw_desc.proofs.Counting.{any_next}
 use Rattle.gw_desc.proofs.checks.names.has_name.Goals as goal
 

@@ -2,8 +2,8 @@ use Rattle.std.proofs.Common.{◌≡◌, ◌∙◌, ◌||◌, [], ◌∷◌, fal
 use Rattle.std.proofs.lemmas.Grind.{common_steps}
 use Rattle.gw_desc.specs.Twice.{has_number_twice}
 use Rattle.gw_desc.specs.Checks.{numbers_in, number_in}
-use Rattle.gw_desc.specs.Marks.{is_marked, marked}
-use Rattle.gw_desc.proofs.Marking.{none_marked, past_other, past_number, found_number, left_twice, length-marked}
+use Rattle.gw_desc.specs.Marks.{is_marked, with_mark}
+use Rattle.gw_desc.proofs.Marking.{none_marked, past_other, past_number, left_twice, length-marked}
 use Rattle.gw_desc.proofs.checks.twice.has_number_twice.Goals.{in-Some+else-mark, in_default}
 use Rattle.gw_desc.proofs.checks.twice.has_number_twice.Goals as goal
 
@@ -16,7 +16,7 @@ loop-part-preserved c =
       | in-Some+else-mark w ↦
           let one : number_in c.part-item.result ≡ w.in-Some.number ∷ [] = cc in
           let none : is_marked c.loop-part.seen w.in-Some.number ≡ false = cc in
-          let seen : c.match-number_of.seen ≡ marked c.loop-part.seen w.in-Some.number = cc in (
+          let seen : c.match-number_of.seen ≡ with_mark c.loop-part.seen w.in-Some.number = cc in (
             ap length seen ∙ length-marked c.loop-part.seen w.in-Some.number ∙ c.loop-part.invariant.0,
             c.loop-part.invariant.1
                 ∙ past_number c.loop-part.seen c.args.parts.now c.loop-part.part-index w.in-Some.number c.part-item.result c.loop-part-test.true c.part-item.is one c.loop-part.invariant.0 w.mark.ensures.small none

@@ -1,6 +1,6 @@
 use Rattle.std.proofs.Common.{rules, refl, arith}
 use Rattle.std.proofs.lemmas.Grind.{common_steps}
-use Rattle.gw_text.specs.Octets.{octets_at}
+use Rattle.gw_text.specs.OctetsScan.{octets_at}
 use Rattle.gw_text.specs.declared.fault.ScanFault.TheVariants.{Unexpected}
 use Rattle.gw_text.proofs.OctetsScans.{octets_span, no_octets}
 use Rattle.gw_text.proofs.cursor.Cursor.octets.Goals as goal

@@ -1,5 +1,5 @@
 use Rattle.std.proofs.Common.{rules}
-use Rattle.gw_text.specs.Quoted.{quoted_at}
+use Rattle.gw_text.specs.QuotedScan.{quoted_at}
 use Rattle.gw_text.specs.declared.fault.ScanFault.TheVariants.{Unexpected}
 use Rattle.gw_text.proofs.OctetsScans.{quoted_took, no_quoted}
 use Rattle.gw_text.proofs.cursor.Cursor.quoted.Goals as goal

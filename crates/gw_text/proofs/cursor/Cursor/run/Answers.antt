@@ -1,6 +1,6 @@
 use Rattle.std.proofs.Common.{rules}
 use Rattle.gw_text.specs.declared.fault.ScanFault.TheVariants.{Unexpected}
-use Rattle.gw_text.specs.Bracket.{run_at}
+use Rattle.gw_text.specs.BracketScan.{run_at}
 use Rattle.gw_text.proofs.BracketLaws.{run_took, no_run_there}
 use Rattle.gw_text.proofs.cursor.Cursor.run.Goals as goal
 

@@ -3,7 +3,7 @@ use Rattle.std.proofs.Common.{◌≡◌, ℕ, ◌<◌, Bool, true, false, cond, 
 use Rattle.std.specs.Prelude.{bytes_eq}
 use Rattle.std.specs.Char.{to_ascii_lowercase}
 use Rattle.std.proofs.lemmas.Slice.Eq.{bytes_eq-Decides}
-use Rattle.std.proofs.lemmas.Bool.{eqb-true}
+use Rattle.std.proofs.lemmas.Bool.{eqb-true, and_parts}
 use Rattle.std.proofs.lemmas.Bool.Decides.{nat_tests}
 use Rattle.gw_text.specs.Lexical.{is_safe, dash}
 use Rattle.gw_text.specs.Runs.{NoMore}
@@ -11,8 +11,7 @@ use Rattle.gw_text.specs.Forms.{IsWord}
 use Rattle.gw_text.specs.Sign.{prefix_at}
 use Rattle.gw_text.specs.Tokens.{Spelling, table, is_spelling, find_token, token_of}
 use Rattle.gw_text.specs.declared.token.Token.{Token}
-use Rattle.gw_text.proofs.RunLemmas.{and_true}
-use Rattle.gw_text.proofs.Signs.{prefix_sound}
+use Rattle.gw_text.proofs.FormLaws.{prefix_sound}
 
 -- neither form has a dash as its second byte
 abbrev no_dash : List ℕ → Bool
@@ -39,8 +38,8 @@ find_no_dash word (s ∷ rest) t h e =
     let lower : List ℕ = map to_ascii_lowercase word in
     let long : List ℕ = map to_ascii_lowercase s.long in
     let short : List ℕ = map to_ascii_lowercase s.short in
-    let a = and_true (no_dash long) (no_dash short && no_dashes rest) h in
-    let b = and_true (no_dash short) (no_dashes rest) a.1 in
+    let a = and_parts (no_dash long) (no_dash short && no_dashes rest) h in
+    let b = and_parts (no_dash short) (no_dashes rest) a.1 in
     found_in (no_dash lower ≡ true) (bytes_eq lower long || bytes_eq lower short) (Some s.token) (find_token word rest) t e
     (λ is. either (no_dash lower ≡ true) (bytes_eq lower long) (bytes_eq lower short) is
     (λ i. ap no_dash ((bytes_eq-Decides lower long).0 i) ∙ a.0)

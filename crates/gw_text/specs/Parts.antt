@@ -2,8 +2,8 @@
 use Rattle.std.specs.Prelude.{◌≡◌, ◌≤◌, ◌<◌, ◌++◌, length, ℕ, List, Option, Some, None, Result, Ok, Err}
 use Rattle.gw_text.specs.SpaceScan.{skip}
 use Rattle.gw_text.specs.Reader.{Reader}
-use Rattle.gw_desc.specs.declared.fault.PartFault.{PartFault}
-use Rattle.gw_desc.specs.declared.fault.PartFault.TheVariants.{Syntax, NoMemory}
+use Rattle.gw_text.specs.declared.fault.PartFault.{PartFault}
+use Rattle.gw_text.specs.declared.fault.PartFault.TheVariants.{Syntax, NoMemory}
 
 -- What a function returned, and where it left its cursor, is what reading gives, unless memory ran out.
 abbrev pub Gives : {V : Type 0} → Result V PartFault → List ℕ → Option (V × List ℕ) → Type 0

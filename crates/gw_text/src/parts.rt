@@ -2,13 +2,14 @@
 
 ghost use Rattle.std.specs.Prelude.{◌≡◌, ℕ, List, Option, Some, None, MatchResult};
 ghost use Rattle.gw_text.specs.Sign.{sign_at};
-ghost use Rattle.gw_text.specs.Reader.{word_as, list_at, closed_list_at, braced_at, optional_at, braced_or_empty_at, items_at};
+ghost use Rattle.gw_text.specs.Reader.{word_as, word_read, list_at, closed_list_at, braced_at, optional_at, braced_or_empty_at, items_at};
 ghost use Rattle.gw_text.specs.Tokens.{token_of};
-ghost use Rattle.gw_desc.specs.Parts.{Gives, Finds, Shrinks, ShrinksMore};
+ghost use Rattle.gw_text.specs.Parts.{Gives, Finds, Shrinks, ShrinksMore};
 
+use crate::cursor::Cursor;
 use crate::fault::PartFault;
-use gw_base::Items;
-use gw_text::{Cursor, Token, token_of};
+use crate::token::{Token, token_of};
+use gw_base::{Items, Span};
 use std::alloc::Global;
 
 /// A part of a message.
@@ -51,6 +52,26 @@ pub fn token(cursor: &mut Cursor<'_>) -> Result<Token, PartFault>
     match token_of(cursor.word()?) {
         Some(token) => Ok(token),
         None => Err(PartFault::Syntax),
+    }
+}
+
+/// A word, as sent.
+///
+/// # Errors
+///
+/// `Syntax` where no word comes next.
+pub fn word<'a>(cursor: &mut Cursor<'a>) -> Result<Span<'a>, PartFault>
+    ensures { Finds result cursor.new (word_read cursor.old) }
+{
+    Ok(Span::new(cursor.word()?))
+}
+
+// A word, as sent.
+impl<'a> Part<'a> for Span<'a> {
+    ghost read_at = { word_read };
+
+    fn read(_alloc: Global, cursor: &mut Cursor<'a>) -> Result<Span<'a>, PartFault> {
+        word(cursor)
     }
 }
 
@@ -108,7 +129,7 @@ pub fn braced<'a, T: Part<'a>>(
 /// # Errors
 ///
 /// `Syntax` where a brace comes next and no such list stands there; `NoMemory` where a growth was refused.
-#[tactic(auto, unfolding(gw_text::specs::Reader::optional_at))]
+#[tactic(auto, unfolding(crate::specs::Reader::optional_at))]
 pub fn optional_braced<'a, T: Part<'a>>(
     alloc: Global,
     cursor: &mut Cursor<'a>,
@@ -127,7 +148,7 @@ pub fn optional_braced<'a, T: Part<'a>>(
 /// # Errors
 ///
 /// `Syntax` where there is no such list; `NoMemory` where a growth was refused.
-#[tactic(auto, unfolding(gw_text::specs::Reader::braced_or_empty_at))]
+#[tactic(auto, unfolding(crate::specs::Reader::braced_or_empty_at))]
 pub fn braced_or_empty<'a, T: Part<'a>>(
     alloc: Global,
     cursor: &mut Cursor<'a>,

@@ -1,8 +1,8 @@
 use Rattle.std.proofs.lemmas.Result.{err_from_is_err_and}
 use Rattle.gw_text.specs.Reader.{list_at}
 use Rattle.gw_text.proofs.Loops.{list_goes_on, list_ends}
-use Rattle.gw_desc.proofs.Faults.{loop_fails}
-use Rattle.gw_desc.proofs.lists.list.Goals as goal
+use Rattle.gw_text.proofs.PartLoops.{loop_fails}
+use Rattle.gw_text.proofs.parts.list.Goals as goal
 
 pub returns-in_err-part : goal.returns-in_err-part
 returns-in_err-part g c =

@@ -1,8 +1,8 @@
 use Rattle.std.proofs.Common.{◌≡◌, true, false, refl}
 use Rattle.std.proofs.lemmas.Result.{err_from_is_err_and}
 use Rattle.gw_text.specs.Reader.{items_at}
-use Rattle.gw_desc.proofs.Faults.{items_loop_fails, items_loop_ends, items_loop_goes_on}
-use Rattle.gw_desc.proofs.lists.items.Goals as goal
+use Rattle.gw_text.proofs.PartLoops.{items_loop_fails, items_loop_ends, items_loop_goes_on}
+use Rattle.gw_text.proofs.parts.items.Goals as goal
 
 pub returns-in_err-part : goal.returns-in_err-part
 returns-in_err-part g c =

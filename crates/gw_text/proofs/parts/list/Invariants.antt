@@ -1,7 +1,7 @@
 use Rattle.std.proofs.Common.{◌≡◌, length}
 use Rattle.gw_text.specs.Reader.{list_at}
 use Rattle.gw_text.proofs.Loops.{with_front}
-use Rattle.gw_desc.proofs.lists.list.Given as goal
+use Rattle.gw_text.proofs.parts.list.Given as goal
 
 -- what was read before, and what is still read, are the whole list
 abbrev pub invariant-loop-parts : goal.invariant-loop-parts

@@ -1,7 +1,7 @@
 use Rattle.std.proofs.Common.{◌≡◌, length}
 use Rattle.gw_text.specs.Reader.{items_at}
 use Rattle.gw_text.proofs.Loops.{with_front}
-use Rattle.gw_desc.proofs.lists.items.Given as goal
+use Rattle.gw_text.proofs.parts.items.Given as goal
 
 -- what was read before, and what is still read, are all the items
 abbrev pub invariant-loop-parts : goal.invariant-loop-parts
