@@ -45,18 +45,18 @@ use Rattle.gw_table.specs.Maps.{Maps, Outcome, term, ctx, names, put_term, put_c
 use Rattle.gw_table.specs.Reserved.{slot_name}
 use Rattle.gw_table.proofs.Lookups.{term-put_term, ctx-put_term, term-put_ctx, ctx-put_ctx}
 use Rattle.gw_table.proofs.SlotNames.{slot_is_named}
-use Rattle.gw_cmd.specs.declared.at.At.{At}
+use Rattle.gw_refusal.specs.declared.at.At.{At}
 use Rattle.gw_cmd.specs.declared.change.Change.{Change}
 use Rattle.gw_cmd.specs.declared.change.Change.TheVariants.{Stays, Becomes, Joins, Crosses, Leaves}
 use Rattle.gw_cmd.specs.declared.change.Decided.{Decided}
 use Rattle.gw_cmd.specs.declared.change.Merged.{Merged}
 use Rattle.gw_cmd.specs.declared.outcome.CmdOutcome.{CmdOutcome}
-use Rattle.gw_cmd.specs.Asked.{is_wildcard, matches, audited, asks_media, is_some_list, service_asked}
+use Rattle.gw_refusal.specs.Asked.{is_wildcard, matches, audited, asks_media, is_some_list, service_asked}
 use Rattle.gw_cmd.specs.Commands.{is_error, error_of, error_in, first_error, told, on_target, on_targets, on_names, new_reply, on_new, put_service, all_serviced, serviced_if, bare_if, bare_told, root_parts, root_maps, on_root, refused, carried, unless_refused, command}
 use Rattle.gw_cmd.specs.Effects.{filled_part, parts_of, merged_in, merging_to, merging, refusal_to_add, refusal_to_move, refusal_elsewhere, joins, added, crosses, moved, becomes, modified, unless, what_remains, subtracted, told_of, after_change, service_changed, decided_in, decided_in_null, is_full, decided, done, on_record, on_found, on_name}
 use Rattle.gw_cmd.specs.KeptForms.{AreKept, IsAsked, IsSlot, KeepsForms}
 use Rattle.gw_cmd.specs.Moves.{with_member, without_member, unless_none, unless_empty, changed}
-use Rattle.gw_cmd.specs.Places.{place_at}
+use Rattle.gw_refusal.specs.Places.{place_at}
 use Rattle.gw_cmd.specs.Refusals.{refusal}
 use Rattle.gw_cmd.specs.Targets.{is_free, those_in, source, matched, targets_of, targets}
 

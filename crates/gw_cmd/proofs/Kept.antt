@@ -17,20 +17,20 @@ use Rattle.gw_term.specs.Record.{ephemeral, serviced}
 use Rattle.gw_table.specs.Maps.{Maps, Outcome, term, ctx, names}
 use Rattle.gw_table.specs.Reserved.{slot_name}
 use Rattle.gw_table.proofs.Folding.{kept}
-use Rattle.gw_cmd.specs.declared.at.At.{At}
+use Rattle.gw_refusal.specs.declared.at.At.{At}
 use Rattle.gw_cmd.specs.declared.change.Change.{Change}
 use Rattle.gw_cmd.specs.declared.change.Change.TheVariants.{Becomes}
 use Rattle.gw_cmd.specs.declared.change.Decided.{Decided}
 use Rattle.gw_cmd.specs.declared.outcome.CmdOutcome.{CmdOutcome}
-use Rattle.gw_cmd.specs.Asked.{service_asked}
+use Rattle.gw_refusal.specs.Asked.{service_asked}
 use Rattle.gw_cmd.specs.Commands.{on_target, on_targets, on_names, on_new, on_root, put_service, all_serviced, serviced_if, root_maps, refused, carried, unless_refused, command}
 use Rattle.gw_cmd.specs.Effects.{decided, done, on_record, on_found, on_name}
 use Rattle.gw_cmd.specs.Moves.{changed}
-use Rattle.gw_cmd.specs.Places.{place_at}
+use Rattle.gw_refusal.specs.Places.{place_at}
 use Rattle.gw_cmd.specs.Refusals.{refusal}
 use Rattle.gw_cmd.specs.Suits.{IsUnused}
 use Rattle.gw_cmd.specs.Targets.{targets}
-use Rattle.gw_cmd.proofs.Lawful.{IsRewritten, Lawful, decided_lawful}
+use Rattle.gw_cmd.proofs.Lawful.{few_serviced, IsRewritten, Lawful, decided_lawful}
 
 -- a termination that has this record, or is made with it in a slot
 pub data IsKnown (makes : ℕ → Type 0) (t : List ℕ) (r : Termination) (m : Maps) : Type 0 where
@@ -45,9 +45,6 @@ pub record IsKept (rules : Rules) (passes : List ℕ → Bool) (makes : ℕ → 
 abbrev pub MayMake : (ℕ → Type 0) → Option ℕ → Type 0
 MayMake makes None = Unit {0}
 MayMake makes (Some slot) = makes slot
-
-few_serviced : (s : Service) (r : Termination) → HasFew r → HasFew (serviced r s)
-few_serviced s r f = record { properties = f.properties; first = f.first; second = f.second; third = f.third; fourth = f.fourth }
 
 module _ {P : Maps → Type 0} (rules : Rules) (passes : List ℕ → Bool) (makes : ℕ → Type 0) (k : IsKept rules passes makes P) where
   kept_done : (v : Verb) (place : Option CtxNum) (t : List ℕ) (r : Termination) (m : Maps) (x : Result Decided Code) → passes t ≡ true → IsKnown makes t r m → ((d : Decided) → x ≡ Ok d → Lawful rules v place r d.change m) → P m → P (done t m x).maps

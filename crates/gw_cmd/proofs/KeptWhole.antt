@@ -1,7 +1,6 @@
 -- Lawful changes keep whole tables well-formed.
 use Rattle.std.proofs.Common.{nat_eq, ◌≡◌, ℕ, ◌<◌, Bool, true, false, cond, List, length, Option, None, Some, is_some, refl, sym, ap, subst, ◌∙◌, arith}
 use Rattle.std.specs.Prelude.{if◌then◌else◌}
-use Rattle.std.proofs.lemmas.Bool.{leb-false}
 use Rattle.gw_base.specs.declared.ids.CtxNum.{CtxNum}
 use Rattle.gw_base.specs.declared.command_words.Rules.{Rules}
 use Rattle.gw_base.specs.declared.command_words.Verb.{Verb}
@@ -22,7 +21,7 @@ use Rattle.gw_cmd.proofs.KeptSound.{known_place, nowhere_after}
 use Rattle.gw_cmd.proofs.Lawful.{IsRewritten, Lawful}
 use Rattle.gw_cmd.proofs.Sound.{term-without_member, ctx-without_member}
 use Rattle.gw_cmd.proofs.Steps.{put_term-put_term}
-use Rattle.gw_cmd.proofs.Suited.{apart_turned}
+use Rattle.gw_cmd.proofs.Suited.{apart_turned, room_of}
 use Rattle.gw_cmd.proofs.Whole.{IsGood, whole_joined, whole_departed, whole_rewritten}
 use Rattle.gw_cmd.proofs.Written.{with_last, without_last, crossed_last}
 use Rattle.gw_base.proofs.NamesInLists.{itself}
@@ -65,9 +64,6 @@ crossed limit p n t new m w here apart there good room =
     subst (AreWellFormed limit)
     (ap (λ x. put_term x t (Some new)) (with_last n t t None (without_member p t m)) ∙ put_term-put_term (with_member n t (without_member p t m)) t None (Some new))
     back
-
-room_of : (rules : Rules) (n : CtxNum) (m : Maps) → is_full rules n m ≡ false → length (members_of (ctx m n)) < rules.members
-room_of rules n m h = leb-false rules.members (length (members_of (ctx m n))) h
 
 whole_changed : (rules : Rules) {makes : ℕ → Type 0} (v : Verb) (place : Option CtxNum) (t : List ℕ) (r : Termination) (change : Change) (m : Maps) → AreWellFormed rules.members m → IsKnown makes t r m → Lawful rules v place r change m → AreWellFormed rules.members (changed t change m)
 whole_changed rules v place t r Stays m w i l = w

@@ -5,6 +5,7 @@ use Rattle.gw_base.specs.declared.code.Code.{Code}
 use Rattle.gw_base.specs.declared.code.Code.TheVariants.{NotInContext, AlreadyInContext, ContextFull}
 use Rattle.gw_base.specs.declared.ids.CtxNum.{CtxNum}
 use Rattle.gw_base.specs.declared.command_words.Rules.{Rules}
+use Rattle.gw_base.specs.declared.command_words.Service.{Service}
 use Rattle.gw_base.specs.declared.command_words.Verb.{Verb}
 use Rattle.gw_base.specs.declared.command_words.Verb.TheVariants.{Add, Modify, Move, Subtract, AuditValue, AuditCapability, Notify, ServiceChange}
 use Rattle.gw_base.proofs.NameTests.{same_number}
@@ -21,9 +22,9 @@ use Rattle.gw_cmd.specs.declared.change.Change.{Change}
 use Rattle.gw_cmd.specs.declared.change.Change.TheVariants.{Stays, Becomes, Joins, Crosses, Leaves}
 use Rattle.gw_cmd.specs.declared.change.Decided.{Decided}
 use Rattle.gw_cmd.specs.declared.change.Merged.{Merged}
-use Rattle.gw_cmd.specs.Asked.{is_move}
+use Rattle.gw_refusal.specs.Asked.{is_move}
 use Rattle.gw_cmd.specs.Effects.{merged_in, merging_to, merging, refusal_to_add, refusal_to_move, refusal_elsewhere, joins, added, crosses, moved, becomes, modified, unless, what_remains, subtracted, told_of, after_change, service_changed, decided_in, decided_in_null, is_full, decided}
-use Rattle.gw_cmd.specs.Places.{same_place}
+use Rattle.gw_refusal.specs.Places.{same_place}
 
 -- the record of the same termination, which has as few properties
 pub record IsRewritten (old new : Termination) : Type 0 where
@@ -75,8 +76,8 @@ move_none full n p h = at (nat_eq p.0 n.0) full refl refl h
 few_placed : (r : Termination) (place : Option CtxNum) → HasFew r → HasFew (placed r place)
 few_placed r place f = record { properties = f.properties; first = f.first; second = f.second; third = f.third; fourth = f.fourth }
 
-few_serviced : (ds : List Descriptor) (r : Termination) → HasFew r → HasFew (after_change ds r)
-few_serviced ds r f = record { properties = f.properties; first = f.first; second = f.second; third = f.third; fourth = f.fourth }
+pub few_serviced : (s : Service) (r : Termination) → HasFew r → HasFew (serviced r s)
+few_serviced s r f = record { properties = f.properties; first = f.first; second = f.second; third = f.third; fourth = f.fourth }
 
 record IsMerged (old : Termination) (place : Option CtxNum) (refused : Option Code) (m : Merged) : Type 0 where
   allowed : refused ≡ None
@@ -147,7 +148,7 @@ unless_lawful rules place r m v made d law h = at (refusal_elsewhere place r.pla
 changed_lawful : (rules : Rules) (ds : List Descriptor) (place : Option CtxNum) (r : Termination) (m : Maps) (v : Verb) (d : Decided) → service_changed ds place r ≡ Ok d → Lawful rules v place r d.change m
 changed_lawful rules ds place r m v d h =
     unless_lawful rules place r m v (record { change = Becomes (after_change ds r); parts = [] }) d
-    (λ there. (there, there, record { slot = refl; few = few_serviced ds r })) h
+    (λ there. (there, there, record { slot = refl; few = few_serviced _ r })) h
 
 in_lawful : (rules : Rules) (v : Verb) (ds : List Descriptor) (n : CtxNum) (r : Termination) (m : Maps) (d : Decided) → decided_in rules v ds (is_full rules n m) n r ≡ Ok d → Lawful rules v (Some n) r d.change m
 in_lawful rules Add ds n r m d h = added_lawful rules ds n r m Add d h

@@ -25,23 +25,24 @@ use Rattle.gw_desc.specs.Checks.{check_code}
 use Rattle.gw_ctx.specs.Contexts.{ContextRecord}
 use Rattle.gw_msg.specs.declared.message.Command.{Command}
 use Rattle.gw_term.specs.declared.record.Termination.{Termination}
-use Rattle.gw_table.specs.Accesses.{Accesses, Done, effect, and_then, PlaceIn, Within}
+use Rattle.gw_table.specs.Accesses.{Accesses, Done, effect, and_then, Within}
 use Rattle.gw_table.specs.Maps.{Maps, Outcome, term, ctx, names, numbers, number, place_of, members_of}
-use Rattle.gw_table.specs.Parts.{Only, restricted, overlaid, Holds}
+use Rattle.gw_table.specs.Parts.{Only, restricted, overlaid, Holds, HoldsPlace}
 use Rattle.gw_table.specs.Reserved.{slot_name}
 use Rattle.gw_table.specs.WellFormed.{AreWellFormed}
 use Rattle.gw_table.proofs.Frames.{within-then, Lists, IsLocal, local}
 use Rattle.gw_table.proofs.Lookups.{same_maps}
 use Rattle.gw_table.proofs.PartLookups.{term-restricted, ctx-restricted}
-use Rattle.gw_cmd.specs.declared.at.At.{At}
-use Rattle.gw_cmd.specs.declared.at.At.TheVariants.{Null, Live, Unmade, Each}
+use Rattle.gw_refusal.specs.declared.at.At.{At}
+use Rattle.gw_refusal.specs.declared.at.At.TheVariants.{Null, Live, Unmade, Each}
 use Rattle.gw_cmd.specs.declared.outcome.CmdOutcome.{CmdOutcome}
-use Rattle.gw_cmd.specs.Asked.{is_add, is_root, is_service_change, is_wildcard, matches, service_asked}
+use Rattle.gw_refusal.specs.Asked.{is_add, is_root, is_service_change, is_wildcard, matches, service_asked}
 use Rattle.gw_cmd.specs.Commands as commands
 use Rattle.gw_cmd.specs.Keys.{every_key, is_for_all, keys_if, action_keys, place_key, name_keys, slot_key, new_keys, member_keys, term_keys, command_keys}
-use Rattle.gw_cmd.specs.Places.{place_at, is_null, is_each}
-use Rattle.gw_cmd.specs.Refusals.{refusal_by_form, refusal_by_tables, has_ended, or_else, code_if}
-use Rattle.gw_cmd.specs.Suits.{HoldsPlace, HoldsSlot, IsReady}
+use Rattle.gw_refusal.specs.Places.{place_at, is_null, is_each}
+use Rattle.gw_refusal.specs.Forms.{refusal_by_form}
+use Rattle.gw_cmd.specs.Refusals.{refusal_by_tables, has_ended, or_else, code_if}
+use Rattle.gw_cmd.specs.Suits.{HoldsSlot, IsReady}
 use Rattle.gw_cmd.specs.Targets.{those_in, source, targets_of, targets, matched, is_free}
 use Rattle.gw_cmd.proofs.Programs.{of_members, of_those, of_matched, of_targets, of_ended, of_missing, of_tables, of_names, of_new, of_root, of_serviced_if, of_services, of_gateway, of_each, of_carried, unless_told, of_rest, of_allowed, program, effect-of_those, effect-of_targets, effect-of_ended, effect-of_tables, effect-program}
 use Rattle.gw_cmd.proofs.Ready.{among_all, among_action, among_term, every_term, every_ctx, named, in_filter, same_any, ready, ready_new}
@@ -132,10 +133,6 @@ module _ (rules : Rules) (at : At) (slot : Option ℕ) (c : Command) (m : Maps) 
   read_missing ts (Other x) e n s = tt
 
   -- what is done
-  place_in : (o : Option CtxNum) → HoldsPlace (Only keys) o → PlaceIn keys o
-  place_in None h = tt
-  place_in (Some n) h = h
-
   target_key : (r : TermRef) → c.term ≡ r → IsReady (Only keys) at c m → (t : List ℕ) → is_in t (targets_of r at c m) ≡ true → has keys (Term t) ≡ true
   target_key (Name q) e r t h = in_term (Name q) e (Term t) (or_left (bytes_eq t q) (has (place_key (place_of (term m q))) (Term t)) (only t q h))
     where
@@ -152,7 +149,7 @@ module _ (rules : Rules) (at : At) (slot : Option ℕ) (c : Command) (m : Maps) 
   target_key (Other x) e r t h = absurd cc
 
   do_wild : IsReady (Only keys) at c m → (r : TermRef) → c.term ≡ r → ((t : List ℕ) → r ≡ Name t → ⊥) → Within keys (of_names rules at c (targets_of r at c m)) m
-  do_wild p r e other = within-names keys rules at c (targets_of r at c m) m (place_in (place_at at) p.place) (p.stays (λ t f. other t (sym e ∙ f))) (λ q i. target_key r e p q i)
+  do_wild p r e other = within-names keys rules at c (targets_of r at c m) m p.place (p.stays (λ t f. other t (sym e ∙ f))) (λ q i. target_key r e p q i)
 
   do_services : is_for_all at c ≡ true → (o : Option Service) → Within keys (of_serviced_if o) m
   unfolding keys
@@ -176,16 +173,16 @@ module _ (rules : Rules) (at : At) (slot : Option ℕ) (c : Command) (m : Maps) 
   do_root e AuditCapability f = tt
   do_root e Notify f = tt
 
-  do_new : (o : Option ℕ) → HoldsSlot (Only keys) o → PlaceIn keys (place_at at) → Within keys (of_new rules at c o) m
+  do_new : (o : Option ℕ) → HoldsSlot (Only keys) o → HoldsPlace (Only keys) (place_at at) → Within keys (of_new rules at c o) m
   do_new None h p = tt
   do_new (Some s) h p = within-then keys _ (λ x. Done (commands.outcome_of at (commands.new_reply c s x ∷ []))) m (within-new keys rules (place_at at) c s m h p) tt
 
   do_carried : refusal_by_form at c ≡ None → IsReady (Only keys) at c m → (r : TermRef) → c.term ≡ r → Within keys (of_carried rules at slot c (targets_of r at c m) r) m
   do_carried f p Root e = within-then keys (of_root c.verb c.descriptors) (λ _. Done (commands.outcome_of at (commands.reply c Root (Ok (commands.root_parts c)) ∷ []))) m (do_root e c.verb refl) tt
-  do_carried f p Choose e = do_new slot (ready_new (Only keys) at slot c m covered f e) (place_in (place_at at) p.place)
+  do_carried f p Choose e = do_new slot (ready_new (Only keys) at slot c m covered f e) p.place
   do_carried f p (Name t) e =
       within-then keys (of_names rules at c (t ∷ [])) (λ rs. Done (commands.outcome_of at (commands.told c rs))) m
-      (within-one keys rules at c t m (place_in (place_at at) p.place) (in_term (Name t) e (Term t) (has-head (Term t) (place_key (place_of (term m t))))) (λ mv. place_in (place_of (term m t)) (p.moved t e mv))) tt
+      (within-one keys rules at c t m p.place (in_term (Name t) e (Term t) (has-head (Term t) (place_key (place_of (term m t))))) (p.moved t e)) tt
   do_carried f p All e = within-then keys (of_names rules at c (targets_of All at c m)) (λ rs. Done (commands.outcome_of at (commands.told c rs))) m (do_wild p All e (λ t x. cc)) tt
   do_carried f p (Under x) e = within-then keys (of_names rules at c (targets_of (Under x) at c m)) (λ rs. Done (commands.outcome_of at (commands.told c rs))) m (do_wild p (Under x) e (λ t y. cc)) tt
   do_carried f p (Other x) e = within-then keys (of_names rules at c []) (λ rs. Done (commands.outcome_of at (commands.told c rs))) m tt tt

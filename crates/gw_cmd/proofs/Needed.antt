@@ -26,8 +26,8 @@ use Rattle.gw_table.specs.Parts.{restricted, overlaid}
 use Rattle.gw_table.specs.WellFormed.{AreWellFormed}
 use Rattle.gw_table.proofs.Lookups.{term-put_term}
 use Rattle.gw_table.proofs.PartLookups.{term-restricted, ctx-restricted, ctx-overlaid}
-use Rattle.gw_cmd.specs.declared.at.At.{At}
-use Rattle.gw_cmd.specs.declared.at.At.TheVariants.{Live}
+use Rattle.gw_refusal.specs.declared.at.At.{At}
+use Rattle.gw_refusal.specs.declared.at.At.TheVariants.{Live}
 use Rattle.gw_cmd.specs.declared.change.Change.TheVariants.{Crosses}
 use Rattle.gw_cmd.specs.declared.change.Decided.{Decided}
 use Rattle.gw_cmd.specs.declared.outcome.CmdOutcome.{CmdOutcome}
@@ -35,7 +35,8 @@ use Rattle.gw_cmd.specs.Commands as commands
 use Rattle.gw_cmd.specs.Effects.{done, decided, on_record, on_found, on_name}
 use Rattle.gw_cmd.specs.Moves.{changed, without_member, with_member}
 use Rattle.gw_cmd.specs.Needs.{named, named_with}
-use Rattle.gw_cmd.specs.Refusals.{refusal, refusal_by_form, refusal_by_tables}
+use Rattle.gw_refusal.specs.Forms.{refusal_by_form}
+use Rattle.gw_cmd.specs.Refusals.{refusal, refusal_by_tables}
 use Rattle.gw_cmd.proofs.Kept.{kept_command}
 use Rattle.gw_cmd.proofs.KeptWhole.{whole_is_kept}
 use Rattle.gw_cmd.proofs.Lawful.{moved_is}

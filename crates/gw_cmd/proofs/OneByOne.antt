@@ -10,10 +10,10 @@ use Rattle.gw_table.specs.declared.attempts.Attempts.{Attempts}
 use Rattle.gw_table.specs.Folds.{behind}
 use Rattle.gw_table.specs.Maps.{Maps, Outcome}
 use Rattle.gw_table.proofs.Folding.{ended, in_order-more, in_order-none}
-use Rattle.gw_cmd.specs.declared.at.At.{At}
+use Rattle.gw_refusal.specs.declared.at.At.{At}
 use Rattle.gw_cmd.specs.Commands.{reply, on_target, on_targets}
 use Rattle.gw_cmd.specs.Effects.{on_name}
-use Rattle.gw_cmd.specs.Places.{place_at}
+use Rattle.gw_refusal.specs.Places.{place_at}
 
 -- one alone
 pub one_target : (rules : Rules) (at : At) (c : Command) (t : List ℕ) (m : Maps) → on_targets rules at c (t ∷ []) m ≡ on_target rules at c tt t m

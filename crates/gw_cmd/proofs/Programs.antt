@@ -26,18 +26,19 @@ use Rattle.gw_table.specs.Maps.{Maps, Outcome, term, ctx, names, context_of, mem
 use Rattle.gw_table.specs.Reserved.{slot_name}
 use Rattle.gw_table.proofs.Folding.{in_order-more, in_order-none}
 use Rattle.gw_table.proofs.Frames.{effect-then}
-use Rattle.gw_cmd.specs.declared.at.At.{At}
-use Rattle.gw_cmd.specs.declared.at.At.TheVariants.{Null, Live, Unmade, Each}
+use Rattle.gw_refusal.specs.declared.at.At.{At}
+use Rattle.gw_refusal.specs.declared.at.At.TheVariants.{Null, Live, Unmade, Each}
 use Rattle.gw_cmd.specs.declared.change.Change.{Change}
 use Rattle.gw_cmd.specs.declared.change.Change.TheVariants.{Stays, Becomes, Joins, Crosses, Leaves}
 use Rattle.gw_cmd.specs.declared.change.Decided.{Decided}
 use Rattle.gw_cmd.specs.declared.outcome.CmdOutcome.{CmdOutcome}
-use Rattle.gw_cmd.specs.Asked.{matches, is_some_list, service_asked}
+use Rattle.gw_refusal.specs.Asked.{matches, is_some_list, service_asked}
 use Rattle.gw_cmd.specs.Commands as commands
 use Rattle.gw_cmd.specs.Effects.{decided_in, decided_in_null, done, on_record, on_found, on_name}
 use Rattle.gw_cmd.specs.Moves.{unless_empty, changed}
-use Rattle.gw_cmd.specs.Places.{place_at}
-use Rattle.gw_cmd.specs.Refusals.{refusal_by_form, has_ended, code_if, missing, or_else, refusal_by_tables}
+use Rattle.gw_refusal.specs.Places.{place_at}
+use Rattle.gw_refusal.specs.Forms.{refusal_by_form}
+use Rattle.gw_cmd.specs.Refusals.{has_ended, code_if, missing, or_else, refusal_by_tables}
 use Rattle.gw_cmd.specs.Targets.{is_free, those_in, source, matched, targets_of, targets}
 
 -- maps and an answer

@@ -25,16 +25,17 @@ use Rattle.gw_msg.specs.declared.message.Command.{Command}
 use Rattle.gw_ctx.specs.Contexts.{ContextRecord}
 use Rattle.gw_term.specs.declared.record.Termination.{Termination}
 use Rattle.gw_table.specs.Maps.{Maps, term, ctx, names, numbers, number, members_of, place_of}
-use Rattle.gw_table.specs.Parts.{PartKeys, holds, Holds}
+use Rattle.gw_table.specs.Parts.{PartKeys, holds, Holds, HoldsPlace}
 use Rattle.gw_table.specs.Reserved.{slot_name}
-use Rattle.gw_cmd.specs.declared.at.At.{At}
-use Rattle.gw_cmd.specs.declared.at.At.TheVariants.{Null, Live, Unmade, Each}
-use Rattle.gw_cmd.specs.Asked.{is_add, is_move, is_modify, is_subtract, is_service_change, brings, is_unsupported, is_root, is_choose_term, is_other_term, is_wildcard, matches, audited, is_some_list, method, delay, is_other_method, is_other_delay}
+use Rattle.gw_refusal.specs.declared.at.At.{At}
+use Rattle.gw_refusal.specs.declared.at.At.TheVariants.{Null, Live, Unmade, Each}
+use Rattle.gw_refusal.specs.Asked.{is_add, is_move, is_modify, is_subtract, is_service_change, brings, is_unsupported, is_root, is_choose, is_other_term, is_wildcard, matches, audited, is_some_list, method, delay, is_other_method, is_other_delay}
 use Rattle.gw_cmd.specs.Effects.{CanMerge}
 use Rattle.gw_cmd.specs.Keys.{every_key, is_for_all, keys_if, action_keys, place_key, name_keys, slot_key, new_keys, member_keys, term_keys, command_keys}
-use Rattle.gw_cmd.specs.Places.{place_at, is_null, is_unmade, is_each}
-use Rattle.gw_cmd.specs.Refusals.{is_left_out, is_misplaced, refusal_by_form, has_ended, code_if, missing, or_else, refusal_by_tables}
-use Rattle.gw_cmd.specs.Suits.{HoldsPlace, HoldsMoved, HoldsFound, HoldsSlot, HoldsNew, IsReady}
+use Rattle.gw_refusal.specs.Places.{place_at, is_null, is_unmade, is_each}
+use Rattle.gw_refusal.specs.Forms.{is_left_out, is_misplaced, refusal_by_form}
+use Rattle.gw_cmd.specs.Refusals.{has_ended, code_if, missing, or_else, refusal_by_tables}
+use Rattle.gw_cmd.specs.Suits.{HoldsMoved, HoldsFound, HoldsSlot, HoldsNew, IsReady}
 use Rattle.gw_cmd.specs.Targets.{is_free, those_in, source, matched, targets_of}
 
 -- ---- tests
@@ -170,18 +171,18 @@ add_of Notify h e = absurd cc
 add_of ServiceChange h e = absurd cc
 
 module _ (at : At) (c : Command) (p : PassesForm at c) where
-  front : (is_other_term c.term ≡ false) × ((is_move c.verb && (is_wildcard c.term || is_choose_term c.term)) ≡ false)
-  front = two_of (is_other_term c.term) (is_move c.verb && (is_wildcard c.term || is_choose_term c.term)) (is_modify c.verb && is_root c.term) (c.wild && is_wildcard c.term && is_some_list (audited c.descriptors)) (is_service_change c.verb && (is_other_method (method c.descriptors) || is_other_delay (delay c.descriptors))) (is_each at && not (is_wildcard c.term)) p.kept
+  front : (is_other_term c.term ≡ false) × ((is_move c.verb && (is_wildcard c.term || is_choose c.term)) ≡ false)
+  front = two_of (is_other_term c.term) (is_move c.verb && (is_wildcard c.term || is_choose c.term)) (is_modify c.verb && is_root c.term) (c.wild && is_wildcard c.term && is_some_list (audited c.descriptors)) (is_service_change c.verb && (is_other_method (method c.descriptors) || is_other_delay (delay c.descriptors))) (is_each at && not (is_wildcard c.term)) p.kept
 
-  behind : ((is_root c.term && (brings c.verb || is_subtract c.verb)) ≡ false) × ((is_choose_term c.term && not (brings c.verb)) ≡ false)
-  behind = late_two_of (is_null at && (brings c.verb || is_subtract c.verb)) (is_each at && brings c.verb) (is_unmade at && not (brings c.verb)) (is_root c.term && (brings c.verb || is_subtract c.verb)) (is_choose_term c.term && not (brings c.verb)) (is_root c.term && not (is_null at)) p.placed
+  behind : ((is_root c.term && (brings c.verb || is_subtract c.verb)) ≡ false) × ((is_choose c.term && not (brings c.verb)) ≡ false)
+  behind = late_two_of (is_null at && (brings c.verb || is_subtract c.verb)) (is_each at && brings c.verb) (is_unmade at && not (brings c.verb)) (is_root c.term && (brings c.verb || is_subtract c.verb)) (is_choose c.term && not (brings c.verb)) (is_root c.term && not (is_null at)) p.placed
 
   -- a Move has a name
   stays_by : (r : TermRef) → c.term ≡ r → ((t : List ℕ) → c.term ≢ Name t) → is_move c.verb ≡ false
   stays_by (Name t) e h = absurd (h t e)
-  stays_by All e h = either_false (is_move c.verb) (is_wildcard c.term || is_choose_term c.term) front.1 (ap (λ (r : TermRef). is_wildcard r || is_choose_term r) e)
-  stays_by (Under x) e h = either_false (is_move c.verb) (is_wildcard c.term || is_choose_term c.term) front.1 (ap (λ (r : TermRef). is_wildcard r || is_choose_term r) e)
-  stays_by Choose e h = either_false (is_move c.verb) (is_wildcard c.term || is_choose_term c.term) front.1 (ap (λ (r : TermRef). is_wildcard r || is_choose_term r) e)
+  stays_by All e h = either_false (is_move c.verb) (is_wildcard c.term || is_choose c.term) front.1 (ap (λ (r : TermRef). is_wildcard r || is_choose r) e)
+  stays_by (Under x) e h = either_false (is_move c.verb) (is_wildcard c.term || is_choose c.term) front.1 (ap (λ (r : TermRef). is_wildcard r || is_choose r) e)
+  stays_by Choose e h = either_false (is_move c.verb) (is_wildcard c.term || is_choose c.term) front.1 (ap (λ (r : TermRef). is_wildcard r || is_choose r) e)
   stays_by (Other x) e h = absurd (let clash : true ≡ false = sym (ap (λ (r : TermRef). is_other_term r) e) ∙ front.0 in cc)
   stays_by Root e h =
       let none : (brings c.verb || is_subtract c.verb) ≡ false = and_false (is_root c.term) (brings c.verb || is_subtract c.verb) behind.0 (ap (λ (r : TermRef). is_root r) e) in
@@ -192,8 +193,8 @@ module _ (at : At) (c : Command) (p : PassesForm at c) where
   adds : c.term ≡ Choose → is_add c.verb ≡ true
   adds e =
       add_of c.verb
-      (not_false (brings c.verb) (and_false (is_choose_term c.term) (not (brings c.verb)) behind.1 (ap (λ (r : TermRef). is_choose_term r) e)))
-      (either_false (is_move c.verb) (is_wildcard c.term || is_choose_term c.term) front.1 (ap (λ (r : TermRef). is_wildcard r || is_choose_term r) e))
+      (not_false (brings c.verb) (and_false (is_choose c.term) (not (brings c.verb)) behind.1 (ap (λ (r : TermRef). is_choose r) e)))
+      (either_false (is_move c.verb) (is_wildcard c.term || is_choose c.term) front.1 (ap (λ (r : TermRef). is_wildcard r || is_choose r) e))
 
 -- ---- targets
 

@@ -10,17 +10,17 @@ use Rattle.gw_base.proofs.Booleans.{refuted}
 use Rattle.gw_base.proofs.NameTests.{same_number, number_itself}
 use Rattle.gw_term.specs.declared.record.Termination.{Termination}
 use Rattle.gw_table.specs.Maps.{Maps, term, ctx, put_term, place_of, members_of}
-use Rattle.gw_table.specs.Parts.{PartKeys, holds}
+use Rattle.gw_table.specs.Parts.{PartKeys, holds, HoldsPlace}
 use Rattle.gw_table.specs.WellFormed.{IsSound}
 use Rattle.gw_table.proofs.Lookups.{ctx-put_term}
 use Rattle.gw_cmd.specs.declared.change.Change.{Change}
 use Rattle.gw_cmd.specs.declared.change.Change.TheVariants.{Stays, Becomes, Joins, Crosses, Leaves}
-use Rattle.gw_cmd.specs.Asked.{is_move}
+use Rattle.gw_refusal.specs.Asked.{is_move}
 use Rattle.gw_cmd.specs.Effects.{is_full}
 use Rattle.gw_cmd.specs.Moves.{without_member, unless_empty}
 use Rattle.gw_ctx.specs.Contexts.{left}
 use Rattle.gw_table.specs.Maps.{context_of}
-use Rattle.gw_cmd.specs.Suits.{HoldsPlace, HoldsMoved, HasRoom, Suits}
+use Rattle.gw_cmd.specs.Suits.{HoldsMoved, HasRoom, Suits}
 use Rattle.gw_cmd.proofs.Lawful.{Lawful}
 use Rattle.gw_cmd.proofs.Sound.{free_at_none, ctx-without_member}
 
@@ -39,7 +39,8 @@ other_context p n t o m put left apart a b =
     ∙ ap (λ (d : Bool). cond d (unless_empty (Rattle.gw_ctx.specs.Contexts.left t (context_of (ctx put p)))) (ctx put n)) apart
     ∙ ap (λ x. ctx x n) a ∙ ctx-put_term m t o n
 
-room_of : (rules : Rules) (n : CtxNum) (m : Maps) → is_full rules n m ≡ false → length (members_of (ctx m n)) < rules.members
+-- a context that is not full has room for one more
+pub room_of : (rules : Rules) (n : CtxNum) (m : Maps) → is_full rules n m ≡ false → length (members_of (ctx m n)) < rules.members
 room_of rules n m h = leb-false rules.members (length (members_of (ctx m n))) h
 
 holds_it : (keys : PartKeys) (place : Option CtxNum) (n : CtxNum) → place ≡ Some n → HoldsPlace keys place → holds keys (Ctx n) ≡ true

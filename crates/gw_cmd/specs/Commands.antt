@@ -23,11 +23,11 @@ use Rattle.gw_table.specs.declared.attempts.Attempts.{Attempts}
 use Rattle.gw_table.specs.Folds.{in_order}
 use Rattle.gw_table.specs.Maps.{Maps, Outcome, term, names, put_term}
 use Rattle.gw_table.specs.Reserved.{slot_name}
-use Rattle.gw_cmd.specs.declared.at.At.{At}
+use Rattle.gw_refusal.specs.declared.at.At.{At}
 use Rattle.gw_cmd.specs.declared.outcome.CmdOutcome.{CmdOutcome}
-use Rattle.gw_cmd.specs.Asked.{is_wildcard, audited, service_asked}
+use Rattle.gw_refusal.specs.Asked.{is_wildcard, audited, service_asked}
 use Rattle.gw_cmd.specs.Effects.{on_record, on_name}
-use Rattle.gw_cmd.specs.Places.{place_at, is_unmade}
+use Rattle.gw_refusal.specs.Places.{place_at, is_unmade}
 use Rattle.gw_cmd.specs.Refusals.{refusal}
 use Rattle.gw_cmd.specs.Targets.{targets}
 

@@ -20,13 +20,13 @@ use Rattle.gw_term.specs.Record.{placed, serviced, reset}
 use Rattle.gw_term.specs.Merge.{merged, filled_by}
 use Rattle.gw_term.specs.Audit.{audit_parts}
 use Rattle.gw_table.specs.Maps.{Maps, Outcome, term, ctx, members_of}
-use Rattle.gw_cmd.specs.Asked.{audited, asks_media, is_some_list, service_asked}
+use Rattle.gw_refusal.specs.Asked.{audited, asks_media, is_some_list, service_asked}
 use Rattle.gw_cmd.specs.declared.change.Change.{Change}
 use Rattle.gw_cmd.specs.declared.change.Change.TheVariants.{Stays, Becomes, Joins, Crosses, Leaves}
 use Rattle.gw_cmd.specs.declared.change.Decided.{Decided}
 use Rattle.gw_cmd.specs.declared.change.Merged.{Merged}
 use Rattle.gw_cmd.specs.Moves.{changed}
-use Rattle.gw_cmd.specs.Places.{same_place}
+use Rattle.gw_refusal.specs.Places.{same_place}
 
 -- ---- commands that merge
 

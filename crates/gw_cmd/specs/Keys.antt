@@ -8,10 +8,10 @@ use Rattle.gw_base.specs.declared.term_ref.TermRef.TheVariants as ref
 use Rattle.gw_msg.specs.declared.message.Command.{Command}
 use Rattle.gw_table.specs.Maps.{Maps, term, ctx, names, numbers, members_of, place_of}
 use Rattle.gw_table.specs.Reserved.{slot_name}
-use Rattle.gw_cmd.specs.declared.at.At.{At}
-use Rattle.gw_cmd.specs.declared.at.At.TheVariants.{Null, Live, Unmade, Each}
-use Rattle.gw_cmd.specs.Asked.{is_add, is_service_change, is_root, is_wildcard}
-use Rattle.gw_cmd.specs.Places.{is_null, is_each}
+use Rattle.gw_refusal.specs.declared.at.At.{At}
+use Rattle.gw_refusal.specs.declared.at.At.TheVariants.{Null, Live, Unmade, Each}
+use Rattle.gw_refusal.specs.Asked.{is_add, is_service_change, is_root, is_wildcard}
+use Rattle.gw_refusal.specs.Places.{is_null, is_each}
 
 -- every key of the maps, and all that may still come
 abbrev pub every_key : Maps → List Key

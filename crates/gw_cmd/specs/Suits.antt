@@ -11,19 +11,14 @@ use Rattle.gw_base.specs.declared.key.Key.TheVariants.{Term, Ctx}
 use Rattle.gw_base.specs.NameLists.{is_in}
 use Rattle.gw_table.specs.Maps.{Maps, term, ctx, names, members_of, place_of}
 use Rattle.gw_table.specs.Reserved.{slot_name}
-use Rattle.gw_table.specs.Parts.{PartKeys, holds}
+use Rattle.gw_table.specs.Parts.{PartKeys, holds, HoldsPlace}
 use Rattle.gw_cmd.specs.declared.change.Change.{Change}
 use Rattle.gw_cmd.specs.declared.change.Change.TheVariants.{Stays, Becomes, Joins, Crosses, Leaves}
-use Rattle.gw_cmd.specs.declared.at.At.{At}
-use Rattle.gw_cmd.specs.Asked.{is_move}
+use Rattle.gw_refusal.specs.declared.at.At.{At}
+use Rattle.gw_refusal.specs.Asked.{is_move}
 use Rattle.gw_cmd.specs.Effects.{CanMerge}
-use Rattle.gw_cmd.specs.Places.{place_at}
+use Rattle.gw_refusal.specs.Places.{place_at}
 use Rattle.gw_cmd.specs.Targets.{targets_of}
-
--- the key of a context, if there is one
-abbrev pub HoldsPlace : PartKeys → Option CtxNum → Type 0
-HoldsPlace keys None = Unit {0}
-HoldsPlace keys (Some n) = holds keys (Ctx n) ≡ true
 
 -- a Move needs the key of the context that the termination is in
 abbrev pub HoldsMoved : PartKeys → Verb → Option CtxNum → Type 0

@@ -7,9 +7,9 @@ use Rattle.gw_base.specs.declared.term_ref.TermRef.{TermRef}
 use Rattle.gw_base.specs.declared.term_ref.TermRef.TheVariants.{Root, All, Under, Choose, Name, Other}
 use Rattle.gw_msg.specs.declared.message.Command.{Command}
 use Rattle.gw_table.specs.Maps.{Maps, term, ctx, names, place_of, members_of}
-use Rattle.gw_cmd.specs.declared.at.At.{At}
-use Rattle.gw_cmd.specs.Places.{place_at, is_null}
-use Rattle.gw_cmd.specs.Asked.{is_add, matches}
+use Rattle.gw_refusal.specs.declared.at.At.{At}
+use Rattle.gw_refusal.specs.Places.{place_at, is_null}
+use Rattle.gw_refusal.specs.Asked.{is_add, matches}
 
 -- the termination is in the null context
 abbrev pub is_free : Maps → List ℕ → Bool

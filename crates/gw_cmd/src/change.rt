@@ -5,7 +5,7 @@ use gw_reply::ReplyPart;
 use gw_term::Termination;
 
 /// What becomes of a termination and of who is in which context.
-#[derive(Debug, Drop)]
+#[derive(Drop)]
 pub(crate) enum Change {
     /// Nothing.
     Stays,
@@ -20,7 +20,7 @@ pub(crate) enum Change {
 }
 
 /// What is decided of a termination that is not refused.
-#[derive(Debug, Drop)]
+#[derive(Drop)]
 pub(crate) struct Decided {
     /// What becomes of it.
     pub change: Change,
@@ -29,7 +29,7 @@ pub(crate) struct Decided {
 }
 
 /// What a merge comes to.
-#[derive(Debug, Drop)]
+#[derive(Drop)]
 pub(crate) struct Merged {
     /// The record after it.
     pub record_after: Termination,

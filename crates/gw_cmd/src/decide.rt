@@ -4,17 +4,17 @@ ghost use Rattle.std.specs.Prelude.{◌≡◌, ◌++◌, None, Some, Ok, IfOk};
 ghost use Rattle.gw_base.specs.declared.command_words.Verb.TheVariants.{Add as add_verb};
 ghost use Rattle.gw_desc.specs.Checks.{check_code};
 ghost use Rattle.gw_term.specs.Audit.{audit_parts};
-ghost use Rattle.gw_cmd.specs.Asked.{audited};
+ghost use Rattle.gw_refusal.specs.Asked.{audited};
 ghost use Rattle.gw_cmd.specs.Effects.{refusal_to_add, refusal_to_move, refusal_elsewhere, added, crosses, moved, modified, what_remains, subtracted, told_of, service_changed, decided_in, decided_in_null, CanMerge};
-ghost use Rattle.gw_cmd.specs.Places.{same_place};
+ghost use Rattle.gw_refusal.specs.Places.{same_place};
 ghost use Rattle.gw_cmd.specs.Refused.{Answers};
 
-use crate::asked::service_asked;
 use crate::change::{Change, Decided, Merged};
 use crate::merge::{audit, merging};
 use crate::refusal::Refusal;
 use gw_base::{Code, CtxNum, Items, Rules, Verb};
 use gw_desc::Descriptor;
+use gw_refusal::service_asked;
 use gw_term::Termination;
 use std::alloc::Global;
 
@@ -82,16 +82,11 @@ fn added(
     })
 }
 
-/// The record goes where it was not needed. A function of its own, since what a proof knows of a record that is let go would
-/// stand in its caller's proof.
-fn let_go(_merged: Merged) {}
-
 /// The termination crosses from the context that it is in.
 fn crosses(from: Option<CtxNum>, number: CtxNum, merged: Merged) -> Result<Decided, Refusal>
     ensures { Answers result (crosses from number (Ok merged)) }
 {
     let Some(from) = from else {
-        let_go(merged);
         return Err(Refusal::Code(Code::NotInContext));
     };
     Ok(Decided {

@@ -2,16 +2,15 @@
 
 ghost use Rattle.std.specs.Prelude.{◌≡◌, true, None, OnOk};
 ghost use Rattle.gw_base.specs.declared.key.Key.TheVariants.{Term, Ctx};
-ghost use Rattle.gw_table.specs.Accesses.{PlaceIn};
 ghost use Rattle.gw_table.specs.Maps.{term, put_term, place_of};
-ghost use Rattle.gw_table.specs.Parts.{holds};
+ghost use Rattle.gw_table.specs.Parts.{holds, HoldsPlace};
 ghost use Rattle.gw_table.specs.Reserved.{slot_name};
 ghost use Rattle.gw_table.specs.WellFormed.{IsSound};
 ghost use Rattle.gw_term.specs.Record.{ephemeral};
 ghost use Rattle.gw_cmd.specs.Effects.{CanMerge, decided as decided_by, on_record, on_name};
 ghost use Rattle.gw_cmd.specs.Moves.{changed};
 ghost use Rattle.gw_cmd.specs.Refused.{Answers, Tells};
-ghost use Rattle.gw_cmd.specs.Suits.{Suits, HoldsPlace, HoldsMoved, HoldsFound};
+ghost use Rattle.gw_cmd.specs.Suits.{Suits, HoldsMoved, HoldsFound};
 
 use crate::change::{Change, Decided};
 use crate::decide::{decided_in, decided_in_null};

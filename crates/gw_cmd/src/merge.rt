@@ -5,16 +5,16 @@ ghost use Rattle.gw_base.specs.declared.command_words.Verb.TheVariants.{Add as a
 ghost use Rattle.gw_desc.specs.Checks.{check_code};
 ghost use Rattle.gw_term.specs.Audit.{audit_parts};
 ghost use Rattle.gw_term.specs.Applies.{IsApplied};
-ghost use Rattle.gw_cmd.specs.Asked.{audited};
+ghost use Rattle.gw_refusal.specs.Asked.{audited};
 ghost use Rattle.gw_term.specs.Record.{placed};
 ghost use Rattle.gw_cmd.specs.Effects.{filled_part, parts_of, with_parts, merging};
 ghost use Rattle.gw_cmd.specs.Refused.{Answers, Merges};
 
-use crate::asked::{asks_media, first_audit};
 use crate::change::Merged;
 use crate::refusal::Refusal;
 use gw_base::{Code, CtxNum, Items, NoMemory, Rules};
 use gw_desc::Descriptor;
+use gw_refusal::{asks_media, first_audit};
 use gw_reply::{AuditReply, ReplyPart};
 use gw_term::{Filled, Termination};
 use std::alloc::Global;
@@ -65,15 +65,11 @@ fn parts_of(
 }
 
 /// A record, and the streams whose Local was filled in it.
-#[derive(Debug, Drop)]
+#[derive(Drop)]
 pub(crate) struct MergedCopy {
     pub new: Termination,
     pub filled: Filled,
 }
-
-/// The record goes where it was not needed. A function of its own, since what a proof knows of a record that is let go would
-/// stand in its caller's proof.
-fn let_go(_record: Termination) {}
 
 /// The record after the descriptors, a copy.
 fn applied(
@@ -86,13 +82,8 @@ fn applied(
     ensures { Merges rules.now descriptors.now old.now result }
 {
     let mut new = old.copy(alloc)?;
-    match new.apply(alloc, rules, descriptors) {
-        Ok(filled) => Ok(MergedCopy { new, filled }),
-        Err(fault) => {
-            let_go(new);
-            Err(fault.into())
-        }
-    }
+    let filled = new.apply(alloc, rules, descriptors)?;
+    Ok(MergedCopy { new, filled })
 }
 
 /// The record in its place, and what the reply tells of it.
@@ -106,16 +97,11 @@ fn in_place(
 {
     let mut record_after = applied.new;
     record_after.set_place(place);
-    match parts_of(alloc, descriptors, applied.filled, &record_after) {
-        Ok(parts) => Ok(Merged {
-            record_after,
-            parts,
-        }),
-        Err(no_memory) => {
-            let_go(record_after);
-            Err(no_memory)
-        }
-    }
+    let parts = parts_of(alloc, descriptors, applied.filled, &record_after)?;
+    Ok(Merged {
+        record_after,
+        parts,
+    })
 }
 
 /// The record after the descriptors, in its place, unless that is refused; a list that would hold too many properties is
@@ -134,7 +120,6 @@ pub(crate) fn merging(
 {
     let applied = applied(alloc, rules, descriptors, old)?;
     if let Some(code) = refused {
-        let_go(applied.new);
         return Err(Refusal::Code(code));
     }
     Ok(in_place(alloc, descriptors, applied, place)?)

@@ -4,7 +4,7 @@ use gw_base::Items;
 use gw_reply::CommandReply;
 
 /// What a command gave.
-#[derive(Debug, Drop)]
+#[derive(Drop)]
 pub struct CmdOutcome {
     /// Its replies: one, or one for each termination that it was for.
     pub replies: Items<CommandReply>,

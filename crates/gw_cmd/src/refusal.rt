@@ -9,7 +9,7 @@ use gw_term::ApplyFault;
 use std::alloc::AllocError;
 
 /// Why a termination is not changed: an error for its reply, or want of memory for the whole command.
-#[derive(Clone, Copy, Debug)]
+#[derive(Drop)]
 pub(crate) enum Refusal {
     /// The error, after which the tables are as they were.
     Code(Code),

@@ -4,11 +4,10 @@ ghost use Rattle.std.specs.Prelude.{◌≡◌, ◌∷◌, [], IfOk, option_copie
 ghost use Rattle.std.specs.List.{list_any, find};
 ghost use Rattle.gw_cmd.specs.Commands.{reply, is_error, is_done, outcome_of, error_of, first_error, told};
 
-use crate::asked::is_wildcard;
-use crate::at::At;
 use crate::outcome::CmdOutcome;
 use gw_base::{Code, Items, NoMemory, TermRef};
 use gw_msg::Command;
+use gw_refusal::{At, is_wildcard};
 use gw_reply::{AuditReply, CommandReply};
 use std::alloc::Global;
 

@@ -6,13 +6,13 @@ ghost use Rattle.gw_base.specs.declared.key.Key.TheVariants.{Term};
 ghost use Rattle.gw_base.specs.NameLists.{is_in};
 ghost use Rattle.gw_table.specs.Maps.{term, names};
 ghost use Rattle.gw_table.specs.Parts.{holds};
-ghost use Rattle.gw_cmd.specs.Asked.{audited};
+ghost use Rattle.gw_refusal.specs.Asked.{audited};
 ghost use Rattle.gw_cmd.specs.Commands.{put_service, all_serviced, bare_told};
 
-use crate::asked::first_audit;
 use crate::effects::put;
 use gw_base::{Items, NoMemory, Service, Span, TermName};
 use gw_desc::{Descriptor, item_of};
+use gw_refusal::first_audit;
 use gw_reply::{AuditReply, ReplyPart};
 use gw_table::Part;
 use std::alloc::Global;

@@ -4,10 +4,10 @@ ghost use Rattle.std.specs.Prelude.{◌≡◌};
 ghost use Rattle.gw_cmd.specs.Refusals.{has_ended, missing, refusal_by_tables};
 ghost use Rattle.gw_cmd.specs.Targets.{targets};
 
-use crate::at::At;
 use gw_base::{Code, TermName, TermRef};
 use gw_desc::check;
 use gw_msg::Command;
+use gw_refusal::At;
 use gw_table::Part;
 
 /// Whether the action's context has ended.

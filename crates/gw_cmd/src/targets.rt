@@ -3,13 +3,12 @@
 ghost use Rattle.std.specs.Prelude.{◌≡◌, IfOk};
 ghost use Rattle.std.specs.List.{filter};
 ghost use Rattle.gw_table.specs.Maps.{names, ctx, members_of};
-ghost use Rattle.gw_cmd.specs.Asked.{matches};
+ghost use Rattle.gw_refusal.specs.Asked.{matches};
 ghost use Rattle.gw_cmd.specs.Targets.{is_free, those_in, source, matched, targets};
 
-use crate::asked::{is_add, matches};
-use crate::at::At;
 use gw_base::{CtxNum, NoMemory, TermName, TermRef};
 use gw_msg::Command;
+use gw_refusal::{At, is_add, matches};
 use gw_table::Part;
 use std::alloc::Global;
 

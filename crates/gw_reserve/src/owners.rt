@@ -14,7 +14,7 @@ use gw_table::Tables;
 use std::alloc::Global;
 
 /// Where the search for free identifiers begins.
-#[derive(Clone, Copy, Debug, PartialEq, Eq)]
+#[derive(Clone, Copy, PartialEq, Eq)]
 pub struct Cursors {
     /// The last context number that was owned, or 0.
     pub context: u32,

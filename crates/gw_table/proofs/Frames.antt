@@ -10,8 +10,8 @@ use Rattle.gw_base.proofs.KeyTests.{apart_turned}
 use Rattle.gw_term.specs.declared.record.Termination.{Termination}
 use Rattle.gw_ctx.specs.Contexts.{ContextRecord}
 use Rattle.gw_table.specs.Maps.{Maps, Outcome, term, ctx, put_term, put_ctx, place_of, members_of}
-use Rattle.gw_table.specs.Parts.{restricted, overlaid}
-use Rattle.gw_table.specs.Accesses.{Accesses, Done, ReadTerm, ReadCtx, ReadAll, PutTerm, PutCtx, effect, and_then, Within, PlaceIn, NewIn}
+use Rattle.gw_table.specs.Parts.{restricted, overlaid, Only, HoldsPlace}
+use Rattle.gw_table.specs.Accesses.{Accesses, Done, ReadTerm, ReadCtx, ReadAll, PutTerm, PutCtx, effect, and_then, Within, NewIn}
 use Rattle.gw_table.proofs.Lookups.{term-put_term, ctx-put_term, term-put_ctx, ctx-put_ctx, same_maps}
 use Rattle.gw_table.proofs.PartLookups.{term-restricted, ctx-restricted, term-overlaid, ctx-overlaid}
 
@@ -53,7 +53,7 @@ within_alike keys (ReadAll f) m n w g = (w.0, subst (λ o. Within keys (f o) n) 
 within_alike keys (PutTerm t o p) m n w g = (w.0, w.1, within_alike keys p (put_term m t o) (put_term n t o) w.2 (agree-put_term keys m n t o g))
 within_alike keys (PutCtx c o p) m n w g = (w.0, subst (λ l. NewIn keys (members_of l) (members_of o)) (g.contexts c w.0) w.1, within_alike keys p (put_ctx m c o) (put_ctx n c o) w.2 (agree-put_ctx keys m n c o g))
 
-place_more : (a b : List Key) (o : Option CtxNum) → Among a b → PlaceIn a o → PlaceIn b o
+place_more : (a b : List Key) (o : Option CtxNum) → Among a b → HoldsPlace (Only a) o → HoldsPlace (Only b) o
 place_more a b None s w = tt
 place_more a b (Some n) s w = s (Ctx n) w
 

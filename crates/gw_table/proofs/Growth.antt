@@ -10,7 +10,8 @@ use Rattle.gw_base.proofs.NamesInLists.{either}
 use Rattle.gw_term.specs.declared.record.Termination.{Termination}
 use Rattle.gw_ctx.specs.Contexts.{ContextRecord}
 use Rattle.gw_table.specs.Maps.{Maps, term, ctx, put_term, put_ctx, place_of, members_of}
-use Rattle.gw_table.specs.Accesses.{Accesses, Done, ReadTerm, ReadCtx, ReadAll, PutTerm, PutCtx, effect, Within, PlaceIn, NewIn}
+use Rattle.gw_table.specs.Parts.{Only, HoldsPlace}
+use Rattle.gw_table.specs.Accesses.{Accesses, Done, ReadTerm, ReadCtx, ReadAll, PutTerm, PutCtx, effect, Within, NewIn}
 use Rattle.gw_table.proofs.Lookups.{term-put_term, ctx-put_term, term-put_ctx, ctx-put_ctx}
 
 pub record Grows (keys : List Key) (m n : Maps) : Type 0 where
@@ -23,11 +24,11 @@ grows_on keys l m n g h = record {
   members = λ c t e. either (h.members c t e) (λ x. g.members c t x) (λ x. inr x);
 }
 
-place_in_is : (keys : List Key) (o : Option CtxNum) (c : CtxNum) → PlaceIn keys o → o ≡ Some c → has keys (Ctx c) ≡ true
+place_in_is : (keys : List Key) (o : Option CtxNum) (c : CtxNum) → HoldsPlace (Only keys) o → o ≡ Some c → has keys (Ctx c) ≡ true
 place_in_is keys None c h e = absurd cc
 place_in_is keys (Some p) c h e = let s : p ≡ c = cc in subst (λ (y : CtxNum). has keys (Ctx y) ≡ true) s h
 
-written_place : (keys : List Key) (b : Bool) (o old : Option Termination) (c : CtxNum) → PlaceIn keys (place_of o) → place_of (cond b o old) ≡ Some c → (place_of old ≡ Some c) ⊎ (has keys (Ctx c) ≡ true)
+written_place : (keys : List Key) (b : Bool) (o old : Option Termination) (c : CtxNum) → HoldsPlace (Only keys) (place_of o) → place_of (cond b o old) ≡ Some c → (place_of old ≡ Some c) ⊎ (has keys (Ctx c) ≡ true)
 written_place keys true o old c h e = inr (place_in_is keys (place_of o) c h e)
 written_place keys false o old c h e = inl e
 

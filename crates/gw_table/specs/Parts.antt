@@ -3,6 +3,7 @@ use Rattle.std.specs.Prelude.{◌≡◌, ℕ, Bool, true, not, List, [], ◌∷�
 use Rattle.std.proofs.Common.{inl, inr}
 use Rattle.std.specs.FinMap as finite
 use Rattle.std.specs.Coded.{Coded, code_by, coded×, coded⊎, coded_list, coded_option, coded_ℕ}
+use Rattle.gw_base.specs.declared.ids.CtxNum.{CtxNum}
 use Rattle.gw_base.specs.declared.key.Key.{Key}
 use Rattle.gw_base.specs.declared.key.Key.TheVariants.{Term, Ctx, Whole}
 use Rattle.gw_base.specs.Keys.{has}
@@ -17,6 +18,11 @@ pub data PartKeys : Type 0 where
 abbrev pub holds : PartKeys → Key → Bool
 holds Every k = true
 holds (Only keys) k = has keys k
+
+-- the part has the key of a context, if there is one
+abbrev pub HoldsPlace : PartKeys → Option CtxNum → Type 0
+HoldsPlace keys None = Unit {0}
+HoldsPlace keys (Some n) = holds keys (Ctx n) ≡ true
 
 -- each of these keys is the part's
 abbrev pub Holds : PartKeys → List Key → Type 0

@@ -4,22 +4,14 @@ use Rattle.gw_base.specs.declared.command_words.Verb.{Verb}
 use Rattle.gw_base.specs.declared.command_words.Verb.TheVariants.{Add, Modify, Move, Subtract, AuditValue, AuditCapability, Notify, ServiceChange}
 use Rattle.gw_base.specs.declared.ids.CtxNum.{CtxNum}
 use Rattle.gw_base.specs.declared.term_ref.TermRef.{TermRef}
-use Rattle.gw_base.specs.declared.term_ref.TermRef.TheVariants.{Root, All as Each, Under, Choose, Name, Other}
+use Rattle.gw_base.specs.declared.term_ref.TermRef.TheVariants.{Choose}
 use Rattle.gw_table.specs.Maps.{Maps, term, ctx}
 use Rattle.gw_table.specs.Reserved.{slot_name}
 
--- a command with $ or RTP/$ as its TerminationID
-abbrev pub is_chosen : TermRef → Bool
-is_chosen Choose = true
-is_chosen Root = false
-is_chosen Each = false
-is_chosen (Under t) = false
-is_chosen (Name t) = false
-is_chosen (Other t) = false
-
 -- an Add of $ or RTP/$ owns a slot
 abbrev pub owns_slot : Verb → TermRef → Bool
-owns_slot Add t = is_chosen t
+owns_slot Add Choose = true
+owns_slot Add t = false
 owns_slot Modify t = false
 owns_slot Move t = false
 owns_slot Subtract t = false

@@ -3,7 +3,7 @@
 use gw_base::Items;
 
 /// What items gave, up to the first that stopped.
-#[derive(Debug, Drop)]
+#[derive(Drop)]
 pub struct Attempts<S, A> {
     /// From where later items go on.
     pub next: S,

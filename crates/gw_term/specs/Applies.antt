@@ -11,10 +11,10 @@ use Rattle.gw_term.specs.declared.fault.ApplyFault.{ApplyFault}
 use Rattle.gw_term.specs.declared.fault.ApplyFault.TheVariants as fault
 
 -- What is answered is what the definition gives, or that it gives nothing, unless memory ran out.
-abbrev pub Gives : {V : Type 0} → Result V ApplyFault → Option V → Type 0
-Gives (Ok v) expected = expected ≡ Some v
-Gives (Err (fault.Code code)) expected = (code ≡ InsufficientResources) × (expected ≡ None)
-Gives (Err fault.NoMemory) expected = Unit {0}
+abbrev pub Yields : {V : Type 0} → Result V ApplyFault → Option V → Type 0
+Yields (Ok v) expected = expected ≡ Some v
+Yields (Err (fault.Code code)) expected = (code ≡ InsufficientResources) × (expected ≡ None)
+Yields (Err fault.NoMemory) expected = Unit {0}
 
 -- The same of a step that changes a value in its place.
 abbrev pub Becomes : {S V : Type 0} → Result V ApplyFault → S → Option S → Type 0

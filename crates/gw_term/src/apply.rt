@@ -1,32 +1,44 @@
 //! What descriptors do to a termination: all of it, or nothing.
 
-ghost use Rattle.std.specs.Prelude.{◌≡◌, ◌≤◌, ◌++◌, IfOk, OnOk, Some};
+ghost use Rattle.std.specs.Prelude.{◌≡◌, ◌≤◌, ◌++◌, IfOk, OnOk, Some, None};
 ghost use Rattle.gw_desc.specs.declared.descriptor.KeptKind.TheVariants.{Events, Signals, DigitMap, EventBuffer};
 ghost use Rattle.gw_term.specs.Merge.{filled_in, filled_of, merged_media, merged_tail, stream_in, local_if};
-ghost use Rattle.gw_term.specs.Applies.{Gives};
+ghost use Rattle.gw_term.specs.Applies.{Yields};
 
-use crate::copies::{Tails, copied};
+use crate::copies::copied;
 use crate::fault::ApplyFault;
 use crate::properties::{merged_properties, merged_service};
 use crate::record::{Stream, Termination};
-use crate::streams::{Merging, Target, merged_stream};
+use crate::streams::{Merging, Target, merge_stream};
 use crate::tails::merged_tail;
-use gw_base::{Items, NoMemory, Rules, Service};
+use gw_base::{CtxNum, Items, NoMemory, Rules, Service};
 use gw_desc::{Descriptor, KeptKind};
-use gw_reply::{FilledStream, KeptProperty};
+use gw_reply::{FilledStream, KeptProperty, KeptTail};
 use std::alloc::Global;
 
 /// The streams whose Local was filled, in rising order.
 pub type Filled = Items<FilledStream>;
 
 /// What of a merge can be too much.
-#[derive(Debug, Drop)]
 pub(crate) struct Media {
     pub properties: Items<KeptProperty>,
     pub first: Option<Merging>,
     pub second: Option<Merging>,
     pub third: Option<Merging>,
     pub fourth: Option<Merging>,
+}
+
+// By hand, as that of a stream.
+impl Drop for Media {
+    fn drop(self) {
+        let Media {
+            properties: _,
+            first: _,
+            second: _,
+            third: _,
+            fourth: _,
+        } = self;
+    }
 }
 
 /// The properties and the streams after the descriptors.
@@ -37,25 +49,37 @@ fn merged_media(
     descriptors: &[Descriptor<'_>],
     old: &Termination,
 ) -> Result<Media, ApplyFault>
-    ensures { Gives result (merged_media rules.now descriptors.now old.now) }
+    ensures { Yields result (merged_media rules.now descriptors.now old.now) }
 {
     let target = |number| Target {
         rules: *rules,
         slot: old.slot,
         number,
     };
-    let properties = merged_properties(alloc, descriptors, old.properties.as_slice())?;
-    let first = merged_stream(alloc, &target(1), descriptors, &old.first)?;
-    let second = merged_stream(alloc, &target(2), descriptors, &old.second)?;
-    let third = merged_stream(alloc, &target(3), descriptors, &old.third)?;
-    let fourth = merged_stream(alloc, &target(4), descriptors, &old.fourth)?;
-    Ok(Media {
-        properties,
-        first,
-        second,
-        third,
-        fourth,
-    })
+    let mut media = Media {
+        properties: merged_properties(alloc, descriptors, old.properties.as_slice())?,
+        first: None,
+        second: None,
+        third: None,
+        fourth: None,
+    };
+    merge_stream(alloc, &target(1), descriptors, &old.first, &mut media.first)?;
+    merge_stream(
+        alloc,
+        &target(2),
+        descriptors,
+        &old.second,
+        &mut media.second,
+    )?;
+    merge_stream(alloc, &target(3), descriptors, &old.third, &mut media.third)?;
+    merge_stream(
+        alloc,
+        &target(4),
+        descriptors,
+        &old.fourth,
+        &mut media.fourth,
+    )?;
+    Ok(media)
 }
 
 /// The stream's Local goes last, if it was filled.
@@ -97,53 +121,94 @@ fn stream_in(merging: Option<Merging>) -> Option<Stream>
     ensures { result ≡ stream_in merging }
 {
     match merging {
-        Some(merging) => Some(merging.stream),
+        Some(merging) => Some(merging.into_stream()),
         None => None,
     }
 }
 
-/// The tails after the descriptors.
-fn merged_tails(
+impl Media {
+    /// The record with what was merged, and no tails yet.
+    fn into_record(self, place: Option<CtxNum>, service: Service, slot: Option<u16>) -> Termination
+        ensures { result ≡ record { place = place; service = service; slot = slot; properties = self.properties; first = stream_in self.first; second = stream_in self.second; third = stream_in self.third; fourth = stream_in self.fourth; events = None; signals = None; digit_map = None; event_buffer = None } }
+    {
+        let Media {
+            properties,
+            first,
+            second,
+            third,
+            fourth,
+        } = self;
+        Termination {
+            place,
+            service,
+            slot,
+            properties,
+            first: stream_in(first),
+            second: stream_in(second),
+            third: stream_in(third),
+            fourth: stream_in(fourth),
+            events: None,
+            signals: None,
+            digit_map: None,
+            event_buffer: None,
+        }
+    }
+}
+
+/// The tail of this kind after the descriptors is put in a place.
+fn merge_tail(
+    alloc: Global,
+    kind: KeptKind,
+    descriptors: &[Descriptor<'_>],
+    old: &Option<KeptTail>,
+    new: &mut Option<KeptTail>,
+) -> Result<(), NoMemory>
+    ensures { OnOk result (new.new ≡ merged_tail kind descriptors.now old.now) }
+{
+    *new = merged_tail(alloc, kind, descriptors, old)?;
+    Ok(())
+}
+
+/// The tails after the descriptors are put in a record.
+fn merge_tails(
     alloc: Global,
     descriptors: &[Descriptor<'_>],
     old: &Termination,
-) -> Result<Tails, NoMemory>
-    ensures { IfOk result (λ tails. tails ≡ record { events = merged_tail Events descriptors.now old.now.events; signals = merged_tail Signals descriptors.now old.now.signals; digit_map = merged_tail DigitMap descriptors.now old.now.digit_map; event_buffer = merged_tail EventBuffer descriptors.now old.now.event_buffer }) }
+    new: &mut Termination,
+) -> Result<(), NoMemory>
+    ensures { OnOk result (new.new ≡ record new.old { events = merged_tail Events descriptors.now old.now.events; signals = merged_tail Signals descriptors.now old.now.signals; digit_map = merged_tail DigitMap descriptors.now old.now.digit_map; event_buffer = merged_tail EventBuffer descriptors.now old.now.event_buffer }) }
 {
-    let events = merged_tail(alloc, KeptKind::Events, descriptors, &old.events)?;
-    let signals = merged_tail(alloc, KeptKind::Signals, descriptors, &old.signals)?;
-    let digit_map = merged_tail(alloc, KeptKind::DigitMap, descriptors, &old.digit_map)?;
-    let event_buffer = merged_tail(alloc, KeptKind::EventBuffer, descriptors, &old.event_buffer)?;
-    Ok(Tails {
-        events,
-        signals,
-        digit_map,
-        event_buffer,
-    })
-}
-
-/// What was merged takes the place of what was kept. A function of its own, since all that was kept is let go here.
-fn adopt(termination: &mut Termination, service: Service, media: Media, tails: Tails)
-    ensures { termination.new ≡ record { place = termination.old.place; service = service; slot = termination.old.slot; properties = media.properties; first = stream_in media.first; second = stream_in media.second; third = stream_in media.third; fourth = stream_in media.fourth; events = tails.events; signals = tails.signals; digit_map = tails.digit_map; event_buffer = tails.event_buffer } }
-{
-    *termination = Termination {
-        place: termination.place,
-        service,
-        slot: termination.slot,
-        properties: media.properties,
-        first: stream_in(media.first),
-        second: stream_in(media.second),
-        third: stream_in(media.third),
-        fourth: stream_in(media.fourth),
-        events: tails.events,
-        signals: tails.signals,
-        digit_map: tails.digit_map,
-        event_buffer: tails.event_buffer,
-    };
+    merge_tail(
+        alloc,
+        KeptKind::Events,
+        descriptors,
+        &old.events,
+        &mut new.events,
+    )?;
+    merge_tail(
+        alloc,
+        KeptKind::Signals,
+        descriptors,
+        &old.signals,
+        &mut new.signals,
+    )?;
+    merge_tail(
+        alloc,
+        KeptKind::DigitMap,
+        descriptors,
+        &old.digit_map,
+        &mut new.digit_map,
+    )?;
+    merge_tail(
+        alloc,
+        KeptKind::EventBuffer,
+        descriptors,
+        &old.event_buffer,
+        &mut new.event_buffer,
+    )
 }
 
 impl Termination {
-    ghost use Rattle.std.specs.Prelude.{None};
     ghost use Rattle.gw_base.specs.declared.command_words.Verb.TheVariants.{Add as add_verb};
     ghost use Rattle.gw_desc.specs.Checks.{check_code};
     ghost use Rattle.gw_term.specs.Merge.{merged, filled_by};
@@ -172,9 +237,10 @@ impl Termination {
     {
         let media = merged_media(alloc, rules, descriptors, self)?;
         let filled = filled_of(alloc, &media)?;
-        let tails = merged_tails(alloc, descriptors, self)?;
         let service = merged_service(descriptors, self.service);
-        adopt(self, service, media, tails);
+        let mut new = media.into_record(self.place, service, self.slot);
+        merge_tails(alloc, descriptors, self, &mut new)?;
+        *self = new;
         Ok(filled)
     }
 }

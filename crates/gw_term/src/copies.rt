@@ -1,6 +1,6 @@
 //! Copies of what is kept: of texts that stand in a datagram, and of texts of a record.
 
-ghost use Rattle.std.specs.Prelude.{◌≡◌, IfOk};
+ghost use Rattle.std.specs.Prelude.{◌≡◌, IfOk, OnOk};
 
 use crate::record::{Stream, Termination};
 use gw_base::{Items, NoMemory, Span};
@@ -133,87 +133,48 @@ pub(crate) fn copied_stream(alloc: Global, stream: &Stream) -> Result<Stream, Al
     })
 }
 
-/// A copy of the stream, if it is there.
-fn copied_stream_if(alloc: Global, stream: &Option<Stream>) -> Result<Option<Stream>, AllocError>
-    ensures { IfOk result (λ copy. copy ≡ stream.now) }
+/// The stream is copied to an empty place, if it is there.
+fn copy_stream(
+    alloc: Global,
+    stream: &Option<Stream>,
+    copy: &mut Option<Stream>,
+) -> Result<(), AllocError>
+    ensures { OnOk result (copy.new ≡ stream.now) }
 {
-    match stream {
-        Some(stream) => Ok(Some(copied_stream(alloc, stream)?)),
-        None => Ok(None),
-    }
+    *copy = match stream {
+        Some(stream) => Some(copied_stream(alloc, stream)?),
+        None => None,
+    };
+    Ok(())
 }
 
-/// The streams of a termination. A type of its own, so that what is let go where memory runs out is one value.
-#[derive(Drop)]
-struct Streams {
-    first: Option<Stream>,
-    second: Option<Stream>,
-    third: Option<Stream>,
-    fourth: Option<Stream>,
-}
-
-/// Copies of the streams.
-fn copied_streams(alloc: Global, old: &Termination) -> Result<Streams, AllocError>
-    ensures { IfOk result (λ copy. copy ≡ record { first = old.now.first; second = old.now.second; third = old.now.third; fourth = old.now.fourth }) }
+/// The tail is copied to an empty place, if it is there.
+fn copy_tail(
+    alloc: Global,
+    tail: &Option<KeptTail>,
+    copy: &mut Option<KeptTail>,
+) -> Result<(), AllocError>
+    ensures { OnOk result (copy.new ≡ tail.now) }
 {
-    let first = copied_stream_if(alloc, &old.first)?;
-    let second = copied_stream_if(alloc, &old.second)?;
-    let third = copied_stream_if(alloc, &old.third)?;
-    let fourth = copied_stream_if(alloc, &old.fourth)?;
-    Ok(Streams {
-        first,
-        second,
-        third,
-        fourth,
-    })
+    *copy = copied_tail_if(alloc, tail)?;
+    Ok(())
 }
 
-/// What a termination keeps of four descriptors, one value as `Streams` is.
-#[derive(Drop)]
-pub(crate) struct Tails {
-    pub events: Option<KeptTail>,
-    pub signals: Option<KeptTail>,
-    pub digit_map: Option<KeptTail>,
-    pub event_buffer: Option<KeptTail>,
-}
-
-/// Copies of the tails.
-fn copied_tails(alloc: Global, old: &Termination) -> Result<Tails, AllocError>
-    ensures { IfOk result (λ copy. copy ≡ record { events = old.now.events; signals = old.now.signals; digit_map = old.now.digit_map; event_buffer = old.now.event_buffer }) }
-{
-    let events = copied_tail_if(alloc, &old.events)?;
-    let signals = copied_tail_if(alloc, &old.signals)?;
-    let digit_map = copied_tail_if(alloc, &old.digit_map)?;
-    let event_buffer = copied_tail_if(alloc, &old.event_buffer)?;
-    Ok(Tails {
-        events,
-        signals,
-        digit_map,
-        event_buffer,
-    })
-}
-
-/// A copy of all that is kept of a termination.
+/// A copy of all that is kept of a termination, field by field into a new one.
 fn copied_termination(alloc: Global, old: &Termination) -> Result<Termination, AllocError>
     ensures { IfOk result (λ copy. copy ≡ old.now) }
 {
-    let properties = copied_properties(alloc, old.properties.as_slice())?;
-    let streams = copied_streams(alloc, old)?;
-    let tails = copied_tails(alloc, old)?;
-    Ok(Termination {
-        place: old.place,
-        service: old.service,
-        slot: old.slot,
-        properties,
-        first: streams.first,
-        second: streams.second,
-        third: streams.third,
-        fourth: streams.fourth,
-        events: tails.events,
-        signals: tails.signals,
-        digit_map: tails.digit_map,
-        event_buffer: tails.event_buffer,
-    })
+    let mut copy = Termination::unset(alloc, old.place, old.service, old.slot);
+    copy.properties = copied_properties(alloc, old.properties.as_slice())?;
+    copy_stream(alloc, &old.first, &mut copy.first)?;
+    copy_stream(alloc, &old.second, &mut copy.second)?;
+    copy_stream(alloc, &old.third, &mut copy.third)?;
+    copy_stream(alloc, &old.fourth, &mut copy.fourth)?;
+    copy_tail(alloc, &old.events, &mut copy.events)?;
+    copy_tail(alloc, &old.signals, &mut copy.signals)?;
+    copy_tail(alloc, &old.digit_map, &mut copy.digit_map)?;
+    copy_tail(alloc, &old.event_buffer, &mut copy.event_buffer)?;
+    Ok(copy)
 }
 
 // As the maps of tables copy it: the copy lies where the termination does.

@@ -3,7 +3,7 @@
 ghost use Rattle.std.specs.Prelude.{◌≡◌, ◌≤◌, length};
 ghost use Rattle.std.specs.List.{flat_map};
 ghost use Rattle.gw_term.specs.Merge.{place_of, put_property, put_state, service_after, last_service, merged_service, merged_properties, states_in, states_in_part, media_parts, each};
-ghost use Rattle.gw_term.specs.Applies.{Becomes, Gives};
+ghost use Rattle.gw_term.specs.Applies.{Becomes, Yields};
 
 use crate::copies::{copied_properties, owned_property};
 use crate::fault::ApplyFault;
@@ -129,7 +129,7 @@ pub(crate) fn merged_properties(
     descriptors: &[Descriptor<'_>],
     old: &[KeptProperty],
 ) -> Result<Items<KeptProperty>, ApplyFault>
-    ensures { Gives result (merged_properties descriptors.now old.now) }
+    ensures { Yields result (merged_properties descriptors.now old.now) }
 {
     let mut list = copied_properties(alloc, old)?;
     put_all_states(alloc, descriptors, &mut list)?;

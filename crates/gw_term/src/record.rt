@@ -8,7 +8,6 @@ use gw_reply::{KeptProperty, KeptTail};
 use std::alloc::Global;
 
 /// A stream of a termination (RFC 3525, sections 7.1.6 and 7.1.7).
-#[derive(Debug, Drop)]
 pub struct Stream {
     /// Its mode.
     pub mode: Mode,
@@ -20,8 +19,19 @@ pub struct Stream {
     pub remote: Option<Items<u8>>,
 }
 
+// By hand, so that a function that lets a stream go does so by one call. A derived one would stand in it field by field.
+impl Drop for Stream {
+    fn drop(self) {
+        let Stream {
+            mode: _,
+            properties: _,
+            local: _,
+            remote: _,
+        } = self;
+    }
+}
+
 /// What is kept of a termination (RFC 3525, section 6.2).
-#[derive(Debug, Drop)]
 pub struct Termination {
     /// The context that it is in, or none for the null context.
     pub place: Option<CtxNum>,
@@ -49,11 +59,35 @@ pub struct Termination {
     pub event_buffer: Option<KeptTail>,
 }
 
+// As for a stream; and each tail goes by one call more.
+impl Drop for Termination {
+    fn drop(self) {
+        let Termination {
+            place: _,
+            service: _,
+            slot: _,
+            properties: _,
+            first: _,
+            second: _,
+            third: _,
+            fourth: _,
+            events,
+            signals,
+            digit_map,
+            event_buffer,
+        } = self;
+        drop(events);
+        drop(signals);
+        drop(digit_map);
+        drop(event_buffer);
+    }
+}
+
 impl Termination {
     ghost use Rattle.gw_term.specs.Record.{unset, provisioned, ephemeral, placed, serviced, reset};
 
     /// A termination of which nothing was set.
-    fn unset(
+    pub(crate) fn unset(
         alloc: Global,
         place: Option<CtxNum>,
         service: Service,
@@ -123,15 +157,7 @@ impl Termination {
     pub fn reset(&mut self)
         ensures { self.new ≡ reset self.old }
     {
-        self.place = None;
-        self.properties.clear();
-        self.first = None;
-        self.second = None;
-        self.third = None;
-        self.fourth = None;
-        self.events = None;
-        self.signals = None;
-        self.digit_map = None;
-        self.event_buffer = None;
+        let alloc = self.properties.allocator();
+        *self = Termination::unset(alloc, None, self.service, self.slot);
     }
 }

@@ -3,7 +3,7 @@
 ghost use Rattle.std.specs.Prelude.{◌≡◌, ◌≤◌, IfOk};
 ghost use Rattle.std.specs.List.{flat_map, list_any};
 ghost use Rattle.gw_term.specs.Merge.{put_control, local_text, is_filled, put_part, begun, unnamed, parts_in, parts_in_part, names_stream, is_named_in, merged_stream, each};
-ghost use Rattle.gw_term.specs.Applies.{Becomes, Gives};
+ghost use Rattle.gw_term.specs.Applies.{Becomes, Yields};
 
 use crate::copies::{copied, copied_stream};
 use crate::fault::ApplyFault;
@@ -16,12 +16,31 @@ use gw_desc::{
 use std::alloc::Global;
 
 /// A stream while descriptors are merged into it.
-#[derive(Debug, Drop)]
 pub(crate) struct Merging {
     /// The stream.
     pub stream: Stream,
     /// Whether its Local was filled.
     pub filled: bool,
+}
+
+// By hand, as that of a stream.
+impl Drop for Merging {
+    fn drop(self) {
+        let Merging {
+            stream: _,
+            filled: _,
+        } = self;
+    }
+}
+
+impl Merging {
+    /// The stream, without what was noted of it.
+    pub(crate) fn into_stream(self) -> Stream
+        ensures { result ≡ self.stream }
+    {
+        let Merging { stream, filled: _ } = self;
+        stream
+    }
 }
 
 /// What a part of a stream is merged with: the gateway's rules, the termination's slot and the stream's number.
@@ -232,7 +251,7 @@ fn unnamed(alloc: Global, old: &Option<Stream>) -> Result<Option<Merging>, NoMem
 
 /// The stream of the target after the descriptors.
 #[tactic(auto, unfolding(crate::specs::Merge::merged_stream))]
-pub(crate) fn merged_stream(
+fn merged_stream(
     alloc: Global,
     target: &Target,
     descriptors: &[Descriptor<'_>],
@@ -240,7 +259,7 @@ pub(crate) fn merged_stream(
 ) -> Result<Option<Merging>, ApplyFault>
     requires first { 1 ≤ target.now.number }
     requires last { target.now.number ≤ 4 }
-    ensures { Gives result (merged_stream target.now.rules target.now.slot target.now.number descriptors.now old.now) }
+    ensures { Yields result (merged_stream target.now.rules target.now.slot target.now.number descriptors.now old.now) }
 {
     if !is_named(target.number, descriptors) {
         return Ok(unnamed(alloc, old)?);
@@ -248,4 +267,20 @@ pub(crate) fn merged_stream(
     let mut merging = begun(alloc, old)?;
     put_all(alloc, target, descriptors, &mut merging)?;
     Ok(Some(merging))
+}
+
+/// The stream of the target after the descriptors is put in a place.
+pub(crate) fn merge_stream(
+    alloc: Global,
+    target: &Target,
+    descriptors: &[Descriptor<'_>],
+    old: &Option<Stream>,
+    new: &mut Option<Merging>,
+) -> Result<(), ApplyFault>
+    requires first { 1 ≤ target.now.number }
+    requires last { target.now.number ≤ 4 }
+    ensures { Becomes result new.new (merged_stream target.now.rules target.now.slot target.now.number descriptors.now old.now) }
+{
+    *new = merged_stream(alloc, target, descriptors, old)?;
+    Ok(())
 }

@@ -13,10 +13,11 @@ use Rattle.gw_base.proofs.NamesInLists.{or_right}
 use Rattle.gw_msg.specs.declared.message.Command.{Command}
 use Rattle.gw_table.specs.Maps.{Maps}
 use Rattle.gw_table.specs.Unused.{owns_slot}
-use Rattle.gw_cmd.specs.declared.at.At.TheVariants.{Each}
-use Rattle.gw_cmd.specs.Asked.{is_unsupported, is_wildcard}
-use Rattle.gw_cmd.specs.Places.{made, is_each}
-use Rattle.gw_cmd.specs.Refusals.{is_left_out, is_misplaced, refusal_by_form, refusal_by_tables, or_else}
+use Rattle.gw_refusal.specs.declared.at.At.TheVariants.{Each}
+use Rattle.gw_refusal.specs.Asked.{is_unsupported, is_wildcard}
+use Rattle.gw_refusal.specs.Places.{made, is_each}
+use Rattle.gw_refusal.specs.Forms.{is_left_out, is_misplaced, refusal_by_form}
+use Rattle.gw_cmd.specs.Refusals.{refusal_by_tables, or_else}
 use Rattle.gw_cmd.specs.Commands.{carried, refused, unless_refused, command}
 use Rattle.gw_tx.specs.Owned.{is_adding, first_owned}
 use Rattle.gw_tx.proofs.FreeSlots.{taken}

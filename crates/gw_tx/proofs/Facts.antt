@@ -8,7 +8,7 @@ use Rattle.gw_table.specs.Maps.{Maps, term}
 use Rattle.gw_table.specs.Parts.{Every, holds}
 use Rattle.gw_table.specs.Reserved.{slot_name}
 use Rattle.gw_table.specs.WellFormed.{IsSound, AreWellFormed}
-use Rattle.gw_cmd.specs.declared.at.At.{At}
+use Rattle.gw_refusal.specs.declared.at.At.{At}
 use Rattle.gw_cmd.specs.Commands.{command}
 use Rattle.gw_cmd.specs.Suits.{IsUnused}
 use Rattle.gw_cmd.proofs.Kept.{MayMake, kept_command}

@@ -23,8 +23,8 @@ use Rattle.gw_reply_law.specs.Spellings.{IsReplyMessage}
 use Rattle.gw_table.specs.declared.attempts.Attempts.{Attempts}
 use Rattle.gw_table.specs.Folds.{none_from, behind, in_order}
 use Rattle.gw_table.specs.Maps.{Maps, Outcome, ctx, numbers}
-use Rattle.gw_cmd.specs.declared.at.At.{At}
-use Rattle.gw_cmd.specs.declared.at.At.TheVariants.{Null, Live, Unmade, Each}
+use Rattle.gw_refusal.specs.declared.at.At.{At}
+use Rattle.gw_refusal.specs.declared.at.At.TheVariants.{Null, Live, Unmade, Each}
 use Rattle.gw_cmd.specs.KeptForms.{AreKept, IsAsked, IsSlot}
 use Rattle.gw_cmd.proofs.FormsKept.{command_kept}
 use Rattle.gw_tx.specs.KeptForms.{AreAsked, IsAskedRequest, AreSlots}

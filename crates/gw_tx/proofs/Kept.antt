@@ -16,8 +16,8 @@ use Rattle.gw_table.specs.declared.attempts.Attempts.{Attempts}
 use Rattle.gw_table.specs.Folds.{none_from, in_order}
 use Rattle.gw_table.specs.Maps.{Maps, Outcome, ctx, numbers}
 use Rattle.gw_table.specs.Unused.{owned}
-use Rattle.gw_cmd.specs.declared.at.At.{At}
-use Rattle.gw_cmd.specs.declared.at.At.TheVariants.{Null, Live, Unmade, Each}
+use Rattle.gw_refusal.specs.declared.at.At.{At}
+use Rattle.gw_refusal.specs.declared.at.At.TheVariants.{Null, Live, Unmade, Each}
 use Rattle.gw_cmd.specs.Commands.{command}
 use Rattle.gw_cmd.specs.Suits.{IsUnused}
 use Rattle.gw_tx.specs.Owned.{OwnedAction, owning, is_adding, with_slots, slots_behind, with_owned, AreFreeSlots}

@@ -9,8 +9,8 @@ use Rattle.gw_reply.specs.declared.reply.CommandReply.{CommandReply}
 use Rattle.gw_table.specs.declared.attempts.Attempts.{Attempts}
 use Rattle.gw_table.specs.Maps.{Maps, Outcome}
 use Rattle.gw_table.proofs.Folding.{ended}
-use Rattle.gw_cmd.specs.declared.at.At.{At}
-use Rattle.gw_cmd.specs.declared.at.At.TheVariants.{Each}
+use Rattle.gw_refusal.specs.declared.at.At.{At}
+use Rattle.gw_refusal.specs.declared.at.At.TheVariants.{Each}
 use Rattle.gw_tx.specs.Owned.{OwnedAction}
 use Rattle.gw_tx.specs.Transactions.{attempt, commands, action_reply, in_each, action}
 

@@ -17,10 +17,10 @@ use Rattle.gw_reply.specs.declared.reply.TxReply.{TxReply}
 use Rattle.gw_table.specs.declared.attempts.Attempts.{Attempts}
 use Rattle.gw_table.specs.Folds.{in_order}
 use Rattle.gw_table.specs.Maps.{Maps, Outcome, ctx, numbers}
-use Rattle.gw_cmd.specs.declared.at.At.{At}
-use Rattle.gw_cmd.specs.declared.at.At.TheVariants.{Null, Live, Unmade, Each}
+use Rattle.gw_refusal.specs.declared.at.At.{At}
+use Rattle.gw_refusal.specs.declared.at.At.TheVariants.{Null, Live, Unmade, Each}
 use Rattle.gw_cmd.specs.declared.outcome.CmdOutcome.{CmdOutcome}
-use Rattle.gw_cmd.specs.Places.{made}
+use Rattle.gw_refusal.specs.Places.{made}
 use Rattle.gw_cmd.specs.Commands.{command}
 use Rattle.gw_tx.specs.Owned.{OwnedAction, with_owned}
 

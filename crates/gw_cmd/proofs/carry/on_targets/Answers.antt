@@ -14,7 +14,7 @@ use Rattle.gw_table.specs.Parts.{PartKeys, holds}
 use Rattle.gw_table.specs.WellFormed.{IsSound}
 use Rattle.gw_table.proofs.Folding.{ended, rest_of, goes_on, ends}
 use Rattle.gw_cmd.specs.Commands.{on_target, on_targets}
-use Rattle.gw_cmd.specs.Places.{place_at}
+use Rattle.gw_refusal.specs.Places.{place_at}
 use Rattle.gw_cmd.proofs.Kept.{kept_name}
 use Rattle.gw_cmd.proofs.KeptSound.{sound_is_kept, absent_is_kept}
 use Rattle.gw_cmd.proofs.OneByOne.{target_is, in_at}

@@ -8,7 +8,7 @@ use Rattle.gw_table.specs.Maps.{Maps, Outcome}
 use Rattle.gw_table.specs.Parts.{Every}
 use Rattle.gw_table.specs.WellFormed.{IsSound}
 use Rattle.gw_table.proofs.Folding.{ended, rest_of, goes_on, stops, ends}
-use Rattle.gw_cmd.specs.declared.at.At.{At}
+use Rattle.gw_refusal.specs.declared.at.At.{At}
 use Rattle.gw_cmd.specs.Commands.{command}
 use Rattle.gw_cmd.specs.Suits.{IsUnused}
 use Rattle.gw_tx.specs.Owned.{is_adding, with_slots}

@@ -1,11 +1,11 @@
 //! What a command names and asks.
 
-ghost use Rattle.std.specs.Prelude.{◌≡◌, Some, option_copied};
+ghost use Rattle.std.specs.Prelude.{◌≡◌, Some, [], option_copied, unwrap_or};
 ghost use Rattle.std.specs.List.{find};
 ghost use Rattle.gw_desc.specs.declared.values.AuditItem.TheVariants as item;
 ghost use Rattle.gw_desc.specs.Checks.{is_asking, is_audit, is_services};
 ghost use Rattle.gw_desc.specs.Values.{is_parm};
-ghost use Rattle.gw_cmd.specs.Asked.{is_add, is_move, is_modify, is_subtract, is_service_change, brings, is_unsupported, is_root, is_choose_term, is_other_term, is_wildcard, matches, or_nothing, words_in, audited, is_some_list, asks_media, parms_in, value_of, service_for, service_by, service_asked, is_other_method, is_other_delay, method, delay};
+ghost use Rattle.gw_refusal.specs.Asked.{is_add, is_move, is_modify, is_subtract, is_service_change, brings, is_unsupported, is_root, is_choose, is_other_term, is_wildcard, matches, words_in, audited, is_some_list, asks_media, parms_in, value_of, service_for, service_by, service_asked, is_other_method, is_other_delay, method, delay};
 
 use gw_base::{Items, Service, Span, TermName, TermRef, Verb};
 use gw_desc::{
@@ -27,7 +27,7 @@ pub(crate) fn is_unsupported(verb: Verb) -> bool
     matches!(verb, Verb::AuditCapability | Verb::Notify)
 }
 
-pub(crate) fn is_add(verb: Verb) -> bool
+pub fn is_add(verb: Verb) -> bool
     ensures { result ≡ is_add verb }
 {
     matches!(verb, Verb::Add)
@@ -66,7 +66,7 @@ pub(crate) fn is_root(term: &TermRef) -> bool
 
 /// Whether a termination is to be made.
 pub(crate) fn is_choose(term: &TermRef) -> bool
-    ensures { result ≡ is_choose_term term.now }
+    ensures { result ≡ is_choose term.now }
 {
     matches!(term, TermRef::Choose)
 }
@@ -79,14 +79,14 @@ pub(crate) fn is_other(term: &TermRef) -> bool
 }
 
 /// Whether all terminations that match are named.
-pub(crate) fn is_wildcard(term: &TermRef) -> bool
+pub fn is_wildcard(term: &TermRef) -> bool
     ensures { result ≡ is_wildcard term.now }
 {
     matches!(term, TermRef::All | TermRef::Under(_))
 }
 
 /// Whether a wildcard matches the name.
-pub(crate) fn matches(term: TermRef, name: TermName) -> bool
+pub fn matches(term: TermRef, name: TermName) -> bool
     ensures { result ≡ matches term name }
 {
     match term {
@@ -115,7 +115,7 @@ fn find_audit<'a, 'b>(descriptors: &'b [Descriptor<'a>]) -> Option<&'b Descripto
 }
 
 fn words_in<'a, 'b>(descriptor: &'b Descriptor<'a>) -> Option<&'b AuditItems<'a>>
-    ensures { or_nothing (option_copied result) ≡ words_in (Some descriptor.now) }
+    ensures { unwrap_or (option_copied result) [] ≡ words_in (Some descriptor.now) }
 {
     match descriptor {
         Descriptor::Audit(words) => Some(words),
@@ -124,8 +124,8 @@ fn words_in<'a, 'b>(descriptor: &'b Descriptor<'a>) -> Option<&'b AuditItems<'a>
 }
 
 /// What is to be audited: the words of the first Audit, if there is one.
-pub(crate) fn first_audit<'a, 'b>(descriptors: &'b [Descriptor<'a>]) -> Option<&'b AuditItems<'a>>
-    ensures { or_nothing (option_copied result) ≡ audited descriptors.now }
+pub fn first_audit<'a, 'b>(descriptors: &'b [Descriptor<'a>]) -> Option<&'b AuditItems<'a>>
+    ensures { unwrap_or (option_copied result) [] ≡ audited descriptors.now }
 {
     words_in(find_audit(descriptors)?)
 }
@@ -147,7 +147,7 @@ fn is_media(word: &Span<'_>) -> bool
 }
 
 /// Whether Media is to be audited.
-pub(crate) fn asks_media(descriptors: &[Descriptor<'_>]) -> bool
+pub fn asks_media(descriptors: &[Descriptor<'_>]) -> bool
     ensures { result ≡ asks_media descriptors.now }
 {
     match first_audit(descriptors) {
@@ -163,7 +163,7 @@ fn find_services<'a, 'b>(descriptors: &'b [Descriptor<'a>]) -> Option<&'b Descri
 }
 
 fn parms_in<'a, 'b>(descriptor: &'b Descriptor<'a>) -> Option<&'b Items<ServiceParm<'a>>>
-    ensures { or_nothing (option_copied result) ≡ parms_in (Some descriptor.now) }
+    ensures { unwrap_or (option_copied result) [] ≡ parms_in (Some descriptor.now) }
 {
     match descriptor {
         Descriptor::Services(parms) => Some(parms),
@@ -173,7 +173,7 @@ fn parms_in<'a, 'b>(descriptor: &'b Descriptor<'a>) -> Option<&'b Items<ServiceP
 
 /// The parameters of the first Services, if there is one.
 fn first_services<'a, 'b>(descriptors: &'b [Descriptor<'a>]) -> Option<&'b Items<ServiceParm<'a>>>
-    ensures { or_nothing (option_copied result) ≡ parms_in (find is_services descriptors.now) }
+    ensures { unwrap_or (option_copied result) [] ≡ parms_in (find is_services descriptors.now) }
 {
     parms_in(find_services(descriptors)?)
 }
@@ -212,7 +212,7 @@ fn service_by(value: &ServiceValue<'_>) -> Option<Service>
 }
 
 /// The service state that a ServiceChange asks for.
-pub(crate) fn service_asked(descriptors: &[Descriptor<'_>]) -> Option<Service>
+pub fn service_asked(descriptors: &[Descriptor<'_>]) -> Option<Service>
     ensures { result ≡ service_asked descriptors.now }
 {
     service_by(value_of(Token::Method, descriptors)?)

@@ -1,7 +1,7 @@
 //! Commands that are refused by their form alone.
 
 ghost use Rattle.std.specs.Prelude.{◌≡◌};
-ghost use Rattle.gw_cmd.specs.Refusals.{is_left_out, is_misplaced, refusal_by_form};
+ghost use Rattle.gw_refusal.specs.Forms.{is_left_out, is_misplaced, refusal_by_form};
 
 use crate::asked::{
     audits_any, brings, is_choose, is_modify, is_move, is_other, is_other_delay, is_other_method,
@@ -41,8 +41,8 @@ fn is_misplaced(at: At, command: &Command<'_>) -> bool
 
 /// Why a command is refused by its form alone: the first of `UnknownCommand` (AuditCapability, Notify), `NotImplemented` and
 /// `IllegalCombination` that applies.
-#[tactic(auto, unfolding(crate::specs::Refusals::refusal_by_form))]
-pub(crate) fn refusal_by_form(at: At, command: &Command<'_>) -> Option<Code>
+#[tactic(auto, unfolding(crate::specs::Forms::refusal_by_form))]
+pub fn refusal_by_form(at: At, command: &Command<'_>) -> Option<Code>
     ensures { result ≡ refusal_by_form at command.now }
 {
     if is_unsupported(command.verb) {

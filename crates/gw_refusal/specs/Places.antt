@@ -1,8 +1,8 @@
 -- The context of an action while its commands are carried out (RFC 3525, section 8.1).
 use Rattle.std.specs.Prelude.{nat_eq, Bool, true, false, Option, None, Some}
 use Rattle.gw_base.specs.declared.ids.CtxNum.{CtxNum}
-use Rattle.gw_cmd.specs.declared.at.At.{At}
-use Rattle.gw_cmd.specs.declared.at.At.TheVariants.{Null, Live, Unmade, Each}
+use Rattle.gw_refusal.specs.declared.at.At.{At}
+use Rattle.gw_refusal.specs.declared.at.At.TheVariants.{Null, Live, Unmade, Each}
 
 -- the place of a termination that is in it: a context, or none for the null context
 abbrev pub place_at : At → Option CtxNum

@@ -1,12 +1,12 @@
 //! The context of an action while its commands are carried out.
 
 ghost use Rattle.std.specs.Prelude.{◌≡◌};
-ghost use Rattle.gw_cmd.specs.Places.{place_at, made, is_null, is_unmade, is_each};
+ghost use Rattle.gw_refusal.specs.Places.{place_at, made, is_null, is_unmade, is_each};
 
 use gw_base::CtxNum;
 
 /// The context that an action's commands are for (RFC 3525, section 8.1.2).
-#[derive(Clone, Copy, Debug, PartialEq, Eq)]
+#[derive(Clone, Copy)]
 pub enum At {
     /// The null context, `-`.
     Null,

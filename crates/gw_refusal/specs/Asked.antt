@@ -1,13 +1,13 @@
 -- What a command names and asks (RFC 3525, sections 7.2 and 6.2.2): by its word, its TerminationID and its descriptors alone.
-use Rattle.std.specs.Prelude.{ℕ, ◌==◌, nat_eq, Bool, true, false, not, ◌||◌, if◌then◌else◌, List, [], ◌∷◌, Option, None, Some}
-use Rattle.std.specs.Option.{is_some, is_none}
+use Rattle.std.specs.Prelude.{ℕ, ◌==◌, nat_eq, Bool, true, false, not, ◌||◌, List, [], ◌∷◌, Option, None, Some}
+use Rattle.std.specs.Option.{is_none}
 use Rattle.std.specs.List.{starts_with, list_any, find}
 use Rattle.gw_base.specs.declared.command_words.Service.{Service}
 use Rattle.gw_base.specs.declared.command_words.Service.TheVariants as service
 use Rattle.gw_base.specs.declared.command_words.Verb.{Verb}
-use Rattle.gw_base.specs.declared.command_words.Verb.TheVariants.{Add, Modify, Move, Subtract, AuditValue, AuditCapability, Notify, ServiceChange}
+use Rattle.gw_base.specs.declared.command_words.Verb.TheVariants.{Add, Modify, Move, Subtract, AuditCapability, Notify, ServiceChange}
 use Rattle.gw_base.specs.declared.term_ref.TermRef.{TermRef}
-use Rattle.gw_base.specs.declared.term_ref.TermRef.TheVariants.{Root, All, Under, Choose, Name, Other}
+use Rattle.gw_base.specs.declared.term_ref.TermRef.TheVariants.{Root, All, Under, Choose, Other}
 use Rattle.gw_text.specs.Tokens.{token_of}
 use Rattle.gw_text.specs.declared.token.Token.{Token}
 use Rattle.gw_text.specs.declared.token.Token.TheVariants as token
@@ -58,9 +58,9 @@ abbrev pub is_root : TermRef → Bool
 is_root Root = true
 is_root _ = false
 
-abbrev pub is_choose_term : TermRef → Bool
-is_choose_term Choose = true
-is_choose_term _ = false
+abbrev pub is_choose : TermRef → Bool
+is_choose Choose = true
+is_choose _ = false
 
 abbrev pub is_other_term : TermRef → Bool
 is_other_term (Other text) = true
@@ -87,10 +87,6 @@ words_in _ = []
 -- what is to be audited: the words of the first Audit
 abbrev pub audited : List Descriptor → List (List ℕ)
 audited descriptors = words_in (find is_audit descriptors)
-
-abbrev pub or_nothing : {X : Type 0} → Option (List X) → List X
-or_nothing None = []
-or_nothing (Some list) = list
 
 abbrev pub is_some_list : {X : Type 0} → List X → Bool
 is_some_list [] = false
