@@ -18,7 +18,6 @@ use std::marker::Model;
 
 /// A media gateway: its configuration, its terminations and contexts, where the search for free identifiers
 /// begins, and the replies that are kept for repeats.
-#[derive(Drop)]
 pub struct Gateway {
     pub(crate) mid: Mid,
     pub(crate) rules: Rules,
@@ -28,6 +27,22 @@ pub struct Gateway {
     pub(crate) cursors: Cursors,
     pub(crate) tables: Tables,
     pub(crate) kept: Kept,
+}
+
+// Written out, so that a function that lets a gateway go does so by one call.
+impl Drop for Gateway {
+    fn drop(self) {
+        let Gateway {
+            mid: _,
+            rules: _,
+            contexts: _,
+            slots: _,
+            keep: _,
+            cursors: _,
+            tables: _,
+            kept: _,
+        } = self;
+    }
 }
 
 impl Model for Gateway {

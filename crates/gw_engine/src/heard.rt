@@ -14,7 +14,7 @@ use gw_msg::{Item, Message, ReadFault, read_message};
 use std::alloc::Global;
 
 /// A datagram that was read: who sent it, and its message, or the error that it is answered with.
-#[derive(Debug, Drop)]
+#[derive(Drop)]
 pub(crate) struct Heard<'a> {
     pub(crate) peer: u32,
     pub(crate) message: Result<Message<'a>, Code>,

@@ -3,11 +3,11 @@ use Rattle.std.proofs.Common.{◌≡◌, ◌==◌, ℕ, ◌<◌, ◌≤◌, Bool
 use Rattle.std.specs.List.{list_any, list_all}
 use Rattle.std.specs.Io.KnownBytes.{Consumes, IsAtEnd}
 use Rattle.std.proofs.KnownBytes.{Consumes-trans, Consumes-whole}
+use Rattle.std.proofs.lemmas.Bool.{and_parts as and_true}
 use Rattle.std.proofs.lemmas.List.{append_cancel_left, append-nil}
 use Rattle.std.proofs.lemmas.List.Folds.{list_any-append}
 use Rattle.gw_base.specs.Bytes.{is_digit}
 use Rattle.gw_text.specs.Forms.{IsUint32}
-use Rattle.gw_text.proofs.RunLemmas.{and_true}
 use Rattle.gw_front.specs.Records.{IsHeader, IsLength}
 use Rattle.gw_front.specs.RecordFaults.{HasNoLineFeed, IsLongLine, IsCutLine}
 

@@ -2,6 +2,7 @@
 use Rattle.std.proofs.Common.{◌≡◌, ℕ, ◌≤◌, List, [], ◌∷◌, ◌++◌, length, refl, ap, sym, ◌∙◌, arith, rules, subst, length-append, codes, false}
 use Rattle.std.proofs.lemmas.List.{append_cancel_left}
 use Rattle.std.specs.Prelude.{Err, Option, Some, None, MatchOption}
+use Rattle.std.proofs.lemmas.Bool.{and_parts as and_true}
 use Rattle.gw_base.specs.Addresses.{IsAddress, address_max}
 use Rattle.gw_base.specs.Names.{IsName, name_max}
 use Rattle.gw_base.specs.Reads.{ReadsAs}
@@ -15,7 +16,6 @@ use Rattle.gw_text.specs.Forms.{IsSomeRun, IsUint32, HasNoNumber}
 use Rattle.gw_text.specs.Scans.{uint32_digits, uint32_max}
 use Rattle.gw_text.specs.declared.fault.ScanFault.{ScanFault}
 use Rattle.gw_text.specs.declared.fault.ScanFault.TheVariants.{Unexpected, Overflow, TooDeep}
-use Rattle.gw_text.proofs.RunLemmas.{and_true}
 use Rattle.gw_front.specs.declared.item.Item.{Item}
 use Rattle.gw_front.specs.declared.item.Item.TheVariants.{Nothing, Mid, Media, Contexts, Slots, Members, Keep, Term}
 use Rattle.gw_front.specs.ConfigTexts.{Says, IsSkipped, IsMidLine, IsMediaLine, IsTermLine, IsNumberLine}

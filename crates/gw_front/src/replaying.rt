@@ -13,7 +13,10 @@ use gw_engine::{Datagram, Gateway};
 use std::alloc::Global;
 use std::io::{BufReader, Read, Write};
 
-/// How many bytes are read at a time, and how many are gathered for one write.
+/// How many bytes are read ahead. More than that goes straight into its place.
+const READ_AHEAD: usize = 8_192;
+
+/// How many bytes are gathered for one write.
 const PIECE: usize = 65_536;
 
 /// Carries a burst out and writes its answers; the counts with it.
@@ -82,7 +85,7 @@ pub fn replay<R: Read, W: Write>(
 ) -> Result<Counts, ReplayFault>
     ensures { IsReplay (R.remaining reader.old) (W.contents writer.old) (W.contents writer.new) gateway.old gateway.new result }
 {
-    let Ok(mut input) = BufReader::with_capacity(alloc, PIECE, Counted::new(reader)) else {
+    let Ok(mut input) = BufReader::with_capacity(alloc, READ_AHEAD, Counted::new(reader)) else {
         return Err(ReplayFault::NoMemory);
     };
     let mut held = Vec::with_capacity(alloc, PIECE)?;
