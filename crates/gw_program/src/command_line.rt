@@ -87,34 +87,50 @@ fn replay<'a>(alloc: Global) -> Result<Command<'a>, AllocError> {
         .arg(file(alloc))
 }
 
-fn serve<'a>(alloc: Global) -> Result<Command<'a>, AllocError> {
-    let listen = Arg::new(alloc, "ADDR")
+/// The address that is served.
+fn listen<'a>(alloc: Global) -> Arg<'a> {
+    Arg::new(alloc, "ADDR")
         .long("listen")
         .default_value(EVERYWHERE)
-        .help("The IP address and port to bind");
-    let bursts = Arg::new(alloc, "N")
+        .help("The IP address and port to bind")
+}
+
+/// After how many bursts serving ends.
+fn bursts<'a>(alloc: Global) -> Arg<'a> {
+    Arg::new(alloc, "N")
         .long("bursts")
         .value_parser(value_parser!(u64))
-        .help("Ends after so many bursts, with 0 once the address is bound; without it, never");
+        .help("Ends after so many bursts, with 0 once the address is bound; without it, never")
+}
+
+fn serve<'a>(alloc: Global) -> Result<Command<'a>, AllocError> {
     Command::new(alloc, "serve")
         .about(SERVE)
         .long_about(SERVE_LONG)
         .arg(file(alloc))?
-        .arg(listen)?
-        .arg(bursts)
+        .arg(listen(alloc))?
+        .arg(bursts(alloc))
+}
+
+/// A command with one more below it.
+fn with<'a>(
+    command: Command<'a>,
+    below: Result<Command<'a>, AllocError>,
+) -> Result<Command<'a>, AllocError> {
+    command.subcommand(below?)
 }
 
 /// The program's commands.
 fn command<'a>(alloc: Global) -> Result<Command<'a>, AllocError> {
-    Command::new(alloc, "h248gw")
+    let program = Command::new(alloc, "h248gw")
         .bin_name("h248gw")?
         .no_binary_name(true)
         .version("0.1.0")
         .about(ABOUT)
-        .after_help(AFTER)
-        .subcommand(check(alloc)?)?
-        .subcommand(replay(alloc)?)?
-        .subcommand(serve(alloc)?)
+        .after_help(AFTER);
+    let program = with(program, check(alloc))?;
+    let program = with(program, replay(alloc))?;
+    with(program, serve(alloc))
 }
 
 /// The text of an argument that is required or has a default, and so is there.
