@@ -1,25 +1,23 @@
 //! Answers, as cases tell them.
 
-use cases_text::{CaseFault, write_message};
+use cases_text::Page;
 use gw_engine::Datagram;
-use std::alloc::Global;
 
 /// The peer that datagrams come from which are a burst of their own.
 pub const PEER: u32 = 7;
 
 /// A line for each answer.
-pub fn told(alloc: Global, answers: &[Datagram]) -> Result<Vec<u8>, CaseFault> {
-    let mut out = Vec::new(alloc);
+pub fn write_answers(out: &mut Page, answers: &[Datagram]) {
     if answers.is_empty() {
-        out.extend_from_slice(b"no answer")?;
+        out.put(b"no answer");
     }
     for answer in answers {
         if answer.peer != PEER {
-            let peer = format!(in alloc; "to {}: ", answer.peer)?;
-            out.extend_from_slice(peer.as_bytes())?;
+            out.put(b"to ");
+            out.number(u64::from(answer.peer));
+            out.put(b": ");
         }
-        write_message(alloc, &mut out, answer.bytes.as_slice())?;
-        out.push(b'\n')?;
+        out.message(answer.bytes.as_slice());
+        out.put(b"\n");
     }
-    Ok(out)
 }

@@ -1,71 +1,96 @@
 //! Bursts of several datagrams, each from a peer of its own: its place.
 
-use crate::answers::told;
-use cases_text::{CaseFault, number_of, split_word};
+use crate::answers::write_answers;
+use cases_text::{CaseFault, Page, number_of, split_word};
 use gw_base::Items;
 use gw_engine::{Datagram, Gateway};
-use std::alloc::Global;
+use std::alloc::{AllocError, Global};
 
-/// Adds a datagram to a burst.
-pub fn add(burst: &mut Items<Datagram>, bytes: Vec<u8>) -> Result<(), CaseFault> {
-    let peer = u32::try_from(burst.len()).unwrap_or(u32::MAX);
-    burst.push(Datagram {
-        peer,
-        bytes: Items::from(bytes),
-    })?;
-    Ok(())
+/// What heads the datagrams of the controller that cases are about.
+pub const CONTROLLER: &[u8] = b"MEGACO/1 [10.0.0.9]:2944 ";
+
+/// A datagram of these bytes.
+pub fn datagram_of(alloc: Global, peer: u32, bytes: &[u8]) -> Result<Datagram, AllocError> {
+    let bytes = Items::from(Vec::from_slice(alloc, bytes)?);
+    Ok(Datagram { peer, bytes })
 }
 
-/// Adds datagrams of so many transactions each, which are numbered from the first to the last and all have one body: the words
-/// are the first, the last, how many a datagram has, and the body.
-pub fn add_many(
-    alloc: Global,
-    burst: &mut Items<Datagram>,
-    header: &[u8],
-    words: &[u8],
-) -> Result<(), CaseFault> {
-    let (first, rest) = split_word(words);
-    let (last, rest) = split_word(rest);
-    let (each, body) = split_word(rest);
-    let (Some(first), Some(last), Some(each)) = (number_of(first), number_of(last), number_of(each))
-    else {
-        return Err(CaseFault::Form);
-    };
-    let mut text = Vec::from_slice(alloc, header)?;
-    let mut held = 0u32;
-    for number in first..=last {
-        let head = format!(in alloc; "Transaction={number}")?;
-        text.extend_from_slice(head.as_bytes())?;
-        text.extend_from_slice(body)?;
-        held = held.saturating_add(1);
-        if held >= each || number == last {
-            add(burst, text)?;
-            text = Vec::from_slice(alloc, header)?;
-            held = 0;
-        }
+/// Adds a datagram to a burst.
+pub fn add(alloc: Global, burst: &mut Items<Datagram>, bytes: &[u8]) -> Result<(), CaseFault> {
+    let peer = u32::try_from(burst.len()).unwrap_or(u32::MAX);
+    let datagram = datagram_of(alloc, peer, bytes)?;
+    Ok(burst.push(datagram)?)
+}
+
+/// Datagrams of so many transactions each, which are numbered from the first to the last and all have one body.
+#[derive(Clone, Copy)]
+struct Many<'a> {
+    first: u32,
+    last: u32,
+    each: u32,
+    body: &'a [u8],
+}
+
+impl<'a> Many<'a> {
+    /// By the words: the first, the last, how many a datagram has, and the body.
+    fn read(words: &'a [u8]) -> Option<Many<'a>> {
+        let (first, rest) = split_word(words);
+        let (last, rest) = split_word(rest);
+        let (each, body) = split_word(rest);
+        Some(Many {
+            first: number_of(first)?,
+            last: number_of(last)?,
+            each: number_of(each)?,
+            body,
+        })
     }
-    Ok(())
+
+    /// Adds the datagrams, each written on the page.
+    fn add(&self, burst: &mut Items<Datagram>, page: &mut Page) -> Result<(), CaseFault> {
+        let mut held = 0u32;
+        page.put(CONTROLLER);
+        for number in self.first..=self.last {
+            page.put(b"Transaction=");
+            page.number(u64::from(number));
+            page.put(self.body);
+            held = held.saturating_add(1);
+            if held >= self.each || number == self.last {
+                add(page.alloc(), burst, page.as_bytes())?;
+                page.clear();
+                page.put(CONTROLLER);
+                held = 0;
+            }
+        }
+        Ok(())
+    }
+}
+
+/// Adds the datagrams that the words ask for.
+pub fn add_many(alloc: Global, burst: &mut Items<Datagram>, words: &[u8]) -> Result<(), CaseFault> {
+    let many = Many::read(words).ok_or(CaseFault::Form)?;
+    many.add(burst, &mut Page::new(alloc))
 }
 
 /// The answers to a burst, which is empty then: each, or how many there are and the last one. Where memory is refused it says
 /// so, and the burst stays as it is.
-pub fn run_burst(
-    alloc: Global,
+pub fn write_run(
     gateway: &mut Gateway,
     burst: &mut Items<Datagram>,
     is_whole: bool,
-) -> Result<Vec<u8>, CaseFault> {
-    let Ok(answers) = gateway.run(alloc, burst.as_slice()) else {
-        return Ok(Vec::from_slice(alloc, b"no memory")?);
+    out: &mut Page,
+) {
+    let Ok(answers) = gateway.run(out.alloc(), burst.as_slice()) else {
+        out.put(b"no memory");
+        return;
     };
     burst.clear();
     let answers = answers.as_slice();
     if is_whole {
-        return told(alloc, answers);
+        write_answers(out, answers);
+        return;
     }
-    let mut out = format!(in alloc; "{} answers, the last:\n", answers.len())?.into_bytes();
+    out.number(answers.len() as u64);
+    out.put(b" answers, the last:\n");
     let from = answers.len().saturating_sub(1);
-    let last = told(alloc, answers.get(from..).unwrap_or(answers))?;
-    out.extend_from_slice(last.as_slice())?;
-    Ok(out)
+    write_answers(out, answers.get(from..).unwrap_or(answers));
 }

@@ -1,220 +1,165 @@
 //! A descriptor as one line: what is kept as sent stands in it as sent.
 
-use cases_text::{CaseFault, decoded, shown, write_encoded, write_number};
+use cases_text::Page;
 use gw_base::Span;
 use gw_desc::{
-    Descriptor, KeptKind, MediaPart, Part, PartFault, Property, ServiceParm, ServiceValue, Sign,
-    StreamPart, Tail,
+    Descriptor, KeptKind, MediaPart, Property, ServiceParm, ServiceValue, Sign, StreamPart, Tail,
 };
 use gw_text::Cursor;
-use std::alloc::{AllocError, Global};
+use gw_text::parts::Part;
 
-fn put(out: &mut Vec<u8>, text: &[u8]) -> Result<(), AllocError> {
-    out.extend_from_slice(text)
+fn write_property(out: &mut Page, property: &Property<Span<'_>>) {
+    out.put(b"(");
+    out.encoded(property.name.as_bytes());
+    out.put(match property.sign {
+        Sign::Equal => b"=",
+        Sign::NotEqual => b"#",
+        Sign::Less => b"<",
+        Sign::Greater => b">",
+    });
+    out.encoded(property.value.as_bytes());
+    out.put(b")");
 }
 
-fn property(
-    alloc: Global,
-    out: &mut Vec<u8>,
-    property: &Property<Span<'_>>,
-) -> Result<(), AllocError> {
-    put(out, b"(")?;
-    write_encoded(alloc, out, property.name.as_bytes())?;
-    match property.sign {
-        Sign::Equal => put(out, b"=")?,
-        Sign::NotEqual => put(out, b"#")?,
-        Sign::Less => put(out, b"<")?,
-        Sign::Greater => put(out, b">")?,
+fn write_properties(out: &mut Page, name: &[u8], properties: &[Property<Span<'_>>]) {
+    out.put(name);
+    for property in properties {
+        write_property(out, property);
     }
-    write_encoded(alloc, out, property.value.as_bytes())?;
-    put(out, b")")
 }
 
-fn octets(alloc: Global, out: &mut Vec<u8>, octets: &[u8]) -> Result<(), AllocError> {
-    put(out, b"<")?;
-    write_encoded(alloc, out, octets)?;
-    put(out, b">")
+fn write_octets(out: &mut Page, name: &[u8], octets: &[u8]) {
+    out.put(name);
+    out.put(b"<");
+    out.encoded(octets);
+    out.put(b">");
 }
 
-fn stream_part(alloc: Global, out: &mut Vec<u8>, part: &StreamPart<'_>) -> Result<(), AllocError> {
+fn write_stream_part(out: &mut Page, part: &StreamPart<'_>) {
     match part {
-        StreamPart::Local(span) => {
-            put(out, b"Local")?;
-            octets(alloc, out, span.as_bytes())
-        }
-        StreamPart::Remote(span) => {
-            put(out, b"Remote")?;
-            octets(alloc, out, span.as_bytes())
-        }
-        StreamPart::LocalControl(properties) => {
-            put(out, b"Control")?;
-            for item in properties.as_slice() {
-                property(alloc, out, item)?;
-            }
-            Ok(())
+        StreamPart::Local(octets) => write_octets(out, b"Local", octets.as_bytes()),
+        StreamPart::Remote(octets) => write_octets(out, b"Remote", octets.as_bytes()),
+        StreamPart::LocalControl(list) => write_properties(out, b"Control", list.as_slice()),
+    }
+}
+
+fn write_stream(out: &mut Page, id: u16, parts: &[StreamPart<'_>]) {
+    out.put(b"Stream ");
+    out.number(u64::from(id));
+    for part in parts {
+        out.put(b" .");
+        write_stream_part(out, part);
+    }
+}
+
+fn write_media(out: &mut Page, parts: &[MediaPart<'_>]) {
+    out.put(b"Media");
+    for part in parts {
+        out.put(b" ");
+        match part {
+            MediaPart::Outside(part) => write_stream_part(out, part),
+            MediaPart::Stream(id, parts) => write_stream(out, *id, parts.as_slice()),
+            MediaPart::TerminationState(list) => write_properties(out, b"State", list.as_slice()),
         }
     }
 }
 
-fn media_part(alloc: Global, out: &mut Vec<u8>, part: &MediaPart<'_>) -> Result<(), AllocError> {
-    put(out, b" ")?;
-    match part {
-        MediaPart::Outside(part) => stream_part(alloc, out, part),
-        MediaPart::Stream(id, parts) => {
-            put(out, b"Stream ")?;
-            write_number(alloc, out, u64::from(*id))?;
-            for item in parts.as_slice() {
-                put(out, b" .")?;
-                stream_part(alloc, out, item)?;
-            }
-            Ok(())
-        }
-        MediaPart::TerminationState(properties) => {
-            put(out, b"State")?;
-            for item in properties.as_slice() {
-                property(alloc, out, item)?;
-            }
-            Ok(())
-        }
-    }
-}
-
-fn tail(
-    alloc: Global,
-    out: &mut Vec<u8>,
-    kind: KeptKind,
-    tail: &Tail<Span<'_>>,
-) -> Result<(), AllocError> {
-    match kind {
-        KeptKind::Events => put(out, b"Events")?,
-        KeptKind::Signals => put(out, b"Signals")?,
-        KeptKind::DigitMap => put(out, b"DigitMap")?,
-        KeptKind::EventBuffer => put(out, b"EventBuffer")?,
-    }
+fn write_tail(out: &mut Page, kind: KeptKind, tail: &Tail<Span<'_>>) {
+    out.put(match kind {
+        KeptKind::Events => b"Events",
+        KeptKind::Signals => b"Signals",
+        KeptKind::DigitMap => b"DigitMap",
+        KeptKind::EventBuffer => b"EventBuffer",
+    });
     if tail.equals {
-        put(out, b" =")?;
+        out.put(b" =");
     }
     if let Some(word) = &tail.word {
-        put(out, b" word ")?;
-        write_encoded(alloc, out, word.as_bytes())?;
+        out.put(b" word ");
+        out.encoded(word.as_bytes());
     }
     if let Some(group) = &tail.group {
-        put(out, b" group ")?;
-        write_encoded(alloc, out, group.as_bytes())?;
+        out.put(b" group ");
+        out.encoded(group.as_bytes());
     }
-    Ok(())
 }
 
-fn service_parm(
-    alloc: Global,
-    out: &mut Vec<u8>,
-    parm: &ServiceParm<'_>,
-) -> Result<(), AllocError> {
-    put(out, b" ")?;
-    write_encoded(alloc, out, parm.name.as_bytes())?;
-    match &parm.value {
-        Some(ServiceValue::Quoted(span)) => {
-            put(out, b" quoted ")?;
-            write_encoded(alloc, out, span.as_bytes())
+fn write_services(out: &mut Page, parms: &[ServiceParm<'_>]) {
+    out.put(b"Services");
+    for parm in parms {
+        out.put(b" ");
+        out.encoded(parm.name.as_bytes());
+        match &parm.value {
+            Some(ServiceValue::Quoted(span)) => {
+                out.put(b" quoted ");
+                out.encoded(span.as_bytes());
+            }
+            Some(ServiceValue::Run(span)) => {
+                out.put(b" run ");
+                out.encoded(span.as_bytes());
+            }
+            None => {}
         }
-        Some(ServiceValue::Run(span)) => {
-            put(out, b" run ")?;
-            write_encoded(alloc, out, span.as_bytes())
-        }
-        None => Ok(()),
+    }
+}
+
+fn write_audit(out: &mut Page, words: &[Span<'_>]) {
+    out.put(b"Audit");
+    for word in words {
+        out.put(b" ");
+        out.encoded(word.as_bytes());
     }
 }
 
 /// Writes the tree in one line.
-///
-/// # Errors
-///
-/// `AllocError` where a growth was refused.
-pub fn write_descriptor(
-    alloc: Global,
-    out: &mut Vec<u8>,
-    descriptor: &Descriptor<'_>,
-) -> Result<(), AllocError> {
+pub fn write_descriptor(out: &mut Page, descriptor: &Descriptor<'_>) {
     match descriptor {
-        Descriptor::Media(parts) => {
-            put(out, b"Media")?;
-            for part in parts.as_slice() {
-                media_part(alloc, out, part)?;
-            }
-            Ok(())
-        }
-        Descriptor::Keep(kind, sent) => tail(alloc, out, *kind, sent),
-        Descriptor::Audit(words) => {
-            put(out, b"Audit")?;
-            for word in words.as_slice() {
-                put(out, b" ")?;
-                write_encoded(alloc, out, word.as_bytes())?;
-            }
-            Ok(())
-        }
-        Descriptor::Services(parms) => {
-            put(out, b"Services")?;
-            for parm in parms.as_slice() {
-                service_parm(alloc, out, parm)?;
-            }
-            Ok(())
-        }
+        Descriptor::Media(parts) => write_media(out, parts.as_slice()),
+        Descriptor::Keep(kind, sent) => write_tail(out, *kind, sent),
+        Descriptor::Audit(words) => write_audit(out, words.as_slice()),
+        Descriptor::Services(parms) => write_services(out, parms.as_slice()),
         Descriptor::Other(word) => {
-            put(out, b"Other ")?;
-            write_encoded(alloc, out, word.as_bytes())
+            out.put(b"Other ");
+            out.encoded(word.as_bytes());
         }
     }
 }
 
 /// What the text is read as: its tree in one line, with ` ..` where something is left; or the fault.
-fn told(alloc: Global, text: &[u8]) -> Result<Vec<u8>, CaseFault> {
+fn write_read(out: &mut Page, text: &[u8]) {
     let mut cursor = Cursor::new(text);
-    match Descriptor::read(alloc, &mut cursor) {
+    match Descriptor::read(out.alloc(), &mut cursor) {
         Ok(descriptor) => {
-            let mut out = Vec::new(alloc);
-            write_descriptor(alloc, &mut out, &descriptor)?;
+            write_descriptor(out, &descriptor);
             if !cursor.is_empty() {
-                put(&mut out, b" ..")?;
+                out.put(b" ..");
             }
-            Ok(out)
         }
-        Err(PartFault::NoMemory) => Err(CaseFault::NoMemory),
-        Err(fault) => shown(alloc, &fault),
+        Err(fault) => out.shown(&fault),
     }
-}
-
-/// So many of so many.
-pub fn write_share(
-    alloc: Global,
-    out: &mut Vec<u8>,
-    part: u64,
-    whole: usize,
-) -> Result<(), AllocError> {
-    write_number(alloc, out, part)?;
-    put(out, b" of ")?;
-    write_number(alloc, out, whole as u64)
 }
 
 /// How many of the text's proper prefixes are no descriptor.
-fn prefixes(alloc: Global, text: &[u8]) -> Result<Vec<u8>, CaseFault> {
+fn write_prefixes(out: &mut Page, text: &[u8]) {
     let mut none = 0u64;
     for end in 0..text.len() {
-        let front = text.get(..end).unwrap_or(text);
-        if Descriptor::read(alloc, &mut Cursor::new(front)).is_err() {
+        let mut cursor = Cursor::new(&text[..end]);
+        if Descriptor::read(out.alloc(), &mut cursor).is_err() {
             none = none.saturating_add(1);
         }
     }
-    let mut out = Vec::new(alloc);
-    write_share(alloc, &mut out, none, text.len())?;
-    put(&mut out, b" are no descriptor")?;
-    Ok(out)
+    out.number(none);
+    out.put(b" of ");
+    out.number(text.len() as u64);
+    out.put(b" are no descriptor");
 }
 
-/// The answer to a case of these calls.
-pub fn answer(alloc: Global, call: &[u8], rest: &[u8]) -> Result<Vec<u8>, CaseFault> {
-    let text = decoded(alloc, rest)?;
+/// Answers a case of these calls. False: it is none.
+pub fn answers(call: &str, text: &[u8], out: &mut Page) -> bool {
     match call {
-        b"descriptor" => told(alloc, text.as_slice()),
-        _ => prefixes(alloc, text.as_slice()),
+        "descriptor" => write_read(out, text),
+        "descriptor-prefixes" => write_prefixes(out, text),
+        _ => return false,
     }
+    true
 }

@@ -6,8 +6,7 @@ mod messages;
 mod names;
 mod scans;
 
-use cases_text::{CaseFault, Desk, transcript};
-use std::alloc::Global;
+use cases_text::{CaseFault, Desk, Page, decoded, transcript};
 use std::io;
 
 /// Answers cases of reading.
@@ -15,22 +14,17 @@ use std::io;
 struct Reading;
 
 impl Desk for Reading {
-    fn answer(&mut self, alloc: Global, call: &[u8], rest: &[u8]) -> Result<Vec<u8>, CaseFault> {
-        match call {
-            b"name"
-            | b"mid"
-            | b"media"
-            | b"term"
-            | b"order"
-            | b"senders"
-            | b"code"
-            | b"no-memory" => { names::answer(alloc, call, rest) }
-            b"descriptor" | b"descriptor-prefixes" => descriptors::answer(alloc, call, rest),
-            b"message" | b"body" | b"action" | b"descriptors" | b"prefixes" => {
-                messages::answer(alloc, call, rest)
-            }
-            _ => scans::answer(alloc, call, rest),
+    fn answer(&mut self, call: &str, asked: &[u8], out: &mut Page) -> Result<(), CaseFault> {
+        let text = decoded(out.alloc(), asked)?;
+        let text = text.as_slice();
+        if names::answers(call, text, out)
+            || descriptors::answers(call, text, out)
+            || messages::answers(call, text, out)
+            || scans::answers(call, text, out)
+        {
+            return Ok(());
         }
+        Err(CaseFault::Call)
     }
 }
 

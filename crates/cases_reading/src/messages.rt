@@ -1,161 +1,123 @@
 //! A message as one line: its sender, and its tree.
 
-use crate::descriptors::{write_descriptor, write_share};
-use cases_text::{CaseFault, decoded, named, shown, write_encoded, write_number};
+use crate::descriptors::write_descriptor;
+use cases_text::Page;
 use gw_base::CtxRef;
 use gw_msg::{AckRange, Action, Command, Item, Message, ReadFault, Request, read_message};
-use std::alloc::{AllocError, Global};
-use std::fmt::Debug;
 
-/// A tree that is being written.
-#[derive(Drop)]
-struct Outline {
-    alloc: Global,
-    text: Vec<u8>,
+fn write_command(out: &mut Page, command: &Command<'_>) {
+    out.put(b"; ");
+    out.named(&command.verb);
+    if command.optional {
+        out.put(b" optional");
+    }
+    if command.wild {
+        out.put(b" wild");
+    }
+    out.put(b" ");
+    out.named(&command.term);
+    for descriptor in command.descriptors.as_slice() {
+        out.put(b" + ");
+        write_descriptor(out, descriptor);
+    }
 }
 
-impl Outline {
-    fn put(&mut self, text: &[u8]) -> Result<(), AllocError> {
-        self.text.extend_from_slice(text)
+fn write_context(out: &mut Page, ctx: CtxRef) {
+    out.put(b" in ");
+    match ctx {
+        CtxRef::Null => out.put(b"-"),
+        CtxRef::All => out.put(b"*"),
+        CtxRef::Choose => out.put(b"$"),
+        CtxRef::Num(number) => out.number(u64::from(number.0)),
     }
+}
 
-    fn number(&mut self, number: u32) -> Result<(), AllocError> {
-        write_number(self.alloc, &mut self.text, u64::from(number))
+fn write_action(out: &mut Page, action: &Action<'_>) {
+    write_context(out, action.ctx);
+    if action.props {
+        out.put(b" properties");
     }
-
-    /// A value as it stands in the code.
-    fn named<T: Debug>(&mut self, value: &T) -> Result<(), CaseFault> {
-        let name = named(self.alloc, value)?;
-        Ok(self.put(name.as_slice())?)
+    for command in action.commands.as_slice() {
+        write_command(out, command);
     }
+}
 
-    fn command(&mut self, command: &Command<'_>) -> Result<(), CaseFault> {
-        self.put(b"; ")?;
-        self.named(&command.verb)?;
-        if command.optional {
-            self.put(b" optional")?;
-        }
-        if command.wild {
-            self.put(b" wild")?;
-        }
-        self.put(b" ")?;
-        self.named(&command.term)?;
-        for descriptor in command.descriptors.as_slice() {
-            self.put(b" + ")?;
-            write_descriptor(self.alloc, &mut self.text, descriptor)?;
-        }
-        Ok(())
+fn write_request(out: &mut Page, request: &Request<'_>) {
+    out.put(b"request ");
+    out.number(u64::from(request.id.0));
+    for action in request.actions.as_slice() {
+        write_action(out, action);
     }
+}
 
-    fn action(&mut self, action: &Action<'_>) -> Result<(), CaseFault> {
-        match action.ctx {
-            CtxRef::Null => self.put(b" in -")?,
-            CtxRef::All => self.put(b" in *")?,
-            CtxRef::Choose => self.put(b" in $")?,
-            CtxRef::Num(number) => {
-                self.put(b" in ")?;
-                self.number(number.0)?;
-            }
-        }
-        if action.props {
-            self.put(b" properties")?;
-        }
-        for command in action.commands.as_slice() {
-            self.command(command)?;
-        }
-        Ok(())
+fn write_ack(out: &mut Page, ranges: &[AckRange]) {
+    out.put(b"ack");
+    for range in ranges {
+        out.put(b" ");
+        out.number(u64::from(range.first));
+        out.put(b"-");
+        out.number(u64::from(range.last));
     }
+}
 
-    fn request(&mut self, request: &Request<'_>) -> Result<(), CaseFault> {
-        self.put(b"request ")?;
-        self.number(request.id.0)?;
-        for action in request.actions.as_slice() {
-            self.action(action)?;
+fn write_message(out: &mut Page, message: &Message<'_>) {
+    out.encoded(message.mid.as_bytes());
+    out.put(b": ");
+    for item in message.items.as_slice() {
+        match item {
+            Item::Request(request) => write_request(out, request),
+            Item::Ack(ranges) => write_ack(out, ranges.as_slice()),
+            Item::Ignored => out.put(b"ignored"),
         }
-        Ok(())
-    }
-
-    fn ack(&mut self, ranges: &[AckRange]) -> Result<(), AllocError> {
-        self.put(b"ack")?;
-        for range in ranges {
-            self.put(b" ")?;
-            self.number(range.first)?;
-            self.put(b"-")?;
-            self.number(range.last)?;
-        }
-        Ok(())
-    }
-
-    fn message(&mut self, message: &Message<'_>) -> Result<(), CaseFault> {
-        write_encoded(self.alloc, &mut self.text, message.mid.as_bytes())?;
-        self.put(b": ")?;
-        for item in message.items.as_slice() {
-            match item {
-                Item::Request(request) => self.request(request)?,
-                Item::Ack(ranges) => self.ack(ranges.as_slice())?,
-                Item::Ignored => self.put(b"ignored")?,
-            }
-            self.put(b".")?;
-        }
-        Ok(())
+        out.put(b".");
     }
 }
 
 /// What the text is read as.
-fn told(alloc: Global, text: &[u8]) -> Result<Vec<u8>, CaseFault> {
-    let mut outline = Outline {
-        alloc,
-        text: Vec::new(alloc),
-    };
-    match read_message(alloc, text) {
-        Ok(message) => {
-            outline.message(&message)?;
-            Ok(outline.text)
-        }
-        Err(ReadFault::NoMemory) => Err(CaseFault::NoMemory),
-        Err(fault) => shown(alloc, &fault),
+fn write_read(out: &mut Page, text: &[u8]) {
+    match read_message(out.alloc(), text) {
+        Ok(message) => write_message(out, &message),
+        Err(fault) => out.shown(&fault),
     }
 }
 
-/// The text between two others.
-fn between(alloc: Global, front: &[u8], text: &[u8], behind: &[u8]) -> Result<Vec<u8>, CaseFault> {
-    let mut whole = Vec::from_slice(alloc, front)?;
-    whole.extend_from_slice(text)?;
-    whole.extend_from_slice(behind)?;
-    Ok(whole)
+/// What the text is read as between two others.
+fn write_between(out: &mut Page, front: &[u8], text: &[u8], behind: &[u8]) {
+    let mut whole = Page::new(out.alloc());
+    whole.put(front);
+    whole.put(text);
+    whole.put(behind);
+    write_read(out, whole.as_bytes());
 }
 
 /// How many of the text's proper prefixes are no message.
-fn prefixes(alloc: Global, text: &[u8]) -> Result<Vec<u8>, CaseFault> {
+fn write_prefixes(out: &mut Page, text: &[u8]) {
     let mut none = 0u64;
     for end in 0..text.len() {
-        let front = text.get(..end).unwrap_or(text);
-        if let Err(ReadFault::Syntax) = read_message(alloc, front) {
+        if let Err(ReadFault::Syntax) = read_message(out.alloc(), &text[..end]) {
             none = none.saturating_add(1);
         }
     }
-    let mut out = Vec::new(alloc);
-    write_share(alloc, &mut out, none, text.len())?;
-    out.extend_from_slice(b" have a syntax error")?;
-    Ok(out)
+    out.number(none);
+    out.put(b" of ");
+    out.number(text.len() as u64);
+    out.put(b" have a syntax error");
 }
 
-/// The answer to a case of these calls.
-pub fn answer(alloc: Global, call: &[u8], rest: &[u8]) -> Result<Vec<u8>, CaseFault> {
-    let text = decoded(alloc, rest)?;
-    let text = text.as_slice();
-    let whole = match call {
-        b"message" => between(alloc, b"", text, b"")?,
-        b"body" => between(alloc, b"MEGACO/1 mg ", text, b"")?,
-        b"action" => between(alloc, b"MEGACO/1 mg Transaction=1{", text, b"}")?,
-        b"descriptors" => between(
-            alloc,
+/// Answers a case of these calls. False: it is none.
+pub fn answers(call: &str, text: &[u8], out: &mut Page) -> bool {
+    match call {
+        "message" => write_read(out, text),
+        "body" => write_between(out, b"MEGACO/1 mg ", text, b""),
+        "action" => write_between(out, b"MEGACO/1 mg Transaction=1{", text, b"}"),
+        "descriptors" => write_between(
+            out,
             b"MEGACO/1 mg Transaction=1{Context=-{Modify=T/1{",
             text,
             b"}}}",
-        )?,
-        b"prefixes" => return prefixes(alloc, text),
-        _ => return Err(CaseFault::Call),
-    };
-    told(alloc, whole.as_slice())
+        ),
+        "prefixes" => write_prefixes(out, text),
+        _ => return false,
+    }
+    true
 }

@@ -1,96 +1,88 @@
 //! Names, mIds, addresses, TerminationIDs, and the table of error codes.
 
-use cases_text::{CaseFault, code_of, decoded, named, shown, split_word, write_encoded};
+use cases_text::{Page, code_of, split_word};
 use gw_base::{MediaAddr, Mid, NameFault, NoMemory, TermName, TermRef};
-use gw_desc::PartFault;
 use gw_msg::ReadFault;
-use std::alloc::Global;
+use gw_text::PartFault;
 use std::cmp::Ordering;
 use std::fmt::Display;
 
 /// What was read, as it is shown.
-fn read_back<T: Display>(alloc: Global, value: &T) -> Result<Vec<u8>, CaseFault> {
-    let text = shown(alloc, value)?;
-    let mut out = Vec::from_slice(alloc, b"read ")?;
-    write_encoded(alloc, &mut out, text.as_slice())?;
-    Ok(out)
+fn write_value<T: Display>(out: &mut Page, value: &T) {
+    let mut text = Page::new(out.alloc());
+    text.shown(value);
+    out.put(b"read ");
+    out.encoded(text.as_bytes());
 }
 
 /// What was read or its fault, as they are shown.
-fn told<T: Display + Drop>(
-    alloc: Global,
-    read: Result<T, NameFault>,
-) -> Result<Vec<u8>, CaseFault> {
+fn write_read<T: Display + Drop>(out: &mut Page, read: Result<T, NameFault>) {
     match read {
-        Ok(value) => read_back(alloc, &value),
-        Err(fault) => shown(alloc, &fault),
+        Ok(value) => write_value(out, &value),
+        Err(fault) => out.shown(&fault),
     }
 }
 
-fn words(alloc: Global, text: &str) -> Result<Vec<u8>, CaseFault> {
-    Ok(Vec::from_slice(alloc, text.as_bytes())?)
-}
-
-fn term(alloc: Global, text: &[u8]) -> Result<Vec<u8>, CaseFault> {
+fn write_term(out: &mut Page, text: &[u8]) {
     match TermRef::read(text) {
-        Ok(term) => named(alloc, &term),
-        Err(fault) => shown(alloc, &fault),
+        Ok(term) => out.named(&term),
+        Err(fault) => out.shown(&fault),
     }
 }
 
 /// The order of two names.
-fn order(alloc: Global, text: &[u8]) -> Result<Vec<u8>, CaseFault> {
+fn write_order(out: &mut Page, text: &[u8]) {
     let (first, second) = split_word(text);
     let (Ok(first), Ok(second)) = (TermName::read(first), TermName::read(second)) else {
-        return Err(CaseFault::Form);
+        out.put(b"no names");
+        return;
     };
-    match first.cmp(&second) {
-        Ordering::Less => words(alloc, "before"),
-        Ordering::Equal => words(alloc, "the same"),
-        Ordering::Greater => words(alloc, "behind"),
-    }
+    out.put(match first.cmp(&second) {
+        Ordering::Less => b"before",
+        Ordering::Equal => b"the same",
+        Ordering::Greater => b"behind",
+    });
 }
 
 /// Whether two mIds are one sender's.
-fn senders(alloc: Global, text: &[u8]) -> Result<Vec<u8>, CaseFault> {
+fn write_senders(out: &mut Page, text: &[u8]) {
     let (first, second) = split_word(text);
     let (Ok(first), Ok(second)) = (Mid::read(first), Mid::read(second)) else {
-        return Err(CaseFault::Form);
+        out.put(b"no mIds");
+        return;
     };
-    words(alloc, if first == second { "one" } else { "two" })
+    out.put(if first == second { b"one" } else { b"two" });
 }
 
 /// The text of the code with a number.
-fn code(alloc: Global, number: &[u8]) -> Result<Vec<u8>, CaseFault> {
+fn write_code(out: &mut Page, number: &[u8]) {
     match code_of(number) {
-        Some(code) => words(alloc, code.text()),
-        None => words(alloc, "no code"),
+        Some(code) => out.put(code.text().as_bytes()),
+        None => out.put(b"no code"),
     }
 }
 
 /// The texts of want of memory, by the crate that tells it.
-fn no_memory(alloc: Global) -> Result<Vec<u8>, CaseFault> {
-    let mut out = shown(alloc, &NoMemory)?;
-    out.push(b'\n')?;
-    out.extend_from_slice(shown(alloc, &PartFault::NoMemory)?.as_slice())?;
-    out.push(b'\n')?;
-    out.extend_from_slice(shown(alloc, &ReadFault::NoMemory)?.as_slice())?;
-    Ok(out)
+fn write_no_memory(out: &mut Page) {
+    out.shown(&NoMemory);
+    out.put(b"\n");
+    out.shown(&PartFault::NoMemory);
+    out.put(b"\n");
+    out.shown(&ReadFault::NoMemory);
 }
 
-/// The answer to a case of these calls.
-pub fn answer(alloc: Global, call: &[u8], rest: &[u8]) -> Result<Vec<u8>, CaseFault> {
-    let text = decoded(alloc, rest)?;
-    let text = text.as_slice();
+/// Answers a case of these calls. False: it is none.
+pub fn answers(call: &str, text: &[u8], out: &mut Page) -> bool {
     match call {
-        b"name" => told(alloc, TermName::read(text)),
-        b"mid" => told(alloc, Mid::read(text)),
-        b"media" => told(alloc, MediaAddr::read(text)),
-        b"term" => term(alloc, text),
-        b"order" => order(alloc, text),
-        b"senders" => senders(alloc, text),
-        b"code" => code(alloc, text),
-        b"no-memory" => no_memory(alloc),
-        _ => Err(CaseFault::Call),
+        "name" => write_read(out, TermName::read(text)),
+        "mid" => write_read(out, Mid::read(text)),
+        "media" => write_read(out, MediaAddr::read(text)),
+        "term" => write_term(out, text),
+        "order" => write_order(out, text),
+        "senders" => write_senders(out, text),
+        "code" => write_code(out, text),
+        "no-memory" => write_no_memory(out),
+        _ => return false,
     }
+    true
 }

@@ -1,106 +1,100 @@
 //! Scans at the front of a text: what each takes, with `%|` where the cursor stands behind it.
 
-use cases_text::{
-    CaseFault, decoded, named, shown, split_at_byte, split_word, write_encoded, write_number,
-};
+use cases_text::{Page, as_text, split_at_byte, split_word};
 use gw_text::{Cursor, ScanFault, token_of};
-use std::alloc::Global;
 
-/// The byte that comes next.
-fn next(cursor: &mut Cursor<'_>) -> Option<u8> {
-    (0..=u8::MAX).find(|byte| cursor.is_at(*byte))
-}
-
-/// All that the cursor has before it.
-fn rest(alloc: Global, cursor: &mut Cursor<'_>, text: &[u8]) -> Result<Vec<u8>, CaseFault> {
-    let mut rest = Vec::new(alloc);
+/// All that the cursor has before it, at most so much as the text.
+fn rest(out: &Page, cursor: &mut Cursor<'_>, text: &[u8]) -> Page {
+    let mut rest = Page::new(out.alloc());
     for _byte in text {
-        let Some(byte) = next(cursor) else {
+        let Some(byte) = cursor.peek() else {
             break;
         };
         cursor.byte(byte);
-        rest.push(byte)?;
+        rest.put(&[byte]);
     }
-    Ok(rest)
+    rest
 }
 
 /// What a scan took and left; or its fault, behind which nothing was taken.
-fn cut(
-    alloc: Global,
+fn write_cut(
+    out: &mut Page,
     text: &[u8],
     cursor: &mut Cursor<'_>,
     answer: Result<&[u8], ScanFault>,
-) -> Result<Vec<u8>, CaseFault> {
-    let left = rest(alloc, cursor, text)?;
-    let left = left.as_slice();
-    let mut out = Vec::new(alloc);
+) {
+    let left = rest(out, cursor, text);
     match answer {
         Ok(span) => {
-            write_encoded(alloc, &mut out, span)?;
-            out.extend_from_slice(b"%|")?;
-            write_encoded(alloc, &mut out, left)?;
+            out.encoded(span);
+            out.put(b"%|");
+            out.encoded(left.as_bytes());
         }
         Err(fault) => {
-            out.extend_from_slice(shown(alloc, &fault)?.as_slice())?;
-            if left != text {
-                out.extend_from_slice(b", and the cursor moved")?;
+            out.shown(&fault);
+            if left.as_bytes() != text {
+                out.put(b", and the cursor moved");
             }
         }
     }
-    Ok(out)
 }
 
 /// A number, and what the scan left.
-fn uint32(alloc: Global, text: &[u8]) -> Result<Vec<u8>, CaseFault> {
+fn write_uint32(out: &mut Page, text: &[u8]) {
     let mut cursor = Cursor::new(text);
     match cursor.uint32() {
         Ok(number) => {
-            let mut out = cut(alloc, text, &mut cursor, Ok(number.span))?;
-            out.extend_from_slice(b" is ")?;
-            write_number(alloc, &mut out, u64::from(number.value))?;
-            Ok(out)
+            write_cut(out, text, &mut cursor, Ok(number.span));
+            out.put(b" is ");
+            out.number(u64::from(number.value));
         }
-        Err(fault) => cut(alloc, text, &mut cursor, Err(fault)),
+        Err(fault) => write_cut(out, text, &mut cursor, Err(fault)),
     }
 }
 
 /// A group at most so deep.
-fn balanced(alloc: Global, asked: &[u8]) -> Result<Vec<u8>, CaseFault> {
+fn write_balanced(out: &mut Page, asked: &[u8]) {
     let (depth, text) = split_word(asked);
-    let Ok(depth) = Cursor::new(depth).number(2, 16) else {
-        return Err(CaseFault::Form);
-    };
-    let mut cursor = Cursor::new(text);
-    let answer = cursor.balanced(depth.value);
-    cut(alloc, text, &mut cursor, answer)
+    match Cursor::new(depth).number(2, 16) {
+        Ok(depth) => {
+            let mut cursor = Cursor::new(text);
+            let answer = cursor.balanced(depth.value);
+            write_cut(out, text, &mut cursor, answer);
+        }
+        Err(fault) => out.shown(&fault),
+    }
 }
 
-fn token(alloc: Global, text: &[u8]) -> Result<Vec<u8>, CaseFault> {
+fn write_token(out: &mut Page, text: &[u8]) {
     match token_of(text) {
-        Some(token) => named(alloc, &token),
-        None => Ok(Vec::from_slice(alloc, b"no token")?),
+        Some(token) => out.named(&token),
+        None => out.put(b"no token"),
     }
 }
 
 /// One look or step of a cursor: whether it was so.
-fn look(cursor: &mut Cursor<'_>, step: &[u8]) -> Result<bool, CaseFault> {
-    match step {
-        b"empty" => Ok(cursor.is_empty()),
-        b"space" => Ok(!cursor.lwsp().is_empty()),
-        [b's', b'i', b'g', b'n', sign] => Ok(cursor.sign(*sign)),
-        [b'a', b'h', b'e', b'a', b'd', sign] => Ok(cursor.is_ahead(*sign)),
-        [b'a', b't', byte] => Ok(cursor.is_at(*byte)),
-        [b'b', b'y', b't', b'e', byte] => Ok(cursor.byte(*byte)),
-        [b'p', b'r', b'e', b'f', b'i', b'x', prefix @ ..] => Ok(cursor.prefix(prefix)),
-        _ => Err(CaseFault::Form),
+fn look(cursor: &mut Cursor<'_>, step: &[u8]) -> bool {
+    let Some((last, front)) = step.split_last() else {
+        return false;
+    };
+    match as_text(front) {
+        "sign" => cursor.sign(*last),
+        "ahead" => cursor.is_ahead(*last),
+        "at" => cursor.is_at(*last),
+        "byte" => cursor.byte(*last),
+        "empt" => cursor.is_empty(),
+        "spac" => !cursor.lwsp().is_empty(),
+        _ => match step.strip_prefix(b"prefix") {
+            Some(prefix) => cursor.prefix(prefix),
+            None => false,
+        },
     }
 }
 
 /// Steps of one cursor, one behind the other, with a comma between them: whether each was so, and what is left.
-fn steps(alloc: Global, asked: &[u8]) -> Result<Vec<u8>, CaseFault> {
+fn write_steps(out: &mut Page, asked: &[u8]) {
     let (steps, text) = split_word(asked);
     let mut cursor = Cursor::new(text);
-    let mut out = Vec::new(alloc);
     let mut later = steps;
     // Each turn takes a byte at least.
     for _turn in steps {
@@ -108,39 +102,44 @@ fn steps(alloc: Global, asked: &[u8]) -> Result<Vec<u8>, CaseFault> {
             break;
         }
         let (step, behind) = split_at_byte(later, b',');
-        let answer: &[u8] = if look(&mut cursor, step)? {
+        out.put(if look(&mut cursor, step) {
             b"yes "
         } else {
             b"no "
-        };
-        out.extend_from_slice(answer)?;
+        });
         later = behind;
     }
-    out.extend_from_slice(b"%|")?;
-    let left = rest(alloc, &mut cursor, text)?;
-    write_encoded(alloc, &mut out, left.as_slice())?;
-    Ok(out)
+    out.put(b"%|");
+    let left = rest(out, &mut cursor, text);
+    out.encoded(left.as_bytes());
 }
 
-/// The answer to a case of these calls.
-pub fn answer(alloc: Global, call: &[u8], asked: &[u8]) -> Result<Vec<u8>, CaseFault> {
-    let text = decoded(alloc, asked)?;
-    let text = text.as_slice();
+/// Answers a case of a scan without a word of its own. False: it is none.
+fn scans(call: &str, text: &[u8], out: &mut Page) -> bool {
     let mut cursor = Cursor::new(text);
     let answer = match call {
-        b"lwsp" => Ok(cursor.lwsp()),
-        b"sep" => cursor.sep(),
-        b"word" => cursor.word(),
-        b"solid" => cursor.solid(),
-        b"octets" => cursor.octets(),
-        b"quoted" => cursor.quoted(),
-        b"run" => cursor.run(),
-        b"bracket" => cursor.bracket(),
-        b"uint32" => return uint32(alloc, text),
-        b"balanced" => return balanced(alloc, text),
-        b"token" => return token(alloc, text),
-        b"steps" => return steps(alloc, text),
-        _ => return Err(CaseFault::Call),
+        "lwsp" => Ok(cursor.lwsp()),
+        "sep" => cursor.sep(),
+        "word" => cursor.word(),
+        "solid" => cursor.solid(),
+        "octets" => cursor.octets(),
+        "quoted" => cursor.quoted(),
+        "run" => cursor.run(),
+        "bracket" => cursor.bracket(),
+        _ => return false,
     };
-    cut(alloc, text, &mut cursor, answer)
+    write_cut(out, text, &mut cursor, answer);
+    true
+}
+
+/// Answers a case of these calls. False: it is none.
+pub fn answers(call: &str, text: &[u8], out: &mut Page) -> bool {
+    match call {
+        "uint32" => write_uint32(out, text),
+        "balanced" => write_balanced(out, text),
+        "token" => write_token(out, text),
+        "steps" => write_steps(out, text),
+        _ => return scans(call, text, out),
+    }
+    true
 }

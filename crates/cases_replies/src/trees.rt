@@ -2,133 +2,180 @@
 //! context, `in:9!411` for one that is an error; `Add=T/1` and `Add=T/9!430` for command replies; `*236` in front of a word
 //! that stands so many times.
 
-use cases_text::{CaseFault, code_of, context_of, number_of, split_word};
-use gw_base::{Code, CtxRef, Items, TermRef, TxId, Verb};
-use gw_reply::{ActionReply, CommandReply, TxReply};
+use cases_text::{
+    CaseFault, Page, as_text, code_of, context_of, number_of, split_at_byte, split_word,
+};
+use gw_base::{Code, Items, Mid, NoMemory, TermRef, TxId, Verb};
+use gw_reply::{ActionReply, CommandReply, TxReply, write_fault, write_reply};
 use std::alloc::Global;
 
-/// A word before the mark, and what stands behind it.
-fn split_at(word: &[u8], mark: u8) -> (&[u8], Option<&[u8]>) {
-    match word.iter().position(|byte| *byte == mark) {
-        Some(place) => (
-            word.get(..place).unwrap_or(word),
-            word.get(place..).and_then(|rest| rest.get(1..)),
-        ),
-        None => (word, None),
+/// The command of a word.
+pub fn verb_of(word: &[u8]) -> Result<Verb, CaseFault> {
+    match as_text(word) {
+        "Add" => Ok(Verb::Add),
+        "Modify" => Ok(Verb::Modify),
+        "Move" => Ok(Verb::Move),
+        "Subtract" => Ok(Verb::Subtract),
+        "AuditValue" => Ok(Verb::AuditValue),
+        "AuditCapability" => Ok(Verb::AuditCapability),
+        "Notify" => Ok(Verb::Notify),
+        "ServiceChange" => Ok(Verb::ServiceChange),
+        _ => Err(CaseFault::Form),
     }
 }
 
-/// A word, and the code behind its `!`.
-fn split_code(word: &[u8]) -> Result<(&[u8], Option<Code>), CaseFault> {
-    match split_at(word, b'!') {
-        (front, Some(number)) => Ok((front, Some(code_of(number).ok_or(CaseFault::Form)?))),
-        (front, None) => Ok((front, None)),
+/// The code that a word has behind a `!`, or no code where it has none.
+fn error_of(number: &[u8]) -> Result<Option<Code>, CaseFault> {
+    if number.is_empty() {
+        return Ok(None);
     }
-}
-
-fn verb_of(word: &[u8]) -> Option<Verb> {
-    match word {
-        b"Add" => Some(Verb::Add),
-        b"Modify" => Some(Verb::Modify),
-        b"Move" => Some(Verb::Move),
-        b"Subtract" => Some(Verb::Subtract),
-        b"AuditValue" => Some(Verb::AuditValue),
-        b"AuditCapability" => Some(Verb::AuditCapability),
-        b"Notify" => Some(Verb::Notify),
-        b"ServiceChange" => Some(Verb::ServiceChange),
-        _ => None,
+    match code_of(number) {
+        Some(code) => Ok(Some(code)),
+        None => Err(CaseFault::Form),
     }
 }
 
 /// A command reply.
 fn command_of(alloc: Global, word: &[u8]) -> Result<CommandReply, CaseFault> {
-    let (front, code) = split_code(word)?;
-    let (verb, Some(term)) = split_at(front, b'=') else {
+    let (front, number) = split_at_byte(word, b'!');
+    let (verb, term) = split_at_byte(front, b'=');
+    let verb = verb_of(verb)?;
+    let code = error_of(number)?;
+    let Ok(term) = TermRef::read(term) else {
         return Err(CaseFault::Form);
     };
-    let (Some(verb), Ok(term)) = (verb_of(verb), TermRef::read(term)) else {
-        return Err(CaseFault::Form);
-    };
-    let result = match code {
-        Some(code) => Err(code),
-        None => Ok(Items::new(alloc)),
-    };
-    Ok(CommandReply { verb, term, result })
-}
-
-/// An action reply that is being put together.
-#[derive(Drop)]
-struct Action {
-    ctx: CtxRef,
-    code: Option<Code>,
-    commands: Vec<CommandReply>,
-}
-
-impl Action {
-    fn done(self) -> ActionReply {
-        ActionReply {
-            ctx: self.ctx,
-            result: match self.code {
-                Some(code) => Err(code),
-                None => Ok(Items::from(self.commands)),
-            },
-        }
-    }
-}
-
-/// An action reply without command replies yet.
-fn action_of(alloc: Global, word: &[u8]) -> Result<Action, CaseFault> {
-    let (ctx, code) = split_code(word)?;
-    Ok(Action {
-        ctx: context_of(ctx).ok_or(CaseFault::Form)?,
-        code,
-        commands: Vec::new(alloc),
+    Ok(CommandReply {
+        verb,
+        term,
+        result: match code {
+            Some(code) => Err(code),
+            None => Ok(Items::new(alloc)),
+        },
     })
 }
 
-/// The action replies that the words write.
-fn actions_of(alloc: Global, words: &[u8]) -> Result<Vec<ActionReply>, CaseFault> {
-    let mut actions = Vec::new(alloc);
-    let mut open: Option<Action> = None;
+/// Adds a command reply so many times.
+fn add_command(
+    alloc: Global,
+    commands: &mut Items<CommandReply>,
+    word: &[u8],
+    times: u32,
+) -> Result<(), CaseFault> {
+    for _ in 0..times {
+        commands.push(command_of(alloc, word)?)?;
+    }
+    Ok(())
+}
+
+/// Adds the command replies that the words write up to the next action reply, and gives what stands from there on.
+fn add_commands<'a>(
+    alloc: Global,
+    commands: &mut Items<CommandReply>,
+    words: &'a [u8],
+) -> Result<&'a [u8], CaseFault> {
+    let mut rest = words;
     let mut times = 1;
-    for word in words.split(|byte| *byte == b' ') {
-        if let Some(ctx) = word.strip_prefix(b"in:") {
-            if let Some(action) = open.take() {
-                actions.push(action.done())?;
-            }
-            open = Some(action_of(alloc, ctx)?);
-            continue;
+    // Each step takes a byte at least.
+    for _step in words {
+        if rest.is_empty() || rest.starts_with(b"in:") {
+            break;
         }
+        let (word, behind) = split_word(rest);
         if let Some(count) = word.strip_prefix(b"*") {
             times = number_of(count).ok_or(CaseFault::Form)?;
-            continue;
+        } else {
+            add_command(alloc, commands, word, times)?;
+            times = 1;
         }
-        let Some(action) = &mut open else {
-            return Err(CaseFault::Form);
-        };
-        for _ in 0..times {
-            action.commands.push(command_of(alloc, word)?)?;
+        rest = behind;
+    }
+    Ok(rest)
+}
+
+/// Adds the action reply that the words begin with, and gives what stands behind it.
+fn add_action<'a>(
+    alloc: Global,
+    actions: &mut Items<ActionReply>,
+    words: &'a [u8],
+) -> Result<&'a [u8], CaseFault> {
+    let (word, rest) = split_word(words);
+    let ctx = word.strip_prefix(b"in:").ok_or(CaseFault::Form)?;
+    let (ctx, number) = split_at_byte(ctx, b'!');
+    let ctx = context_of(ctx).ok_or(CaseFault::Form)?;
+    if let Some(code) = error_of(number)? {
+        actions.push(ActionReply {
+            ctx,
+            result: Err(code),
+        })?;
+        return Ok(rest);
+    }
+    let mut commands = Items::new(alloc);
+    let rest = add_commands(alloc, &mut commands, rest)?;
+    actions.push(ActionReply {
+        ctx,
+        result: Ok(commands),
+    })?;
+    Ok(rest)
+}
+
+/// Adds the action replies that the words write.
+fn add_actions(
+    alloc: Global,
+    actions: &mut Items<ActionReply>,
+    words: &[u8],
+) -> Result<(), CaseFault> {
+    let mut rest = words;
+    // Each step takes a byte at least.
+    for _step in words {
+        if rest.is_empty() {
+            break;
         }
-        times = 1;
+        rest = add_action(alloc, actions, rest)?;
     }
-    if let Some(action) = open.take() {
-        actions.push(action.done())?;
-    }
-    Ok(actions)
+    Ok(())
 }
 
 /// The tree that the words write.
-pub fn tree_of(alloc: Global, words: &[u8]) -> Result<TxReply, CaseFault> {
+fn tree_of(alloc: Global, words: &[u8]) -> Result<TxReply, CaseFault> {
     let (id, rest) = split_word(words);
     let id = TxId(number_of(id).ok_or(CaseFault::Form)?);
     if let Some(number) = rest.strip_prefix(b"!") {
+        let code = code_of(number).ok_or(CaseFault::Form)?;
         return Ok(TxReply {
             id,
-            result: Err(code_of(number).ok_or(CaseFault::Form)?),
+            result: Err(code),
         });
     }
+    let mut actions = Items::new(alloc);
+    add_actions(alloc, &mut actions, rest)?;
     Ok(TxReply {
         id,
-        result: Ok(Items::from(actions_of(alloc, rest)?)),
+        result: Ok(actions),
     })
+}
+
+/// A message with its length.
+fn write_text(text: Result<Vec<u8>, NoMemory>, out: &mut Page) {
+    match text {
+        Ok(text) => {
+            out.number(text.len() as u64);
+            out.put(b" bytes: ");
+            out.message(text.as_slice());
+        }
+        Err(fault) => out.shown(&fault),
+    }
+}
+
+/// The message of the tree that the words write.
+pub fn write_tree(mid: &Mid, words: &[u8], out: &mut Page) -> Result<(), CaseFault> {
+    let tree = tree_of(out.alloc(), words)?;
+    write_text(write_reply(out.alloc(), &tree, mid), out);
+    Ok(())
+}
+
+/// The message that has the error as its body.
+pub fn write_code(mid: &Mid, number: &[u8], out: &mut Page) -> Result<(), CaseFault> {
+    let code = code_of(number).ok_or(CaseFault::Form)?;
+    write_text(write_fault(out.alloc(), code, mid), out);
+    Ok(())
 }

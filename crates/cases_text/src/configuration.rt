@@ -3,9 +3,9 @@
 //! for further ones, or `count=4000` for the terminations T/0 to T/3999.
 
 use crate::fault::CaseFault;
-use crate::split::split_at_byte;
-use crate::texts::write_number;
-use crate::words::number_of;
+use crate::page::Page;
+use crate::split::{split_at_byte, split_word};
+use crate::words::{as_text, number_of};
 use gw_base::{Config, Items, MediaAddr, Mid, TermName};
 use std::alloc::Global;
 
@@ -31,47 +31,64 @@ fn add_names(terms: &mut Items<TermName>, names: &[u8]) -> Result<(), CaseFault>
     Ok(())
 }
 
-/// So many names.
-fn counted(alloc: Global, count: u32) -> Result<Items<TermName>, CaseFault> {
-    let mut terms = Items::new(alloc);
+/// Adds so many names.
+fn add_counted(terms: &mut Items<TermName>, name: &mut Page, count: u32) -> Result<(), CaseFault> {
     for number in 0..count {
-        let mut name = Vec::from_slice(alloc, b"T/")?;
-        write_number(alloc, &mut name, u64::from(number))?;
-        add_name(&mut terms, name.as_slice())?;
+        name.clear();
+        name.put(b"T/");
+        name.number(u64::from(number));
+        add_name(terms, name.as_bytes())?;
     }
-    Ok(terms)
+    Ok(())
 }
 
-/// The configuration with one of its numbers, which a word names, made another.
-fn renumber(config: &mut Config, name: &[u8], number: u32) -> Result<(), CaseFault> {
+/// Changes a number of the configuration; `count` makes the terminations anew.
+fn renumber(alloc: Global, config: &mut Config, name: &str, number: u32) -> Result<(), CaseFault> {
     match name {
-        b"contexts" => config.contexts = number,
-        b"slots" => config.slots = number,
-        b"members" => config.members = number,
-        b"keep" => config.keep = number,
+        "contexts" => config.contexts = number,
+        "slots" => config.slots = number,
+        "members" => config.members = number,
+        "keep" => config.keep = number,
+        "count" => {
+            config.terms.clear();
+            return add_counted(&mut config.terms, &mut Page::new(alloc), number);
+        }
         _ => return Err(CaseFault::Form),
     }
     Ok(())
 }
 
 /// Changes the configuration by a word of a name, `=` and a value.
-fn change(alloc: Global, config: &mut Config, name: &[u8], value: &[u8]) -> Result<(), CaseFault> {
-    if name == b"more".as_slice() {
-        return add_names(&mut config.terms, value);
+fn change(alloc: Global, config: &mut Config, word: &[u8]) -> Result<(), CaseFault> {
+    let (name, value) = split_at_byte(word, b'=');
+    match as_text(name) {
+        "terms" => {
+            config.terms.clear();
+            add_names(&mut config.terms, value)
+        }
+        "more" => add_names(&mut config.terms, value),
+        name => {
+            let number = number_of(value).ok_or(CaseFault::Form)?;
+            renumber(alloc, config, name, number)
+        }
     }
-    if name == b"terms".as_slice() {
-        config.terms.clear();
-        return add_names(&mut config.terms, value);
-    }
-    let number = number_of(value).ok_or(CaseFault::Form)?;
-    if name == b"count".as_slice() {
-        config.terms = counted(alloc, number)?;
-        return Ok(());
-    }
-    renumber(config, name, number)
 }
 
-/// The gateway of a case that says nothing else.
+/// Changes the configuration by each of the words.
+fn change_all(alloc: Global, config: &mut Config, words: &[u8]) -> Result<(), CaseFault> {
+    let mut rest = words;
+    // Each step takes a byte at least.
+    for _step in words {
+        let (word, behind) = split_word(rest);
+        if !word.is_empty() {
+            change(alloc, config, word)?;
+        }
+        rest = behind;
+    }
+    Ok(())
+}
+
+/// The gateway of a case that says nothing else, but for its terminations.
 fn usual(alloc: Global) -> Result<Config, CaseFault> {
     let Ok(mid) = Mid::read(b"[10.0.0.1]:2944") else {
         return Err(CaseFault::Form);
@@ -79,7 +96,7 @@ fn usual(alloc: Global) -> Result<Config, CaseFault> {
     let Ok(media) = MediaAddr::read(b"10.0.0.1") else {
         return Err(CaseFault::Form);
     };
-    let mut config = Config {
+    Ok(Config {
         mid,
         media,
         contexts: 8,
@@ -87,9 +104,7 @@ fn usual(alloc: Global) -> Result<Config, CaseFault> {
         members: 3,
         keep: 4,
         terms: Items::new(alloc),
-    };
-    add_names(&mut config.terms, b"T/1,T/2,T/3,T/4")?;
-    Ok(config)
+    })
 }
 
 /// The configuration that the words write.
@@ -99,15 +114,7 @@ fn usual(alloc: Global) -> Result<Config, CaseFault> {
 /// `Form` at a word that says nothing; `NoMemory` where a growth was refused.
 pub fn config_of(alloc: Global, words: &[u8]) -> Result<Config, CaseFault> {
     let mut config = usual(alloc)?;
-    let mut rest = words;
-    // Each step takes a byte at least.
-    for _step in words {
-        let (word, behind) = split_at_byte(rest, b' ');
-        if !word.is_empty() {
-            let (name, value) = split_at_byte(word, b'=');
-            change(alloc, &mut config, name, value)?;
-        }
-        rest = behind;
-    }
+    add_names(&mut config.terms, b"T/1,T/2,T/3,T/4")?;
+    change_all(alloc, &mut config, words)?;
     Ok(config)
 }

@@ -1,24 +1,30 @@
 //! What is wrong with a case.
 
 use std::alloc::{AllocError, AllocFailed};
-use std::io;
-use thiserror::Error;
 
 /// Why a case has no answer.
-#[derive(Clone, Copy, Debug, PartialEq, Eq, Error)]
+#[derive(Clone, Copy)]
 pub enum CaseFault {
     /// The line begins with no call of the program.
-    #[error("no such call")]
     Call,
     /// What follows the call is of no form that it takes.
-    #[error("a case of another form")]
     Form,
     /// A `%` stands before neither two hexadecimal digits nor a run in brackets.
-    #[error("a percent sign that stands for nothing")]
     Escape,
     /// A growth was refused.
-    #[error("no memory")]
     NoMemory,
+}
+
+impl CaseFault {
+    /// What stands below the case.
+    pub fn text(self) -> &'static [u8] {
+        match self {
+            CaseFault::Call => b"! no such call",
+            CaseFault::Form => b"! a case of another form",
+            CaseFault::Escape => b"! a percent sign that stands for nothing",
+            CaseFault::NoMemory => b"! no memory",
+        }
+    }
 }
 
 impl From<AllocError> for CaseFault {
@@ -30,14 +36,5 @@ impl From<AllocError> for CaseFault {
 impl<T: Drop> From<AllocFailed<T>> for CaseFault {
     fn from(_e: AllocFailed<T>) -> CaseFault {
         CaseFault::NoMemory
-    }
-}
-
-impl From<CaseFault> for io::Error {
-    fn from(fault: CaseFault) -> io::Error {
-        match fault {
-            CaseFault::NoMemory => io::Error::from(io::ErrorKind::OutOfMemory),
-            _ => io::Error::from(io::ErrorKind::InvalidData),
-        }
     }
 }

@@ -5,14 +5,14 @@ mod configuration;
 mod escape;
 mod fault;
 mod lines;
+mod page;
 mod split;
-mod texts;
 mod words;
 
 pub use configuration::config_of;
-pub use escape::{decoded, write_encoded};
+pub use escape::decoded;
 pub use fault::CaseFault;
 pub use lines::{Desk, transcript};
+pub use page::Page;
 pub use split::{split_at_byte, split_word};
-pub use texts::{named, shown, write_message, write_number, write_state};
-pub use words::{code_of, context_of, number_of};
+pub use words::{as_text, code_of, context_of, number_of};

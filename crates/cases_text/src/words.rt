@@ -1,6 +1,7 @@
 //! Words of cases: numbers, contexts and error codes.
 
 use gw_base::{Code, CtxNum, CtxRef};
+use std::str;
 
 /// Every error code.
 const CODES: [Code; 20] = [
@@ -26,38 +27,33 @@ const CODES: [Code; 20] = [
     Code::ReplyTooLong,
 ];
 
+/// A word as text: none, where it has other bytes.
+pub fn as_text(word: &[u8]) -> &str {
+    str::from_utf8(word).unwrap_or("")
+}
+
 /// The number that the digits write, where it is at most 4,294,967,295.
 pub fn number_of(digits: &[u8]) -> Option<u32> {
-    if digits.is_empty() {
-        return None;
-    }
-    let mut number: u32 = 0;
-    for digit in digits {
-        if !digit.is_ascii_digit() {
-            return None;
-        }
-        number = number
-            .checked_mul(10)?
-            .checked_add(u32::from(*digit - b'0'))?;
-    }
-    Some(number)
+    as_text(digits).parse().ok()
 }
 
 /// The context that a word names: `-`, `*`, `$` or a number.
 pub fn context_of(word: &[u8]) -> Option<CtxRef> {
-    match word {
-        b"-" => Some(CtxRef::Null),
-        b"*" => Some(CtxRef::All),
-        b"$" => Some(CtxRef::Choose),
-        _ => number_of(word).map(|number| CtxRef::Num(CtxNum(number))),
+    match as_text(word) {
+        "-" => Some(CtxRef::Null),
+        "*" => Some(CtxRef::All),
+        "$" => Some(CtxRef::Choose),
+        _ => Some(CtxRef::Num(CtxNum(number_of(word)?))),
     }
 }
 
 /// The error code of a number.
 pub fn code_of(number: &[u8]) -> Option<Code> {
     let number = number_of(number)?;
-    CODES
-        .iter()
-        .copied()
-        .find(|code| u32::from(code.number()) == number)
+    for code in CODES.iter() {
+        if u32::from(code.number()) == number {
+            return Some(*code);
+        }
+    }
+    None
 }

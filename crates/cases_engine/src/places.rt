@@ -14,22 +14,22 @@ pub struct Place {
 }
 
 /// The context of an action by its word, and what stands behind it.
-fn at_of<'a>(call: &[u8], rest: &'a [u8]) -> Result<(At, &'a [u8]), CaseFault> {
-    if call == b"null".as_slice() {
+fn at_of<'a>(call: &str, rest: &'a [u8]) -> Result<(At, &'a [u8]), CaseFault> {
+    if call == "null" {
         return Ok((At::Null, rest));
     }
     let (number, behind) = split_word(rest);
     let number = CtxNum(number_of(number).ok_or(CaseFault::Form)?);
     match call {
-        b"live" => Ok((At::Live(number), behind)),
-        b"unmade" => Ok((At::Unmade(number), behind)),
-        b"each" => Ok((At::Each(number), behind)),
+        "live" => Ok((At::Live(number), behind)),
+        "unmade" => Ok((At::Unmade(number), behind)),
+        "each" => Ok((At::Each(number), behind)),
         _ => Err(CaseFault::Call),
     }
 }
 
 /// Where the command stands, and the command.
-pub fn place_of<'a>(call: &[u8], rest: &'a [u8]) -> Result<(Place, &'a [u8]), CaseFault> {
+pub fn place_of<'a>(call: &str, rest: &'a [u8]) -> Result<(Place, &'a [u8]), CaseFault> {
     let (at, rest) = at_of(call, rest)?;
     let (word, behind) = split_word(rest);
     let Some(digits) = word.strip_prefix(b"slot=") else {

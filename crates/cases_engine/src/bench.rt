@@ -6,10 +6,10 @@ ghost use Rattle.gw_table.specs.Reserved.{is_reserved};
 ghost use Rattle.gw_cmd.specs.Suits.{IsUnused};
 
 use crate::places::Place;
-use cases_text::CaseFault;
+use cases_text::{CaseFault, Page};
 use gw_base::{Config, Rules, TermName};
 use gw_cmd::{CmdOutcome, command};
-use gw_msg::{Command, Item, read_message};
+use gw_msg::{Command, Item, Message, read_message};
 use gw_table::{Tables, is_reserved, slot_name};
 use std::alloc::Global;
 use std::marker::Model;
@@ -49,6 +49,23 @@ fn is_unused(tables: &Tables, slot: Option<u16>) -> bool
         Some(slot) => tables.find_term(&slot_name(slot)).is_none(),
         None => true,
     }
+}
+
+/// The command of a message of one request of one action.
+fn command_of<'m, 'a>(message: &'m Message<'a>) -> Option<&'m Command<'a>> {
+    let [item] = message.items.as_slice() else {
+        return None;
+    };
+    let Item::Request(request) = item else {
+        return None;
+    };
+    let [action] = request.actions.as_slice() else {
+        return None;
+    };
+    let [command] = action.commands.as_slice() else {
+        return None;
+    };
+    Some(command)
 }
 
 impl Bench {
@@ -100,6 +117,22 @@ impl Bench {
         ))
     }
 
+    /// The command of a message carried out at its place.
+    fn asked_by(
+        &self,
+        alloc: Global,
+        place: Place,
+        message: &[u8],
+    ) -> Result<(CmdOutcome, Bench), CaseFault> {
+        let Ok(message) = read_message(alloc, message) else {
+            return Err(CaseFault::Form);
+        };
+        match command_of(&message) {
+            Some(asked) => self.carried(alloc, place, asked),
+            None => Err(CaseFault::Form),
+        }
+    }
+
     /// The command of this text carried out at its place: its replies, and the tables after it.
     pub fn asked(
         &self,
@@ -107,24 +140,10 @@ impl Bench {
         place: Place,
         text: &[u8],
     ) -> Result<(CmdOutcome, Bench), CaseFault> {
-        let mut whole = Vec::from_slice(alloc, b"MEGACO/1 mg T=1{C=-{")?;
-        whole.extend_from_slice(text)?;
-        whole.extend_from_slice(b"}}")?;
-        let Ok(message) = read_message(alloc, whole.as_slice()) else {
-            return Err(CaseFault::Form);
-        };
-        let [item] = message.items.as_slice() else {
-            return Err(CaseFault::Form);
-        };
-        let Item::Request(request) = item else {
-            return Err(CaseFault::Form);
-        };
-        let [action] = request.actions.as_slice() else {
-            return Err(CaseFault::Form);
-        };
-        let [asked] = action.commands.as_slice() else {
-            return Err(CaseFault::Form);
-        };
-        self.carried(alloc, place, asked)
+        let mut whole = Page::new(alloc);
+        whole.put(b"MEGACO/1 mg T=1{C=-{");
+        whole.put(text);
+        whole.put(b"}}");
+        self.asked_by(alloc, place, whole.as_bytes())
     }
 }

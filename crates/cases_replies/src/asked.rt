@@ -1,0 +1,51 @@
+//! The descriptors of a text, as those of a Modify.
+
+use cases_text::{CaseFault, Page};
+use gw_desc::Descriptor;
+use gw_msg::{Command, Item, Message, read_message};
+
+/// What is asked of descriptors.
+pub trait Asks {
+    /// Writes the answer.
+    fn ask(&mut self, descriptors: &[Descriptor<'_>], out: &mut Page) -> Result<(), CaseFault>;
+}
+
+/// The command of a message of one request of one action.
+fn command_of<'m, 'a>(message: &'m Message<'a>) -> Option<&'m Command<'a>> {
+    let [item] = message.items.as_slice() else {
+        return None;
+    };
+    let Item::Request(request) = item else {
+        return None;
+    };
+    let [action] = request.actions.as_slice() else {
+        return None;
+    };
+    let [command] = action.commands.as_slice() else {
+        return None;
+    };
+    Some(command)
+}
+
+/// The answer to what is asked of the descriptors of a message.
+fn ask_message<A: Asks>(text: &[u8], asks: &mut A, out: &mut Page) -> Result<(), CaseFault> {
+    let Ok(message) = read_message(out.alloc(), text) else {
+        return Err(CaseFault::Form);
+    };
+    match command_of(&message) {
+        Some(command) => asks.ask(command.descriptors.as_slice(), out),
+        None => Err(CaseFault::Form),
+    }
+}
+
+/// The answer to what is asked of the descriptors.
+pub fn ask<A: Asks>(text: &[u8], asks: &mut A, out: &mut Page) -> Result<(), CaseFault> {
+    if text.is_empty() {
+        return asks.ask(&[], out);
+    }
+    let mut whole = Page::new(out.alloc());
+    whole.put(b"MEGACO/1 mg T=1{C=-{MF=T/1{");
+    whole.put(text);
+    whole.put(b"}}}");
+    ask_message(whole.as_bytes(), asks, out)
+}
