@@ -1,7 +1,7 @@
 #!/usr/bin/env python3
 """Whether two programs answer alike: 20,000 datagrams, each a recorded one with one to three changes of bytes or words.
 
-    bench/alike.py OLD NEW [SEED]
+    bench/alike.py OLD NEW [START]
 
 Both replay the same bursts over examples/four.conf. It fails at the first byte of the answers that differs. Run it where the
 code of reading or of the commands is made plainer or faster, with a program that was built before.
@@ -51,8 +51,8 @@ def renumbered(rng, text):
     return text.replace(b"Transaction=1", b"Transaction=%d" % rng.randrange(1, 1_000_000), 1) if rng.random() < 0.8 else text
 
 
-def bursts(seed):
-    rng, texts, out, left = random.Random(seed), recorded(), [], 20_000
+def bursts(start):
+    rng, texts, out, left = random.Random(start), recorded(), [], 20_000
     while left:
         for _ in range(min(left, rng.randint(1, 16))):
             text = renumbered(rng, rng.choice(texts))
@@ -70,8 +70,8 @@ def answers(program, given):
 
 def main():
     old, new = sys.argv[1:3]
-    seed = int(sys.argv[3]) if sys.argv[3:] else 1
-    given = bursts(seed)
+    start = int(sys.argv[3]) if sys.argv[3:] else 1
+    given = bursts(start)
     left, right = answers(old, given), answers(new, given)
     if left != right:
         at = next((i for i, (a, b) in enumerate(zip(left[1], right[1])) if a != b), min(len(left[1]), len(right[1])))
