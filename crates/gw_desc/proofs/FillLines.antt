@@ -1,5 +1,6 @@
 -- A line with a text put in the place of a field, and a text with its lines filled, from one part to the next.
-use Rattle.std.proofs.Common.{◌≡◌, ℕ, suc, Bool, true, false, ◌||◌, if◌then◌else◌, List, [], ◌∷◌, ◌++◌, codes, bytes_eq, refl, ap, sym, ◌∙◌, append_assoc, Result, Ok, Err, OnOk, IfOk}
+use Rattle.std.proofs.Common.{◌≡◌, ℕ, zero, suc, Bool, true, false, ◌==◌, ◌&&◌, ◌||◌, if◌then◌else◌, List, [], ◌∷◌, ◌++◌, codes, bytes_eq, refl, ap, sym, ◌∙◌, append_assoc, arith, Result, Ok, Err, OnOk, IfOk}
+use Rattle.std.proofs.lemmas.Bool.Decides.{nat_tests}
 use Rattle.std.specs.List.{list_any}
 use Rattle.gw_base.specs.Bytes.{is_one_of}
 use Rattle.gw_desc.specs.Fill.{line_ends, field_ends, has_choose, with_field, put, filled_line, is_fillable_line, filled_text, is_fillable}
@@ -38,6 +39,15 @@ pub put_past : (place n : ℕ) (new line : List ℕ) → place ≡ suc n → lis
 unfolding put has_choose
 put_past place n new line later none = rw (later, parts_last (is_one_of field_ends) line none) (refl, refl)
 
+is_behind : (place n : ℕ) → place ≡ suc n → (place == 0) ≡ false
+is_behind place n later = grind (arith, nat_tests)
+
+-- a line of one field
+pub put_only : (place : ℕ) (new line : List ℕ) → list_any (is_one_of field_ends) line ≡ false
+    → (put place new line ≡ (if place == 0 && bytes_eq line (codes "$") then new else line)) × (has_choose place line ≡ (place == 0 && bytes_eq line (codes "$")))
+put_only zero new line none = put_last new line none
+put_only (suc n) new line none = rw (is_behind (suc n) n refl) (put_past (suc n) n new line refl none)
+
 -- ---- as it is written
 
 -- three pieces behind what was written
@@ -51,12 +61,12 @@ written out o1 o2 o3 piece back whole end first second third is =
 
 -- the field stands first, and what is behind it stays
 pub first_written : (place : ℕ) (new line field back out o1 o2 o3 : List ℕ) (end : ℕ) (told : Bool) → place ≡ 0 → line ≡ field ++ end ∷ back → list_any (is_one_of field_ends) field ≡ false → is_one_of field_ends end ≡ true
-    → o1 ≡ out ++ (if bytes_eq field (codes "$") then new else field) → o2 ≡ o1 ++ end ∷ [] → o3 ≡ o2 ++ back → told ≡ bytes_eq field (codes "$")
+    → o1 ≡ out ++ (if place == 0 && bytes_eq field (codes "$") then new else field) → o2 ≡ o1 ++ end ∷ [] → o3 ≡ o2 ++ back → told ≡ (place == 0 && bytes_eq field (codes "$"))
     → (o3 ≡ out ++ put place new line) × (told ≡ has_choose place line)
-first_written place new line field back out o1 o2 o3 end told at split none ends first second third said =
+first_written place new line field back out o1 o2 o3 end told here split none ends first second third said =
     let e = put_first new line field back end split none ends in (
-      written out o1 o2 o3 (if bytes_eq field (codes "$") then new else field) back (put place new line) end first second third (ap (λ (p : ℕ). put p new line) at ∙ e.0),
-      said ∙ sym e.1 ∙ sym (ap (λ (p : ℕ). has_choose p line) at),
+      written out o1 o2 o3 (if bytes_eq field (codes "$") then new else field) back (put place new line) end (rw here at first) second third (ap (λ (p : ℕ). put p new line) here ∙ e.0),
+      (rw here at said) ∙ sym e.1 ∙ sym (ap (λ (p : ℕ). has_choose p line) here),
     )
 
 -- the field stands behind this part, which stays
@@ -65,9 +75,9 @@ later_line place n new line field back out o1 o2 o3 end is first second third =
     written out o1 o2 o3 field (put n new back) (put place new line) end first second third (is ∙ append_assoc field (end ∷ []) (put n new back))
 
 pub later_text : {T E : Type 0} (r : Result T E) (place n : ℕ) (new line field back out o1 o2 o3 : List ℕ) (end : ℕ) → place ≡ suc n → line ≡ field ++ end ∷ back → list_any (is_one_of field_ends) field ≡ false → is_one_of field_ends end ≡ true
-    → o1 ≡ out ++ field → o2 ≡ o1 ++ end ∷ [] → OnOk r (o3 ≡ o2 ++ put n new back) → OnOk r (o3 ≡ out ++ put place new line)
+    → o1 ≡ out ++ (if place == 0 && bytes_eq field (codes "$") then new else field) → o2 ≡ o1 ++ end ∷ [] → OnOk r (o3 ≡ o2 ++ put n new back) → OnOk r (o3 ≡ out ++ put place new line)
 later_text (Ok x) place n new line field back out o1 o2 o3 end later split none ends first second third =
-    later_line place n new line field back out o1 o2 o3 end (put_later place n new line field back end later split none ends).0 first second third
+    later_line place n new line field back out o1 o2 o3 end (put_later place n new line field back end later split none ends).0 (rw (is_behind place n later) at first) second third
 later_text (Err x) place n new line field back out o1 o2 o3 end later split none ends first second third = tt
 
 pub later_told : {E : Type 0} (r : Result Bool E) (place n : ℕ) (new line field back : List ℕ) (end : ℕ) → place ≡ suc n → line ≡ field ++ end ∷ back → list_any (is_one_of field_ends) field ≡ false → is_one_of field_ends end ≡ true

@@ -2,7 +2,7 @@
 //! takes memory.
 
 ghost use Rattle.std.specs.Prelude.{◌≡◌, OnOk, IfErr, Some, None};
-ghost use Rattle.gw_desc.specs.Checks.{check_code, has_illegal, has_unknown, has_twice, has_content_twice, has_bad, has_past, is_unknown, is_twice, holds_twice, is_bad, is_past, lacks};
+ghost use Rattle.gw_desc.specs.Checks.{check_code, has_illegal, has_unknown, has_twice, has_content_twice, has_bad, has_past};
 
 mod contents;
 mod counts;

@@ -21,7 +21,7 @@ pub enum Descriptor<'a> {
 }
 
 /// Which descriptor is kept as sent.
-#[derive(Clone, Copy, PartialEq, Eq)]
+#[derive(Clone, Copy)]
 pub enum KeptKind {
     /// `Events` (RFC 3525, section 7.1.9): which events are to be told of.
     Events,
@@ -68,7 +68,7 @@ pub struct Property<T> {
 }
 
 /// What stands between a property's name and its value.
-#[derive(Clone, Copy, PartialEq, Eq)]
+#[derive(Clone, Copy)]
 pub enum Sign {
     /// `=`
     Equal,

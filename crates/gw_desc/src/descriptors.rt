@@ -32,7 +32,7 @@ fn keep<'a>(cursor: &mut Cursor<'a>, kind: KeptKind) -> Result<Descriptor<'a>, P
 impl<'a> Part<'a> for Descriptor<'a> {
     ghost read_at = { descriptor_at };
 
-    #[tactic(auto, using(crate::proofs::MediaLaws::media_part_shrinks, crate::proofs::ServiceLaws::service_parm_shrinks, crate::proofs::Texts::word_shrinks), unfolding(crate::specs::Reading::descriptor_at))]
+    #[tactic(auto, unfolding(crate::specs::Reading::descriptor_at))]
     fn read(alloc: Global, cursor: &mut Cursor<'a>) -> Result<Descriptor<'a>, PartFault> {
         let word = cursor.word()?;
         match token_of(word) {

@@ -1,6 +1,6 @@
 //! How `$` in a Local is filled (own to this profile): the address of a `c=` line and the port of an `m=` line.
 
-ghost use Rattle.std.specs.Prelude.{◌≡◌, ◌≤◌, ◌<◌, ◌++◌, ◌∷◌, false, true, IfOk, OnOk, IfNone, IfSome, if◌then◌else◌, bytes_eq, codes};
+ghost use Rattle.std.specs.Prelude.{◌≡◌, ◌≤◌, ◌<◌, ◌++◌, ◌∷◌, false, true, IfOk, OnOk, IfNone, IfSome, if◌then◌else◌, ◌==◌, ◌&&◌, bytes_eq, codes};
 ghost use Rattle.std.specs.List.{list_any};
 ghost use Rattle.gw_base.specs.Bytes.{is_one_of};
 ghost use Rattle.gw_desc.specs.Fill.{filled, is_fillable, is_fillable_line, filled_line, filled_text, has_choose, put};
@@ -33,12 +33,17 @@ fn cut<'a>(text: &'a [u8], ends: &[u8]) -> Option<(&'a [u8], u8, &'a [u8])>
     None
 }
 
-/// The field goes behind what was written, or the new text if the field is `$`; whether it is.
-fn write_field(field: &[u8], new: &[u8], out: &mut Vec<u8>) -> Result<bool, AllocError>
-    ensures text { OnOk result (out.new.items ≡ out.old.items ++ (if bytes_eq field.now (codes "$") then new.now else field.now)) }
-    ensures told { IfOk result (λ told. told ≡ bytes_eq field.now (codes "$")) }
+/// The field goes behind what was written, or the new text if its place is 0 and it is `$`; whether it is.
+fn write_field(
+    field: &[u8],
+    place: usize,
+    new: &[u8],
+    out: &mut Vec<u8>,
+) -> Result<bool, AllocError>
+    ensures text { OnOk result (out.new.items ≡ out.old.items ++ (if place == 0 && bytes_eq field.now (codes "$") then new.now else field.now)) }
+    ensures told { IfOk result (λ told. told ≡ (place == 0 && bytes_eq field.now (codes "$"))) }
 {
-    let choose = field == CHOOSE;
+    let choose = place == 0 && field == CHOOSE;
     out.extend_from_slice(if choose { new } else { field })?;
     Ok(choose)
 }
@@ -48,24 +53,16 @@ fn write_line(line: &[u8], place: usize, new: &[u8], out: &mut Vec<u8>) -> Resul
     ensures text { OnOk result (out.new.items ≡ out.old.items ++ put place new.now line.now) }
     ensures told { IfOk result (λ told. told ≡ has_choose place line.now) }
 {
-    match cut(line, FIELD_ENDS) {
-        Some((field, end, behind)) if place == 0 => {
-            let told = write_field(field, new, out)?;
-            out.push(end)?;
-            out.extend_from_slice(behind)?;
-            Ok(told)
-        }
-        Some((field, end, behind)) => {
-            out.extend_from_slice(field)?;
-            out.push(end)?;
-            write_line(behind, place - 1, new, out)
-        }
-        None if place == 0 => write_field(line, new, out),
-        None => {
-            out.extend_from_slice(line)?;
-            Ok(false)
-        }
+    let Some((field, end, behind)) = cut(line, FIELD_ENDS) else {
+        return write_field(line, place, new, out);
+    };
+    let told = write_field(field, place, new, out)?;
+    out.push(end)?;
+    if place > 0 {
+        return write_line(behind, place - 1, new, out);
     }
+    out.extend_from_slice(behind)?;
+    Ok(told)
 }
 
 /// The line goes behind what was written, filled; whether it had a `$` to fill.

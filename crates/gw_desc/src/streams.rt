@@ -33,7 +33,6 @@ fn octets<'a>(cursor: &mut Cursor<'a>) -> Result<Span<'a>, PartFault>
 }
 
 /// What follows the word of a part of a stream.
-#[tactic(auto, using(crate::proofs::PropertyLaws::property_shrinks))]
 fn stream_part<'a>(
     alloc: Global,
     cursor: &mut Cursor<'a>,
@@ -60,7 +59,7 @@ impl<'a> Part<'a> for StreamPart<'a> {
 }
 
 /// What follows the word `Stream`: its number and its parts.
-#[tactic(auto, using(crate::proofs::MediaLaws::stream_part_shrinks), unfolding(crate::specs::Reading::stream_at))]
+#[tactic(auto, unfolding(crate::specs::Reading::stream_at))]
 fn stream<'a>(alloc: Global, cursor: &mut Cursor<'a>) -> Result<MediaPart<'a>, PartFault>
     ensures { Gives result cursor.new (stream_at cursor.old) }
 {
@@ -73,7 +72,7 @@ fn stream<'a>(alloc: Global, cursor: &mut Cursor<'a>) -> Result<MediaPart<'a>, P
 impl<'a> Part<'a> for MediaPart<'a> {
     ghost read_at = { media_part_at };
 
-    #[tactic(auto, using(crate::proofs::PropertyLaws::property_shrinks), unfolding(crate::specs::Reading::media_part_at))]
+    #[tactic(auto, unfolding(crate::specs::Reading::media_part_at))]
     fn read(alloc: Global, cursor: &mut Cursor<'a>) -> Result<MediaPart<'a>, PartFault> {
         match token(cursor)? {
             Token::Stream => stream(alloc, cursor),

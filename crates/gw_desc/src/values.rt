@@ -8,7 +8,7 @@ use gw_base::{Service, Span};
 use gw_text::{Cursor, Token, token_of};
 
 /// The mode of a stream (RFC 3525, section 7.1.7).
-#[derive(Clone, Copy, PartialEq, Eq)]
+#[derive(Clone, Copy)]
 pub enum Mode {
     /// `SendOnly`: media goes out.
     SendOnly,
@@ -23,7 +23,7 @@ pub enum Mode {
 }
 
 /// What an Audit may ask for (RFC 3525, section 7.2.5).
-#[derive(Clone, Copy, PartialEq, Eq)]
+#[derive(Clone, Copy)]
 pub enum AuditItem {
     /// `Media`: the service state, the streams and all properties.
     Media,

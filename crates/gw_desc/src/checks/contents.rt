@@ -1,11 +1,10 @@
 //! What stands twice in a list: a property, an item of an Audit, a parameter of a Services.
 
 ghost use Rattle.std.specs.Prelude.{◌≡◌};
-ghost use Rattle.std.specs.List.{list_any};
-ghost use Rattle.gw_desc.specs.Checks.{has_content_twice, holds_twice, has_parm_twice, has_item_twice, has_property_twice, is_control_twice, is_list_twice, same_item};
+ghost use Rattle.gw_desc.specs.Checks.{has_content_twice, has_parm_twice, has_item_twice, has_property_twice, same_item};
 ghost use Rattle.gw_desc.specs.OfKind.{is_special};
 
-use super::counts::{OfKind, has_two};
+use super::counts::{OfKind, has_one, has_two};
 use super::kinds::same_kept;
 use super::names::has_name_twice;
 use crate::descriptor::{Descriptor, KeptKind, MediaPart, Property, ServiceParm, StreamPart};
@@ -77,42 +76,6 @@ fn has_property_twice(properties: &[Property<Span<'_>>], which: Special) -> bool
     has_two(properties, which) || has_name_twice(properties)
 }
 
-fn is_control_twice(part: &StreamPart<'_>) -> bool
-    ensures { result ≡ is_control_twice part.now }
-{
-    match part {
-        StreamPart::LocalControl(properties) => {
-            has_property_twice(properties.as_slice(), Special::Mode)
-        }
-        _ => false,
-    }
-}
-
-fn has_control_twice(parts: &[StreamPart<'_>]) -> bool
-    ensures { result ≡ list_any is_control_twice parts.now }
-{
-    parts.iter().any(is_control_twice)
-}
-
-/// Whether the part has a list in which a property stands twice.
-fn is_list_twice(part: &MediaPart<'_>) -> bool
-    ensures { result ≡ is_list_twice part.now }
-{
-    match part {
-        MediaPart::Outside(p) => is_control_twice(p),
-        MediaPart::Stream(_, parts) => has_control_twice(parts.as_slice()),
-        MediaPart::TerminationState(properties) => {
-            has_property_twice(properties.as_slice(), Special::ServiceStates)
-        }
-    }
-}
-
-fn has_list_twice(parts: &[MediaPart<'_>]) -> bool
-    ensures { result ≡ list_any is_list_twice parts.now }
-{
-    parts.iter().any(is_list_twice)
-}
-
 /// Whether an Audit asks twice for one item.
 #[tactic(auto, unfolding(crate::specs::Checks::has_item_twice))]
 fn has_item_twice(words: &[Span<'_>]) -> bool
@@ -136,14 +99,53 @@ fn has_parm_twice(parms: &[ServiceParm<'_>]) -> bool
     has_two(parms, Token::Method) || has_two(parms, Token::Reason) || has_two(parms, Token::Delay)
 }
 
-fn holds_twice(descriptor: &Descriptor<'_>) -> bool
-    ensures { result ≡ holds_twice descriptor.now }
-{
-    match descriptor {
-        Descriptor::Media(parts) => has_list_twice(parts.as_slice()),
-        Descriptor::Audit(words) => has_item_twice(words.as_slice()),
-        Descriptor::Services(parms) => has_parm_twice(parms.as_slice()),
-        _ => false,
+/// What has a list in which something stands twice.
+#[derive(Clone, Copy)]
+struct Repeating;
+
+impl<'a> OfKind<Repeating> for StreamPart<'a> {
+    ghost use Rattle.gw_desc.specs.Checks.{is_control_twice};
+
+    ghost is_of = { λ _. is_control_twice };
+
+    fn is_of(&self, _kind: Repeating) -> bool {
+        match self {
+            StreamPart::LocalControl(properties) => {
+                has_property_twice(properties.as_slice(), Special::Mode)
+            }
+            _ => false,
+        }
+    }
+}
+
+impl<'a> OfKind<Repeating> for MediaPart<'a> {
+    ghost use Rattle.gw_desc.specs.Checks.{is_list_twice};
+
+    ghost is_of = { λ _. is_list_twice };
+
+    fn is_of(&self, kind: Repeating) -> bool {
+        match self {
+            MediaPart::Outside(part) => part.is_of(kind),
+            MediaPart::Stream(_, parts) => has_one(parts.as_slice(), kind),
+            MediaPart::TerminationState(properties) => {
+                has_property_twice(properties.as_slice(), Special::ServiceStates)
+            }
+        }
+    }
+}
+
+impl<'a> OfKind<Repeating> for Descriptor<'a> {
+    ghost use Rattle.gw_desc.specs.Checks.{holds_twice};
+
+    ghost is_of = { λ _. holds_twice };
+
+    fn is_of(&self, kind: Repeating) -> bool {
+        match self {
+            Descriptor::Media(parts) => has_one(parts.as_slice(), kind),
+            Descriptor::Audit(words) => has_item_twice(words.as_slice()),
+            Descriptor::Services(parms) => has_parm_twice(parms.as_slice()),
+            _ => false,
+        }
     }
 }
 
@@ -152,5 +154,5 @@ fn holds_twice(descriptor: &Descriptor<'_>) -> bool
 pub(crate) fn has_content_twice(descriptors: &[Descriptor<'_>]) -> bool
     ensures { result ≡ has_content_twice descriptors.now }
 {
-    descriptors.iter().any(holds_twice)
+    has_one(descriptors, Repeating)
 }

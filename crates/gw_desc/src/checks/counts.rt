@@ -1,16 +1,24 @@
-//! Two of a kind in a list.
+//! One of a kind in a list, and two.
 
 ghost use Rattle.std.specs.Prelude.{◌≡◌, ◌≤◌, ℕ, Bool, min};
-ghost use Rattle.std.specs.List.{count_by};
+ghost use Rattle.std.specs.List.{count_by, list_any};
 ghost use Rattle.gw_desc.specs.Twice.{has_two};
 
-/// What is of a kind, of which a list may have one.
+/// What can be of a kind. Of some kinds a list may have one; of others, which are faults, none. Each kind is a type of its own,
+/// so that one search of a list, which is proved once, serves them all.
 pub(crate) trait OfKind<K> {
     ghost is_of: { K → Self → Bool };
 
     /// Whether it is of this kind.
     fn is_of(&self, kind: K) -> bool
         ensures { result ≡ is_of kind self.now };
+}
+
+/// Whether one at least of the items is of this kind.
+pub(crate) fn has_one<K: Copy, T: OfKind<K>>(items: &[T], kind: K) -> bool
+    ensures { result ≡ list_any (T.is_of kind) items.now }
+{
+    items.iter().any(|item| item.is_of(kind))
 }
 
 /// How many items are of this kind: none, one, or two and more.

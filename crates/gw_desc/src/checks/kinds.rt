@@ -1,33 +1,13 @@
 //! Which descriptor is of which kind, and which a command may have.
 
 ghost use Rattle.std.specs.Prelude.{◌≡◌};
-ghost use Rattle.std.specs.List.{list_any};
-ghost use Rattle.gw_desc.specs.Checks.{has_illegal, has_unknown, is_unknown, is_legal, is_no_item, is_other, is_audit, is_services, same_kept};
+ghost use Rattle.gw_desc.specs.Checks.{has_illegal, has_unknown, is_legal, same_kept};
 
+use super::counts::{OfKind, has_one};
+use super::twice::Kind;
 use crate::descriptor::{Descriptor, KeptKind};
 use crate::values::item_of;
 use gw_base::{Span, Verb};
-
-/// Whether it is none of the seven kinds.
-fn is_other(descriptor: &Descriptor<'_>) -> bool
-    ensures { result ≡ is_other descriptor.now }
-{
-    matches!(descriptor, Descriptor::Other(_))
-}
-
-/// Whether it is an Audit.
-pub(crate) fn is_audit(descriptor: &Descriptor<'_>) -> bool
-    ensures { result ≡ is_audit descriptor.now }
-{
-    matches!(descriptor, Descriptor::Audit(_))
-}
-
-/// Whether it is a Services.
-pub(crate) fn is_services(descriptor: &Descriptor<'_>) -> bool
-    ensures { result ≡ is_services descriptor.now }
-{
-    matches!(descriptor, Descriptor::Services(_))
-}
 
 /// Whether they are one kind.
 pub fn same_kept(a: KeptKind, b: KeptKind) -> bool
@@ -47,10 +27,27 @@ fn is_legal(verb: Verb, descriptor: &Descriptor<'_>) -> bool
     ensures { result ≡ is_legal verb descriptor.now }
 {
     match verb {
-        Verb::Add | Verb::Modify | Verb::Move => !is_services(descriptor),
-        Verb::Subtract | Verb::AuditValue => is_audit(descriptor),
-        Verb::ServiceChange => is_services(descriptor),
+        Verb::Add | Verb::Modify | Verb::Move => !descriptor.is_of(Kind::Services),
+        Verb::Subtract | Verb::AuditValue => descriptor.is_of(Kind::Audit),
+        Verb::ServiceChange => descriptor.is_of(Kind::Services),
         Verb::AuditCapability | Verb::Notify => false,
+    }
+}
+
+/// One of the seven kinds that the command of this verb may not have.
+#[derive(Clone, Copy)]
+struct IllegalFor(Verb);
+
+impl<'a> OfKind<IllegalFor> for Descriptor<'a> {
+    ghost use Rattle.gw_desc.specs.OfKind.{is_illegal_for};
+
+    ghost is_of = { is_illegal_for };
+
+    fn is_of(&self, kind: IllegalFor) -> bool {
+        match self {
+            Descriptor::Other(_) => false,
+            _ => !is_legal(kind.0, self),
+        }
     }
 }
 
@@ -59,32 +56,36 @@ fn is_legal(verb: Verb, descriptor: &Descriptor<'_>) -> bool
 pub(crate) fn has_illegal(verb: Verb, descriptors: &[Descriptor<'_>]) -> bool
     ensures { result ≡ has_illegal verb descriptors.now }
 {
-    descriptors
-        .iter()
-        .any(|d| !is_other(d) && !is_legal(verb, d))
+    has_one(descriptors, IllegalFor(verb))
 }
 
-/// Whether the word asks for nothing that an Audit may ask for.
-fn is_no_item(word: &Span<'_>) -> bool
-    ensures { result ≡ is_no_item word.now }
-{
-    item_of(word.as_bytes()).is_none()
+/// What this profile does not know.
+#[derive(Clone, Copy)]
+struct Unknown;
+
+/// A word that asks for nothing that an Audit may ask for.
+impl<'a> OfKind<Unknown> for Span<'a> {
+    ghost use Rattle.gw_desc.specs.Checks.{is_no_item};
+
+    ghost is_of = { λ _. is_no_item };
+
+    fn is_of(&self, _kind: Unknown) -> bool {
+        item_of(self.as_bytes()).is_none()
+    }
 }
 
-fn has_no_item(words: &[Span<'_>]) -> bool
-    ensures { result ≡ list_any is_no_item words.now }
-{
-    words.iter().any(is_no_item)
-}
+/// Another descriptor, or an Audit with another item.
+impl<'a> OfKind<Unknown> for Descriptor<'a> {
+    ghost use Rattle.gw_desc.specs.Checks.{is_unknown};
 
-/// Whether it is another descriptor, or an Audit with another item.
-fn is_unknown(descriptor: &Descriptor<'_>) -> bool
-    ensures { result ≡ is_unknown descriptor.now }
-{
-    match descriptor {
-        Descriptor::Other(_) => true,
-        Descriptor::Audit(words) => has_no_item(words.as_slice()),
-        _ => false,
+    ghost is_of = { λ _. is_unknown };
+
+    fn is_of(&self, kind: Unknown) -> bool {
+        match self {
+            Descriptor::Other(_) => true,
+            Descriptor::Audit(words) => has_one(words.as_slice(), kind),
+            _ => false,
+        }
     }
 }
 
@@ -93,5 +94,5 @@ fn is_unknown(descriptor: &Descriptor<'_>) -> bool
 pub(crate) fn has_unknown(descriptors: &[Descriptor<'_>]) -> bool
     ensures { result ≡ has_unknown descriptors.now }
 {
-    descriptors.iter().any(is_unknown)
+    has_one(descriptors, Unknown)
 }

@@ -1,9 +1,9 @@
 //! What is past a limit: numbers of streams and lengths of texts.
 
 ghost use Rattle.std.specs.Prelude.{◌≡◌};
-ghost use Rattle.std.specs.List.{list_any};
-ghost use Rattle.gw_desc.specs.Checks.{has_past, is_past, is_part_past, is_part_long, is_tail_long, is_stream_number, length_if};
+ghost use Rattle.gw_desc.specs.Checks.{has_past, is_tail_long, is_stream_number, length_if};
 
+use super::counts::{OfKind, has_one};
 use crate::descriptor::{Descriptor, MediaPart, StreamPart, Tail};
 use gw_base::Span;
 
@@ -27,52 +27,58 @@ fn is_tail_long(tail: &Tail<Span<'_>>) -> bool
     word > LONGEST_KEPT || length_if(&tail.group) > LONGEST_KEPT - word
 }
 
-fn is_part_long(part: &StreamPart<'_>) -> bool
-    ensures { result ≡ is_part_long part.now }
-{
-    match part {
-        StreamPart::Local(text) | StreamPart::Remote(text) => text.as_bytes().len() > LONGEST_KEPT,
-        StreamPart::LocalControl(_) => false,
-    }
-}
-
 fn is_stream_number(number: u16) -> bool
     ensures { result ≡ is_stream_number number }
 {
     1 <= number && number <= 4
 }
 
-fn has_part_long(parts: &[StreamPart<'_>]) -> bool
-    ensures { result ≡ list_any is_part_long parts.now }
-{
-    parts.iter().any(is_part_long)
-}
+/// What has a number or a length past its limit.
+#[derive(Clone, Copy)]
+struct PastLimit;
 
-fn is_part_past(part: &MediaPart<'_>) -> bool
-    ensures { result ≡ is_part_past part.now }
-{
-    match part {
-        MediaPart::Outside(p) => is_part_long(p),
-        MediaPart::Stream(number, parts) => {
-            !is_stream_number(*number) || has_part_long(parts.as_slice())
+impl<'a> OfKind<PastLimit> for StreamPart<'a> {
+    ghost use Rattle.gw_desc.specs.Checks.{is_part_long};
+
+    ghost is_of = { λ _. is_part_long };
+
+    fn is_of(&self, _kind: PastLimit) -> bool {
+        match self {
+            StreamPart::Local(text) | StreamPart::Remote(text) => {
+                text.as_bytes().len() > LONGEST_KEPT
+            }
+            StreamPart::LocalControl(_) => false,
         }
-        MediaPart::TerminationState(_) => false,
     }
 }
 
-fn has_part_past(parts: &[MediaPart<'_>]) -> bool
-    ensures { result ≡ list_any is_part_past parts.now }
-{
-    parts.iter().any(is_part_past)
+impl<'a> OfKind<PastLimit> for MediaPart<'a> {
+    ghost use Rattle.gw_desc.specs.Checks.{is_part_past};
+
+    ghost is_of = { λ _. is_part_past };
+
+    fn is_of(&self, kind: PastLimit) -> bool {
+        match self {
+            MediaPart::Outside(part) => part.is_of(kind),
+            MediaPart::Stream(number, parts) => {
+                !is_stream_number(*number) || has_one(parts.as_slice(), kind)
+            }
+            MediaPart::TerminationState(_) => false,
+        }
+    }
 }
 
-fn is_past(descriptor: &Descriptor<'_>) -> bool
-    ensures { result ≡ is_past descriptor.now }
-{
-    match descriptor {
-        Descriptor::Media(parts) => has_part_past(parts.as_slice()),
-        Descriptor::Keep(_, tail) => is_tail_long(tail),
-        _ => false,
+impl<'a> OfKind<PastLimit> for Descriptor<'a> {
+    ghost use Rattle.gw_desc.specs.Checks.{is_past};
+
+    ghost is_of = { λ _. is_past };
+
+    fn is_of(&self, kind: PastLimit) -> bool {
+        match self {
+            Descriptor::Media(parts) => has_one(parts.as_slice(), kind),
+            Descriptor::Keep(_, tail) => is_tail_long(tail),
+            _ => false,
+        }
     }
 }
 
@@ -81,5 +87,5 @@ fn is_past(descriptor: &Descriptor<'_>) -> bool
 pub(crate) fn has_past(descriptors: &[Descriptor<'_>]) -> bool
     ensures { result ≡ has_past descriptors.now }
 {
-    descriptors.iter().any(is_past)
+    has_one(descriptors, PastLimit)
 }

@@ -33,8 +33,8 @@ fn bytes_at<'a>(properties: &'a [Property<Span<'_>>], place: usize) -> &'a [u8]
 fn folded_order(a: &[u8], b: &[u8]) -> Ordering
     ensures { result ≡ slice_cmp nat_cmp (folded a.now) (folded b.now) }
 {
-    let lower_a = a.iter().map(|byte| byte.to_ascii_lowercase());
-    let lower_b = b.iter().map(|byte| byte.to_ascii_lowercase());
+    let lower_a = a.iter().map(u8::to_ascii_lowercase);
+    let lower_b = b.iter().map(u8::to_ascii_lowercase);
     lower_a.cmp(lower_b)
 }
 

@@ -1,14 +1,14 @@
 //! Two of a kind: descriptors of a command, and what stands once in a Media.
 
 ghost use Rattle.std.specs.Prelude.{◌≡◌, ◌≤◌, ◌<◌, ◌^◌, ◌%◌, length, min, option_to_list};
-ghost use Rattle.std.specs.List.{count_by, list_any};
-ghost use Rattle.gw_desc.specs.Checks.{has_twice, has_kind_twice, has_part_twice, is_twice, is_media_twice, is_stream_twice, numbers_in, number_in, first_stream, first_in};
+ghost use Rattle.std.specs.List.{count_by};
+ghost use Rattle.gw_desc.specs.Checks.{has_twice, has_kind_twice, has_part_twice, is_media_twice, numbers_in, number_in, first_stream, first_in};
 ghost use Rattle.gw_desc.specs.Twice.{has_number_twice};
 ghost use Rattle.gw_desc.specs.OfKind.{is_part_of};
 ghost use Rattle.gw_desc.specs.Marks.{is_marked, with_mark};
 
-use super::counts::{OfKind, has_two, up_to_two};
-use super::kinds::{is_audit, is_services, same_kept};
+use super::counts::{OfKind, has_one, has_two, up_to_two};
+use super::kinds::same_kept;
 use crate::descriptor::{Descriptor, KeptKind, MediaPart, StreamPart};
 
 /// The kinds of descriptors of which a command may have one.
@@ -32,8 +32,8 @@ impl<'a> OfKind<Kind> for Descriptor<'a> {
                 Descriptor::Keep(found, _) => same_kept(wanted, *found),
                 _ => false,
             },
-            Kind::Audit => is_audit(self),
-            Kind::Services => is_services(self),
+            Kind::Audit => matches!(self, Descriptor::Audit(_)),
+            Kind::Services => matches!(self, Descriptor::Services(_)),
         }
     }
 }
@@ -180,20 +180,22 @@ fn has_number_twice(parts: &[MediaPart<'_>]) -> bool
     false
 }
 
-/// Whether it is a Stream that has such parts.
-fn is_stream_twice(part: &MediaPart<'_>) -> bool
-    ensures { result ≡ is_stream_twice part.now }
-{
-    match part {
-        MediaPart::Stream(_, parts) => has_part_twice(parts.as_slice()),
-        _ => false,
-    }
-}
+/// What has parts twice that stand there once.
+#[derive(Clone, Copy)]
+struct Crowded;
 
-fn has_stream_twice(parts: &[MediaPart<'_>]) -> bool
-    ensures { result ≡ list_any is_stream_twice parts.now }
-{
-    parts.iter().any(is_stream_twice)
+/// A Stream that has such parts.
+impl<'a> OfKind<Crowded> for MediaPart<'a> {
+    ghost use Rattle.gw_desc.specs.Checks.{is_stream_twice};
+
+    ghost is_of = { λ _. is_stream_twice };
+
+    fn is_of(&self, _kind: Crowded) -> bool {
+        match self {
+            MediaPart::Stream(_, parts) => has_part_twice(parts.as_slice()),
+            _ => false,
+        }
+    }
 }
 
 /// Whether something stands twice in a Media.
@@ -203,23 +205,22 @@ fn is_media_twice(parts: &[MediaPart<'_>]) -> bool
 {
     has_two(parts, StateKind)
         || has_number_twice(parts)
-        || has_stream_twice(parts)
+        || has_one(parts, Crowded)
         || has_first_twice(parts)
 }
 
-fn is_twice(descriptor: &Descriptor<'_>) -> bool
-    ensures { result ≡ is_twice descriptor.now }
-{
-    match descriptor {
-        Descriptor::Media(parts) => is_media_twice(parts.as_slice()),
-        _ => false,
-    }
-}
+/// A Media in which something stands twice.
+impl<'a> OfKind<Crowded> for Descriptor<'a> {
+    ghost use Rattle.gw_desc.specs.Checks.{is_twice};
 
-fn has_twice_inside(descriptors: &[Descriptor<'_>]) -> bool
-    ensures { result ≡ list_any is_twice descriptors.now }
-{
-    descriptors.iter().any(is_twice)
+    ghost is_of = { λ _. is_twice };
+
+    fn is_of(&self, _kind: Crowded) -> bool {
+        match self {
+            Descriptor::Media(parts) => is_media_twice(parts.as_slice()),
+            _ => false,
+        }
+    }
 }
 
 /// Whether there are two of a kind.
@@ -227,5 +228,5 @@ fn has_twice_inside(descriptors: &[Descriptor<'_>]) -> bool
 pub(crate) fn has_twice(descriptors: &[Descriptor<'_>]) -> bool
     ensures { result ≡ has_twice descriptors.now }
 {
-    has_kind_twice(descriptors) || has_twice_inside(descriptors)
+    has_kind_twice(descriptors) || has_one(descriptors, Crowded)
 }

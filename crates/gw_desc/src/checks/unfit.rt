@@ -1,96 +1,92 @@
 //! Values and parts that do not fit, and what a command lacks.
 
 ghost use Rattle.std.specs.Prelude.{◌≡◌};
-ghost use Rattle.std.specs.List.{list_any};
-ghost use Rattle.gw_desc.specs.Checks.{has_bad, is_bad, is_media_bad, is_bad_mode, is_bad_state, is_bad_control, is_bad_in, is_outside, is_stream, is_uint32, is_bad_delay, has_value, is_change, is_audit, lacks, has_parm_with_value};
+ghost use Rattle.gw_desc.specs.Checks.{has_bad, is_media_bad, is_uint32, lacks};
 
-use super::kinds::is_audit;
+use super::counts::{OfKind, has_one};
+use super::twice::Kind;
 use crate::descriptor::{Descriptor, MediaPart, Property, ServiceParm, ServiceValue, StreamPart};
 use crate::values::{is_mode, is_parm, is_service_states, mode_set_by, service_set_by, uint32_of};
 use gw_base::{Span, Verb};
 use gw_text::Token;
 
-/// Whether it is a Mode that sets no mode.
-fn is_bad_mode(property: &Property<Span<'_>>) -> bool
-    ensures { result ≡ is_bad_mode property.now }
-{
-    is_mode(property.name.as_bytes()) && mode_set_by(property).is_none()
-}
+/// A Mode that sets no mode.
+#[derive(Clone, Copy)]
+struct UnfitMode;
 
-/// Whether it is a ServiceStates that sets no service state.
-fn is_bad_state(property: &Property<Span<'_>>) -> bool
-    ensures { result ≡ is_bad_state property.now }
-{
-    is_service_states(property.name.as_bytes()) && service_set_by(property).is_none()
-}
+impl<'a> OfKind<UnfitMode> for Property<Span<'a>> {
+    ghost use Rattle.gw_desc.specs.Checks.{is_bad_mode};
 
-/// Whether there is such a one.
-fn has_bad_mode(properties: &[Property<Span<'_>>]) -> bool
-    ensures { result ≡ list_any is_bad_mode properties.now }
-{
-    properties.iter().any(is_bad_mode)
-}
+    ghost is_of = { λ _. is_bad_mode };
 
-fn is_bad_control(part: &StreamPart<'_>) -> bool
-    ensures { result ≡ is_bad_control part.now }
-{
-    match part {
-        StreamPart::LocalControl(properties) => has_bad_mode(properties.as_slice()),
-        _ => false,
+    fn is_of(&self, _kind: UnfitMode) -> bool {
+        is_mode(self.name.as_bytes()) && mode_set_by(self).is_none()
     }
 }
 
-fn has_bad_control(parts: &[StreamPart<'_>]) -> bool
-    ensures { result ≡ list_any is_bad_control parts.now }
-{
-    parts.iter().any(is_bad_control)
-}
+/// A ServiceStates that sets no service state.
+#[derive(Clone, Copy)]
+struct UnfitState;
 
-fn has_bad_state(properties: &[Property<Span<'_>>]) -> bool
-    ensures { result ≡ list_any is_bad_state properties.now }
-{
-    properties.iter().any(is_bad_state)
-}
+impl<'a> OfKind<UnfitState> for Property<Span<'a>> {
+    ghost use Rattle.gw_desc.specs.Checks.{is_bad_state};
 
-/// Whether there is such a value in the part.
-fn is_bad_in(part: &MediaPart<'_>) -> bool
-    ensures { result ≡ is_bad_in part.now }
-{
-    match part {
-        MediaPart::Outside(p) => is_bad_control(p),
-        MediaPart::Stream(_, parts) => has_bad_control(parts.as_slice()),
-        MediaPart::TerminationState(properties) => has_bad_state(properties.as_slice()),
+    ghost is_of = { λ _. is_bad_state };
+
+    fn is_of(&self, _kind: UnfitState) -> bool {
+        is_service_states(self.name.as_bytes()) && service_set_by(self).is_none()
     }
 }
 
-fn is_outside(part: &MediaPart<'_>) -> bool
-    ensures { result ≡ is_outside part.now }
-{
-    matches!(part, MediaPart::Outside(_))
+/// What has a value that does not fit.
+#[derive(Clone, Copy)]
+struct Unfit;
+
+impl<'a> OfKind<Unfit> for StreamPart<'a> {
+    ghost use Rattle.gw_desc.specs.Checks.{is_bad_control};
+
+    ghost is_of = { λ _. is_bad_control };
+
+    fn is_of(&self, _kind: Unfit) -> bool {
+        match self {
+            StreamPart::LocalControl(properties) => has_one(properties.as_slice(), UnfitMode),
+            _ => false,
+        }
+    }
 }
 
-fn is_stream(part: &MediaPart<'_>) -> bool
-    ensures { result ≡ is_stream part.now }
-{
-    matches!(part, MediaPart::Stream(..))
+impl<'a> OfKind<Unfit> for MediaPart<'a> {
+    ghost use Rattle.gw_desc.specs.Checks.{is_bad_in};
+
+    ghost is_of = { λ _. is_bad_in };
+
+    fn is_of(&self, kind: Unfit) -> bool {
+        match self {
+            MediaPart::Outside(part) => part.is_of(kind),
+            MediaPart::Stream(_, parts) => has_one(parts.as_slice(), kind),
+            MediaPart::TerminationState(properties) => has_one(properties.as_slice(), UnfitState),
+        }
+    }
 }
 
-fn has_bad_in(parts: &[MediaPart<'_>]) -> bool
-    ensures { result ≡ list_any is_bad_in parts.now }
-{
-    parts.iter().any(is_bad_in)
+/// Where stream parts stand in a Media.
+#[derive(Clone, Copy)]
+pub(crate) enum Place {
+    Outside,
+    Stream,
 }
 
-fn has_outside(parts: &[MediaPart<'_>]) -> bool
-    ensures { result ≡ list_any is_outside parts.now }
-{
-    parts.iter().any(is_outside)
-}
+impl<'a> OfKind<Place> for MediaPart<'a> {
+    ghost use Rattle.gw_desc.specs.OfKind.{is_at};
 
-fn has_stream(parts: &[MediaPart<'_>]) -> bool
-    ensures { result ≡ list_any is_stream parts.now }
-{
-    parts.iter().any(is_stream)
+    ghost is_of = { is_at };
+
+    fn is_of(&self, place: Place) -> bool {
+        match place {
+            Place::Outside => matches!(self, MediaPart::Outside(_)),
+            Place::Stream => matches!(self, MediaPart::Stream(..)),
+        }
+    }
 }
 
 /// Whether there is such a value in the Media, or stream parts both inside a Stream and outside.
@@ -98,7 +94,7 @@ fn has_stream(parts: &[MediaPart<'_>]) -> bool
 fn is_media_bad(parts: &[MediaPart<'_>]) -> bool
     ensures { result ≡ is_media_bad parts.now }
 {
-    has_bad_in(parts) || (has_outside(parts) && has_stream(parts))
+    has_one(parts, Unfit) || (has_one(parts, Place::Outside) && has_one(parts, Place::Stream))
 }
 
 fn is_uint32(value: &Option<ServiceValue<'_>>) -> bool
@@ -110,62 +106,63 @@ fn is_uint32(value: &Option<ServiceValue<'_>>) -> bool
     }
 }
 
-fn is_bad_delay(parm: &ServiceParm<'_>) -> bool
-    ensures { result ≡ is_bad_delay parm.now }
-{
-    is_parm(Token::Delay, parm) && !is_uint32(&parm.value)
-}
+/// A Delay that is no uint32.
+impl<'a> OfKind<Unfit> for ServiceParm<'a> {
+    ghost use Rattle.gw_desc.specs.Checks.{is_bad_delay};
 
-fn has_bad_delay(parms: &[ServiceParm<'_>]) -> bool
-    ensures { result ≡ list_any is_bad_delay parms.now }
-{
-    parms.iter().any(is_bad_delay)
-}
+    ghost is_of = { λ _. is_bad_delay };
 
-fn is_bad(descriptor: &Descriptor<'_>) -> bool
-    ensures { result ≡ is_bad descriptor.now }
-{
-    match descriptor {
-        Descriptor::Media(parts) => is_media_bad(parts.as_slice()),
-        Descriptor::Services(parms) => has_bad_delay(parms.as_slice()),
-        _ => false,
+    fn is_of(&self, _kind: Unfit) -> bool {
+        is_parm(Token::Delay, self) && !is_uint32(&self.value)
     }
 }
 
-fn has_parm_with_value(wanted: Token, parm: &ServiceParm<'_>) -> bool
-    ensures { result ≡ has_parm_with_value wanted parm.now }
-{
-    is_parm(wanted, parm) && parm.value.is_some()
-}
+impl<'a> OfKind<Unfit> for Descriptor<'a> {
+    ghost use Rattle.gw_desc.specs.Checks.{is_bad};
 
-fn has_value(wanted: Token, parms: &[ServiceParm<'_>]) -> bool
-    ensures { result ≡ has_value wanted parms.now }
-{
-    parms.iter().any(|p| has_parm_with_value(wanted, p))
-}
+    ghost is_of = { λ _. is_bad };
 
-/// Whether it is a Services with a Method and a Reason that have values.
-fn is_change(descriptor: &Descriptor<'_>) -> bool
-    ensures { result ≡ is_change descriptor.now }
-{
-    match descriptor {
-        Descriptor::Services(parms) => {
-            has_value(Token::Method, parms.as_slice()) && has_value(Token::Reason, parms.as_slice())
+    fn is_of(&self, kind: Unfit) -> bool {
+        match self {
+            Descriptor::Media(parts) => is_media_bad(parts.as_slice()),
+            Descriptor::Services(parms) => has_one(parms.as_slice(), kind),
+            _ => false,
         }
-        _ => false,
     }
 }
 
-fn has_audit(descriptors: &[Descriptor<'_>]) -> bool
-    ensures { result ≡ list_any is_audit descriptors.now }
-{
-    descriptors.iter().any(is_audit)
+/// A parameter of this name that has a value.
+#[derive(Clone, Copy)]
+struct WithValue(Token);
+
+impl<'a> OfKind<WithValue> for ServiceParm<'a> {
+    ghost use Rattle.gw_desc.specs.OfKind.{is_with_value};
+
+    ghost is_of = { is_with_value };
+
+    fn is_of(&self, kind: WithValue) -> bool {
+        is_parm(kind.0, self) && self.value.is_some()
+    }
 }
 
-fn has_change(descriptors: &[Descriptor<'_>]) -> bool
-    ensures { result ≡ list_any is_change descriptors.now }
-{
-    descriptors.iter().any(is_change)
+/// A Services with a Method and a Reason that have values.
+#[derive(Clone, Copy)]
+struct Change;
+
+impl<'a> OfKind<Change> for Descriptor<'a> {
+    ghost use Rattle.gw_desc.specs.Checks.{is_change};
+
+    ghost is_of = { λ _. is_change };
+
+    fn is_of(&self, _kind: Change) -> bool {
+        match self {
+            Descriptor::Services(parms) => {
+                has_one(parms.as_slice(), WithValue(Token::Method))
+                    && has_one(parms.as_slice(), WithValue(Token::Reason))
+            }
+            _ => false,
+        }
+    }
 }
 
 /// Whether the command lacks what it must have.
@@ -173,16 +170,10 @@ fn lacks(verb: Verb, descriptors: &[Descriptor<'_>]) -> bool
     ensures { result ≡ lacks verb descriptors.now }
 {
     match verb {
-        Verb::AuditValue => !has_audit(descriptors),
-        Verb::ServiceChange => !has_change(descriptors),
+        Verb::AuditValue => !has_one(descriptors, Kind::Audit),
+        Verb::ServiceChange => !has_one(descriptors, Change),
         _ => false,
     }
-}
-
-fn has_bad_one(descriptors: &[Descriptor<'_>]) -> bool
-    ensures { result ≡ list_any is_bad descriptors.now }
-{
-    descriptors.iter().any(is_bad)
 }
 
 /// Whether there are values or parts that do not fit, or the command lacks what it must have.
@@ -190,5 +181,5 @@ fn has_bad_one(descriptors: &[Descriptor<'_>]) -> bool
 pub(crate) fn has_bad(verb: Verb, descriptors: &[Descriptor<'_>]) -> bool
     ensures { result ≡ has_bad verb descriptors.now }
 {
-    has_bad_one(descriptors) || lacks(verb, descriptors)
+    has_one(descriptors, Unfit) || lacks(verb, descriptors)
 }
