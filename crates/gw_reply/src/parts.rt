@@ -35,7 +35,6 @@ pub struct FilledStream {
 }
 
 /// What a termination keeps of its media.
-#[derive(Drop)]
 pub struct MediaReply {
     /// Its service state.
     pub service: Service,
@@ -43,6 +42,17 @@ pub struct MediaReply {
     pub properties: Items<KeptProperty>,
     /// Its streams, in rising order of their numbers.
     pub streams: Items<StreamReply>,
+}
+
+// By hand, so that a function that lets media go does so by one call. A derived one would stand in it field by field.
+impl Drop for MediaReply {
+    fn drop(self) {
+        let MediaReply {
+            service: _,
+            properties: _,
+            streams: _,
+        } = self;
+    }
 }
 
 /// What a termination keeps of a stream.

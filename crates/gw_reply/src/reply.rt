@@ -22,7 +22,6 @@ pub struct ActionReply {
 }
 
 /// The reply to one command on one termination, or on all that a wildcard matched.
-#[derive(Drop)]
 pub struct CommandReply {
     /// The command.
     pub verb: Verb,
@@ -30,4 +29,15 @@ pub struct CommandReply {
     pub term: TermRef,
     /// What is told of it, perhaps nothing but that it was carried out, or why it was not.
     pub result: Result<Items<ReplyPart>, Code>,
+}
+
+// By hand, so that a function that lets a reply go does so by one call. A derived one would stand in it field by field.
+impl Drop for CommandReply {
+    fn drop(self) {
+        let CommandReply {
+            verb: _,
+            term: _,
+            result: _,
+        } = self;
+    }
 }

@@ -3,6 +3,7 @@ pub mod Folds
 pub mod Maps
 pub mod Parts
 pub mod Reserved
+pub mod TableTexts
 pub mod Unused
 pub mod WellFormed
 pub use Rattle.gw_ctx.specs.Contexts

@@ -6,6 +6,7 @@ mod laws;
 mod part;
 mod reserved;
 mod tables;
+mod text;
 mod unused;
 
 pub use attempts::Attempts;

@@ -11,10 +11,19 @@ use std::collections::BTreeMap;
 use std::marker::Model;
 
 /// Terminations by name, and contexts by number. A look-up takes log n steps.
-#[derive(Drop)]
 pub struct Tables {
     terms: BTreeMap<TermName, Termination>,
     contexts: BTreeMap<u32, Context>,
+}
+
+// By hand, so that a function that lets tables go does so by one call. A derived one would stand in it field by field.
+impl Drop for Tables {
+    fn drop(self) {
+        let Tables {
+            terms: _,
+            contexts: _,
+        } = self;
+    }
 }
 
 impl Model for Tables {
@@ -91,11 +100,7 @@ impl Tables {
     pub fn names(&self, alloc: Global) -> Result<Vec<TermName>, NoMemory>
         ensures { IfOk result (λ list. list.items ≡ names self.now) }
     {
-        let mut names = Vec::with_capacity(alloc, self.terms.len())?;
-        for name in self.terms.keys() {
-            names.push(*name)?;
-        }
-        Ok(names)
+        Ok(self.terms.keys().copied().collect(alloc)?)
     }
 
     /// The numbers of all contexts, rising.
