@@ -9,12 +9,12 @@ use crate::copies::copied;
 use crate::fault::ApplyFault;
 use crate::properties::{merged_properties, merged_service};
 use crate::record::{Stream, Termination};
-use crate::streams::{Merging, Target, merge_stream};
-use crate::tails::merged_tail;
+use crate::streams::{Merging, merge_stream};
+use crate::tails::merge_tail;
 use gw_base::{CtxNum, Items, NoMemory, Rules, Service};
 use gw_desc::{Descriptor, KeptKind};
 use gw_reply::{FilledStream, KeptProperty, KeptTail};
-use std::alloc::Global;
+use std::alloc::{AllocError, Global};
 
 /// The streams whose Local was filled, in rising order.
 pub type Filled = Items<FilledStream>;
@@ -51,11 +51,6 @@ fn merged_media(
 ) -> Result<Media, ApplyFault>
     ensures { Yields result (merged_media rules.now descriptors.now old.now) }
 {
-    let target = |number| Target {
-        rules: *rules,
-        slot: old.slot,
-        number,
-    };
     let mut media = Media {
         properties: merged_properties(alloc, descriptors, old.properties.as_slice())?,
         first: None,
@@ -63,18 +58,38 @@ fn merged_media(
         third: None,
         fourth: None,
     };
-    merge_stream(alloc, &target(1), descriptors, &old.first, &mut media.first)?;
     merge_stream(
         alloc,
-        &target(2),
+        rules,
+        old.slot,
+        1,
+        descriptors,
+        &old.first,
+        &mut media.first,
+    )?;
+    merge_stream(
+        alloc,
+        rules,
+        old.slot,
+        2,
         descriptors,
         &old.second,
         &mut media.second,
     )?;
-    merge_stream(alloc, &target(3), descriptors, &old.third, &mut media.third)?;
     merge_stream(
         alloc,
-        &target(4),
+        rules,
+        old.slot,
+        3,
+        descriptors,
+        &old.third,
+        &mut media.third,
+    )?;
+    merge_stream(
+        alloc,
+        rules,
+        old.slot,
+        4,
         descriptors,
         &old.fourth,
         &mut media.fourth,
@@ -104,16 +119,14 @@ fn push_filled(
     Ok(())
 }
 
-/// The streams whose Local was filled.
-fn filled_of(alloc: Global, media: &Media) -> Result<Filled, NoMemory>
-    ensures { IfOk result (λ filled. filled ≡ filled_of (Some media.now)) }
+/// The streams whose Local was filled go last.
+fn push_all_filled(alloc: Global, media: &Media, filled: &mut Filled) -> Result<(), NoMemory>
+    ensures { OnOk result (filled.new ≡ filled.old ++ filled_of (Some media.now)) }
 {
-    let mut filled = Items::new(alloc);
-    push_filled(alloc, 1, &media.first, &mut filled)?;
-    push_filled(alloc, 2, &media.second, &mut filled)?;
-    push_filled(alloc, 3, &media.third, &mut filled)?;
-    push_filled(alloc, 4, &media.fourth, &mut filled)?;
-    Ok(filled)
+    push_filled(alloc, 1, &media.first, filled)?;
+    push_filled(alloc, 2, &media.second, filled)?;
+    push_filled(alloc, 3, &media.third, filled)?;
+    push_filled(alloc, 4, &media.fourth, filled)
 }
 
 /// The stream without what was noted of it.
@@ -155,27 +168,13 @@ impl Media {
     }
 }
 
-/// The tail of this kind after the descriptors is put in a place.
-fn merge_tail(
-    alloc: Global,
-    kind: KeptKind,
-    descriptors: &[Descriptor<'_>],
-    old: &Option<KeptTail>,
-    new: &mut Option<KeptTail>,
-) -> Result<(), NoMemory>
-    ensures { OnOk result (new.new ≡ merged_tail kind descriptors.now old.now) }
-{
-    *new = merged_tail(alloc, kind, descriptors, old)?;
-    Ok(())
-}
-
 /// The tails after the descriptors are put in a record.
-fn merge_tails(
+pub(crate) fn merge_tails(
     alloc: Global,
     descriptors: &[Descriptor<'_>],
     old: &Termination,
     new: &mut Termination,
-) -> Result<(), NoMemory>
+) -> Result<(), AllocError>
     ensures { OnOk result (new.new ≡ record new.old { events = merged_tail Events descriptors.now old.now.events; signals = merged_tail Signals descriptors.now old.now.signals; digit_map = merged_tail DigitMap descriptors.now old.now.digit_map; event_buffer = merged_tail EventBuffer descriptors.now old.now.event_buffer }) }
 {
     merge_tail(
@@ -236,7 +235,8 @@ impl Termination {
         ensures applied { IsApplied rules.now descriptors.now self.old self.new result }
     {
         let media = merged_media(alloc, rules, descriptors, self)?;
-        let filled = filled_of(alloc, &media)?;
+        let mut filled = Items::new(alloc);
+        push_all_filled(alloc, &media, &mut filled)?;
         let service = merged_service(descriptors, self.service);
         let mut new = media.into_record(self.place, service, self.slot);
         merge_tails(alloc, descriptors, self, &mut new)?;

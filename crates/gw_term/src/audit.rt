@@ -3,7 +3,7 @@
 ghost use Rattle.std.specs.Prelude.{◌≡◌, ◌++◌, IfOk, OnOk};
 ghost use Rattle.gw_term.specs.Audit.{stream_told, streams_told, media_told, tail_told, item_told, word_told};
 
-use crate::copies::{copied_if, copied_properties, copied_tail_if};
+use crate::copies::{copied_properties, copied_stream, copied_tail_if};
 use crate::record::{Stream, Termination};
 use gw_base::{Items, NoMemory};
 use gw_desc::{AuditItem, AuditItems, KeptKind, item_of};
@@ -22,35 +22,31 @@ fn push_stream(
     let Some(stream) = stream else {
         return Ok(());
     };
-    let properties = copied_properties(alloc, stream.properties.as_slice())?;
-    let local = copied_if(alloc, &stream.local)?;
-    let remote = copied_if(alloc, &stream.remote)?;
-    streams.push(StreamReply {
-        number,
-        mode: stream.mode,
-        properties,
-        local,
-        remote,
-    })?;
+    let copy = copied_stream(alloc, stream)?;
+    streams.push(copy.into_reply(number))?;
     Ok(())
 }
 
-fn streams_told(alloc: Global, termination: &Termination) -> Result<Items<StreamReply>, NoMemory>
-    ensures { IfOk result (λ streams. streams ≡ streams_told termination.now) }
+/// The streams that are there go last.
+fn push_streams(
+    alloc: Global,
+    termination: &Termination,
+    streams: &mut Items<StreamReply>,
+) -> Result<(), NoMemory>
+    ensures { OnOk result (streams.new ≡ streams.old ++ streams_told termination.now) }
 {
-    let mut streams = Items::new(alloc);
-    push_stream(alloc, 1, &termination.first, &mut streams)?;
-    push_stream(alloc, 2, &termination.second, &mut streams)?;
-    push_stream(alloc, 3, &termination.third, &mut streams)?;
-    push_stream(alloc, 4, &termination.fourth, &mut streams)?;
-    Ok(streams)
+    push_stream(alloc, 1, &termination.first, streams)?;
+    push_stream(alloc, 2, &termination.second, streams)?;
+    push_stream(alloc, 3, &termination.third, streams)?;
+    push_stream(alloc, 4, &termination.fourth, streams)
 }
 
 fn media_told(alloc: Global, termination: &Termination) -> Result<MediaReply, NoMemory>
     ensures { IfOk result (λ media. media ≡ media_told termination.now) }
 {
     let properties = copied_properties(alloc, termination.properties.as_slice())?;
-    let streams = streams_told(alloc, termination)?;
+    let mut streams = Items::new(alloc);
+    push_streams(alloc, termination, &mut streams)?;
     Ok(MediaReply {
         service: termination.service,
         properties,
@@ -91,9 +87,9 @@ fn item_told(
         AuditItem::Kept(KeptKind::EventBuffer) => {
             tail_told(alloc, KeptKind::EventBuffer, &termination.event_buffer)
         }
-        AuditItem::Statistics => Ok(ReplyPart::Bare(AuditItem::Statistics)),
-        AuditItem::ObservedEvents => Ok(ReplyPart::Bare(AuditItem::ObservedEvents)),
-        AuditItem::Packages => Ok(ReplyPart::Bare(AuditItem::Packages)),
+        AuditItem::Statistics | AuditItem::ObservedEvents | AuditItem::Packages => {
+            Ok(ReplyPart::Bare(item))
+        }
     }
 }
 

@@ -2,9 +2,10 @@
 
 ghost use Rattle.std.specs.Prelude.{◌≡◌, IfOk, OnOk};
 
+use crate::apply::merge_tails;
 use crate::record::{Stream, Termination};
 use gw_base::{Items, NoMemory, Span};
-use gw_desc::{Property, Tail};
+use gw_desc::{Property, Sign, Tail};
 use gw_reply::{KeptProperty, KeptTail};
 use std::alloc::{AllocError, Global};
 
@@ -25,20 +26,18 @@ fn owned_if(alloc: Global, text: &Option<Span<'_>>) -> Result<Option<Items<u8>>,
     }
 }
 
-/// A property with texts of its own.
-pub(crate) fn owned_property(
+/// A property with texts of its own: copies of these.
+pub(crate) fn property_of(
     alloc: Global,
-    property: &Property<Span<'_>>,
+    name: &[u8],
+    sign: Sign,
+    value: &[u8],
 ) -> Result<KeptProperty, AllocError>
-    ensures { IfOk result (λ copy. copy ≡ property.now) }
+    ensures { IfOk result (λ copy. copy ≡ record { name = name.now; sign = sign; value = value.now }) }
 {
-    let name = copied(alloc, property.name.as_bytes())?;
-    let value = copied(alloc, property.value.as_bytes())?;
-    Ok(Property {
-        name,
-        sign: property.sign,
-        value,
-    })
+    let name = copied(alloc, name)?;
+    let value = copied(alloc, value)?;
+    Ok(Property { name, sign, value })
 }
 
 /// A tail with texts of its own.
@@ -67,18 +66,6 @@ pub(crate) fn copied_if(
     }
 }
 
-fn copied_property(alloc: Global, property: &KeptProperty) -> Result<KeptProperty, AllocError>
-    ensures { IfOk result (λ copy. copy ≡ property.now) }
-{
-    let name = copied(alloc, property.name.as_slice())?;
-    let value = copied(alloc, property.value.as_slice())?;
-    Ok(Property {
-        name,
-        sign: property.sign,
-        value,
-    })
-}
-
 /// A copy of the properties.
 pub(crate) fn copied_properties(
     alloc: Global,
@@ -88,7 +75,12 @@ pub(crate) fn copied_properties(
 {
     let mut copy = Items::new(alloc);
     for property in properties {
-        copy.push(copied_property(alloc, property)?)?;
+        copy.push(property_of(
+            alloc,
+            property.name.as_slice(),
+            property.sign,
+            property.value.as_slice(),
+        )?)?;
     }
     Ok(copy)
 }
@@ -133,6 +125,14 @@ pub(crate) fn copied_stream(alloc: Global, stream: &Stream) -> Result<Stream, Al
     })
 }
 
+/// The value takes the place of the one there, which is let go here: where that is done at a type with many fields, each of
+/// them is let go in turn.
+pub(crate) fn put<T: Drop>(place: &mut T, value: T)
+    ensures { place.new ≡ value }
+{
+    *place = value;
+}
+
 /// The stream is copied to an empty place, if it is there.
 fn copy_stream(
     alloc: Global,
@@ -141,23 +141,22 @@ fn copy_stream(
 ) -> Result<(), AllocError>
     ensures { OnOk result (copy.new ≡ stream.now) }
 {
-    *copy = match stream {
+    let value = match stream {
         Some(stream) => Some(copied_stream(alloc, stream)?),
         None => None,
     };
+    put(copy, value);
     Ok(())
 }
 
-/// The tail is copied to an empty place, if it is there.
-fn copy_tail(
-    alloc: Global,
-    tail: &Option<KeptTail>,
-    copy: &mut Option<KeptTail>,
-) -> Result<(), AllocError>
-    ensures { OnOk result (copy.new ≡ tail.now) }
+/// The streams are copied to a record.
+fn copy_streams(alloc: Global, old: &Termination, copy: &mut Termination) -> Result<(), AllocError>
+    ensures { OnOk result (copy.new ≡ record copy.old { first = old.now.first; second = old.now.second; third = old.now.third; fourth = old.now.fourth }) }
 {
-    *copy = copied_tail_if(alloc, tail)?;
-    Ok(())
+    copy_stream(alloc, &old.first, &mut copy.first)?;
+    copy_stream(alloc, &old.second, &mut copy.second)?;
+    copy_stream(alloc, &old.third, &mut copy.third)?;
+    copy_stream(alloc, &old.fourth, &mut copy.fourth)
 }
 
 /// A copy of all that is kept of a termination, field by field into a new one.
@@ -166,14 +165,9 @@ fn copied_termination(alloc: Global, old: &Termination) -> Result<Termination, A
 {
     let mut copy = Termination::unset(alloc, old.place, old.service, old.slot);
     copy.properties = copied_properties(alloc, old.properties.as_slice())?;
-    copy_stream(alloc, &old.first, &mut copy.first)?;
-    copy_stream(alloc, &old.second, &mut copy.second)?;
-    copy_stream(alloc, &old.third, &mut copy.third)?;
-    copy_stream(alloc, &old.fourth, &mut copy.fourth)?;
-    copy_tail(alloc, &old.events, &mut copy.events)?;
-    copy_tail(alloc, &old.signals, &mut copy.signals)?;
-    copy_tail(alloc, &old.digit_map, &mut copy.digit_map)?;
-    copy_tail(alloc, &old.event_buffer, &mut copy.event_buffer)?;
+    copy_streams(alloc, old, &mut copy)?;
+    // No descriptor is merged, so that the tails are copied.
+    merge_tails(alloc, &[], old, &mut copy)?;
     Ok(copy)
 }
 

@@ -8,7 +8,7 @@ use std::alloc::AllocError;
 use thiserror::Error;
 
 /// Why descriptors do nothing to a termination, which is then as it was.
-#[derive(Clone, Copy, Debug, PartialEq, Eq, Error)]
+#[derive(Clone, Copy, Debug, Error)]
 pub enum ApplyFault {
     /// `InsufficientResources`: a list would hold more than 32 properties.
     #[error("more properties than a list may hold")]

@@ -5,7 +5,7 @@ ghost use Rattle.std.specs.List.{flat_map};
 ghost use Rattle.gw_term.specs.Merge.{place_of, put_property, put_state, service_after, last_service, merged_service, merged_properties, states_in, states_in_part, media_parts, each};
 ghost use Rattle.gw_term.specs.Applies.{Becomes, Yields};
 
-use crate::copies::{copied_properties, owned_property};
+use crate::copies::{copied_properties, property_of};
 use crate::fault::ApplyFault;
 use gw_base::{Code, Items, Service, Span};
 use gw_desc::{Descriptor, MediaPart, Property, is_service_states, service_set_by};
@@ -37,15 +37,21 @@ pub(crate) fn put_property(
     ensures { Becomes result list.new (put_property property.now list.old) }
 {
     let place = place_of(property.name.as_bytes(), list.as_slice());
-    if place < list.len() {
-        let kept = owned_property(alloc, property)?;
-        list.set(place, kept);
-        return Ok(());
-    }
-    if list.len() >= MOST_PROPERTIES {
+    let is_there = place < list.len();
+    if !is_there && list.len() >= MOST_PROPERTIES {
         return Err(ApplyFault::Code(Code::InsufficientResources));
     }
-    list.push(owned_property(alloc, property)?)?;
+    let kept = property_of(
+        alloc,
+        property.name.as_bytes(),
+        property.sign,
+        property.value.as_bytes(),
+    )?;
+    if is_there {
+        list.set(place, kept);
+    } else {
+        list.push(kept)?;
+    }
     Ok(())
 }
 

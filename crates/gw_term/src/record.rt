@@ -4,7 +4,7 @@ ghost use Rattle.std.specs.Prelude.{◌≡◌};
 
 use gw_base::{CtxNum, Items, Service};
 use gw_desc::Mode;
-use gw_reply::{KeptProperty, KeptTail};
+use gw_reply::{KeptProperty, KeptTail, StreamReply};
 use std::alloc::Global;
 
 /// A stream of a termination (RFC 3525, sections 7.1.6 and 7.1.7).
@@ -28,6 +28,27 @@ impl Drop for Stream {
             local: _,
             remote: _,
         } = self;
+    }
+}
+
+impl Stream {
+    /// The stream, as it is told under this number.
+    pub(crate) fn into_reply(self, number: u8) -> StreamReply
+        ensures { result ≡ record { number = number; mode = self.mode; properties = self.properties; local = self.local; remote = self.remote } }
+    {
+        let Stream {
+            mode,
+            properties,
+            local,
+            remote,
+        } = self;
+        StreamReply {
+            number,
+            mode,
+            properties,
+            local,
+            remote,
+        }
     }
 }
 

@@ -1,11 +1,12 @@
 //! Streams: what the parts of a Media do to each.
 
 ghost use Rattle.std.specs.Prelude.{◌≡◌, ◌≤◌, IfOk};
+ghost use Rattle.gw_desc.specs.declared.descriptor.StreamPart.TheVariants.{Local};
 ghost use Rattle.std.specs.List.{flat_map, list_any};
-ghost use Rattle.gw_term.specs.Merge.{put_control, local_text, is_filled, put_part, begun, unnamed, parts_in, parts_in_part, names_stream, is_named_in, merged_stream, each};
-ghost use Rattle.gw_term.specs.Applies.{Becomes, Yields};
+ghost use Rattle.gw_term.specs.Merge.{put_control, local_text, is_filled, put_part, begun, parts_in, parts_in_part, names_stream, is_named_in, merged_stream, each};
+ghost use Rattle.gw_term.specs.Applies.{Becomes};
 
-use crate::copies::{copied, copied_stream};
+use crate::copies::{copied, copied_stream, put};
 use crate::fault::ApplyFault;
 use crate::properties::{media_parts, put_property};
 use crate::record::Stream;
@@ -79,20 +80,24 @@ fn put_controls(
     Ok(())
 }
 
-/// A Local as it is kept, and whether it was filled.
-fn local(alloc: Global, target: &Target, text: &[u8]) -> Result<(Items<u8>, bool), NoMemory>
+/// A Local, filled where the termination has a slot.
+fn put_local(
+    alloc: Global,
+    target: &Target,
+    text: &[u8],
+    merging: &mut Merging,
+) -> Result<(), ApplyFault>
     requires first { 1 ≤ target.now.number }
     requires last { target.now.number ≤ 4 }
-    ensures text { IfOk result (λ r. r.0 ≡ local_text target.now.rules target.now.slot target.now.number text.now) }
-    ensures told { IfOk result (λ r. r.1 ≡ is_filled target.now.slot text.now) }
+    ensures { Becomes result merging.new (put_part target.now.rules target.now.slot target.now.number (Local text.now) merging.old) }
 {
-    match target.slot {
-        Some(slot) => {
-            let (text, told) = fill_local(alloc, text, &target.rules.media, slot, target.number)?;
-            Ok((Items::from(text), told))
-        }
-        None => Ok((copied(alloc, text)?, false)),
-    }
+    let (local, filled) = match target.slot {
+        Some(slot) => fill_local(alloc, text, &target.rules.media, slot, target.number)?,
+        None => (Vec::from_slice(alloc, text)?, false),
+    };
+    put(&mut merging.stream.local, Some(Items::from(local)));
+    merging.filled = filled;
+    Ok(())
 }
 
 /// A part of the stream.
@@ -107,14 +112,10 @@ fn put_part(
     ensures { Becomes result merging.new (put_part target.now.rules target.now.slot target.now.number part.now merging.old) }
 {
     match part {
-        StreamPart::Local(text) => {
-            let (local, filled) = local(alloc, target, text.as_bytes())?;
-            merging.stream.local = Some(local);
-            merging.filled = filled;
-            Ok(())
-        }
+        StreamPart::Local(text) => put_local(alloc, target, text.as_bytes(), merging),
         StreamPart::Remote(text) => {
-            merging.stream.remote = Some(copied(alloc, text.as_bytes())?);
+            let remote = copied(alloc, text.as_bytes())?;
+            put(&mut merging.stream.remote, Some(remote));
             Ok(())
         }
         StreamPart::LocalControl(properties) => {
@@ -205,13 +206,9 @@ fn names_stream(number: u8, part: &MediaPart<'_>) -> bool
 fn is_named_in(number: u8, descriptor: &Descriptor<'_>) -> bool
     ensures { result ≡ is_named_in number descriptor.now }
 {
-    has_name_of(number, media_parts(descriptor))
-}
-
-fn has_name_of(number: u8, parts: &[MediaPart<'_>]) -> bool
-    ensures { result ≡ list_any (names_stream number) parts.now }
-{
-    parts.iter().any(|p| names_stream(number, p))
+    media_parts(descriptor)
+        .iter()
+        .any(|p| names_stream(number, p))
 }
 
 fn is_named(number: u8, descriptors: &[Descriptor<'_>]) -> bool
@@ -239,48 +236,34 @@ fn begun(alloc: Global, old: &Option<Stream>) -> Result<Merging, NoMemory>
     })
 }
 
-/// A copy of a stream that is not named, if it is there.
-fn unnamed(alloc: Global, old: &Option<Stream>) -> Result<Option<Merging>, NoMemory>
-    ensures { IfOk result (λ merging. merging ≡ unnamed old.now) }
-{
-    match old {
-        Some(_) => Ok(Some(begun(alloc, old)?)),
-        None => Ok(None),
-    }
-}
-
-/// The stream of the target after the descriptors.
+/// The stream of this number after the descriptors is put in a place: a copy of one that is not named, if it is there.
 #[tactic(auto, unfolding(crate::specs::Merge::merged_stream))]
-fn merged_stream(
-    alloc: Global,
-    target: &Target,
-    descriptors: &[Descriptor<'_>],
-    old: &Option<Stream>,
-) -> Result<Option<Merging>, ApplyFault>
-    requires first { 1 ≤ target.now.number }
-    requires last { target.now.number ≤ 4 }
-    ensures { Yields result (merged_stream target.now.rules target.now.slot target.now.number descriptors.now old.now) }
-{
-    if !is_named(target.number, descriptors) {
-        return Ok(unnamed(alloc, old)?);
-    }
-    let mut merging = begun(alloc, old)?;
-    put_all(alloc, target, descriptors, &mut merging)?;
-    Ok(Some(merging))
-}
-
-/// The stream of the target after the descriptors is put in a place.
 pub(crate) fn merge_stream(
     alloc: Global,
-    target: &Target,
+    rules: &Rules,
+    slot: Option<u16>,
+    number: u8,
     descriptors: &[Descriptor<'_>],
     old: &Option<Stream>,
     new: &mut Option<Merging>,
 ) -> Result<(), ApplyFault>
-    requires first { 1 ≤ target.now.number }
-    requires last { target.now.number ≤ 4 }
-    ensures { Becomes result new.new (merged_stream target.now.rules target.now.slot target.now.number descriptors.now old.now) }
+    requires first { 1 ≤ number }
+    requires last { number ≤ 4 }
+    ensures { Becomes result new.new (merged_stream rules.now slot number descriptors.now old.now) }
 {
-    *new = merged_stream(alloc, target, descriptors, old)?;
+    let named = is_named(number, descriptors);
+    if !named && old.is_none() {
+        put(new, None);
+        return Ok(());
+    }
+    let merging = new.insert(begun(alloc, old)?);
+    if named {
+        let target = Target {
+            rules: *rules,
+            slot,
+            number,
+        };
+        put_all(alloc, &target, descriptors, merging)?;
+    }
     Ok(())
 }

@@ -4,12 +4,12 @@ ghost use Rattle.std.specs.Prelude.{◌≡◌, bytes_eq, codes, IfOk, OnOk};
 ghost use Rattle.gw_text.specs.SpaceScan.{skip};
 ghost use Rattle.gw_term.specs.Merge.{is_blank, is_blank_group, kept_tail, merged_tail, tail_after};
 
-use crate::copies::{copied_tail_if, owned_tail};
-use gw_base::{NoMemory, Span};
+use crate::copies::{copied_tail_if, owned_tail, put};
+use gw_base::Span;
 use gw_desc::{Descriptor, KeptKind, Tail, same_kept};
 use gw_reply::KeptTail;
 use gw_text::Cursor;
-use std::alloc::Global;
+use std::alloc::{AllocError, Global};
 
 /// Whether what stands behind a group's first brace is white space and the brace that closes it.
 fn is_closed(inside: &[u8]) -> bool
@@ -41,7 +41,7 @@ fn is_blank_group(group: &Option<Span<'_>>) -> bool
 }
 
 /// What is kept of a tail: nothing of one without `=` that has no group, or a blank one.
-fn kept_tail(alloc: Global, tail: &Tail<Span<'_>>) -> Result<Option<KeptTail>, NoMemory>
+fn kept_tail(alloc: Global, tail: &Tail<Span<'_>>) -> Result<Option<KeptTail>, AllocError>
     ensures { IfOk result (λ kept. kept ≡ kept_tail tail.now) }
 {
     if !tail.equals && is_blank_group(&tail.group) {
@@ -56,29 +56,30 @@ fn put_tail(
     kind: KeptKind,
     descriptor: &Descriptor<'_>,
     tail: &mut Option<KeptTail>,
-) -> Result<(), NoMemory>
+) -> Result<(), AllocError>
     ensures { OnOk result (tail.new ≡ tail_after kind descriptor.now tail.old) }
 {
     if let Descriptor::Keep(other, sent) = descriptor {
         if same_kept(kind, *other) {
-            *tail = kept_tail(alloc, sent)?;
+            put(tail, kept_tail(alloc, sent)?);
         }
     }
     Ok(())
 }
 
-/// The tail of this kind after the descriptors.
-pub(crate) fn merged_tail(
+/// The tail of this kind after the descriptors is put in a place.
+pub(crate) fn merge_tail(
     alloc: Global,
     kind: KeptKind,
     descriptors: &[Descriptor<'_>],
     old: &Option<KeptTail>,
-) -> Result<Option<KeptTail>, NoMemory>
-    ensures { IfOk result (λ tail. tail ≡ merged_tail kind descriptors.now old.now) }
+    new: &mut Option<KeptTail>,
+) -> Result<(), AllocError>
+    ensures { OnOk result (new.new ≡ merged_tail kind descriptors.now old.now) }
 {
-    let mut tail = copied_tail_if(alloc, old)?;
+    put(new, copied_tail_if(alloc, old)?);
     for descriptor in descriptors {
-        put_tail(alloc, kind, descriptor, &mut tail)?;
+        put_tail(alloc, kind, descriptor, new)?;
     }
-    Ok(tail)
+    Ok(())
 }
