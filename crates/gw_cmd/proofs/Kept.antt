@@ -1,6 +1,5 @@
 -- What each change of a termination keeps, commands keep.
-use Rattle.std.proofs.Common.{nat_eq, ◌≡◌, ℕ, Bool, true, false, ◌⊎◌, inl, inr, List, [], ◌∷◌, Option, None, Some, is_some, Result, Ok, Err, refl, sym, ap, subst, ◌∙◌}
-use Rattle.std.specs.Prelude.{if◌then◌else◌}
+use Rattle.std.proofs.Common.{◌≡◌, ℕ, Bool, true, List, [], ◌∷◌, Option, None, Some, is_some, Result, Ok, Err, refl}
 use Rattle.gw_base.specs.declared.code.Code.{Code}
 use Rattle.gw_base.specs.declared.ids.CtxNum.{CtxNum}
 use Rattle.gw_base.specs.declared.command_words.Rules.{Rules}
@@ -12,9 +11,8 @@ use Rattle.gw_base.specs.declared.term_ref.TermRef.TheVariants.{Root, All, Under
 use Rattle.gw_desc.specs.declared.descriptor.Descriptor.{Descriptor}
 use Rattle.gw_msg.specs.declared.message.Command.{Command}
 use Rattle.gw_term.specs.declared.record.Termination.{Termination}
-use Rattle.gw_term.specs.Limits.{HasFew}
 use Rattle.gw_term.specs.Record.{ephemeral, serviced}
-use Rattle.gw_table.specs.Maps.{Maps, Outcome, term, ctx, names}
+use Rattle.gw_table.specs.Maps.{Maps, Outcome, term, names}
 use Rattle.gw_table.specs.Reserved.{slot_name}
 use Rattle.gw_table.proofs.Folding.{kept}
 use Rattle.gw_refusal.specs.declared.at.At.{At}
@@ -23,14 +21,14 @@ use Rattle.gw_cmd.specs.declared.change.Change.TheVariants.{Becomes}
 use Rattle.gw_cmd.specs.declared.change.Decided.{Decided}
 use Rattle.gw_cmd.specs.declared.outcome.CmdOutcome.{CmdOutcome}
 use Rattle.gw_refusal.specs.Asked.{service_asked}
-use Rattle.gw_cmd.specs.Commands.{on_target, on_targets, on_names, on_new, on_root, put_service, all_serviced, serviced_if, root_maps, refused, carried, unless_refused, command}
+use Rattle.gw_cmd.specs.Commands.{on_target, on_names, on_new, put_service, all_serviced, serviced_if, root_maps, carried, unless_refused, command}
 use Rattle.gw_cmd.specs.Effects.{decided, done, on_record, on_found, on_name}
 use Rattle.gw_cmd.specs.Moves.{changed}
 use Rattle.gw_refusal.specs.Places.{place_at}
 use Rattle.gw_cmd.specs.Refusals.{refusal}
 use Rattle.gw_cmd.specs.Suits.{IsUnused}
-use Rattle.gw_cmd.specs.Targets.{targets}
-use Rattle.gw_cmd.proofs.Lawful.{few_serviced, IsRewritten, Lawful, decided_lawful}
+use Rattle.gw_refusal.specs.Targets.{targets}
+use Rattle.gw_cmd.proofs.Lawful.{few_serviced, Lawful, decided_lawful}
 
 -- a termination that has this record, or is made with it in a slot
 pub data IsKnown (makes : ℕ → Type 0) (t : List ℕ) (r : Termination) (m : Maps) : Type 0 where

@@ -1,5 +1,5 @@
 -- Lawful changes keep tables sound, and make no termination but in the slot.
-use Rattle.std.proofs.Common.{nat_eq, ◌≡◌, ℕ, Bool, true, false, cond, List, Option, None, Some, bytes_eq, refl, sym, ap, subst, ◌∙◌}
+use Rattle.std.proofs.Common.{◌≡◌, ℕ, Bool, true, false, cond, List, Option, None, Some, bytes_eq, refl, sym, ap, subst, ◌∙◌}
 use Rattle.std.specs.Prelude.{◌≢◌}
 use Rattle.gw_base.specs.declared.ids.CtxNum.{CtxNum}
 use Rattle.gw_base.specs.declared.command_words.Rules.{Rules}
@@ -15,7 +15,7 @@ use Rattle.gw_table.specs.WellFormed.{IsSound}
 use Rattle.gw_table.proofs.Lookups.{term-put_term, ctx-put_term}
 use Rattle.gw_cmd.specs.declared.change.Change.{Change}
 use Rattle.gw_cmd.specs.declared.change.Change.TheVariants.{Stays, Becomes, Joins, Crosses, Leaves}
-use Rattle.gw_cmd.specs.Moves.{with_member, without_member, changed}
+use Rattle.gw_cmd.specs.Moves.{without_member, changed}
 use Rattle.gw_cmd.specs.Effects.{what_remains}
 use Rattle.gw_cmd.proofs.Lawful.{Lawful}
 use Rattle.gw_cmd.proofs.Kept.{IsKnown, Found, Made, IsKept}

@@ -6,7 +6,7 @@ use Rattle.gw_base.specs.declared.command_words.Rules.{Rules}
 use Rattle.gw_base.specs.declared.command_words.Verb.{Verb}
 use Rattle.gw_term.specs.declared.record.Termination.{Termination}
 use Rattle.gw_term.specs.Limits.{HasFew}
-use Rattle.gw_term.specs.Record.{ephemeral, reset}
+use Rattle.gw_term.specs.Record.{reset}
 use Rattle.gw_table.specs.Maps.{Maps, term, ctx, put_term, place_of, members_of}
 use Rattle.gw_table.specs.WellFormed.{AreWellFormed, Fits}
 use Rattle.gw_ctx.specs.Contexts.{ContextRecord, left}
@@ -14,12 +14,12 @@ use Rattle.gw_table.specs.Maps.{context_of}
 use Rattle.gw_table.proofs.Lookups.{term-put_term, ctx-put_term}
 use Rattle.gw_cmd.specs.declared.change.Change.{Change}
 use Rattle.gw_cmd.specs.declared.change.Change.TheVariants.{Stays, Becomes, Joins, Crosses, Leaves}
-use Rattle.gw_cmd.specs.Effects.{is_full, what_remains}
+use Rattle.gw_cmd.specs.Effects.{what_remains}
 use Rattle.gw_cmd.specs.Moves.{with_member, without_member, unless_empty, changed}
 use Rattle.gw_cmd.proofs.Kept.{IsKnown, Found, Made, IsKept}
 use Rattle.gw_cmd.proofs.KeptSound.{known_place, nowhere_after}
 use Rattle.gw_cmd.proofs.Lawful.{IsRewritten, Lawful}
-use Rattle.gw_cmd.proofs.Sound.{term-without_member, ctx-without_member}
+use Rattle.gw_cmd.proofs.Sound.{ctx-without_member}
 use Rattle.gw_cmd.proofs.Steps.{put_term-put_term}
 use Rattle.gw_cmd.proofs.Suited.{apart_turned, room_of}
 use Rattle.gw_cmd.proofs.Whole.{IsGood, whole_joined, whole_departed, whole_rewritten}

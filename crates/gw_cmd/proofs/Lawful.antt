@@ -1,5 +1,5 @@
 -- What a decision on a termination says of it.
-use Rattle.std.proofs.Common.{nat_eq, ◌≡◌, ℕ, Bool, true, false, List, [], Option, None, Some, Result, Ok, Err, refl, sym, ap, subst, ◌∙◌}
+use Rattle.std.proofs.Common.{nat_eq, ◌≡◌, Bool, true, false, List, [], Option, None, Some, Result, Ok, Err, refl, sym, ap, subst, ◌∙◌}
 use Rattle.std.specs.Prelude.{if◌then◌else◌}
 use Rattle.gw_base.specs.declared.code.Code.{Code}
 use Rattle.gw_base.specs.declared.code.Code.TheVariants.{NotInContext, AlreadyInContext, ContextFull}
@@ -23,7 +23,7 @@ use Rattle.gw_cmd.specs.declared.change.Change.TheVariants.{Stays, Becomes, Join
 use Rattle.gw_cmd.specs.declared.change.Decided.{Decided}
 use Rattle.gw_cmd.specs.declared.change.Merged.{Merged}
 use Rattle.gw_refusal.specs.Asked.{is_move}
-use Rattle.gw_cmd.specs.Effects.{merged_in, merging_to, merging, refusal_to_add, refusal_to_move, refusal_elsewhere, joins, added, crosses, moved, becomes, modified, unless, what_remains, subtracted, told_of, after_change, service_changed, decided_in, decided_in_null, is_full, decided}
+use Rattle.gw_cmd.specs.Effects.{merged_in, merging_to, merging, refusal_to_add, refusal_to_move, refusal_elsewhere, joins, added, crosses, moved, becomes, modified, unless, what_remains, after_change, service_changed, decided_in, decided_in_null, is_full, decided}
 use Rattle.gw_refusal.specs.Places.{same_place}
 
 -- the record of the same termination, which has as few properties

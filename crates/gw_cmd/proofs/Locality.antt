@@ -1,7 +1,7 @@
 -- A command on the entries of its keys alone, in well-formed maps.
-use Rattle.std.proofs.Common.{nat_eq, ◌≡◌, ℕ, Bool, true, false, cond, List, [], ◌∷◌, ◌++◌, map, Option, None, Some, is_none, is_some, bytes_eq, Result, Ok, Err, refl, sym, ap, subst, ◌∙◌}
+use Rattle.std.proofs.Common.{◌≡◌, ℕ, Bool, true, false, cond, List, [], ◌∷◌, ◌++◌, map, Option, None, Some, is_some, bytes_eq, Ok, refl, sym, ap, subst, ◌∙◌}
 use Rattle.std.specs.Prelude.{◌||◌, ◌&&◌, if◌then◌else◌}
-use Rattle.std.specs.List.{list_any, filter}
+use Rattle.std.specs.List.{filter}
 use Rattle.std.specs.FinMap.{contains_key-keys}
 use Rattle.std.specs.Ordering.{eq_by_cmp}
 use Rattle.gw_base.specs.declared.code.Code.{Code}
@@ -17,18 +17,16 @@ use Rattle.gw_base.specs.declared.term_ref.TermRef.TheVariants.{Root, All, Under
 use Rattle.gw_base.specs.Keys.{has, same_key}
 use Rattle.gw_base.specs.NameLists.{is_in, name_cmp}
 use Rattle.gw_base.proofs.Booleans.{refuted}
-use Rattle.gw_base.proofs.KeyTests.{has-head, has-tail, any-append_cases}
+use Rattle.gw_base.proofs.KeyTests.{has-head, any-append_cases}
 use Rattle.gw_base.proofs.NameTests.{name_test}
 use Rattle.gw_base.proofs.NamesInLists.{or_left, or_right, either}
 use Rattle.gw_base.specs.declared.code.Code.TheVariants.{UnknownContext}
 use Rattle.gw_desc.specs.Checks.{check_code}
-use Rattle.gw_ctx.specs.Contexts.{ContextRecord}
 use Rattle.gw_msg.specs.declared.message.Command.{Command}
 use Rattle.gw_term.specs.declared.record.Termination.{Termination}
-use Rattle.gw_table.specs.Accesses.{Accesses, Done, effect, and_then, Within}
-use Rattle.gw_table.specs.Maps.{Maps, Outcome, term, ctx, names, numbers, number, place_of, members_of}
+use Rattle.gw_table.specs.Accesses.{Accesses, Done, and_then, Within}
+use Rattle.gw_table.specs.Maps.{Maps, Outcome, term, ctx, names, numbers, place_of, members_of}
 use Rattle.gw_table.specs.Parts.{Only, restricted, overlaid, Holds, HoldsPlace}
-use Rattle.gw_table.specs.Reserved.{slot_name}
 use Rattle.gw_table.specs.WellFormed.{AreWellFormed}
 use Rattle.gw_table.proofs.Frames.{within-then, Lists, IsLocal, local}
 use Rattle.gw_table.proofs.Lookups.{same_maps}
@@ -38,13 +36,13 @@ use Rattle.gw_refusal.specs.declared.at.At.TheVariants.{Null, Live, Unmade, Each
 use Rattle.gw_cmd.specs.declared.outcome.CmdOutcome.{CmdOutcome}
 use Rattle.gw_refusal.specs.Asked.{is_add, is_root, is_service_change, is_wildcard, matches, service_asked}
 use Rattle.gw_cmd.specs.Commands as commands
-use Rattle.gw_cmd.specs.Keys.{every_key, is_for_all, keys_if, action_keys, place_key, name_keys, slot_key, new_keys, member_keys, term_keys, command_keys}
+use Rattle.gw_cmd.specs.Keys.{every_key, is_for_all, keys_if, action_keys, place_key, slot_key, member_keys, term_keys, command_keys}
 use Rattle.gw_refusal.specs.Places.{place_at, is_null, is_each}
 use Rattle.gw_refusal.specs.Forms.{refusal_by_form}
 use Rattle.gw_cmd.specs.Refusals.{refusal_by_tables, has_ended, or_else, code_if}
 use Rattle.gw_cmd.specs.Suits.{HoldsSlot, IsReady}
-use Rattle.gw_cmd.specs.Targets.{those_in, source, targets_of, targets, matched, is_free}
-use Rattle.gw_cmd.proofs.Programs.{of_members, of_those, of_matched, of_targets, of_ended, of_missing, of_tables, of_names, of_new, of_root, of_serviced_if, of_services, of_gateway, of_each, of_carried, unless_told, of_rest, of_allowed, program, effect-of_those, effect-of_targets, effect-of_ended, effect-of_tables, effect-program}
+use Rattle.gw_refusal.specs.Targets.{those_in, source, targets_of, targets, matched, is_free}
+use Rattle.gw_cmd.proofs.Programs.{of_members, of_those, of_matched, of_targets, of_ended, of_missing, of_tables, of_names, of_new, of_root, of_serviced_if, of_carried, unless_told, of_rest, of_allowed, program, effect-of_targets, effect-of_ended, effect-of_tables, effect-program}
 use Rattle.gw_cmd.proofs.Ready.{among_all, among_action, among_term, every_term, every_ctx, named, in_filter, same_any, ready, ready_new}
 use Rattle.gw_cmd.proofs.Within.{within-names, within-one, within-new, within-services}
 

@@ -1,6 +1,6 @@
 -- Keys that cannot be left out: what a command tells or leaves where one is missing.
-use Rattle.std.proofs.Common.{nat_eq, ◌≡◌, ℕ, Bool, true, false, cond, List, [], ◌∷◌, Option, None, Some, is_none, is_some, Result, Ok, Err, is_err, refl, sym, ap, subst, ◌∙◌}
-use Rattle.std.specs.Prelude.{◌||◌, if◌then◌else◌}
+use Rattle.std.proofs.Common.{nat_eq, ◌≡◌, ℕ, Bool, true, false, cond, List, [], ◌∷◌, Option, None, Some, is_none, is_some, Result, Ok, Err, is_err, refl, sym, ap, ◌∙◌}
+use Rattle.std.specs.Prelude.{◌||◌}
 use Rattle.gw_base.specs.declared.code.Code.{Code}
 use Rattle.gw_base.specs.declared.code.Code.TheVariants.{UnknownContext, UnknownTermination}
 use Rattle.gw_base.specs.declared.ids.CtxNum.{CtxNum}
@@ -17,7 +17,6 @@ use Rattle.gw_base.proofs.NamesInLists.{itself}
 use Rattle.gw_desc.specs.declared.descriptor.Descriptor.{Descriptor}
 use Rattle.gw_ctx.specs.Contexts.{ContextRecord}
 use Rattle.gw_msg.specs.declared.message.Command.{Command}
-use Rattle.gw_reply.specs.declared.parts.ReplyPart.{ReplyPart}
 use Rattle.gw_reply.specs.declared.reply.CommandReply.{CommandReply}
 use Rattle.gw_term.specs.declared.record.Termination.{Termination}
 use Rattle.gw_table.specs.Maps.{Maps, Outcome, term, ctx, put_term, place_of, members_of}
@@ -26,14 +25,12 @@ use Rattle.gw_table.specs.Parts.{restricted, overlaid}
 use Rattle.gw_table.specs.WellFormed.{AreWellFormed}
 use Rattle.gw_table.proofs.Lookups.{term-put_term}
 use Rattle.gw_table.proofs.PartLookups.{term-restricted, ctx-restricted, ctx-overlaid}
-use Rattle.gw_refusal.specs.declared.at.At.{At}
 use Rattle.gw_refusal.specs.declared.at.At.TheVariants.{Live}
 use Rattle.gw_cmd.specs.declared.change.Change.TheVariants.{Crosses}
 use Rattle.gw_cmd.specs.declared.change.Decided.{Decided}
-use Rattle.gw_cmd.specs.declared.outcome.CmdOutcome.{CmdOutcome}
 use Rattle.gw_cmd.specs.Commands as commands
-use Rattle.gw_cmd.specs.Effects.{done, decided, on_record, on_found, on_name}
-use Rattle.gw_cmd.specs.Moves.{changed, without_member, with_member}
+use Rattle.gw_cmd.specs.Effects.{done, decided, on_record, on_found}
+use Rattle.gw_cmd.specs.Moves.{changed, without_member}
 use Rattle.gw_cmd.specs.Needs.{named, named_with}
 use Rattle.gw_refusal.specs.Forms.{refusal_by_form}
 use Rattle.gw_cmd.specs.Refusals.{refusal, refusal_by_tables}

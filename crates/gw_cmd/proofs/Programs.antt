@@ -1,6 +1,6 @@
 -- A command as single reads and writes of entries, and that these do what the command does.
-use Rattle.std.proofs.Common.{nat_le, ◌≡◌, ℕ, Bool, true, false, List, [], ◌∷◌, ◌++◌, length, Option, None, Some, is_none, is_some, Result, Ok, Err, refl, sym, ap, ◌∙◌}
-use Rattle.std.specs.Prelude.{if◌then◌else◌, not}
+use Rattle.std.proofs.Common.{nat_le, ◌≡◌, ℕ, Bool, false, List, [], ◌∷◌, length, Option, None, Some, is_none, Result, Ok, Err, refl, sym, ap, ◌∙◌}
+use Rattle.std.specs.Prelude.{not}
 use Rattle.std.specs.List.{filter}
 use Rattle.gw_base.specs.declared.code.Code.{Code}
 use Rattle.gw_base.specs.declared.code.Code.TheVariants.{UnknownContext, UnknownTermination, NoWildcardMatch, NoTerminationLeft}
@@ -12,7 +12,7 @@ use Rattle.gw_base.specs.declared.command_words.Verb.TheVariants.{Add, Modify, M
 use Rattle.gw_base.specs.declared.term_ref.TermRef.{TermRef}
 use Rattle.gw_base.specs.declared.term_ref.TermRef.TheVariants.{Root, All, Under, Choose, Name, Other}
 use Rattle.gw_desc.specs.Checks.{check_code}
-use Rattle.gw_ctx.specs.Contexts.{ContextRecord, joined, left}
+use Rattle.gw_ctx.specs.Contexts.{joined, left}
 use Rattle.gw_desc.specs.declared.descriptor.Descriptor.{Descriptor}
 use Rattle.gw_msg.specs.declared.message.Command.{Command}
 use Rattle.gw_reply.specs.declared.parts.ReplyPart.{ReplyPart}
@@ -21,7 +21,6 @@ use Rattle.gw_term.specs.declared.record.Termination.{Termination}
 use Rattle.gw_term.specs.Record.{ephemeral, serviced}
 use Rattle.gw_table.specs.declared.attempts.Attempts.{Attempts}
 use Rattle.gw_table.specs.Accesses.{Accesses, Done, ReadTerm, ReadCtx, ReadAll, PutTerm, PutCtx, effect, and_then}
-use Rattle.gw_table.specs.Folds.{behind}
 use Rattle.gw_table.specs.Maps.{Maps, Outcome, term, ctx, names, context_of, members_of}
 use Rattle.gw_table.specs.Reserved.{slot_name}
 use Rattle.gw_table.proofs.Folding.{in_order-more, in_order-none}
@@ -39,7 +38,7 @@ use Rattle.gw_cmd.specs.Moves.{unless_empty, changed}
 use Rattle.gw_refusal.specs.Places.{place_at}
 use Rattle.gw_refusal.specs.Forms.{refusal_by_form}
 use Rattle.gw_cmd.specs.Refusals.{has_ended, code_if, missing, or_else, refusal_by_tables}
-use Rattle.gw_cmd.specs.Targets.{is_free, those_in, source, matched, targets_of, targets}
+use Rattle.gw_refusal.specs.Targets.{is_free, those_in, source, matched, targets_of, targets}
 
 -- maps and an answer
 abbrev pub giving : {A : Type 0} → Maps → A → Outcome A

@@ -1,5 +1,5 @@
 -- A command that is not refused, on a part that has its keys, is ready to be carried out.
-use Rattle.std.proofs.Common.{nat_eq, ◌≡◌, ℕ, Bool, true, false, ◌⊎◌, inl, inr, List, [], ◌∷◌, ◌++◌, map, Option, None, Some, is_some, is_none, bytes_eq, refl, sym, ap, subst, ◌∙◌}
+use Rattle.std.proofs.Common.{nat_eq, ◌≡◌, ℕ, Bool, true, false, List, [], ◌∷◌, ◌++◌, map, Option, None, Some, is_some, is_none, bytes_eq, refl, sym, ap, ◌∙◌}
 use Rattle.std.specs.Prelude.{◌≢◌, ◌||◌, ◌&&◌, not, if◌then◌else◌}
 use Rattle.std.specs.Ordering.{nat_cmp}
 use Rattle.std.specs.List.{list_any, filter}
@@ -18,12 +18,11 @@ use Rattle.gw_base.specs.Keys.{has, same_key}
 use Rattle.gw_base.specs.NameLists.{is_in, name_cmp}
 use Rattle.gw_base.proofs.KeyTests.{any-append_left, any-append_right, has-head, has-tail}
 use Rattle.gw_base.proofs.NamesInLists.{or_left, or_right, or_cases, either}
-use Rattle.gw_base.proofs.NameTests.{name_test, number_test, same_name}
+use Rattle.gw_base.proofs.NameTests.{name_test, number_test}
 use Rattle.gw_desc.specs.declared.descriptor.Descriptor.{Descriptor}
 use Rattle.gw_desc.specs.Checks.{check_code, has_illegal, has_bad}
 use Rattle.gw_msg.specs.declared.message.Command.{Command}
 use Rattle.gw_ctx.specs.Contexts.{ContextRecord}
-use Rattle.gw_term.specs.declared.record.Termination.{Termination}
 use Rattle.gw_table.specs.Maps.{Maps, term, ctx, names, numbers, number, members_of, place_of}
 use Rattle.gw_table.specs.Parts.{PartKeys, holds, Holds, HoldsPlace}
 use Rattle.gw_table.specs.Reserved.{slot_name}
@@ -31,12 +30,12 @@ use Rattle.gw_refusal.specs.declared.at.At.{At}
 use Rattle.gw_refusal.specs.declared.at.At.TheVariants.{Null, Live, Unmade, Each}
 use Rattle.gw_refusal.specs.Asked.{is_add, is_move, is_modify, is_subtract, is_service_change, brings, is_unsupported, is_root, is_choose, is_other_term, is_wildcard, matches, audited, is_some_list, method, delay, is_other_method, is_other_delay}
 use Rattle.gw_cmd.specs.Effects.{CanMerge}
-use Rattle.gw_cmd.specs.Keys.{every_key, is_for_all, keys_if, action_keys, place_key, name_keys, slot_key, new_keys, member_keys, term_keys, command_keys}
+use Rattle.gw_cmd.specs.Keys.{every_key, is_for_all, keys_if, action_keys, place_key, slot_key, member_keys, term_keys, command_keys}
 use Rattle.gw_refusal.specs.Places.{place_at, is_null, is_unmade, is_each}
 use Rattle.gw_refusal.specs.Forms.{is_left_out, is_misplaced, refusal_by_form}
 use Rattle.gw_cmd.specs.Refusals.{has_ended, code_if, missing, or_else, refusal_by_tables}
-use Rattle.gw_cmd.specs.Suits.{HoldsMoved, HoldsFound, HoldsSlot, HoldsNew, IsReady}
-use Rattle.gw_cmd.specs.Targets.{is_free, those_in, source, matched, targets_of}
+use Rattle.gw_cmd.specs.Suits.{HoldsFound, HoldsSlot, HoldsNew, IsReady}
+use Rattle.gw_refusal.specs.Targets.{those_in, source, matched, targets_of}
 
 -- ---- tests
 

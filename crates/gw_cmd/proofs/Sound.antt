@@ -1,14 +1,14 @@
 -- What terminations that join and leave keep: a member is recorded in its context, and stands there once.
-use Rattle.std.proofs.Common.{nat_eq, ◌≡◌, ℕ, Bool, true, false, cond, List, [], ◌∷◌, ◌++◌, Option, None, Some, bytes_eq, refl, sym, ap, subst, ◌∙◌}
+use Rattle.std.proofs.Common.{nat_eq, ◌≡◌, ℕ, Bool, true, false, cond, List, [], ◌∷◌, Option, None, Some, bytes_eq, refl, sym, ap, subst, ◌∙◌}
 use Rattle.gw_base.specs.declared.ids.CtxNum.{CtxNum}
 use Rattle.gw_base.specs.declared.key.Key.TheVariants.{Term}
-use Rattle.gw_base.specs.NameLists.{is_in, without, NoDoubles}
+use Rattle.gw_base.specs.NameLists.{is_in, NoDoubles}
 use Rattle.gw_base.proofs.Booleans.{refuted}
 use Rattle.gw_base.proofs.NameTests.{same_name, same_number, number_itself}
 use Rattle.gw_base.proofs.NamesInLists.{either, in_pushed, in_without, pushed, dropped, gone}
 use Rattle.gw_term.specs.declared.record.Termination.{Termination}
 use Rattle.gw_ctx.specs.Contexts.{ContextRecord, joined, left}
-use Rattle.gw_table.specs.Maps.{Maps, term, ctx, put_term, put_ctx, place_of, context_of, members_of}
+use Rattle.gw_table.specs.Maps.{Maps, term, ctx, put_term, place_of, context_of, members_of}
 use Rattle.gw_table.specs.Parts.{PartKeys, holds}
 use Rattle.gw_table.specs.WellFormed.{IsSound}
 use Rattle.gw_table.proofs.Lookups.{term-put_term, ctx-put_term, term-put_ctx, ctx-put_ctx}

@@ -1,5 +1,5 @@
 -- What some writes in a row come to.
-use Rattle.std.proofs.Common.{nat_eq, ◌≡◌, ℕ, ◌<◌, Bool, true, false, cond, List, [], ◌∷◌, Option, None, Some, bytes_eq, refl, sym, ap, subst, ◌∙◌}
+use Rattle.std.proofs.Common.{◌≡◌, ℕ, Bool, true, false, cond, List, [], ◌∷◌, Option, None, Some, bytes_eq, refl, sym, ap, ◌∙◌}
 use Rattle.gw_base.specs.declared.ids.CtxNum.{CtxNum}
 use Rattle.gw_ctx.specs.Contexts.{ContextRecord, joined, left}
 use Rattle.gw_term.specs.declared.record.Termination.{Termination}

@@ -1,5 +1,5 @@
 -- A change that is decided suits a part that has the command's keys.
-use Rattle.std.proofs.Common.{nat_eq, ◌≡◌, ℕ, ◌<◌, Bool, true, false, cond, List, length, Option, None, Some, refl, sym, ap, subst, ◌∙◌}
+use Rattle.std.proofs.Common.{nat_eq, ◌≡◌, ℕ, ◌<◌, Bool, true, false, cond, List, length, Option, Some, sym, ap, subst, ◌∙◌}
 use Rattle.std.proofs.lemmas.Bool.{leb-false}
 use Rattle.gw_base.specs.declared.ids.CtxNum.{CtxNum}
 use Rattle.gw_base.specs.declared.command_words.Rules.{Rules}
@@ -15,12 +15,11 @@ use Rattle.gw_table.specs.WellFormed.{IsSound}
 use Rattle.gw_table.proofs.Lookups.{ctx-put_term}
 use Rattle.gw_cmd.specs.declared.change.Change.{Change}
 use Rattle.gw_cmd.specs.declared.change.Change.TheVariants.{Stays, Becomes, Joins, Crosses, Leaves}
-use Rattle.gw_refusal.specs.Asked.{is_move}
 use Rattle.gw_cmd.specs.Effects.{is_full}
 use Rattle.gw_cmd.specs.Moves.{without_member, unless_empty}
 use Rattle.gw_ctx.specs.Contexts.{left}
 use Rattle.gw_table.specs.Maps.{context_of}
-use Rattle.gw_cmd.specs.Suits.{HoldsMoved, HasRoom, Suits}
+use Rattle.gw_cmd.specs.Suits.{HoldsMoved, Suits}
 use Rattle.gw_cmd.proofs.Lawful.{Lawful}
 use Rattle.gw_cmd.proofs.Sound.{free_at_none, ctx-without_member}
 

@@ -1,46 +1,38 @@
 -- A command's reads and writes stay within its keys, on well-formed maps.
-use Rattle.std.proofs.Common.{nat_eq, nat_le, ◌≡◌, ℕ, Bool, true, false, cond, inl, inr, List, [], ◌∷◌, ◌++◌, length, Option, None, Some, is_some, bytes_eq, Result, Ok, Err, refl, sym, ap, subst, ◌∙◌}
-use Rattle.std.specs.Prelude.{◌≢◌, ◌||◌, ◌&&◌, if◌then◌else◌}
-use Rattle.std.specs.List.{filter}
+use Rattle.std.proofs.Common.{◌≡◌, ℕ, true, false, inl, inr, List, [], ◌∷◌, ◌++◌, Option, None, Some, is_some, bytes_eq, Result, Ok, Err, refl, sym, ap, subst, ◌∙◌}
 use Rattle.gw_base.specs.declared.code.Code.{Code}
 use Rattle.gw_base.specs.declared.ids.CtxNum.{CtxNum}
 use Rattle.gw_base.specs.declared.command_words.Rules.{Rules}
 use Rattle.gw_base.specs.declared.command_words.Service.{Service}
 use Rattle.gw_base.specs.declared.command_words.Verb.{Verb}
-use Rattle.gw_base.specs.declared.command_words.Verb.TheVariants.{Add, Modify, Move, Subtract, AuditValue, AuditCapability, Notify, ServiceChange}
 use Rattle.gw_base.specs.declared.key.Key.{Key}
-use Rattle.gw_base.specs.declared.key.Key.TheVariants.{Term, Ctx, Whole}
-use Rattle.gw_base.specs.declared.term_ref.TermRef.{TermRef}
-use Rattle.gw_base.specs.declared.term_ref.TermRef.TheVariants.{Root, All, Under, Choose, Name, Other}
+use Rattle.gw_base.specs.declared.key.Key.TheVariants.{Term, Ctx}
+use Rattle.gw_base.specs.declared.term_ref.TermRef.TheVariants.{Name}
 use Rattle.gw_base.specs.Keys.{has}
 use Rattle.gw_base.specs.NameLists.{is_in}
 use Rattle.gw_base.proofs.NameTests.{same_name}
-use Rattle.gw_base.proofs.NamesInLists.{either, or_cases, or_left, or_right, itself, in_pushed, in_without}
-use Rattle.gw_ctx.specs.Contexts.{ContextRecord, joined, left}
-use Rattle.gw_desc.specs.declared.descriptor.Descriptor.{Descriptor}
+use Rattle.gw_base.proofs.NamesInLists.{either, or_left, or_right, itself, in_pushed, in_without}
+use Rattle.gw_ctx.specs.Contexts.{ContextRecord, left}
 use Rattle.gw_msg.specs.declared.message.Command.{Command}
 use Rattle.gw_reply.specs.declared.parts.ReplyPart.{ReplyPart}
-use Rattle.gw_reply.specs.declared.reply.CommandReply.{CommandReply}
 use Rattle.gw_term.specs.declared.record.Termination.{Termination}
 use Rattle.gw_term.specs.Record.{ephemeral, serviced}
-use Rattle.gw_table.specs.Accesses.{Accesses, Done, ReadTerm, ReadCtx, ReadAll, PutTerm, PutCtx, effect, and_then, NewIn, Within}
-use Rattle.gw_table.specs.Maps.{Maps, Outcome, term, ctx, put_term, names, place_of, context_of, members_of}
+use Rattle.gw_table.specs.Accesses.{Done, effect, and_then, NewIn, Within}
+use Rattle.gw_table.specs.Maps.{Maps, Outcome, term, ctx, put_term, place_of, context_of, members_of}
 use Rattle.gw_table.specs.Parts.{Only, HoldsPlace}
 use Rattle.gw_table.specs.Reserved.{slot_name}
 use Rattle.gw_table.specs.WellFormed.{AreWellFormed}
 use Rattle.gw_table.proofs.Frames.{within-then}
 use Rattle.gw_refusal.specs.declared.at.At.{At}
-use Rattle.gw_refusal.specs.declared.at.At.TheVariants.{Null, Live, Unmade, Each}
 use Rattle.gw_cmd.specs.declared.change.Change.{Change}
 use Rattle.gw_cmd.specs.declared.change.Change.TheVariants.{Stays, Becomes, Joins, Crosses, Leaves}
 use Rattle.gw_cmd.specs.declared.change.Decided.{Decided}
-use Rattle.gw_cmd.specs.declared.outcome.CmdOutcome.{CmdOutcome}
-use Rattle.gw_refusal.specs.Asked.{is_move, matches, service_asked}
+use Rattle.gw_refusal.specs.Asked.{is_move}
 use Rattle.gw_cmd.specs.Commands as commands
-use Rattle.gw_cmd.specs.Effects.{decided, decided_in, decided_in_null}
+use Rattle.gw_cmd.specs.Effects.{decided, decided_in_null}
 use Rattle.gw_cmd.specs.Moves.{unless_empty}
 use Rattle.gw_refusal.specs.Places.{place_at}
-use Rattle.gw_cmd.proofs.Kept.{IsKnown, Found, kept_service}
+use Rattle.gw_cmd.proofs.Kept.{kept_service}
 use Rattle.gw_cmd.proofs.KeptSound.{nowhere_after}
 use Rattle.gw_cmd.proofs.KeptWhole.{whole_is_kept}
 use Rattle.gw_cmd.proofs.Lawful.{Lawful, decided_lawful}

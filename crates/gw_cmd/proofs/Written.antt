@@ -1,9 +1,9 @@
 -- Changes of a termination, with the write of its record last.
-use Rattle.std.proofs.Common.{nat_eq, ◌≡◌, ℕ, Bool, cond, List, Option, None, Some, bytes_eq, refl, sym, ap, ◌∙◌}
+use Rattle.std.proofs.Common.{nat_eq, ◌≡◌, ℕ, cond, List, Option, Some, bytes_eq, sym, ap, ◌∙◌}
 use Rattle.gw_base.specs.declared.ids.CtxNum.{CtxNum}
 use Rattle.gw_ctx.specs.Contexts.{ContextRecord, joined, left}
 use Rattle.gw_term.specs.declared.record.Termination.{Termination}
-use Rattle.gw_table.specs.Maps.{Maps, term, ctx, put_term, context_of}
+use Rattle.gw_table.specs.Maps.{Maps, ctx, put_term, context_of}
 use Rattle.gw_table.proofs.Lookups.{term-put_term, ctx-put_term, same_maps}
 use Rattle.gw_cmd.specs.Moves.{with_member, without_member, unless_empty}
 use Rattle.gw_cmd.proofs.Sound.{ctx-with_member, ctx-without_member, term-with_member, term-without_member}

@@ -1,9 +1,8 @@
 -- A command: what it does to the maps, and its replies (RFC 3525, section 7.2).
-use Rattle.std.specs.Prelude.{ℕ, ◌&&◌, not, if◌then◌else◌, Bool, true, false, List, [], ◌∷◌, Option, None, Some, Result, Ok, Err, is_err}
+use Rattle.std.specs.Prelude.{ℕ, ◌&&◌, not, if◌then◌else◌, Bool, false, List, [], ◌∷◌, Option, None, Some, Result, Ok, Err, is_err}
 use Rattle.std.specs.List.{list_any, find, flat_map}
 use Rattle.gw_base.specs.declared.code.Code.{Code}
 use Rattle.gw_base.specs.declared.code.Code.TheVariants.{NoTerminationLeft}
-use Rattle.gw_base.specs.declared.ids.CtxNum.{CtxNum}
 use Rattle.gw_base.specs.declared.command_words.Rules.{Rules}
 use Rattle.gw_base.specs.declared.command_words.Service.{Service}
 use Rattle.gw_base.specs.declared.command_words.Verb.{Verb}
@@ -29,7 +28,7 @@ use Rattle.gw_refusal.specs.Asked.{is_wildcard, audited, service_asked}
 use Rattle.gw_cmd.specs.Effects.{on_record, on_name}
 use Rattle.gw_refusal.specs.Places.{place_at, is_unmade}
 use Rattle.gw_cmd.specs.Refusals.{refusal}
-use Rattle.gw_cmd.specs.Targets.{targets}
+use Rattle.gw_refusal.specs.Targets.{targets}
 
 -- ---- replies
 

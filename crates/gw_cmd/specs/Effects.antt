@@ -1,8 +1,7 @@
 -- What a command does to one termination, and what it tells of it (RFC 3525, section 7.2; which case gets which code, and in
 -- which order, is own). It is decided by the termination's record, and by whether the action's context is full.
-use Rattle.std.specs.Prelude.{◌≡◌, ℕ, nat_eq, nat_le, Bool, true, false, not, ◌||◌, if◌then◌else◌, List, [], ◌∷◌, ◌++◌, length, Option, None, Some, Result, Ok, Err}
+use Rattle.std.specs.Prelude.{◌≡◌, ℕ, nat_eq, nat_le, Bool, not, ◌||◌, if◌then◌else◌, List, [], ◌∷◌, ◌++◌, length, Option, None, Some, Result, Ok, Err}
 use Rattle.std.specs.Option.{is_some, unwrap_or}
-use Rattle.std.specs.List.{flat_map}
 use Rattle.gw_base.specs.declared.code.Code.{Code}
 use Rattle.gw_base.specs.declared.code.Code.TheVariants.{IllegalCombination, AlreadyInContext, ContextFull, NotInContext, InsufficientResources, UnknownCommand, UnknownTermination}
 use Rattle.gw_base.specs.declared.ids.CtxNum.{CtxNum}
@@ -21,7 +20,6 @@ use Rattle.gw_term.specs.Merge.{merged, filled_by}
 use Rattle.gw_term.specs.Audit.{audit_parts}
 use Rattle.gw_table.specs.Maps.{Maps, Outcome, term, ctx, members_of}
 use Rattle.gw_refusal.specs.Asked.{audited, asks_media, is_some_list, service_asked}
-use Rattle.gw_cmd.specs.declared.change.Change.{Change}
 use Rattle.gw_cmd.specs.declared.change.Change.TheVariants.{Stays, Becomes, Joins, Crosses, Leaves}
 use Rattle.gw_cmd.specs.declared.change.Decided.{Decided}
 use Rattle.gw_cmd.specs.declared.change.Merged.{Merged}

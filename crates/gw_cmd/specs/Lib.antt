@@ -6,10 +6,10 @@ pub mod Needs
 pub mod Refusals
 pub mod Refused
 pub mod Suits
-pub mod Targets
 pub use Rattle.gw_refusal.specs.Asked
 pub use Rattle.gw_refusal.specs.Forms
 pub use Rattle.gw_refusal.specs.Places
+pub use Rattle.gw_refusal.specs.Targets
 pub use Rattle.gw_table.specs.Maps
 pub use Rattle.gw_table.specs.Parts
 pub use Rattle.gw_table.specs.WellFormed

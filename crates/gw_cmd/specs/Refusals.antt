@@ -1,6 +1,6 @@
 -- Why a command is refused as a whole: the first that applies (codes of H.248.8; which case gets which, and in which order: own).
 use Rattle.std.specs.Prelude.{ℕ, Bool, true, false, not, Option, None, Some}
-use Rattle.std.specs.Option.{is_some, is_none}
+use Rattle.std.specs.Option.{is_none}
 use Rattle.gw_base.specs.declared.code.Code.{Code}
 use Rattle.gw_base.specs.declared.code.Code.TheVariants.{UnknownContext, UnknownTermination, NoWildcardMatch, NoTerminationLeft}
 use Rattle.gw_base.specs.declared.term_ref.TermRef.{TermRef}
@@ -12,7 +12,7 @@ use Rattle.gw_refusal.specs.declared.at.At.{At}
 use Rattle.gw_refusal.specs.declared.at.At.TheVariants.{Null, Live, Unmade, Each}
 use Rattle.gw_refusal.specs.Asked.{is_some_list}
 use Rattle.gw_refusal.specs.Forms.{refusal_by_form}
-use Rattle.gw_cmd.specs.Targets.{targets}
+use Rattle.gw_refusal.specs.Targets.{targets}
 
 -- 411: the action's context has ended
 abbrev pub has_ended : At → Maps → Bool

@@ -18,7 +18,7 @@ use Rattle.gw_refusal.specs.declared.at.At.{At}
 use Rattle.gw_refusal.specs.Asked.{is_move}
 use Rattle.gw_cmd.specs.Effects.{CanMerge}
 use Rattle.gw_refusal.specs.Places.{place_at}
-use Rattle.gw_cmd.specs.Targets.{targets_of}
+use Rattle.gw_refusal.specs.Targets.{targets_of}
 
 -- a Move needs the key of the context that the termination is in
 abbrev pub HoldsMoved : PartKeys → Verb → Option CtxNum → Type 0

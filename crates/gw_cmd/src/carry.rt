@@ -14,18 +14,17 @@ ghost use Rattle.gw_cmd.specs.Effects.{CanMerge, on_name as name_done};
 ghost use Rattle.gw_cmd.specs.Keys.{command_keys};
 ghost use Rattle.gw_refusal.specs.Places.{place_at};
 ghost use Rattle.gw_cmd.specs.Suits.{HoldsMoved, HoldsFound, HoldsSlot, IsUnused, IsReady, HoldsNew};
-ghost use Rattle.gw_cmd.specs.Targets.{targets};
+ghost use Rattle.gw_refusal.specs.Targets.{targets};
 
 use crate::effects::{on_name, on_new};
 use crate::outcome::CmdOutcome;
 use crate::refusal::Refusal;
-use crate::replies::{one, outcome_of, reply, told};
+use crate::replies::{alone, one, reply, told};
 use crate::root::{every_serviced, root_parts};
 use crate::tables::refusal_by_tables;
-use crate::targets::targets;
 use gw_base::{Code, Items, NoMemory, Rules, TermName, TermRef, Verb};
 use gw_msg::Command;
-use gw_refusal::{At, refusal_by_form, service_asked};
+use gw_refusal::{At, refusal_by_form, service_asked, targets};
 use gw_reply::CommandReply;
 use gw_table::{Part, slot_name};
 use std::alloc::Global;
@@ -107,10 +106,8 @@ fn on_one(
     ensures answer { IfOk result (λ replies. replies ≡ (on_targets rules.now at command.now (name ∷ []) part.old.maps).answer.answers) }
     ensures keys { part.new.keys ≡ part.old.keys }
 {
-    let mut replies = Items::new(alloc);
     let reply = on_target(alloc, rules, part, at, command, name)?;
-    replies.push(reply)?;
-    Ok(replies)
+    alone(alloc, reply)
 }
 
 /// Carries the command out on the terminations that it is for.
@@ -130,10 +127,10 @@ fn on_names(
     ensures keys { part.new.keys ≡ part.old.keys }
 {
     let replies = match command.term {
-        TermRef::Name(name) => on_one(alloc, rules, part, at, command, name)?,
-        _ => on_targets(alloc, rules, part, at, command, named)?,
-    };
-    Ok(outcome_of(at, told(alloc, command, replies)?))
+        TermRef::Name(name) => on_one(alloc, rules, part, at, command, name),
+        _ => on_targets(alloc, rules, part, at, command, named),
+    }?;
+    told(alloc, at, command, replies)
 }
 
 /// Carries the command out on a termination that it makes in the slot, if one is owned.

@@ -1,13 +1,13 @@
 //! What a command does to one termination.
 
-ghost use Rattle.std.specs.Prelude.{◌≡◌, true, None, OnOk};
+ghost use Rattle.std.specs.Prelude.{◌≡◌, true, None, Ok, OnOk};
 ghost use Rattle.gw_base.specs.declared.key.Key.TheVariants.{Term, Ctx};
 ghost use Rattle.gw_table.specs.Maps.{term, put_term, place_of};
 ghost use Rattle.gw_table.specs.Parts.{holds, HoldsPlace};
 ghost use Rattle.gw_table.specs.Reserved.{slot_name};
 ghost use Rattle.gw_table.specs.WellFormed.{IsSound};
 ghost use Rattle.gw_term.specs.Record.{ephemeral};
-ghost use Rattle.gw_cmd.specs.Effects.{CanMerge, decided as decided_by, on_record, on_name};
+ghost use Rattle.gw_cmd.specs.Effects.{CanMerge, decided as decided_by, done, on_record, on_name};
 ghost use Rattle.gw_cmd.specs.Moves.{changed};
 ghost use Rattle.gw_cmd.specs.Refused.{Answers, Tells};
 ghost use Rattle.gw_cmd.specs.Suits.{Suits, HoldsMoved, HoldsFound};
@@ -68,6 +68,22 @@ fn changed(
     }
 }
 
+/// What is decided is done, and told.
+fn done(
+    alloc: Global,
+    rules: &Rules,
+    part: &mut Part,
+    name: TermName,
+    decided: Decided,
+) -> Result<Items<ReplyPart>, Refusal>
+    requires { Suits rules.now part.old.keys name decided.change part.old.maps }
+    ensures told { Tells result part.new.maps (done name part.old.maps (Ok decided)) }
+    ensures keys { part.new.keys ≡ part.old.keys }
+{
+    changed(alloc, rules, part, name, decided.change)?;
+    Ok(decided.parts)
+}
+
 /// What is decided of a termination with this record.
 fn decided(
     alloc: Global,
@@ -112,8 +128,7 @@ pub(crate) fn on_name(
         return Err(Refusal::Code(Code::UnknownTermination));
     };
     let decided = decided(alloc, rules, part, place, command, old)?;
-    changed(alloc, rules, part, name, decided.change)?;
-    Ok(decided.parts)
+    done(alloc, rules, part, name, decided)
 }
 
 /// What is decided of a termination that is about to be made in a slot.
@@ -151,6 +166,5 @@ pub(crate) fn on_new(
     ensures keys { part.new.keys ≡ part.old.keys }
 {
     let decided = decided_new(alloc, rules, part, place, command, slot)?;
-    changed(alloc, rules, part, slot_name(slot), decided.change)?;
-    Ok(decided.parts)
+    done(alloc, rules, part, slot_name(slot), decided)
 }

@@ -13,7 +13,6 @@ mod refusal;
 mod replies;
 mod root;
 mod tables;
-mod targets;
 
 pub use carry::command;
 pub use gw_refusal::At;

@@ -1,6 +1,6 @@
 //! Merges of descriptors into a copy of a termination's record, and what the reply tells of them.
 
-ghost use Rattle.std.specs.Prelude.{◌≡◌, ◌++◌, None, Some, IfOk};
+ghost use Rattle.std.specs.Prelude.{◌≡◌, ◌++◌, None, Some, Ok, IfOk};
 ghost use Rattle.gw_base.specs.declared.command_words.Verb.TheVariants.{Add as add_verb};
 ghost use Rattle.gw_desc.specs.Checks.{check_code};
 ghost use Rattle.gw_term.specs.Audit.{audit_parts};
@@ -43,9 +43,10 @@ fn filled_part(
     ensures { IfOk result (λ parts. parts ≡ filled_part descriptors.now filled) }
 {
     let mut parts = Items::new(alloc);
-    if !asks_media(descriptors) && !filled.is_empty() {
-        parts.push(ReplyPart::Filled(filled))?;
+    if asks_media(descriptors) || filled.is_empty() {
+        return Ok(parts);
     }
+    parts.push(ReplyPart::Filled(filled))?;
     Ok(parts)
 }
 
@@ -92,8 +93,8 @@ fn in_place(
     descriptors: &[Descriptor<'_>],
     applied: MergedCopy,
     place: Option<CtxNum>,
-) -> Result<Merged, NoMemory>
-    ensures { IfOk result (λ m. m ≡ with_parts descriptors.now applied.filled (placed applied.new place)) }
+) -> Result<Merged, Refusal>
+    ensures { Answers result (Ok (with_parts descriptors.now applied.filled (placed applied.new place))) }
 {
     let mut record_after = applied.new;
     record_after.set_place(place);
@@ -122,5 +123,5 @@ pub(crate) fn merging(
     if let Some(code) = refused {
         return Err(Refusal::Code(code));
     }
-    Ok(in_place(alloc, descriptors, applied, place)?)
+    in_place(alloc, descriptors, applied, place)
 }

@@ -1,6 +1,6 @@
 //! Commands on ROOT, the gateway itself.
 
-ghost use Rattle.std.specs.Prelude.{◌≡◌, true, List, ◌++◌, ℕ, IfOk, OnOk};
+ghost use Rattle.std.specs.Prelude.{◌≡◌, true, List, ℕ, IfOk, OnOk};
 ghost use Rattle.std.specs.List.{flat_map};
 ghost use Rattle.gw_base.specs.declared.key.Key.TheVariants.{Term};
 ghost use Rattle.gw_base.specs.NameLists.{is_in};
@@ -62,19 +62,11 @@ fn bare_parts(alloc: Global, words: &[Span<'_>]) -> Result<AuditReply, NoMemory>
 {
     let mut parts = Items::new(alloc);
     for word in words {
-        push_bare(word.as_bytes(), &mut parts)?;
+        if let Some(item) = item_of(word.as_bytes()) {
+            parts.push(ReplyPart::Bare(item))?;
+        }
     }
     Ok(parts)
-}
-
-/// The item that the word asks for goes last.
-fn push_bare(word: &[u8], parts: &mut AuditReply) -> Result<(), NoMemory>
-    ensures { OnOk result (parts.new ≡ parts.old ++ bare_told word.now) }
-{
-    if let Some(item) = item_of(word) {
-        parts.push(ReplyPart::Bare(item))?;
-    }
-    Ok(())
 }
 
 /// What an Audit of ROOT gives: each item bare.

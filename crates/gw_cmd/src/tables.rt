@@ -2,7 +2,7 @@
 
 ghost use Rattle.std.specs.Prelude.{◌≡◌};
 ghost use Rattle.gw_cmd.specs.Refusals.{has_ended, missing, refusal_by_tables};
-ghost use Rattle.gw_cmd.specs.Targets.{targets};
+ghost use Rattle.gw_refusal.specs.Targets.{targets};
 
 use gw_base::{Code, TermName, TermRef};
 use gw_desc::check;

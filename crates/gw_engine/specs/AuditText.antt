@@ -1,44 +1,7 @@
 -- The gateway's tables as text, for an operator (own).
-use Rattle.std.specs.Prelude.{ℕ, List, [], ◌++◌, length, codes, decimal, Option, None, Some}
-use Rattle.std.specs.List.{flat_map}
-use Rattle.gw_base.specs.declared.ids.CtxNum.{CtxNum}
-use Rattle.gw_base.specs.declared.command_words.Service.{Service}
-use Rattle.gw_base.specs.declared.command_words.Service.TheVariants.{Test, OutOfService, InService}
-use Rattle.gw_term.specs.declared.record.Termination.{Termination}
-use Rattle.gw_ctx.specs.Contexts.{ContextRecord}
-use Rattle.gw_table.specs.Maps.{Maps, term, ctx, names, numbers}
+use Rattle.std.specs.Prelude.{ℕ, List, ◌++◌, length, codes, decimal}
+use Rattle.gw_table.specs.TableTexts.{tables_text}
 use Rattle.gw_engine.specs.State.{GatewayValue}
-
--- the context that a termination is in; - for the null context
-abbrev pub place_text : Option CtxNum → List ℕ
-place_text None = codes "-"
-place_text (Some n) = decimal n.0
-
-abbrev pub service_text : Service → List ℕ
-service_text Test = codes "Test"
-service_text OutOfService = codes "OutOfService"
-service_text InService = codes "InService"
-
--- a name behind a space
-abbrev pub member_text : List ℕ → List ℕ
-member_text name = codes " " ++ name
-
--- context <number> <members in joining order>
-abbrev pub context_line : CtxNum → Option ContextRecord → List ℕ
-context_line n None = []
-context_line n (Some c) = codes "context " ++ decimal n.0 ++ flat_map member_text c.members ++ codes "\n"
-
--- term <name> <place> <service state>
-abbrev pub term_line : List ℕ → Option Termination → List ℕ
-term_line t None = []
-term_line t (Some r) = codes "term " ++ t ++ codes " " ++ place_text r.place ++ codes " " ++ service_text r.service ++ codes "\n"
-
--- the line of each of these contexts, and of each of these terminations
-abbrev pub context_lines : Maps → List CtxNum → List ℕ
-context_lines m = flat_map (λ n. context_line n (ctx m n))
-
-abbrev pub term_lines : Maps → List (List ℕ) → List ℕ
-term_lines m = flat_map (λ t. term_line t (term m t))
 
 -- cursors <the last context number owned> <the slot behind the last owned>
 abbrev pub cursors_line : ℕ → ℕ → List ℕ
@@ -48,11 +11,9 @@ cursors_line context slot = codes "cursors " ++ decimal context ++ codes " " ++ 
 abbrev pub kept_line : ℕ → List ℕ
 kept_line count = codes "kept " ++ decimal count ++ codes "\n"
 
--- the cursors; the contexts, their numbers rising; the terminations in the order of the bytes of their names; how many replies
--- are kept
+-- the cursors; the tables; how many replies are kept
 abbrev pub audit_text : GatewayValue → List ℕ
 audit_text g =
     cursors_line g.state.context_cursor g.state.slot_cursor
-    ++ context_lines g.state.maps (numbers g.state.maps)
-    ++ term_lines g.state.maps (names g.state.maps)
+    ++ tables_text g.state.maps
     ++ kept_line (length g.state.kept.pairs)

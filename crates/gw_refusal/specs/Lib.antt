@@ -1,3 +1,4 @@
 pub mod Asked
 pub mod Forms
 pub mod Places
+pub mod Targets

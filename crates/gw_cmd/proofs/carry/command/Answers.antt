@@ -1,4 +1,4 @@
-use Rattle.std.proofs.Common.{◌≡◌, sym, ◌∙◌, None}
+use Rattle.std.proofs.Common.{sym}
 use Rattle.gw_cmd.proofs.Ready.{ready, ready_new}
 use Rattle.gw_cmd.proofs.carry.command.Goals as goal
 

@@ -1,9 +1,7 @@
 use Rattle.std.specs.Prelude.{◌≢◌}
-use Rattle.std.proofs.Common.{◌≡◌, true, false, Option, None, Some, is_some, ℕ, ◌+◌, List, [], ◌∷◌, ◌++◌, drop, refl, sym, ap, subst, ◌∙◌}
+use Rattle.std.proofs.Common.{◌≡◌, true, false, Option, None, Some, is_some, ℕ, ◌+◌, List, [], ◌∷◌, drop, refl, sym, ap, subst, ◌∙◌}
 use Rattle.std.proofs.Math.ListN.{drop_of_length-le}
 use Rattle.gw_base.specs.declared.key.Key.TheVariants.{Term}
-use Rattle.gw_base.specs.declared.term_ref.TermRef.TheVariants.{Name}
-use Rattle.gw_base.specs.NameLists.{is_in}
 use Rattle.gw_reply.specs.declared.reply.CommandReply.{CommandReply}
 use Rattle.gw_table.specs.declared.attempts.Attempts.{Attempts}
 use Rattle.gw_table.specs.Folds.{behind}

@@ -1,7 +1,11 @@
-use Rattle.std.proofs.Common.{◌≡◌, ◌<◌, ℕ, Some, Option, ap, sym, subst, ◌∙◌, length, List}
+use Rattle.std.proofs.Common.{◌<◌, Some, Option, ap, sym, subst, ◌∙◌, length}
 use Rattle.gw_base.specs.NameLists.{is_in}
 use Rattle.gw_ctx.specs.Contexts.{ContextRecord}
-use Rattle.gw_table.specs.Maps.{members_of}
+use Rattle.gw_base.specs.declared.key.Key.TheVariants.{Ctx}
+use Rattle.gw_table.specs.Maps.{Maps, ctx, members_of}
+use Rattle.gw_table.specs.Parts.{PartKeys, holds}
+use Rattle.gw_cmd.specs.Moves.{changed, with_member}
+use Rattle.std.proofs.lemmas.Result.{on_ok_weaker}
 use Rattle.gw_cmd.specs.declared.change.Change.{Change}
 use Rattle.gw_cmd.specs.Suits.{Suits}
 use Rattle.gw_cmd.proofs.Suited.{other_context}
@@ -18,3 +22,29 @@ join-requires-in-Crosses-clause-room c =
     let s = subst (λ (x : Change). Suits c.args.rules.now c.args.part.now.keys c.args.name x c.args.part.now.maps) c.in-Crosses.is c.requires in
     subst (λ (o : Option ContextRecord). length (members_of o) < c.args.rules.now.members) (sym (other_context c.in-Crosses.from c.in-Crosses.number c.args.name (Some c.in-Crosses.record) c.args.part.now.maps c.put-in-Crosses.new.part.maps c.leave.new.part.maps s.4 c.in_ok-put-in-Crosses.ensures.ok c.in_ok-leave-in-Crosses.ensures.left))
     s.3.room
+
+pub put-requires-in-Joins : goal.put-requires-in-Joins
+put-requires-in-Joins c = (subst (λ (x : Change). Suits c.args.rules.now c.args.part.now.keys c.args.name x c.args.part.now.maps) c.in-Joins.is c.requires).0
+
+pub put-requires-in-Crosses : goal.put-requires-in-Crosses
+put-requires-in-Crosses c = (subst (λ (x : Change). Suits c.args.rules.now c.args.part.now.keys c.args.name x c.args.part.now.maps) c.in-Crosses.is c.requires).0
+
+pub put-requires-in-Leaves : goal.put-requires-in-Leaves
+put-requires-in-Leaves c = (subst (λ (x : Change). Suits c.args.rules.now c.args.part.now.keys c.args.name x c.args.part.now.maps) c.in-Leaves.is c.requires).0
+
+pub join-requires-clause-key : goal.join-requires-clause-key
+join-requires-clause-key c =
+    let s = subst (λ (x : Change). Suits c.args.rules.now c.args.part.now.keys c.args.name x c.args.part.now.maps) c.in-Joins.is c.requires in
+    ap (λ (k : PartKeys). holds k (Ctx c.in-Joins.number)) c.put-in-Joins.ensures.keys ∙ s.1
+
+pub join-requires-clause-new : goal.join-requires-clause-new
+join-requires-clause-new c =
+    let s = subst (λ (x : Change). Suits c.args.rules.now c.args.part.now.keys c.args.name x c.args.part.now.maps) c.in-Joins.is c.requires in
+    ap (λ (m : Maps). is_in c.args.name (members_of (ctx m c.in-Joins.number))) c.in_ok-put-in-Joins.ensures.ok ∙ s.2.new
+
+pub returns-in_ok-put-in-Joins-clause-ok : goal.returns-in_ok-put-in-Joins-clause-ok
+returns-in_ok-put-in-Joins-clause-ok c =
+    on_ok_weaker c.join.result
+    (λ e. e ∙ ap (λ (m : Maps). with_member c.in-Joins.number c.args.name m) c.in_ok-put-in-Joins.ensures.ok
+    ∙ ap (λ (x : Change). changed c.args.name x c.args.part.now.maps) (sym c.in-Joins.is))
+    c.join.ensures.joined

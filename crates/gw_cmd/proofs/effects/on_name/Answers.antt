@@ -1,4 +1,4 @@
-use Rattle.std.proofs.Common.{◌≡◌, Some, None, Ok, ap, sym, subst, ◌∙◌, Option, is_some}
+use Rattle.std.proofs.Common.{◌≡◌, Some, ap, sym, subst, Option, is_some}
 use Rattle.gw_base.specs.declared.ids.CtxNum.{CtxNum}
 use Rattle.gw_term.specs.declared.record.Termination.{Termination}
 use Rattle.gw_table.specs.Maps.{place_of, term}
@@ -7,8 +7,8 @@ use Rattle.gw_cmd.proofs.Lawful.{decided_lawful}
 use Rattle.gw_cmd.proofs.Suited.{suits}
 use Rattle.gw_cmd.proofs.effects.on_name.Goals as goal
 
-pub changed-requires : goal.changed-requires
-changed-requires c =
+pub done-requires : goal.done-requires
+done-requires c =
     let found : term c.args.part.now.maps c.args.name ≡ Some c.in-Some.old.now = sym c.in-Some.ensures in
     let there : place_of (term c.args.part.now.maps c.args.name) ≡ c.in-Some.old.now.place = ap (λ (o : Option Termination). place_of o) found in
     suits c.args.rules.now c.args.part.now.keys c.args.command.now.verb c.args.place c.args.name c.in-Some.old.now c.args.part.now.maps c.in_ok-decided.decided.change

@@ -1,16 +1,15 @@
-use Rattle.std.proofs.Common.{◌≡◌, ℕ, List, Some, None, Ok, ap, sym, subst, ◌∙◌, Option}
+use Rattle.std.proofs.Common.{◌≡◌, ℕ, List, ap, sym, subst, Option}
 use Rattle.gw_term.specs.declared.record.Termination.{Termination}
 use Rattle.gw_term.specs.Record.{ephemeral}
 use Rattle.gw_table.specs.Maps.{place_of, term}
 use Rattle.gw_table.specs.Reserved.{slot_name}
-use Rattle.gw_cmd.specs.declared.change.Change.{Change}
 use Rattle.gw_cmd.specs.Suits.{Suits}
 use Rattle.gw_cmd.proofs.Lawful.{decided_lawful}
 use Rattle.gw_cmd.proofs.Suited.{suits}
 use Rattle.gw_cmd.proofs.effects.on_new.Goals as goal
 
-pub changed-requires : goal.changed-requires
-changed-requires c =
+pub done-requires : goal.done-requires
+done-requires c =
     let there : place_of (term c.args.part.now.maps (slot_name c.args.slot)) ≡ (ephemeral c.args.slot).place = ap (λ (o : Option Termination). place_of o) c.requires.unused in
     subst (λ (t : List ℕ). Suits c.args.rules.now c.args.part.now.keys t c.in_ok-decided.decided.change c.args.part.now.maps) (sym c.slot_name.ensures)
     (suits c.args.rules.now c.args.part.now.keys c.args.command.now.verb c.args.place (slot_name c.args.slot) (ephemeral c.args.slot) c.args.part.now.maps c.in_ok-decided.decided.change

@@ -1,6 +1,6 @@
-use Rattle.std.proofs.Common.{◌≡◌, ap, sym, ◌∙◌, ℕ, Some, None}
-use Rattle.gw_ctx.specs.Contexts.{ContextRecord, joined}
-use Rattle.gw_table.specs.Maps.{Maps, ctx, put_ctx, context_of}
+use Rattle.std.proofs.Common.{◌≡◌, ap, sym, ◌∙◌, Some}
+use Rattle.gw_ctx.specs.Contexts.{ContextRecord}
+use Rattle.gw_table.specs.Maps.{put_ctx, context_of}
 use Rattle.gw_cmd.proofs.Steps.{joined_by}
 use Rattle.gw_cmd.proofs.members.join.Goals as goal
 use Rattle.gw_cmd.proofs.members.join.Goals.{in-Some, in-None}

@@ -1,6 +1,4 @@
-use Rattle.std.proofs.Common.{◌≡◌, ◌==◌, List, ℕ, [], ap, sym, ◌∙◌, length, true, false, Some}
-use Rattle.gw_ctx.specs.Contexts.{ContextRecord}
-use Rattle.gw_table.specs.Maps.{put_ctx}
+use Rattle.std.proofs.Common.{◌≡◌, ap, sym, ◌∙◌, length, true, false}
 use Rattle.gw_cmd.proofs.Steps.{left_by}
 use Rattle.gw_cmd.proofs.members.leave.Goals as goal
 

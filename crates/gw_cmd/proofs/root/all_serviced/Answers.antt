@@ -1,4 +1,4 @@
-use Rattle.std.proofs.Common.{◌≡◌, true, ap, ◌∙◌}
+use Rattle.std.proofs.Common.{ap, ◌∙◌}
 use Rattle.gw_base.specs.declared.key.Key.TheVariants.{Term}
 use Rattle.gw_table.specs.Parts.{PartKeys, holds}
 use Rattle.gw_cmd.proofs.OneByOne.{in_at}

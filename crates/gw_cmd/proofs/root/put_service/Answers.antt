@@ -1,7 +1,5 @@
-use Rattle.std.proofs.Common.{◌≡◌, Option, Some, None, refl, sym, ap, ◌∙◌}
-use Rattle.gw_base.specs.declared.command_words.Service.{Service}
+use Rattle.std.proofs.Common.{◌≡◌, Option, Some, None, sym, ap, ◌∙◌}
 use Rattle.gw_term.specs.declared.record.Termination.{Termination}
-use Rattle.gw_term.specs.Record.{serviced}
 use Rattle.gw_table.specs.Maps.{Maps, term, put_term}
 use Rattle.gw_cmd.specs.Commands.{put_service}
 use Rattle.gw_cmd.proofs.Steps.{put_term-put_term, put_same}

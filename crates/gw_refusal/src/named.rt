@@ -4,11 +4,12 @@ ghost use Rattle.std.specs.Prelude.{◌≡◌, IfOk};
 ghost use Rattle.std.specs.List.{filter};
 ghost use Rattle.gw_table.specs.Maps.{names, ctx, members_of};
 ghost use Rattle.gw_refusal.specs.Asked.{matches};
-ghost use Rattle.gw_cmd.specs.Targets.{is_free, those_in, source, matched, targets};
+ghost use Rattle.gw_refusal.specs.Targets.{is_free, those_in, source, matched, targets};
 
+use crate::asked::{is_add, matches};
+use crate::at::At;
 use gw_base::{CtxNum, NoMemory, TermName, TermRef};
 use gw_msg::Command;
-use gw_refusal::{At, is_add, matches};
 use gw_table::Part;
 use std::alloc::Global;
 
@@ -26,14 +27,9 @@ fn is_free(part: &Part, name: &TermName) -> bool
 fn free(alloc: Global, part: &Part) -> Result<Vec<TermName>, NoMemory>
     ensures { IfOk result (λ list. list.items ≡ filter (is_free part.now.maps) (names part.now.maps)) }
 {
-    let named = part.names(alloc)?;
-    Ok(
-        named
-            .iter()
-            .copied()
-            .filter(|name| is_free(part, name))
-            .collect(alloc)?,
-    )
+    let mut named = part.names(alloc)?;
+    named.retain(|name| is_free(part, name));
+    Ok(named)
 }
 
 /// The members of a context in joining order.
@@ -46,17 +42,14 @@ fn members(alloc: Global, part: &Part, number: CtxNum) -> Result<Vec<TermName>, 
     }
 }
 
-/// Those of the names that the wildcard matches, in the same order.
-fn matching(alloc: Global, term: TermRef, named: &[TermName]) -> Result<Vec<TermName>, NoMemory>
-    ensures { IfOk result (λ list. list.items ≡ filter (matches term) named.now) }
+/// The terminations in this place: a context, or none for the null context.
+fn those_in(alloc: Global, part: &Part, place: Option<CtxNum>) -> Result<Vec<TermName>, NoMemory>
+    ensures { IfOk result (λ list. list.items ≡ those_in place part.now.maps) }
 {
-    Ok(
-        named
-            .iter()
-            .copied()
-            .filter(|name| matches(term, *name))
-            .collect(alloc)?,
-    )
+    match place {
+        Some(number) => members(alloc, part, number),
+        None => free(alloc, part),
+    }
 }
 
 /// Where a wildcard's terminations are: those of an Add in the null context, those of another command in the action's.
@@ -80,15 +73,13 @@ fn matched(
 ) -> Result<Vec<TermName>, NoMemory>
     ensures { IfOk result (λ list. list.items ≡ matched at command.now part.now.maps) }
 {
-    let named = match source(at, command) {
-        Some(number) => members(alloc, part, number)?,
-        None => free(alloc, part)?,
-    };
-    matching(alloc, command.term, &named)
+    let mut named = those_in(alloc, part, source(at, command))?;
+    named.retain(|name| matches(command.term, *name));
+    Ok(named)
 }
 
 /// The names of the terminations that the command is for, in order, as the tables are now.
-pub(crate) fn targets(
+pub fn targets(
     alloc: Global,
     part: &Part,
     at: At,

@@ -1,7 +1,0 @@
-use Rattle.std.proofs.Common.{◌≡◌, ◌++◌, take}
-use Rattle.gw_engine.specs.AuditText.{context_lines}
-use Rattle.gw_engine.proofs.audit.write_contexts.Given as goal
-
--- the contexts so far are written
-abbrev pub invariant-loop-number : goal.invariant-loop-number
-invariant-loop-number l = l.out.items ≡ l.fn.out.items ++ context_lines l.tables (take l.number-index l.numbers)

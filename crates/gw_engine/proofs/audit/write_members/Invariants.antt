@@ -1,8 +1,0 @@
-use Rattle.std.proofs.Common.{◌≡◌, ◌++◌, take}
-use Rattle.std.specs.List.{flat_map}
-use Rattle.gw_engine.specs.AuditText.{member_text}
-use Rattle.gw_engine.proofs.audit.write_members.Given as goal
-
--- the members so far are written
-abbrev pub invariant-loop-name : goal.invariant-loop-name
-invariant-loop-name l = l.out.items ≡ l.fn.out.items ++ flat_map member_text (take l.name-index l.members)
