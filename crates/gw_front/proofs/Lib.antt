@@ -1,5 +1,3 @@
-pub mod FirstLines
-pub mod Partway
 pub mod Streams
 pub mod Moving
 pub mod HeaderForms
@@ -8,6 +6,5 @@ pub mod Pieces
 pub mod Courses
 pub mod OneReading
 pub mod Served
-pub mod Values
 pub mod OneFault
 pub mod Outcomes

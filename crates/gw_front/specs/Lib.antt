@@ -1,6 +1,4 @@
-pub mod ConfigTexts
 pub mod Serving
-pub mod Settings
 pub mod Records
 pub mod RecordFaults
 pub mod Headers

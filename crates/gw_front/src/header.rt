@@ -9,10 +9,10 @@ ghost use Rattle.gw_front.specs.Headers.{SaysHeader};
 ghost use Rattle.gw_front.specs.Inputs.{IsBadLine};
 ghost use Rattle.gw_front.specs.declared.header.Header.{Header as Said};
 
-use crate::forms::{behind, number_of};
 use crate::reading::read_byte;
 use crate::replay_fault::ReplayFault;
 use arrayvec::ArrayVec;
+use gw_config::{behind, number_of};
 use std::io::Read;
 
 /// How many bytes a line of a header may have, its line feed not counted, and one more.

@@ -1,8 +1,8 @@
 -- Which fault of the program a fault of the crates below becomes (own).
 use Rattle.gw_engine.specs.declared.fault.ConfigFault.{ConfigFault}
 use Rattle.gw_engine.specs.declared.fault.ConfigFault.TheVariants as config
-use Rattle.gw_front.specs.declared.fault.ConfigTextFault.{ConfigTextFault}
-use Rattle.gw_front.specs.declared.fault.ConfigTextFault.TheVariants as text
+use Rattle.gw_config.specs.declared.fault.ConfigTextFault.{ConfigTextFault}
+use Rattle.gw_config.specs.declared.fault.ConfigTextFault.TheVariants as text
 use Rattle.gw_front.specs.declared.replay_fault.ReplayFault.{ReplayFault}
 use Rattle.gw_front.specs.declared.replay_fault.ReplayFault.TheVariants as replay
 use Rattle.gw_front.specs.declared.serve_fault.ServeFault.{ServeFault}

@@ -1,0 +1,2 @@
+pub mod ConfigTexts
+pub mod Settings
