@@ -144,6 +144,6 @@ impl Bench {
         whole.put(b"MEGACO/1 mg T=1{C=-{");
         whole.put(text);
         whole.put(b"}}");
-        self.asked_by(alloc, place, whole.as_bytes())
+        self.asked_by(alloc, place, whole.whole()?)
     }
 }

@@ -55,7 +55,7 @@ impl<'a> Many<'a> {
             page.put(self.body);
             held = held.saturating_add(1);
             if held >= self.each || number == self.last {
-                add(page.alloc(), burst, page.as_bytes())?;
+                add(page.alloc(), burst, page.whole()?)?;
                 page.clear();
                 page.put(CONTROLLER);
                 held = 0;

@@ -35,7 +35,7 @@ fn carried(
     let (outcome, after) = bench.asked(out.alloc(), place, text.as_slice())?;
     let failed = outcome.failed;
     write_outcome(out, outcome)?;
-    write_changes(out, bench.tables(), after.tables());
+    write_changes(out, bench.tables(), after.tables())?;
     Ok((failed, after))
 }
 
@@ -86,10 +86,7 @@ impl Commands {
         match call {
             "new" => self.make(out.alloc(), asked),
             "tables" => match &self.bench {
-                Some(bench) => {
-                    write_tables(out, bench.tables());
-                    Ok(())
-                }
+                Some(bench) => write_tables(out, bench.tables()),
                 None => Err(CaseFault::Form),
             },
             "given" => self.ask(Use::Given, as_text(next), behind, out),

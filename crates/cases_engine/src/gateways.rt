@@ -38,7 +38,7 @@ fn write_told(gateway: &mut Gateway, text: &[u8], out: &mut Page) -> Result<(), 
     let mut whole = Page::new(out.alloc());
     whole.put(CONTROLLER);
     whole.put(text);
-    write_asked(gateway, whole.as_bytes(), out)
+    write_asked(gateway, whole.whole()?, out)
 }
 
 /// The answers to a transaction of this number and of so many actions, each of which makes a context with a termination of its
@@ -56,7 +56,7 @@ fn write_each(gateway: &mut Gateway, words: &[u8], out: &mut Page) -> Result<(),
         text.put(b"}");
     }
     text.put(b"}");
-    write_told(gateway, text.as_bytes(), out)
+    write_told(gateway, text.whole()?, out)
 }
 
 /// The answers to each proper prefix of a datagram: the first, and how many of the others are like it.
@@ -66,7 +66,7 @@ fn write_prefixes(gateway: &mut Gateway, text: &[u8], out: &mut Page) -> Result<
     for end in 0..text.len() {
         let mut other = Page::new(out.alloc());
         write_asked(gateway, &text[..end], &mut other)?;
-        if other.as_bytes() == out.as_bytes() {
+        if other.whole()? == out.as_bytes() {
             like = like.saturating_add(1);
         }
     }
@@ -113,7 +113,7 @@ impl Gateways {
         let mut whole = Page::new(alloc);
         whole.put(CONTROLLER);
         whole.put(text);
-        add(alloc, &mut self.burst, whole.as_bytes())
+        add(alloc, &mut self.burst, whole.whole()?)
     }
 
     /// The answer to a case for the gateway that is there.

@@ -88,9 +88,10 @@ fn write_replays(text: &[u8], out: &mut Page) -> Result<(), CaseFault> {
     for most in PIECES {
         let mut other = Page::new(out.alloc());
         write_replay(text, most, &mut other)?;
+        let written = other.whole()?;
         if most == PIECES[0] {
-            out.put(other.as_bytes());
-        } else if other.as_bytes() != out.as_bytes() {
+            out.put(written);
+        } else if written != out.as_bytes() {
             out.clear();
             out.put(b"differs in pieces of ");
             out.number(most as u64);
@@ -123,7 +124,7 @@ pub fn answer(call: &str, asked: &[u8], out: &mut Page) -> Result<(), CaseFault>
         }
         "times" => {
             let text = repeated(out.alloc(), asked)?;
-            write_replays(text.as_bytes(), out)
+            write_replays(text.whole()?, out)
         }
         _ => Err(CaseFault::Call),
     }

@@ -1,12 +1,10 @@
 //! Replies and tables as a case has them.
 
 use cases_text::{CaseFault, Page, split_at_byte};
-use gw_base::{CtxNum, CtxRef, Items, Mid, TermName, TxId};
+use gw_base::{CtxRef, Items, Mid, TxId};
 use gw_cmd::CmdOutcome;
-use gw_ctx::Context;
 use gw_reply::{ActionReply, CommandReply, TxReply, write_reply};
 use gw_table::Tables;
-use gw_term::Termination;
 use std::alloc::{AllocError, Global};
 
 /// What stands before and behind the replies in a message.
@@ -48,56 +46,14 @@ pub fn write_outcome(out: &mut Page, outcome: CmdOutcome) -> Result<(), CaseFaul
     Ok(())
 }
 
-/// A line with the members of a context.
-fn write_context(out: &mut Page, number: CtxNum, context: &Context) {
-    out.put(b"context ");
-    out.number(u64::from(number.0));
-    for name in context.members().as_slice() {
-        out.put(b" ");
-        out.put(name.as_bytes());
-    }
-    out.put(b"\n");
-}
-
-/// A line with the place and the service state of a termination.
-fn write_term(out: &mut Page, name: &TermName, termination: &Termination) {
-    out.put(b"term ");
-    out.put(name.as_bytes());
-    out.put(b" ");
-    out.state(termination.place(), termination.service());
-    out.put(b"\n");
-}
-
-/// A line for each context, the numbers rising.
-fn write_contexts(out: &mut Page, tables: &Tables) {
-    let Ok(numbers) = tables.numbers(out.alloc()) else {
-        out.put(CaseFault::NoMemory.text());
-        return;
-    };
-    for number in numbers.iter() {
-        if let Some(context) = tables.find_ctx(*number) {
-            write_context(out, *number, context);
-        }
-    }
-}
-
-/// A line for each termination, in the order of the bytes of their names.
-fn write_terms(out: &mut Page, tables: &Tables) {
-    let Ok(names) = tables.names(out.alloc()) else {
-        out.put(CaseFault::NoMemory.text());
-        return;
-    };
-    for name in names.iter() {
-        if let Some(termination) = tables.find_term(name) {
-            write_term(out, name, termination);
-        }
-    }
-}
-
 /// A line for each context and for each termination.
-pub fn write_tables(out: &mut Page, tables: &Tables) {
-    write_contexts(out, tables);
-    write_terms(out, tables);
+pub fn write_tables(out: &mut Page, tables: &Tables) -> Result<(), CaseFault> {
+    let mut text = Vec::new(out.alloc());
+    let Ok(()) = tables.write_text(out.alloc(), &mut text) else {
+        return Err(CaseFault::NoMemory);
+    };
+    out.put(text.as_slice());
+    Ok(())
 }
 
 /// What a line of the tables is about: its first two words.
@@ -173,11 +129,13 @@ fn write_gone(out: &mut Page, before: &[u8], after: &[u8]) {
 }
 
 /// Each line of the tables that is new or another, and each entry that is gone.
-pub fn write_changes(out: &mut Page, before: &Tables, after: &Tables) {
+pub fn write_changes(out: &mut Page, before: &Tables, after: &Tables) -> Result<(), CaseFault> {
     let mut old = Page::new(out.alloc());
-    write_tables(&mut old, before);
+    write_tables(&mut old, before)?;
     let mut new = Page::new(out.alloc());
-    write_tables(&mut new, after);
-    write_new(out, old.as_bytes(), new.as_bytes());
-    write_gone(out, old.as_bytes(), new.as_bytes());
+    write_tables(&mut new, after)?;
+    let (before, after) = (old.whole()?, new.whole()?);
+    write_new(out, before, after);
+    write_gone(out, before, after);
+    Ok(())
 }

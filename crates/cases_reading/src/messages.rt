@@ -87,7 +87,10 @@ fn write_between(out: &mut Page, front: &[u8], text: &[u8], behind: &[u8]) {
     whole.put(front);
     whole.put(text);
     whole.put(behind);
-    write_read(out, whole.as_bytes());
+    match whole.whole() {
+        Ok(text) => write_read(out, text),
+        Err(fault) => out.put(fault.text()),
+    }
 }
 
 /// How many of the text's proper prefixes are no message.

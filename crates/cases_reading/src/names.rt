@@ -12,7 +12,7 @@ fn write_value<T: Display>(out: &mut Page, value: &T) {
     let mut text = Page::new(out.alloc());
     text.shown(value);
     out.put(b"read ");
-    out.encoded(text.as_bytes());
+    out.page(&text);
 }
 
 /// What was read or its fault, as they are shown.

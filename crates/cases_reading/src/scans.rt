@@ -28,12 +28,14 @@ fn write_cut(
         Ok(span) => {
             out.encoded(span);
             out.put(b"%|");
-            out.encoded(left.as_bytes());
+            out.page(&left);
         }
         Err(fault) => {
             out.shown(&fault);
-            if left.as_bytes() != text {
-                out.put(b", and the cursor moved");
+            match left.whole() {
+                Ok(left) if left == text => {}
+                Ok(_) => out.put(b", and the cursor moved"),
+                Err(fault) => out.put(fault.text()),
             }
         }
     }
@@ -111,7 +113,7 @@ fn write_steps(out: &mut Page, asked: &[u8]) {
     }
     out.put(b"%|");
     let left = rest(out, &mut cursor, text);
-    out.encoded(left.as_bytes());
+    out.page(&left);
 }
 
 /// Answers a case of a scan without a word of its own. False: it is none.

@@ -47,5 +47,5 @@ pub fn ask<A: Asks>(text: &[u8], asks: &mut A, out: &mut Page) -> Result<(), Cas
     whole.put(b"MEGACO/1 mg T=1{C=-{MF=T/1{");
     whole.put(text);
     whole.put(b"}}}");
-    ask_message(whole.as_bytes(), asks, out)
+    ask_message(whole.whole()?, asks, out)
 }

@@ -98,5 +98,5 @@ pub fn write_long(call: &str, count: &[u8], out: &mut Page) -> Result<(), CaseFa
             text.put(b"Events}");
         }
     }
-    ask(text.as_bytes(), &mut Wrong { verb: Verb::Modify }, out)
+    ask(text.whole()?, &mut Wrong { verb: Verb::Modify }, out)
 }

@@ -37,7 +37,7 @@ fn add_counted(terms: &mut Items<TermName>, name: &mut Page, count: u32) -> Resu
         name.clear();
         name.put(b"T/");
         name.number(u64::from(number));
-        add_name(terms, name.as_bytes())?;
+        add_name(terms, name.whole()?)?;
     }
     Ok(())
 }

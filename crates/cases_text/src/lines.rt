@@ -17,6 +17,17 @@ pub trait Desk {
     fn answer(&mut self, call: &str, asked: &[u8], out: &mut Page) -> Result<(), CaseFault>;
 }
 
+/// The answer to a case, which is written on the page.
+fn answered<'p, D: Desk>(
+    desk: &mut D,
+    line: &[u8],
+    page: &'p mut Page,
+) -> Result<&'p [u8], CaseFault> {
+    let (call, asked) = split_word(line);
+    desk.answer(as_text(call), asked, page)?;
+    page.whole()
+}
+
 /// Writes a line, and below it its answer where it is a case.
 fn write_case<D: Desk>(desk: &mut D, line: &[u8], out: &mut Page) {
     out.put(line);
@@ -24,11 +35,9 @@ fn write_case<D: Desk>(desk: &mut D, line: &[u8], out: &mut Page) {
     if line.is_empty() || line.starts_with(b"#") {
         return;
     }
-    let (call, asked) = split_word(line);
     let mut answer = Page::new(out.alloc());
-    match desk.answer(as_text(call), asked, &mut answer) {
-        Ok(()) if answer.is_short() => out.indented(CaseFault::NoMemory.text()),
-        Ok(()) => out.indented(answer.as_bytes()),
+    match answered(desk, line, &mut answer) {
+        Ok(text) => out.indented(text),
         Err(fault) => out.indented(fault.text()),
     }
 }
@@ -61,8 +70,8 @@ pub fn transcript<D: Desk>(
     rt.reader().read_to_end(&mut text)?;
     let mut out = Page::new(rt.alloc());
     write_cases(desk, text.as_slice(), &mut out);
-    if out.is_short() {
-        return Err(io::Error::from(ErrorKind::OutOfMemory));
+    match out.whole() {
+        Ok(text) => io::writer(rt).write_all(text),
+        Err(_) => Err(io::Error::from(ErrorKind::OutOfMemory)),
     }
-    io::writer(rt).write_all(out.as_bytes())
 }

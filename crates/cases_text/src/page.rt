@@ -1,5 +1,6 @@
 //! A page: what a case program writes.
 
+use crate::fault::CaseFault;
 use crate::split::split_at_byte;
 use gw_base::{CtxNum, Service};
 use itoa::Buffer;
@@ -16,11 +17,21 @@ const DIGITS: &[u8; 16] = b"0123456789ABCDEF";
 const HEADER: &[u8] = b"MEGACO/1 [10.0.0.1]:2944\n";
 
 /// Text that is being written. Where a growth is refused, which the page remembers, a part of it is missing.
-#[derive(Drop)]
 pub struct Page {
     alloc: Global,
     text: Vec<u8>,
     is_short: bool,
+}
+
+// By hand, so that a function that lets a page go does so by one call. A derived one would stand in it field by field.
+impl Drop for Page {
+    fn drop(self) {
+        let Page {
+            alloc: _,
+            text: _,
+            is_short: _,
+        } = self;
+    }
 }
 
 /// How many bytes in a row are equal at the front.
@@ -56,9 +67,16 @@ impl Page {
         self.text.as_slice()
     }
 
-    /// Whether a part of it is missing.
-    pub fn is_short(&self) -> bool {
-        self.is_short
+    /// What was written, with no part missing.
+    ///
+    /// # Errors
+    ///
+    /// `NoMemory` where a growth was refused.
+    pub fn whole(&self) -> Result<&[u8], CaseFault> {
+        if self.is_short {
+            return Err(CaseFault::NoMemory);
+        }
+        Ok(self.text.as_slice())
     }
 
     /// Takes all off the page.
@@ -127,6 +145,14 @@ impl Page {
                 self.byte(*first);
                 rest = others;
             }
+        }
+    }
+
+    /// What stands on another page, as a case has it. Where a part of that one is missing, one is missing here.
+    pub fn page(&mut self, other: &Page) {
+        self.encoded(other.as_bytes());
+        if other.is_short {
+            self.is_short = true;
         }
     }
 

@@ -1,50 +1,24 @@
-//! The line of each fault of the program.
+//! The lines of those faults that no run of these tests ends with.
 
-use gw_engine::{ConfigFault, LimitName};
-use gw_front::{ConfigTextFault, ReplayFault, ServeFault};
+use crate::wanted::is_text;
+use gw_front::{ReplayFault, ServeFault};
 use gw_program::Fault;
 use std::alloc::AllocError;
 use std::test::Fail;
 
 #[test]
 fn each_fault_has_its_line(rt: HostRuntime) -> Result<(), Fail> {
-    let limit = ConfigFault::LimitOutOfRange(LimitName::Keep);
-    let table = [
-        (
-            Fault::CannotRead("four.conf"),
-            "h248gw: cannot read four.conf",
-        ),
-        (
-            Fault::from(ConfigTextFault::Line(12)),
-            "h248gw: config line 12",
-        ),
-        (Fault::from(limit), "h248gw: config limit"),
-        (
-            Fault::from(ConfigFault::ReservedName),
-            "h248gw: config reserved name",
-        ),
-        (
-            Fault::from(ConfigFault::DuplicateName),
-            "h248gw: config duplicate name",
-        ),
-        (
-            Fault::from(ReplayFault::BadHeader),
-            "h248gw: replay bad header",
-        ),
-        (
-            Fault::from(ReplayFault::Truncated),
-            "h248gw: replay truncated",
-        ),
-        (Fault::from(ReplayFault::TooLong), "h248gw: replay too long"),
-        (Fault::from(ReplayFault::Read), "h248gw: replay read"),
-        (Fault::from(ReplayFault::Write), "h248gw: replay write"),
-        (Fault::from(ServeFault::Bind), "h248gw: serve bind"),
-        (Fault::from(ServeFault::Poll), "h248gw: serve poll"),
-        (Fault::from(ServeFault::Receive), "h248gw: serve receive"),
-        (Fault::from(AllocError), "h248gw: no memory"),
+    let table: [(Fault<'static>, &[u8]); 7] = [
+        (ReplayFault::BadHeader.into(), b"h248gw: replay bad header"),
+        (ReplayFault::Truncated.into(), b"h248gw: replay truncated"),
+        (ReplayFault::TooLong.into(), b"h248gw: replay too long"),
+        (ReplayFault::Read.into(), b"h248gw: replay read"),
+        (ServeFault::Poll.into(), b"h248gw: serve poll"),
+        (ServeFault::Receive.into(), b"h248gw: serve receive"),
+        (AllocError.into(), b"h248gw: no memory"),
     ];
     for (fault, line) in table {
-        assert_eq!(rt; format!(in rt.alloc(); "{fault}")?.as_str(), line);
+        is_text(format!(in rt.alloc(); "{fault}")?.as_bytes(), line)?;
     }
     Ok(())
 }

@@ -10,4 +10,10 @@ mod program;
 #[cfg(test)]
 mod replay;
 #[cfg(test)]
+mod runs;
+#[cfg(test)]
 mod serving;
+#[cfg(test)]
+mod streams;
+#[cfg(test)]
+mod wanted;
