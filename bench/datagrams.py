@@ -4,7 +4,8 @@
 Run it at the top of the repository, after `rt run` in crates/h248gw has built the program. Time is that of the whole
 process, the best of several runs; work is instructions by valgrind's callgrind, less those for the empty datagram.
 `--reading` measures the transactions of every day alone, which are most of what a gateway reads: `typical` is that of
-typical.datagram (two Adds with Media, a Local of seven lines, Events and Signals), `short` a Subtract. Each fills a datagram.
+typical.datagram (two Adds with Media, a Local of seven lines, Events and Signals), `short` a Subtract, `audits` the AuditValue of
+the short transactions. Each fills a datagram.
 `--carrying` measures what some transactions cost to carry out and to answer, beside what they cost to read.
 """
 import pathlib
@@ -72,7 +73,12 @@ def short():
     return parts
 
 
-EVERY_DAY = {"typical": (typical, 45), "short": (short, 62)}
+def audits():
+    transaction = b"Transaction=1{Context=-{AuditValue=T/1{Audit{}}}} "
+    return [HEAD, *[transaction] * ((LARGE - len(HEAD) - 3) // len(transaction))]
+
+
+EVERY_DAY = {"typical": (typical, 45), "short": (short, 62), "audits": (audits, 81)}
 
 
 def burst(datagram):
