@@ -36,15 +36,6 @@ pub(crate) struct Burst {
     pub(crate) answers: Items<Datagram>,
 }
 
-/// A copy of some bytes.
-fn copied(alloc: Global, bytes: &[u8]) -> Result<Items<u8>, NoMemory>
-    ensures { IfOk result (λ copy. copy ≡ bytes.now) }
-{
-    let mut copy = Vec::new(alloc);
-    copy.extend_from_slice(bytes)?;
-    Ok(Items::from(copy))
-}
-
 /// The text of a reply.
 fn text_of(alloc: Global, reply: TxReply, mid: &Mid) -> Result<Items<u8>, NoMemory>
     ensures { IfOk result (λ text. text ≡ reply_text mid.now reply) }
@@ -77,8 +68,8 @@ fn first_class(classes: &[Class]) -> (Class, &[Class])
 }
 
 impl Burst {
-    /// A burst before its first item.
-    pub(crate) fn new(alloc: Global, gateway: &Gateway) -> Result<Burst, NoMemory>
+    /// A burst before its first item, with room for so many answers.
+    pub(crate) fn new(alloc: Global, gateway: &Gateway, room: usize) -> Result<Burst, NoMemory>
         ensures way { IfOk result (IsOnItsWay gateway.now) }
         ensures start { IfOk result (λ burst. progress_of gateway.now burst ≡ start_of gateway.now) }
         ensures answers { IfOk result (λ burst. burst.answers ≡ []) }
@@ -87,11 +78,12 @@ impl Burst {
         let part = gateway.tables.copy()?.all();
         let reservation = Reservation::new(gateway.contexts, gateway.slots, &gateway.cursors);
         let entries = Vec::new(alloc);
+        let answers = Items::from(Vec::with_capacity(alloc, room)?);
         Ok(Burst {
             part,
             reservation,
             entries,
-            answers: Items::new(alloc),
+            answers,
         })
     }
 
@@ -112,7 +104,7 @@ impl Burst {
         let Some(bytes) = kept_reply(&gateway.kept, self.entries.as_slice(), source) else {
             unreachable!();
         };
-        let bytes = copied(alloc, bytes)?;
+        let bytes = Items::from_slice(alloc, bytes)?;
         self.answers.push(Datagram { peer, bytes })?;
         Ok(())
     }
@@ -158,7 +150,7 @@ impl Burst {
         let ids = self.reservation.own(alloc, &gateway.tables, request)?;
         let reply = transaction(alloc, &gateway.rules, &mut self.part, request, &ids)?;
         let bytes = text_of(alloc, reply, &gateway.mid)?;
-        let kept = copied(alloc, bytes.as_slice())?;
+        let kept = Items::from_slice(alloc, bytes.as_slice())?;
         self.entries.push(Entry {
             mid,
             id: request.id,

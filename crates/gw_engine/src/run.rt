@@ -25,7 +25,7 @@ impl Gateway {
     {
         let asked = asked_by(alloc, heard)?;
         let classes = self.kept.classify(alloc, asked.as_slice())?;
-        let mut burst = Burst::new(alloc, self)?;
+        let mut burst = Burst::new(alloc, self, classes.len())?;
         burst.take_all(alloc, self, heard, classes.as_slice())?;
         Ok(burst)
     }

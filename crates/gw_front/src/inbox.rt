@@ -22,15 +22,6 @@ pub(crate) struct Inbox {
     ghost few: { length senders.items ≤ 256 },
 }
 
-/// The bytes, as a list of their own.
-fn copy_of(alloc: Global, bytes: &[u8]) -> Result<Items<u8>, AllocError>
-    ensures { IfOk result (λ copy. copy ≡ bytes.now) }
-{
-    let mut copy = Vec::with_capacity(alloc, bytes.len())?;
-    copy.extend_from_slice(bytes)?;
-    Ok(Items::from(copy))
-}
-
 impl Inbox {
     /// No datagram, and room for those of a burst.
     pub(crate) fn new(alloc: Global) -> Result<Inbox, AllocError>
@@ -78,7 +69,7 @@ impl Inbox {
         ensures { OnOk result (self.new.datagrams.items ≡ self.old.datagrams.items ++ record { peer = length self.old.senders.items; bytes = bytes.now } ∷ []) }
     {
         let peer = self.add_sender(sender)?;
-        let bytes = copy_of(alloc, bytes)?;
+        let bytes = Items::from_slice(alloc, bytes)?;
         self.datagrams.push(Datagram { peer, bytes })?;
         Ok(())
     }

@@ -5,7 +5,6 @@ ghost use Rattle.gw_desc.specs.declared.descriptor.KeptKind.TheVariants.{Events,
 ghost use Rattle.gw_term.specs.Merge.{filled_in, filled_of, merged_media, merged_tail, stream_in, local_if};
 ghost use Rattle.gw_term.specs.Applies.{Yields};
 
-use crate::copies::copied;
 use crate::fault::ApplyFault;
 use crate::properties::{merged_properties, merged_service};
 use crate::record::{Stream, Termination};
@@ -113,7 +112,7 @@ fn push_filled(
         return Ok(());
     }
     if let Some(text) = &merging.stream.local {
-        let local = copied(alloc, text.as_slice())?;
+        let local = Items::from_slice(alloc, text.as_slice())?;
         filled.push(FilledStream { number, local })?;
     }
     Ok(())

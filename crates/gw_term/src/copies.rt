@@ -9,19 +9,12 @@ use gw_desc::{Property, Sign, Tail};
 use gw_reply::{KeptProperty, KeptTail};
 use std::alloc::{AllocError, Global};
 
-/// A copy of the text.
-pub(crate) fn copied(alloc: Global, text: &[u8]) -> Result<Items<u8>, AllocError>
-    ensures { IfOk result (λ copy. copy ≡ text.now) }
-{
-    Ok(Items::from(Vec::from_slice(alloc, text)?))
-}
-
 /// A text of its own, if it is there.
 fn owned_if(alloc: Global, text: &Option<Span<'_>>) -> Result<Option<Items<u8>>, AllocError>
     ensures { IfOk result (λ copy. copy ≡ text.now) }
 {
     match text {
-        Some(text) => Ok(Some(copied(alloc, text.as_bytes())?)),
+        Some(text) => Ok(Some(Items::from_slice(alloc, text.as_bytes())?)),
         None => Ok(None),
     }
 }
@@ -35,8 +28,8 @@ pub(crate) fn property_of(
 ) -> Result<KeptProperty, AllocError>
     ensures { IfOk result (λ copy. copy ≡ record { name = name.now; sign = sign; value = value.now }) }
 {
-    let name = copied(alloc, name)?;
-    let value = copied(alloc, value)?;
+    let name = Items::from_slice(alloc, name)?;
+    let value = Items::from_slice(alloc, value)?;
     Ok(Property { name, sign, value })
 }
 
@@ -61,7 +54,7 @@ pub(crate) fn copied_if(
     ensures { IfOk result (λ copy. copy ≡ text.now) }
 {
     match text {
-        Some(text) => Ok(Some(copied(alloc, text.as_slice())?)),
+        Some(text) => Ok(Some(Items::from_slice(alloc, text.as_slice())?)),
         None => Ok(None),
     }
 }

@@ -6,7 +6,7 @@ ghost use Rattle.std.specs.List.{flat_map, list_any};
 ghost use Rattle.gw_term.specs.Merge.{put_control, local_text, is_filled, put_part, begun, parts_in, parts_in_part, names_stream, is_named_in, merged_stream, each};
 ghost use Rattle.gw_term.specs.Applies.{Becomes};
 
-use crate::copies::{copied, copied_stream, put};
+use crate::copies::{copied_stream, put};
 use crate::fault::ApplyFault;
 use crate::properties::{media_parts, put_property};
 use crate::record::Stream;
@@ -114,7 +114,7 @@ fn put_part(
     match part {
         StreamPart::Local(text) => put_local(alloc, target, text.as_bytes(), merging),
         StreamPart::Remote(text) => {
-            let remote = copied(alloc, text.as_bytes())?;
+            let remote = Items::from_slice(alloc, text.as_bytes())?;
             put(&mut merging.stream.remote, Some(remote));
             Ok(())
         }

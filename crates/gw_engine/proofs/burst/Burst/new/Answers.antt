@@ -26,7 +26,7 @@ returns-clause-way c =
     let part : c.all-part.result.maps ≡ g.state.maps = ap (λ (p : Parted). p.maps) c.all-part.ensures ∙ c.in_ok-copy.ensures in
     let left : slots_left g.state.maps c.new-reservation.result ≡ free_slots g.state.maps g.state.slot_cursor g.settings.slots = c.new-reservation.ensures.slots g.state.maps in
     let free : AreUnused g.state.maps [] (free_slots g.state.maps g.state.slot_cursor g.settings.slots) = free_unused g.state.maps g.state.slot_cursor g.settings.slots w.slot_cursor (few_slots g.settings.slots c.gateway.invariant.slots) in
-    let way : IsOnItsWay g (record { part = c.all-part.result; reservation = c.new-reservation.result; entries = c.new-entries.result; answers = c.new.result }) = record {
+    let way : IsOnItsWay g (record { part = c.all-part.result; reservation = c.new-reservation.result; entries = c.new-entries.result; answers = c.from-answers.result }) = record {
       bounded = omega (arith, w.kept, w.most);
       every = ap (λ (p : Parted). p.keys) c.all-part.ensures;
       mid = w.mid;
@@ -41,4 +41,4 @@ returns-clause-way c =
       distinct = subst (λ (l : List Entry). AreDistinct (kept_after g.state.kept l).pairs) (sym c.new-entries.ensures.items) w.distinct;
       replies = subst (λ (l : List Entry). All (IsKeptReply g.settings.mid) (kept_after g.state.kept l).pairs) (sym c.new-entries.ensures.items) w.replies;
     } in
-    subst (λ (v : GatewayValue). IsOnItsWay v (record { part = c.all-part.result; reservation = c.new-reservation.result; entries = c.new-entries.result; answers = c.new.result })) c.gateway.view_is way
+    subst (λ (v : GatewayValue). IsOnItsWay v (record { part = c.all-part.result; reservation = c.new-reservation.result; entries = c.new-entries.result; answers = c.from-answers.result })) c.gateway.view_is way
