@@ -1,12 +1,11 @@
 -- A TerminationID without wildcards is a name.
-use Rattle.std.proofs.Common.{◌≡◌, ℕ, ◌<◌, Bool, true, false, ◌&&◌, ◌||◌, List, [], ◌∷◌, length, get_or, Err, refl, sym, ap, ◌∙◌}
+use Rattle.std.proofs.Common.{◌≡◌, ℕ, ◌<◌, Bool, true, false, ◌&&◌, ◌||◌, ◌==◌, inl, inr, List, [], ◌∷◌, length, get_or, refl, sym, ap, ◌∙◌}
+use Rattle.std.specs.Prelude.{codes}
+use Rattle.std.proofs.lemmas.Bool.{or_cases, eqb-true}
 use Rattle.std.specs.List.{list_all, list_any}
-use Rattle.gw_base.specs.Bytes.{is_letter, is_name_byte}
-use Rattle.gw_base.specs.Names.{IsName, name_max}
-use Rattle.gw_base.specs.Reads.{ReadsAs}
+use Rattle.gw_base.specs.Bytes.{byte, is_letter, is_name_byte}
+use Rattle.gw_base.specs.Names.{IsName}
 use Rattle.gw_base.specs.Wildcards.{is_wildcard, is_term_byte, IsTermText}
-use Rattle.gw_base.specs.declared.fault.NameFault.{NameFault}
-use Rattle.gw_base.specs.declared.fault.NameFault.TheVariants.{Empty, TooLong, BadByte}
 use Rattle.gw_base.proofs.Booleans.{both, neither}
 
 -- one of two that is not the second is the first
@@ -33,8 +32,46 @@ term_name text t h = record {
   each = no_wildcards text t.each h;
 }
 
--- so no fault is left for it
-pub no_fault : (text : List ℕ) (fault : NameFault) → IsTermText text → list_any is_wildcard text ≡ false → ReadsAs IsName name_max text (Err fault) → ReadsAs IsTermText name_max text (Err fault)
-no_fault text Empty t h e = e
-no_fault text TooLong t h e = e
-no_fault text BadByte t h e = absurd (e.2 (term_name text t h))
+-- a TerminationID that is no name has a wildcard
+pub other_term : (text : List ℕ) → IsTermText text → ¬ IsName text → list_any is_wildcard text ≡ true
+other_term text t h = known (list_any is_wildcard text) refl where
+  known : (w : Bool) → list_any is_wildcard text ≡ w → list_any is_wildcard text ≡ true
+  known true e = e
+  known false e = absurd (h (term_name text t e))
+
+-- no wildcard is a byte of a name
+plain_byte : (b : ℕ) → is_name_byte b ≡ true → is_wildcard b ≡ false
+plain_byte b h = known (is_wildcard b) refl where
+  known : (w : Bool) → is_wildcard b ≡ w → is_wildcard b ≡ false
+  known false e = e
+  known true e = elim (or_cases (byte (codes "*") == b) (byte (codes "$") == b || false) e) [
+    | inl s ↦ absurd (let clash : true ≡ false = sym h ∙ ap is_name_byte (sym (eqb-true _ b s)) in cc)
+    | inr o ↦ elim (or_cases (byte (codes "$") == b) false o) [
+      | inl s ↦ absurd (let clash : true ≡ false = sym h ∙ ap is_name_byte (sym (eqb-true _ b s)) in cc)
+      | inr s ↦ absurd cc
+    ]
+  ]
+
+plain : (bytes : List ℕ) → list_all is_name_byte bytes ≡ true → list_any is_wildcard bytes ≡ false
+plain [] h = refl
+plain (b ∷ bs) h =
+    let each = both (is_name_byte b) (list_all is_name_byte bs) h in
+    ap (λ w. w || list_any is_wildcard bs) (plain_byte b each.0) ∙ plain bs each.1
+
+term_bytes : (bytes : List ℕ) → list_all is_name_byte bytes ≡ true → list_all is_term_byte bytes ≡ true
+term_bytes [] h = refl
+term_bytes (b ∷ bs) h =
+    let each = both (is_name_byte b) (list_all is_name_byte bs) h in
+    ap (λ t. (t || is_wildcard b) && list_all is_term_byte bs) each.0 ∙ term_bytes bs each.1
+
+-- a name is a TerminationID
+pub name_term : (text : List ℕ) → IsName text → IsTermText text
+name_term text n = record {
+  some = n.some;
+  short = n.short;
+  first = ap (λ l. l || is_wildcard (get_or text 0 0)) n.first;
+  each = term_bytes text n.each;
+}
+
+pub name_plain : (text : List ℕ) → IsName text → list_any is_wildcard text ≡ false
+name_plain text n = plain text n.each

@@ -1,8 +1,8 @@
 //! What a command names (RFC 3525, section 6.2.2 and Annex B.2, `TerminationID`).
 
-ghost use Rattle.std.specs.Prelude.{◌≡◌, ◌≤◌, ◌↔◌, ℕ, List, length, true, IsTrue, MatchOption};
+ghost use Rattle.std.specs.Prelude.{◌≡◌, ◌≢◌, ◌≤◌, ◌↔◌, ℕ, List, [], length, true, IsTrue, MatchOption};
 ghost use Rattle.std.specs.List.{list_all, list_any};
-ghost use Rattle.gw_base.specs.Names.{name_max};
+ghost use Rattle.gw_base.specs.Names.{IsName, name_max};
 ghost use Rattle.gw_base.specs.Wildcards.{is_wildcard, is_term_byte, IsTermText, IsRoot, IsUnder};
 ghost use Rattle.gw_base.specs.TermRefs.{IsClass, ReadsTerm};
 
@@ -74,12 +74,6 @@ fn is_root(text: &[u8]) -> bool
     text.eq_ignore_ascii_case(b"ROOT")
 }
 
-fn has_wildcard(text: &[u8]) -> bool
-    ensures { result ≡ list_any is_wildcard text.now }
-{
-    text.iter().any(|b| is_wildcard(*b))
-}
-
 /// The name before the `*`, where the text is a name that ends in `/`, and `*`.
 fn under(text: &[u8]) -> Option<TermName>
     ensures { MatchOption result ((prefix : List ℕ) → ¬ IsUnder prefix text.now) (λ prefix. IsUnder prefix text.now) }
@@ -114,29 +108,31 @@ fn wild(text: &[u8]) -> TermRef
     })
 }
 
+/// What a text that is no name stands for, if it is a TerminationID.
+#[tactic(auto, using(crate::proofs::TermNames::other_term))]
+fn marked(text: &[u8]) -> Result<TermRef, NameFault>
+    requires some { text.now ≢ [] }
+    requires short { length text.now ≤ name_max }
+    requires other { ¬ IsName text.now }
+    ensures { ReadsTerm text.now result }
+{
+    if !is_term(text) {
+        return Err(NameFault::BadByte);
+    }
+    Ok(wild(text))
+}
+
 impl TermRef {
     /// The reference that the text is. A text of no bytes is `Empty`, one of more than 64 `TooLong`; any other that does not
     /// begin with a letter, `*` or `$` and go on with letters, digits and `_ / * $ @ . -` is `BadByte`.
+    #[tactic(auto, using(crate::proofs::TermNames::name_term, crate::proofs::TermNames::name_plain))]
     pub fn read(text: &[u8]) -> Result<TermRef, NameFault>
         ensures { ReadsTerm text.now result }
     {
-        if text.is_empty() {
-            return Err(NameFault::Empty);
-        }
-        if text.len() > NAME_MAX {
-            return Err(NameFault::TooLong);
-        }
-        if !is_term(text) {
-            return Err(NameFault::BadByte);
-        }
-        if has_wildcard(text) {
-            return Ok(wild(text));
-        }
-        if is_root(text) {
-            return Ok(TermRef::Root);
-        }
         match TermName::read(text) {
+            Ok(_) if is_root(text) => Ok(TermRef::Root),
             Ok(name) => Ok(TermRef::Name(name)),
+            Err(NameFault::BadByte) => marked(text),
             Err(fault) => Err(fault),
         }
     }
