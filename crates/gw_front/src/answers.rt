@@ -13,6 +13,7 @@ use itoa::Buffer;
 use std::io::Write;
 
 /// Puts a number without leading zeros.
+#[inline(always)]
 fn put_number<W: Write>(out: &mut W, held: &mut Vec<u8>, number: usize) -> Result<(), ReplayFault>
     ensures whole { OnOk result (Moves (W.contents out.old) held.old.items (W.contents out.new) held.new.items (decimal number)) }
     ensures front { OnErr result (IsFront (W.contents out.old) held.old.items (W.contents out.new) (decimal number)) }

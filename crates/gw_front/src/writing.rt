@@ -60,7 +60,23 @@ fn hold(held: &mut Vec<u8>, piece: &[u8]) -> bool
     held.extend_from_slice(piece).is_ok()
 }
 
+/// The piece goes behind what was written and what the buffer holds, for which it has no room. Kept out of `put`, so that a piece
+/// that fits costs its copy alone.
+#[inline(never)]
+fn put_past<W: Write>(out: &mut W, held: &mut Vec<u8>, piece: &[u8]) -> Result<(), ReplayFault>
+    ensures whole { OnOk result (Moves (W.contents out.old) held.old.items (W.contents out.new) held.new.items piece.now) }
+    ensures front { OnErr result (IsFront (W.contents out.old) held.old.items (W.contents out.new) piece.now) }
+    ensures fault { IfErr result (λ fault. fault ≡ WriteFault) }
+{
+    write_held(out, held)?;
+    if hold(held, piece) {
+        return Ok(());
+    }
+    write_whole(out, piece)
+}
+
 /// The piece goes behind what was written and what the buffer holds.
+#[inline(always)]
 pub(crate) fn put<W: Write>(
     out: &mut W,
     held: &mut Vec<u8>,
@@ -73,11 +89,7 @@ pub(crate) fn put<W: Write>(
     if hold(held, piece) {
         return Ok(());
     }
-    write_held(out, held)?;
-    if hold(held, piece) {
-        return Ok(());
-    }
-    write_whole(out, piece)
+    put_past(out, held, piece)
 }
 
 /// Writes what the buffer holds, and flushes.
