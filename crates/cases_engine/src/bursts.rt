@@ -11,7 +11,7 @@ pub const CONTROLLER: &[u8] = b"MEGACO/1 [10.0.0.9]:2944 ";
 
 /// A datagram of these bytes.
 pub fn datagram_of(alloc: Global, peer: u32, bytes: &[u8]) -> Result<Datagram, AllocError> {
-    let bytes = Items::from(Vec::from_slice(alloc, bytes)?);
+    let bytes = Items::from_slice(alloc, bytes)?;
     Ok(Datagram { peer, bytes })
 }
 

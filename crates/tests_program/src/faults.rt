@@ -1,10 +1,10 @@
 //! The lines of those faults that no run of these tests ends with.
 
-use crate::wanted::is_text;
 use gw_front::{ReplayFault, ServeFault};
 use gw_program::Fault;
 use std::alloc::AllocError;
 use std::test::Fail;
+use tests_wanted::is_text;
 
 #[test]
 fn each_fault_has_its_line(rt: HostRuntime) -> Result<(), Fail> {

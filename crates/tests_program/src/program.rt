@@ -1,20 +1,34 @@
 //! The program by its words: what each command writes and which status it ends with.
 
 use crate::runs::{CONFIGURATION, Run};
-use crate::streams::{End, Sink};
-use crate::wanted::{is_so, is_text};
 use gw_program::program;
 use std::fs::{self, File, OpenFile};
+use std::io::{self, Error, ErrorKind, Write};
 use std::net::Net;
 use std::rt::Files;
 use std::sync::Wait;
 use std::test::Fail;
+use tests_wanted::{is_so, is_text};
 
 /// What `check` says of the configuration.
 const CHECKED: &[u8] = b"ok terms=4 contexts=8 slots=4 members=3 keep=4\n";
 
 /// A file that is not there.
 const MISSING: &str = "/tmp/h248gw-missing.conf";
+
+/// A writer that fails.
+#[derive(Drop)]
+struct Broken;
+
+impl Write for Broken {
+    fn write(&mut self, _buf: &[u8]) -> io::Result<usize> {
+        Err(Error::from(ErrorKind::BrokenPipe))
+    }
+
+    fn flush(&mut self) -> io::Result<()> {
+        Ok(())
+    }
+}
 
 /// The program fails so on a configuration that ends so, both where it is checked and where it is to be served.
 fn fails_on<R: Files + Net + Wait + AllocGlobal>(
@@ -52,8 +66,7 @@ fn a_configuration_is_checked(rt: HostRuntime) -> Result<(), Fail> {
     )?;
     let words: [&str; 2] = ["check", file];
     let (mut input, mut err) = (b"".as_slice(), Vec::new(rt.alloc()));
-    let mut out = Sink::new(rt.alloc(), 0, End::Fails);
-    let status = program(&rt, words.as_slice(), &mut input, &mut out, &mut err);
+    let status = program(&rt, words.as_slice(), &mut input, &mut Broken, &mut err);
     is_so(status == 1, "a fault")?;
     is_text(err.as_slice(), b"h248gw: replay write\n")?;
     Ok(fs::remove_file(&rt, file)?)
@@ -61,28 +74,44 @@ fn a_configuration_is_checked(rt: HostRuntime) -> Result<(), Fail> {
 
 #[test]
 fn words_and_their_statuses(rt: HostRuntime) -> Result<(), Fail> {
-    Run::of(&rt, &["--help"]).explains(b"Usage: h248gw [COMMAND]")?;
-    Run::of(&rt, &["check", "--help"]).explains(b"Usage: h248gw check <FILE>")?;
-    Run::of(&rt, &["serve", "--help"]).explains(b"[default: 0.0.0.0:2944]")?;
-    Run::of(&rt, &["--version"]).explains(b"h248gw 0.1.0\n")?;
-    Run::of(&rt, &["check"]).is_misused(b"<FILE>")?;
-    Run::of(&rt, &["nonsense"]).is_misused(b"nonsense")?;
-    Run::of(&rt, &["serve", MISSING, "--bursts", "-1"]).is_misused(b"-1")?;
+    let explained: [(&[&str], &[u8]); 4] = [
+        (&["--help"], b"Usage: h248gw [COMMAND]"),
+        (&["check", "--help"], b"Usage: h248gw check <FILE>"),
+        (&["serve", "--help"], b"[default: 0.0.0.0:2944]"),
+        (&["--version"], b"h248gw 0.1.0\n"),
+    ];
+    for (words, part) in explained {
+        Run::of(&rt, words).explains(part)?;
+    }
+    let misused: [(&[&str], &[u8]); 3] = [
+        (&["check"], b"<FILE>"),
+        (&["nonsense"], b"nonsense"),
+        (&["serve", MISSING, "--bursts", "-1"], b"-1"),
+    ];
+    for (words, part) in misused {
+        Run::of(&rt, words).is_misused(part)?;
+    }
     Run::of(&rt, &["check", MISSING]).fails(b"h248gw: cannot read /tmp/h248gw-missing.conf\n")
 }
 
 #[test]
 fn a_configuration_with_a_fault(rt: HostRuntime) -> Result<(), Fail> {
-    fails_on(&rt, "contexts x\n", b"h248gw: config line 3\n")?;
-    fails_on(&rt, "contexts 8\n", b"h248gw: config line 4\n")?;
     let limits = "contexts 8\nslots 4\nmembers 65\nkeep 4\n";
-    fails_on(&rt, limits, b"h248gw: config limit\n")?;
     let limit = "contexts 8\nslots 4\nmembers 3\nkeep 0\nterm RTP/0\n";
-    fails_on(&rt, limit, b"h248gw: config limit\n")?;
     let reserved = "contexts 8\nslots 4\nmembers 3\nkeep 4\nterm RTP/0\n";
-    fails_on(&rt, reserved, b"h248gw: config reserved name\n")?;
     let twice = "contexts 8\nslots 4\nmembers 3\nkeep 4\nterm T/1\nterm T/1\n";
-    fails_on(&rt, twice, b"h248gw: config duplicate name\n")
+    let table: [(&str, &[u8]); 6] = [
+        ("contexts x\n", b"h248gw: config line 3\n"),
+        ("contexts 8\n", b"h248gw: config line 4\n"),
+        (limits, b"h248gw: config limit\n"),
+        (limit, b"h248gw: config limit\n"),
+        (reserved, b"h248gw: config reserved name\n"),
+        (twice, b"h248gw: config duplicate name\n"),
+    ];
+    for (rest, line) in table {
+        fails_on(&rt, rest, line)?;
+    }
+    Ok(())
 }
 
 #[test]

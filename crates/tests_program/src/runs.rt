@@ -1,22 +1,32 @@
 //! Runs of the program on words, with no input.
 
-use crate::wanted::{is_so, is_text};
 use gw_program::program;
 use std::net::Net;
 use std::rt::Files;
 use std::sync::Wait;
 use std::test::Fail;
+use tests_wanted::{is_so, is_text};
 
 /// A configuration: the one that is built in, as a text.
 pub(crate) const CONFIGURATION: &str =
     "mid [10.0.0.1]:2944\nmedia 10.0.0.1\ncontexts 8\nslots 4\nmembers 3\nkeep 4\nterm T/1\nterm T/2\nterm T/3\nterm T/4\n";
 
-/// What a run left.
-#[derive(Drop)]
+/// What a run left. What is asked of it takes it, so that a test lets none go.
 pub(crate) struct Run {
     status: u8,
     out: Vec<u8>,
     err: Vec<u8>,
+}
+
+// By hand, so that a function that lets a run go does so by one call. A derived one would stand in it field by field.
+impl Drop for Run {
+    fn drop(self) {
+        let Run {
+            status: _,
+            out: _,
+            err: _,
+        } = self;
+    }
 }
 
 /// Whether the bytes hold the text.
@@ -34,24 +44,24 @@ impl Run {
     }
 
     /// Whether it ended so, with this text on standard output and nothing on standard error.
-    pub(crate) fn is_done(&self, out: &[u8]) -> bool {
+    pub(crate) fn is_done(self, out: &[u8]) -> bool {
         self.status == 0 && self.out.as_slice() == out && self.err.is_empty()
     }
 
     /// It ended with status 0, and said this among more.
-    pub(crate) fn explains(&self, part: &[u8]) -> Result<(), Fail> {
+    pub(crate) fn explains(self, part: &[u8]) -> Result<(), Fail> {
         is_so(self.status == 0 && self.err.is_empty(), "an explanation")?;
         is_so(holds(self.out.as_slice(), part), "its words")
     }
 
     /// It ended with status 2, and said this on standard error among more.
-    pub(crate) fn is_misused(&self, part: &[u8]) -> Result<(), Fail> {
+    pub(crate) fn is_misused(self, part: &[u8]) -> Result<(), Fail> {
         is_so(self.status == 2 && self.out.is_empty(), "a mistake")?;
         is_so(holds(self.err.as_slice(), part), "its words")
     }
 
     /// It ended with status 1, this line on standard error and nothing on standard output.
-    pub(crate) fn fails(&self, line: &[u8]) -> Result<(), Fail> {
+    pub(crate) fn fails(self, line: &[u8]) -> Result<(), Fail> {
         is_so(self.status == 1 && self.out.is_empty(), "a fault")?;
         is_text(self.err.as_slice(), line)
     }

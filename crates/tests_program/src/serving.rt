@@ -1,11 +1,11 @@
 //! Serving over the loopback.
 
 use crate::runs::{CONFIGURATION, Run};
-use crate::wanted::is_so;
 use std::net::{Ipv4Addr, Net, SocketAddr, UdpSocket};
 use std::test::Fail;
 use std::time::Duration;
 use std::{fs, thread};
+use tests_wanted::is_so;
 
 /// A transaction, and its answer.
 const ASKED: &[u8] = b"MEGACO/1 [10.0.0.9]:2944 Transaction=1{Context=${Add=T/1,Add=$}}";

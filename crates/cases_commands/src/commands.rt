@@ -3,7 +3,7 @@
 use crate::bench::Bench;
 use crate::places::place_of;
 use crate::tables::{write_changes, write_outcome, write_tables};
-use cases_text::{CaseFault, Page, as_text, config_of, decoded, split_word};
+use cases_text::{CaseFault, Desk, Page, as_text, config_of, decoded, split_word};
 use std::alloc::Global;
 
 /// Answers cases with tables, which live until the next are made.
@@ -79,9 +79,10 @@ impl Commands {
         self.put(after);
         Ok(())
     }
+}
 
-    /// The answer to a case of commands.
-    pub fn answer(&mut self, call: &str, asked: &[u8], out: &mut Page) -> Result<(), CaseFault> {
+impl Desk for Commands {
+    fn answer(&mut self, call: &str, asked: &[u8], out: &mut Page) -> Result<(), CaseFault> {
         let (next, behind) = split_word(asked);
         match call {
             "new" => self.make(out.alloc(), asked),

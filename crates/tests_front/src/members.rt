@@ -1,9 +1,9 @@
 //! The limit of a context, by its own calls.
 
-use crate::wanted::is_so;
 use gw_base::TermName;
 use gw_ctx::{Context, JoinFault};
 use std::test::Fail;
+use tests_wanted::is_so;
 
 /// The name joins the context of at most three members: whether it does, or the fault.
 fn joined(context: &mut Context, text: &[u8]) -> Result<Result<(), JoinFault>, Fail> {

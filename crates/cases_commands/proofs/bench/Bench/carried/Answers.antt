@@ -6,7 +6,7 @@ use Rattle.gw_cmd.specs.Commands.{command}
 use Rattle.gw_cmd.specs.Suits.{IsUnused}
 use Rattle.gw_cmd.proofs.Kept.{MayMake, kept_command}
 use Rattle.gw_cmd.proofs.KeptWhole.{whole_is_kept}
-use Rattle.cases_engine.proofs.bench.Bench.carried.Goals as goal
+use Rattle.cases_commands.proofs.bench.Bench.carried.Goals as goal
 
 any_slot : (slot : Option ℕ) → MayMake (λ _. Unit {0}) slot
 any_slot None = tt

@@ -1,9 +1,14 @@
 //! What tests want of a run.
+#![tactic(auto)]
 
 use std::test::Fail;
 
 /// Fails, and says of what, where something is not so.
-pub(crate) fn is_so(holds: bool, what: &str) -> Result<(), Fail> {
+///
+/// # Errors
+///
+/// The failure.
+pub fn is_so(holds: bool, what: &str) -> Result<(), Fail> {
     if holds {
         return Ok(());
     }
@@ -11,7 +16,11 @@ pub(crate) fn is_so(holds: bool, what: &str) -> Result<(), Fail> {
 }
 
 /// Fails where the bytes are not those that are wanted.
-pub(crate) fn is_text(found: &[u8], wanted: &[u8]) -> Result<(), Fail> {
+///
+/// # Errors
+///
+/// The failure, which tells both.
+pub fn is_text(found: &[u8], wanted: &[u8]) -> Result<(), Fail> {
     if found == wanted {
         return Ok(());
     }

@@ -1,12 +1,12 @@
 //! Replays over streams that are slow, and that fail.
 
 use crate::streams::{End, Sink, Source};
-use crate::wanted::{is_so, is_text};
 use gw_base::{Config, Items, MediaAddr, Mid, TermName};
 use gw_engine::Gateway;
 use gw_front::{Counts, ReplayFault, replay};
 use std::alloc::Global;
 use std::test::Fail;
+use tests_wanted::{is_so, is_text};
 
 /// Two bursts, of a datagram each.
 const TWO: &[u8] = b"D 7 1\nX\n.\nD 8 1\nX\n.\n";
@@ -40,10 +40,10 @@ fn gateway(alloc: Global) -> Result<Gateway, Fail> {
     Ok(Gateway::new(alloc, config)?)
 }
 
-/// The tables of a gateway as text, and whether they begin so.
-fn has_tables(alloc: Global, gateway: &Gateway, front: &[u8]) -> Result<(), Fail> {
+/// The tables of a gateway as text are these.
+fn has_tables(alloc: Global, gateway: &Gateway, tables: &[u8]) -> Result<(), Fail> {
     let text = gateway.audit_tables(alloc)?;
-    is_so(text.as_slice().starts_with(front), "the tables")
+    is_text(text.as_slice(), tables)
 }
 
 /// A replay of both bursts to a writer that takes so many bytes and ends so: it ends with the fault of a write, and the bytes are
@@ -56,18 +56,24 @@ fn fails_to_write(alloc: Global, room: usize, end: End, front: &[u8]) -> Result<
     is_text(out.taken.as_slice(), front)
 }
 
-/// A replay of both bursts from a reader that fails behind so many reads.
+/// A replay of both bursts from a reader that fails behind so many reads: it ends with the fault of a read, and this was written.
 fn fails_to_read(alloc: Global, reads: usize, written: &[u8]) -> Result<(), Fail> {
     let mut gateway = gateway(alloc)?;
     let mut out = Vec::new(alloc);
-    let ended = replay(
-        alloc,
-        &mut Source::failing(TWO, reads),
-        &mut out,
-        &mut gateway,
-    );
+    let mut reader = Source::failing(TWO, reads);
+    let ended = replay(alloc, &mut reader, &mut out, &mut gateway);
     is_so(ended == Err(ReplayFault::Read), "the fault of a read")?;
     is_text(out.as_slice(), written)
+}
+
+/// A gateway after a replay that would have made a context, but for its last read, which failed.
+fn after_a_failed_read(alloc: Global) -> Result<Gateway, Fail> {
+    let mut gateway = gateway(alloc)?;
+    let mut out = Vec::new(alloc);
+    let mut reader = Source::failing(MAKES, MAKES.len() - 1);
+    let ended = replay(alloc, &mut reader, &mut out, &mut gateway);
+    is_so(ended == Err(ReplayFault::Read), "the fault of a read")?;
+    Ok(gateway)
 }
 
 #[test]
@@ -99,8 +105,9 @@ fn each_read_fails_in_turn(rt: HostRuntime) -> Result<(), Fail> {
 #[test]
 fn each_write_fails_in_turn(rt: HostRuntime) -> Result<(), Fail> {
     for room in 0..TWO_ANSWERED.len() {
-        fails_to_write(rt.alloc(), room, End::Fails, &TWO_ANSWERED[..room])?;
-        fails_to_write(rt.alloc(), room, End::IsFull, &TWO_ANSWERED[..room])?;
+        let front = &TWO_ANSWERED[..room];
+        fails_to_write(rt.alloc(), room, End::Fails, front)?;
+        fails_to_write(rt.alloc(), room, End::IsFull, front)?;
     }
     Ok(())
 }
@@ -112,23 +119,18 @@ fn a_failed_flush_ends_a_replay(rt: HostRuntime) -> Result<(), Fail> {
 
 #[test]
 fn a_burst_is_not_carried_out_after_a_failed_read(rt: HostRuntime) -> Result<(), Fail> {
-    let mut gateway = gateway(rt.alloc())?;
-    let mut out = Vec::new(rt.alloc());
-    let mut reader = Source::failing(MAKES, MAKES.len() - 1);
-    let ended = replay(rt.alloc(), &mut reader, &mut out, &mut gateway);
-    is_so(ended == Err(ReplayFault::Read), "the fault of a read")?;
-    has_tables(
-        rt.alloc(),
-        &gateway,
-        b"cursors 0 0\nterm T/1 - InService\nkept 0\n",
-    )
+    let gateway = after_a_failed_read(rt.alloc())?;
+    let tables = b"cursors 0 0\nterm T/1 - InService\nkept 0\n";
+    has_tables(rt.alloc(), &gateway, tables)
 }
 
+// The same gateway takes the burst up again, once all of it is read.
 #[test]
 fn a_burst_was_carried_out_before_a_failed_write(rt: HostRuntime) -> Result<(), Fail> {
-    let mut gateway = gateway(rt.alloc())?;
+    let mut gateway = after_a_failed_read(rt.alloc())?;
     let mut out = Sink::new(rt.alloc(), 0, End::IsFull);
     let ended = replay(rt.alloc(), &mut Source::slow(MAKES), &mut out, &mut gateway);
     is_so(ended == Err(ReplayFault::Write), "the fault of a write")?;
-    has_tables(rt.alloc(), &gateway, b"cursors 1 0\ncontext 1 T/1\n")
+    let tables = b"cursors 1 0\ncontext 1 T/1\nterm T/1 1 InService\nkept 1\n";
+    has_tables(rt.alloc(), &gateway, tables)
 }

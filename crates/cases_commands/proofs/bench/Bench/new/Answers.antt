@@ -4,7 +4,7 @@ use Rattle.gw_table.specs.Maps.{Maps}
 use Rattle.gw_table.specs.Reserved.{is_reserved}
 use Rattle.gw_table.specs.WellFormed.{AreWellFormed}
 use Rattle.gw_table.proofs.Provisioning.{new_maps_fit}
-use Rattle.cases_engine.proofs.bench.Bench.new.Goals as goal
+use Rattle.cases_commands.proofs.bench.Bench.new.Goals as goal
 
 pub invariant_of-result : goal.invariant_of-result
 invariant_of-result c =
