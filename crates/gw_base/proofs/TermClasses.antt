@@ -7,45 +7,45 @@ use Rattle.std.proofs.lemmas.List.{take_at}
 use Rattle.std.proofs.lemmas.List.Folds.{list_any-append}
 use Rattle.std.proofs.lemmas.Bool.{or_cases, or_left, or_right, eqb-true}
 use Rattle.gw_base.specs.Bytes.{byte, is_one_of}
-use Rattle.gw_base.specs.Wildcards.{is_wildcard, IsRoot, IsUnder}
+use Rattle.gw_base.specs.Wildcards.{is_wildcard_byte, IsRoot, IsUnder}
 use Rattle.gw_base.specs.TermRefs.{IsChoose, IsClass}
 use Rattle.gw_base.specs.declared.term_ref.TermRef.{TermRef}
 use Rattle.gw_base.specs.declared.term_ref.TermRef.TheVariants.{Root, All, Choose, Under, Name, Other}
 
 -- ---- wildcards
 
-lower_wildcard : (c : ℕ) → is_wildcard c ≡ true → is_wildcard (to_ascii_lowercase c) ≡ true
+lower_wildcard : (c : ℕ) → is_wildcard_byte c ≡ true → is_wildcard_byte (to_ascii_lowercase c) ≡ true
 lower_wildcard c h =
     elim (or_cases (byte (codes "*") == c) (byte (codes "$") == c || false) h) [
-      | inl e ↦ ap (λ (x : ℕ). is_wildcard (to_ascii_lowercase x)) (sym (eqb-true _ c e))
+      | inl e ↦ ap (λ (x : ℕ). is_wildcard_byte (to_ascii_lowercase x)) (sym (eqb-true _ c e))
       | inr o ↦ elim (or_cases (byte (codes "$") == c) false o) [
-        | inl e ↦ ap (λ (x : ℕ). is_wildcard (to_ascii_lowercase x)) (sym (eqb-true _ c e))
+        | inl e ↦ ap (λ (x : ℕ). is_wildcard_byte (to_ascii_lowercase x)) (sym (eqb-true _ c e))
         | inr e ↦ absurd cc
       ]
     ]
 
-lower_wild : (text : List ℕ) → list_any is_wildcard text ≡ true → list_any is_wildcard (map to_ascii_lowercase text) ≡ true
+lower_wild : (text : List ℕ) → list_any is_wildcard_byte text ≡ true → list_any is_wildcard_byte (map to_ascii_lowercase text) ≡ true
 lower_wild [] h = absurd cc
 lower_wild (c ∷ cs) h =
-    elim (or_cases (is_wildcard c) (list_any is_wildcard cs) h) [
-      | inl e ↦ or_left (is_wildcard (to_ascii_lowercase c)) _ (lower_wildcard c e)
-      | inr e ↦ or_right (is_wildcard (to_ascii_lowercase c)) _ (lower_wild cs e)
+    elim (or_cases (is_wildcard_byte c) (list_any is_wildcard_byte cs) h) [
+      | inl e ↦ or_left (is_wildcard_byte (to_ascii_lowercase c)) _ (lower_wildcard c e)
+      | inr e ↦ or_right (is_wildcard_byte (to_ascii_lowercase c)) _ (lower_wild cs e)
     ]
 
 -- the gateway's own name has no wildcard
-root_plain : (text : List ℕ) → list_any is_wildcard text ≡ true → ¬ IsRoot text
+root_plain : (text : List ℕ) → list_any is_wildcard_byte text ≡ true → ¬ IsRoot text
 root_plain text w root =
-    let clash : true ≡ false = sym (lower_wild text w) ∙ ap (list_any is_wildcard) root in
+    let clash : true ≡ false = sym (lower_wild text w) ∙ ap (list_any is_wildcard_byte) root in
     absurd cc
 
-all_wild : (text : List ℕ) → text ≡ codes "*" → list_any is_wildcard text ≡ true
-all_wild text e = ap (list_any is_wildcard) e
+all_wild : (text : List ℕ) → text ≡ codes "*" → list_any is_wildcard_byte text ≡ true
+all_wild text e = ap (list_any is_wildcard_byte) e
 
-choose_wild : (text : List ℕ) → IsChoose text → list_any is_wildcard text ≡ true
+choose_wild : (text : List ℕ) → IsChoose text → list_any is_wildcard_byte text ≡ true
 choose_wild text h =
     elim h [
-      | inl e ↦ ap (list_any is_wildcard) e
-      | inr e ↦ ap (list_any is_wildcard) e
+      | inl e ↦ ap (list_any is_wildcard_byte) e
+      | inr e ↦ ap (list_any is_wildcard_byte) e
     ]
 
 star : ℕ → Bool
@@ -55,8 +55,8 @@ star c = is_one_of (codes "*") c
 under_has : (p : ℕ → Bool) (prefix text : List ℕ) → IsUnder prefix text → p (byte (codes "*")) ≡ true → list_any p text ≡ true
 under_has p prefix text h is = ap (list_any p) h.split ∙ list_any-append p prefix (codes "*") ∙ or_right (list_any p prefix) _ (or_left (p (byte (codes "*"))) false is)
 
-under_wild : (prefix text : List ℕ) → IsUnder prefix text → list_any is_wildcard text ≡ true
-under_wild prefix text h = under_has is_wildcard prefix text h refl
+under_wild : (prefix text : List ℕ) → IsUnder prefix text → list_any is_wildcard_byte text ≡ true
+under_wild prefix text h = under_has is_wildcard_byte prefix text h refl
 
 -- ---- no two classes have a text in common
 
@@ -79,7 +79,7 @@ under_not_choose prefix text h c =
       | inr e ↦ let clash : true ≡ false = sym has ∙ ap (list_any star) e in absurd cc
     ]
 
-not_both : (text : List ℕ) → list_any is_wildcard text ≡ true → list_any is_wildcard text ≡ false → ⊥
+not_both : (text : List ℕ) → list_any is_wildcard_byte text ≡ true → list_any is_wildcard_byte text ≡ false → ⊥
 not_both text t f = let clash : true ≡ false = sym t ∙ f in cc
 
 -- ---- the name in front of the last byte

@@ -3,7 +3,7 @@ use Rattle.std.specs.Prelude.{◌≡◌, ◌≢◌, ℕ, true, false, ◌⊎◌,
 use Rattle.std.specs.List.{list_any}
 use Rattle.gw_base.specs.Names.{name_max}
 use Rattle.gw_base.specs.Reads.{ReadsAs}
-use Rattle.gw_base.specs.Wildcards.{is_wildcard, IsTermText, IsRoot, IsUnder}
+use Rattle.gw_base.specs.Wildcards.{is_wildcard_byte, IsTermText, IsRoot, IsUnder}
 use Rattle.gw_base.specs.declared.fault.NameFault.{NameFault}
 use Rattle.gw_base.specs.declared.term_ref.TermRef.{TermRef}
 use Rattle.gw_base.specs.declared.term_ref.TermRef.TheVariants.{Root, All, Choose, Under, Name, Other}
@@ -18,8 +18,8 @@ IsClass Root text = IsRoot text
 IsClass All text = text ≡ codes "*"
 IsClass Choose text = IsChoose text
 IsClass (Under prefix) text = IsUnder prefix text
-IsClass (Other pattern) text = (pattern ≡ text) × (list_any is_wildcard text ≡ true) × (text ≢ codes "*") × (¬ IsChoose text) × ((prefix : List ℕ) → ¬ IsUnder prefix text)
-IsClass (Name name) text = (name ≡ text) × (list_any is_wildcard text ≡ false) × ¬ IsRoot text
+IsClass (Other pattern) text = (pattern ≡ text) × (list_any is_wildcard_byte text ≡ true) × (text ≢ codes "*") × (¬ IsChoose text) × ((prefix : List ℕ) → ¬ IsUnder prefix text)
+IsClass (Name name) text = (name ≡ text) × (list_any is_wildcard_byte text ≡ false) × ¬ IsRoot text
 
 -- a text of the form, and what it stands for
 abbrev pub IsTerm : TermRef → List ℕ → Type 0

@@ -6,18 +6,18 @@ use Rattle.gw_base.specs.Lang.{IsInAnyCase}
 use Rattle.gw_base.specs.Names.{IsName, name_max}
 
 -- ALL or CHOOSE
-abbrev pub is_wildcard : ℕ → Bool
-is_wildcard b = is_one_of (codes "*$") b
+abbrev pub is_wildcard_byte : ℕ → Bool
+is_wildcard_byte b = is_one_of (codes "*$") b
 
 -- a byte of a TerminationID
 abbrev pub is_term_byte : ℕ → Bool
-is_term_byte b = is_name_byte b || is_wildcard b
+is_term_byte b = is_name_byte b || is_wildcard_byte b
 
 -- letters, digits and _ / * $ @ . -, of which the first is a letter, * or $: as many as a name may have
 pub record IsTermText (bytes : List ℕ) : Type 0 where
   pub some : 0 < length bytes
   pub short : length bytes ≤ name_max
-  pub first : is_letter (slice_index bytes 0) || is_wildcard (slice_index bytes 0) ≡ true
+  pub first : is_letter (slice_index bytes 0) || is_wildcard_byte (slice_index bytes 0) ≡ true
   pub each : list_all is_term_byte bytes ≡ true
 
 -- ROOT in any case

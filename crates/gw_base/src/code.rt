@@ -1,7 +1,7 @@
 //! Error codes of H.248.8, with this profile's texts.
 
 ghost use Rattle.std.specs.Prelude.{◌≡◌};
-ghost use Rattle.gw_base.specs.Codes.{number_of, text_of};
+ghost use Rattle.gw_base.specs.Codes.{number_of, code_text};
 
 /// Why a message, a transaction, an action or a command was refused. The numbers are those of H.248.8; the texts are this
 /// profile's own.
@@ -80,7 +80,7 @@ impl Code {
 
     /// The text that stands in an error descriptor, without its quotation marks.
     pub fn text(self) -> &'static str
-        ensures { result.now ≡ text_of self }
+        ensures { result.now ≡ code_text self }
     {
         match self {
             Code::SyntaxError => "Syntax error in message",

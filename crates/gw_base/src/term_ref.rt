@@ -3,7 +3,7 @@
 ghost use Rattle.std.specs.Prelude.{◌≡◌, ◌≢◌, ◌≤◌, ◌↔◌, ℕ, List, [], length, true, IsTrue, MatchOption};
 ghost use Rattle.std.specs.List.{list_all, list_any};
 ghost use Rattle.gw_base.specs.Names.{IsName, name_max};
-ghost use Rattle.gw_base.specs.Wildcards.{is_wildcard, is_term_byte, IsTermText, IsRoot, IsUnder};
+ghost use Rattle.gw_base.specs.Wildcards.{is_wildcard_byte, is_term_byte, IsTermText, IsRoot, IsUnder};
 ghost use Rattle.gw_base.specs.TermRefs.{IsClass, ReadsTerm};
 
 use crate::bytes::{is_letter, is_name_byte};
@@ -49,8 +49,8 @@ pub enum TermRef {
     Other(Pattern),
 }
 
-fn is_wildcard(b: u8) -> bool
-    ensures { result ≡ is_wildcard b }
+fn is_wildcard_byte(b: u8) -> bool
+    ensures { result ≡ is_wildcard_byte b }
 {
     b"*$".contains(&b)
 }
@@ -58,14 +58,15 @@ fn is_wildcard(b: u8) -> bool
 fn are_term_bytes(text: &[u8]) -> bool
     ensures { result ≡ list_all is_term_byte text.now }
 {
-    text.iter().all(|b| is_name_byte(*b) || is_wildcard(*b))
+    text.iter()
+        .all(|b| is_name_byte(*b) || is_wildcard_byte(*b))
 }
 
 fn is_term(text: &[u8]) -> bool
     requires { length text.now ≤ name_max }
     ensures { IsTrue result ↔ IsTermText text.now }
 {
-    !text.is_empty() && (is_letter(text[0]) || is_wildcard(text[0])) && are_term_bytes(text)
+    !text.is_empty() && (is_letter(text[0]) || is_wildcard_byte(text[0])) && are_term_bytes(text)
 }
 
 fn is_root(text: &[u8]) -> bool
@@ -91,7 +92,7 @@ fn under(text: &[u8]) -> Option<TermName>
 /// What a text with a wildcard stands for.
 fn wild(text: &[u8]) -> TermRef
     requires form { IsTermText text.now }
-    requires wild { list_any is_wildcard text.now ≡ true }
+    requires wild { list_any is_wildcard_byte text.now ≡ true }
     ensures { IsClass result text.now }
 {
     if text == b"*".as_slice() {

@@ -11,7 +11,7 @@ use Rattle.gw_base.specs.Addresses.{IsAddress}
 use Rattle.gw_base.specs.Bytes.{is_name_byte}
 use Rattle.gw_base.specs.NameLists.{name_cmp, is_in, without}
 use Rattle.gw_base.specs.Names.{IsName}
-use Rattle.gw_base.specs.Wildcards.{IsTermText, is_term_byte, is_wildcard as is_wildcard_byte}
+use Rattle.gw_base.specs.Wildcards.{IsTermText, is_term_byte, is_wildcard_byte}
 use Rattle.gw_base.proofs.NameTests.{name_test}
 use Rattle.gw_base.specs.declared.code.Code.{Code}
 use Rattle.gw_base.specs.declared.ids.CtxNum.{CtxNum}
@@ -52,7 +52,7 @@ use Rattle.gw_cmd.specs.declared.change.Decided.{Decided}
 use Rattle.gw_cmd.specs.declared.change.Merged.{Merged}
 use Rattle.gw_cmd.specs.declared.outcome.CmdOutcome.{CmdOutcome}
 use Rattle.gw_refusal.specs.Asked.{is_wildcard, matches, audited, asks_media, is_some_list, service_asked}
-use Rattle.gw_cmd.specs.Commands.{is_error, error_of, error_in, first_error, told, on_targets, on_names, new_reply, on_new, put_service, all_serviced, serviced_if, bare_if, bare_told, root_parts, root_maps, on_root, refused, carried, unless_refused, command}
+use Rattle.gw_cmd.specs.Commands.{has_error, error_of, error_in, first_error, told, on_targets, on_names, new_reply, on_new, put_service, all_serviced, serviced_if, bare_if, bare_told, root_parts, root_maps, on_root, refused, carried, unless_refused, command}
 use Rattle.gw_cmd.specs.Effects.{filled_part, parts_of, merging_to, merging, refusal_to_add, refusal_to_move, refusal_elsewhere, joins, crosses, becomes, unless, what_remains, after_change, decided_in, decided_in_null, is_full, decided, done, on_record, on_found, on_name}
 use Rattle.gw_cmd.specs.KeptForms.{AreKept, IsAsked, IsSlot, KeepsForms}
 use Rattle.gw_cmd.specs.Moves.{with_member, without_member, unless_none, unless_empty, changed}
@@ -286,7 +286,7 @@ told_kept : (c : Command) (replies : List CommandReply) → HasForm c.term → A
 told_kept c replies form h = by (c.wild && is_wildcard c.term)
   where
     by : (b : Bool) → All IsKeptCommand (cond b ((record { verb = c.verb; term = c.term; result = first_error replies }) ∷ []) replies)
-    by true = one_kept c c.term (first_error replies) form (error_in_kept (find is_error replies))
+    by true = one_kept c c.term (first_error replies) form (error_in_kept (find has_error replies))
     by false = h
 
 -- ---- ROOT

@@ -39,7 +39,7 @@ use Rattle.gw_cmd.specs.Commands as commands
 use Rattle.gw_cmd.specs.Keys.{every_key, is_for_all, keys_if, action_keys, place_key, slot_key, member_keys, term_keys, command_keys}
 use Rattle.gw_refusal.specs.Places.{place_at, is_null, is_each}
 use Rattle.gw_refusal.specs.Forms.{refusal_by_form}
-use Rattle.gw_cmd.specs.Refusals.{refusal_by_tables, has_ended, or_else, code_if}
+use Rattle.gw_cmd.specs.Refusals.{refusal_by_tables, has_ended, first_code, code_if}
 use Rattle.gw_cmd.specs.Suits.{HoldsSlot, IsReady}
 use Rattle.gw_refusal.specs.Targets.{those_in, source, targets_of, targets, matched, is_free}
 use Rattle.gw_cmd.proofs.Programs.{of_members, of_those, of_matched, of_targets, of_ended, of_missing, of_tables, of_names, of_new, of_root, of_serviced_if, of_carried, unless_told, of_rest, of_allowed, program, effect-of_targets, effect-of_ended, effect-of_tables, effect-program}
@@ -190,14 +190,14 @@ module _ (rules : Rules) (at : At) (slot : Option ℕ) (c : Command) (m : Maps) 
   do_unless f None e = do_carried f (ready (Only keys) at slot c m covered f e) c.term refl
 
   ended_then : Bool → Accesses (Option Code)
-  ended_then e = and_then (of_missing slot (targets at c m) c.term) (λ x. Done (or_else (code_if UnknownContext e) (or_else x (check_code c.verb c.descriptors))))
+  ended_then e = and_then (of_missing slot (targets at c m) c.term) (λ x. Done (first_code (code_if UnknownContext e) (first_code x (check_code c.verb c.descriptors))))
 
   read_tables : Within keys (of_tables at slot c (targets at c m)) m
   unfolding ended_then
   read_tables =
       within-then keys (of_ended at) ended_then m (read_ended at refl)
       (subst (λ (o : Outcome Bool). Within keys (ended_then o.answer) o.maps) (sym (effect-of_ended at m))
-      (within-then keys (of_missing slot (targets at c m) c.term) (λ x. Done (or_else (code_if UnknownContext (has_ended at m)) (or_else x (check_code c.verb c.descriptors)))) m (read_missing (targets at c m) c.term refl m refl) tt))
+      (within-then keys (of_missing slot (targets at c m) c.term) (λ x. Done (first_code (code_if UnknownContext (has_ended at m)) (first_code x (check_code c.verb c.descriptors)))) m (read_missing (targets at c m) c.term refl m refl) tt))
 
   do_rest : refusal_by_form at c ≡ None → Within keys (of_rest rules at slot c (targets at c m)) m
   do_rest f =

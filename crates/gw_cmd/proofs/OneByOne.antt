@@ -7,7 +7,7 @@ use Rattle.gw_base.specs.declared.term_ref.TermRef.TheVariants.{Name}
 use Rattle.gw_msg.specs.declared.message.Command.{Command}
 use Rattle.gw_reply.specs.declared.reply.CommandReply.{CommandReply}
 use Rattle.gw_table.specs.declared.attempts.Attempts.{Attempts}
-use Rattle.gw_table.specs.Folds.{behind}
+use Rattle.gw_table.specs.Folds.{attempts_behind}
 use Rattle.gw_table.specs.Maps.{Maps, Outcome}
 use Rattle.gw_table.proofs.Folding.{ended, in_order-more, in_order-none}
 use Rattle.gw_refusal.specs.declared.at.At.{At}
@@ -19,7 +19,7 @@ use Rattle.gw_refusal.specs.Places.{place_at}
 pub one_target : (rules : Rules) (at : At) (c : Command) (t : List ℕ) (m : Maps) → on_targets rules at c (t ∷ []) m ≡ on_target rules at c tt t m
 one_target rules at c t m =
     in_order-more (on_target rules at c) tt t [] m
-    ∙ ap (λ (o : Outcome (Attempts Unit CommandReply)). behind (on_target rules at c tt t m).answer.answers o) (in_order-none (on_target rules at c) tt (on_target rules at c tt t m).maps)
+    ∙ ap (λ (o : Outcome (Attempts Unit CommandReply)). attempts_behind (on_target rules at c tt t m).answer.answers o) (in_order-none (on_target rules at c) tt (on_target rules at c tt t m).maps)
 
 -- what came of one
 pub target_is : (rules : Rules) (at : At) (c : Command) (t : List ℕ) (m after : Maps) (r : CommandReply) → after ≡ (on_name rules (place_at at) c t m).maps → r ≡ reply c (Name t) (on_name rules (place_at at) c t m).answer

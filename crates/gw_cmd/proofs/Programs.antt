@@ -37,7 +37,7 @@ use Rattle.gw_cmd.specs.Effects.{decided_in, decided_in_null, done, on_record, o
 use Rattle.gw_cmd.specs.Moves.{unless_empty, changed}
 use Rattle.gw_refusal.specs.Places.{place_at}
 use Rattle.gw_refusal.specs.Forms.{refusal_by_form}
-use Rattle.gw_cmd.specs.Refusals.{has_ended, code_if, missing, or_else, refusal_by_tables}
+use Rattle.gw_cmd.specs.Refusals.{has_ended, code_if, missing, first_code, refusal_by_tables}
 use Rattle.gw_refusal.specs.Targets.{is_free, those_in, source, matched, targets_of, targets}
 
 -- maps and an answer
@@ -174,7 +174,7 @@ of_missing slot ts Root = Done None
 of_missing slot ts (Other text) = Done None
 
 abbrev pub of_tables : At → Option ℕ → Command → List (List ℕ) → Accesses (Option Code)
-of_tables at slot c ts = and_then (of_ended at) (λ e. and_then (of_missing slot ts c.term) (λ x. Done (or_else (code_if UnknownContext e) (or_else x (check_code c.verb c.descriptors)))))
+of_tables at slot c ts = and_then (of_ended at) (λ e. and_then (of_missing slot ts c.term) (λ x. Done (first_code (code_if UnknownContext e) (first_code x (check_code c.verb c.descriptors)))))
 
 pub effect-of_ended : (at : At) (m : Maps) → effect (of_ended at) m ≡ giving m (has_ended at m)
 effect-of_ended Null m = refl
@@ -193,11 +193,11 @@ effect-of_missing at slot c (Other text) m = refl
 pub effect-of_tables : (at : At) (slot : Option ℕ) (c : Command) (m : Maps) → effect (of_tables at slot c (targets at c m)) m ≡ giving m (refusal_by_tables at slot c m)
 unfolding refusal_by_tables
 effect-of_tables at slot c m =
-    let later : Bool → Accesses (Option Code) = λ e. and_then (of_missing slot (targets at c m) c.term) (λ x. Done (or_else (code_if UnknownContext e) (or_else x (check_code c.verb c.descriptors)))) in
+    let later : Bool → Accesses (Option Code) = λ e. and_then (of_missing slot (targets at c m) c.term) (λ x. Done (first_code (code_if UnknownContext e) (first_code x (check_code c.verb c.descriptors)))) in
     effect-then (of_ended at) later m
     ∙ ap (λ (o : Outcome Bool). effect (later o.answer) o.maps) (effect-of_ended at m)
-    ∙ effect-then (of_missing slot (targets at c m) c.term) (λ x. Done (or_else (code_if UnknownContext (has_ended at m)) (or_else x (check_code c.verb c.descriptors)))) m
-    ∙ ap (λ (o : Outcome (Option Code)). giving o.maps (or_else (code_if UnknownContext (has_ended at m)) (or_else o.answer (check_code c.verb c.descriptors)))) (effect-of_missing at slot c c.term m)
+    ∙ effect-then (of_missing slot (targets at c m) c.term) (λ x. Done (first_code (code_if UnknownContext (has_ended at m)) (first_code x (check_code c.verb c.descriptors)))) m
+    ∙ ap (λ (o : Outcome (Option Code)). giving o.maps (first_code (code_if UnknownContext (has_ended at m)) (first_code o.answer (check_code c.verb c.descriptors)))) (effect-of_missing at slot c c.term m)
 
 -- ---- on the gateway itself, and on a new termination
 
@@ -301,7 +301,7 @@ effect-unless : (at : At) (c : Command) (x : Option Code) (p : Accesses CmdOutco
 effect-unless at c (Some code) p o m e = refl
 effect-unless at c None p o m e = e
 
-both_refusals : (x y : Option Code) (at : At) (c : Command) (m : Maps) (o : Outcome CmdOutcome) → commands.unless_refused x at c m (commands.unless_refused y at c m o) ≡ commands.unless_refused (or_else x y) at c m o
+both_refusals : (x y : Option Code) (at : At) (c : Command) (m : Maps) (o : Outcome CmdOutcome) → commands.unless_refused x at c m (commands.unless_refused y at c m o) ≡ commands.unless_refused (first_code x y) at c m o
 both_refusals (Some code) y at c m o = refl
 both_refusals None y at c m o = refl
 

@@ -33,7 +33,7 @@ use Rattle.gw_cmd.specs.Effects.{CanMerge}
 use Rattle.gw_cmd.specs.Keys.{every_key, is_for_all, keys_if, action_keys, place_key, slot_key, member_keys, term_keys, command_keys}
 use Rattle.gw_refusal.specs.Places.{place_at, is_null, is_unmade, is_each}
 use Rattle.gw_refusal.specs.Forms.{is_left_out, is_misplaced, refusal_by_form}
-use Rattle.gw_cmd.specs.Refusals.{has_ended, code_if, missing, or_else, refusal_by_tables}
+use Rattle.gw_cmd.specs.Refusals.{has_ended, code_if, missing, first_code, refusal_by_tables}
 use Rattle.gw_cmd.specs.Suits.{HoldsFound, HoldsSlot, HoldsNew, IsReady}
 use Rattle.gw_refusal.specs.Targets.{those_in, source, matched, targets_of}
 
@@ -75,7 +75,7 @@ tables_none : (at : At) (slot : Option ℕ) (c : Command) (m : Maps) → refusal
 unfolding refusal_by_tables
 tables_none at slot c m h = by (has_ended at m) refl (missing at slot c m c.term) (check_code c.verb c.descriptors) refl h
   where
-    by : (b : Bool) → has_ended at m ≡ b → (x y : Option Code) → check_code c.verb c.descriptors ≡ y → or_else (code_if UnknownContext b) (or_else x y) ≡ None → PassesTables at slot c m
+    by : (b : Bool) → has_ended at m ≡ b → (x y : Option Code) → check_code c.verb c.descriptors ≡ y → first_code (code_if UnknownContext b) (first_code x y) ≡ None → PassesTables at slot c m
     by true e x y f k = absurd cc
     by false e (Some code) y f k = absurd cc
     by false e None (Some code) f k = absurd cc

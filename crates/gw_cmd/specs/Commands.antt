@@ -35,17 +35,17 @@ use Rattle.gw_refusal.specs.Targets.{targets}
 abbrev pub reply : Command → TermRef → Result (List ReplyPart) Code → CommandReply
 reply c sent result = record { verb = c.verb; term = sent; result = result }
 
-abbrev pub is_error : CommandReply → Bool
-is_error r = is_err r.result
+abbrev pub has_error : CommandReply → Bool
+has_error r = is_err r.result
 
 abbrev pub is_done : CommandReply → Bool
-is_done r = not (is_error r)
+is_done r = not (has_error r)
 
 -- it failed if a reply is an error; a success in a context that is not made yet makes it
 abbrev pub outcome_of : At → List CommandReply → CmdOutcome
 outcome_of at replies = record {
   replies = replies;
-  failed = list_any is_error replies;
+  failed = list_any has_error replies;
   made = is_unmade at && list_any is_done replies;
 }
 
@@ -80,7 +80,7 @@ error_in (Some r) = error_of r.result
 
 -- the first error, if there is one
 abbrev pub first_error : List CommandReply → Result (List ReplyPart) Code
-first_error replies = error_in (find is_error replies)
+first_error replies = error_in (find has_error replies)
 
 -- W- with a wildcard has one reply to it as sent
 abbrev pub told : Command → List CommandReply → List CommandReply

@@ -34,14 +34,14 @@ missing at slot c m Choose = code_if NoTerminationLeft (is_none slot)
 missing at slot c m Root = None
 missing at slot c m (Other text) = None
 
-abbrev pub or_else : Option Code → Option Code → Option Code
-or_else (Some code) later = Some code
-or_else None later = later
+abbrev pub first_code : Option Code → Option Code → Option Code
+first_code (Some code) later = Some code
+first_code None later = later
 
 -- what is refused by the tables as they are when it begins, and by what is wrong with its descriptors
 unfoldable pub refusal_by_tables : At → Option ℕ → Command → Maps → Option Code
 refusal_by_tables at slot c m =
-    or_else (code_if UnknownContext (has_ended at m)) (or_else (missing at slot c m c.term) (check_code c.verb c.descriptors))
+    first_code (code_if UnknownContext (has_ended at m)) (first_code (missing at slot c m c.term) (check_code c.verb c.descriptors))
 
 abbrev pub refusal : At → Option ℕ → Command → Maps → Option Code
-refusal at slot c m = or_else (refusal_by_form at c) (refusal_by_tables at slot c m)
+refusal at slot c m = first_code (refusal_by_form at c) (refusal_by_tables at slot c m)

@@ -2,7 +2,7 @@
 
 ghost use Rattle.std.specs.Prelude.{◌≡◌, ◌∷◌, [], IfOk};
 ghost use Rattle.std.specs.List.{list_all, list_any};
-ghost use Rattle.gw_cmd.specs.Commands.{reply, is_error, outcome_of, first_error, told};
+ghost use Rattle.gw_cmd.specs.Commands.{reply, has_error, outcome_of, first_error, told};
 
 use crate::outcome::CmdOutcome;
 use gw_base::{Code, Items, NoMemory, TermRef};
@@ -26,22 +26,22 @@ pub(crate) fn reply(
     }
 }
 
-fn is_error(reply: &CommandReply) -> bool
-    ensures { result ≡ is_error reply.now }
+fn has_error(reply: &CommandReply) -> bool
+    ensures { result ≡ has_error reply.now }
 {
     reply.result.is_err()
 }
 
 fn any_error(replies: &[CommandReply]) -> bool
-    ensures { result ≡ list_any is_error replies.now }
+    ensures { result ≡ list_any has_error replies.now }
 {
-    replies.iter().any(is_error)
+    replies.iter().any(has_error)
 }
 
 fn all_errors(replies: &[CommandReply]) -> bool
-    ensures { result ≡ list_all is_error replies.now }
+    ensures { result ≡ list_all has_error replies.now }
 {
-    replies.iter().all(is_error)
+    replies.iter().all(has_error)
 }
 
 /// What the command gave: its replies, whether one is an error, and whether it made its context.

@@ -11,7 +11,7 @@ use Rattle.gw_config.specs.declared.item.Item.TheVariants.{Nothing, Mid, Media, 
 use Rattle.gw_config.specs.declared.settings.Settings.{Settings}
 use Rattle.gw_config.specs.declared.fault.ConfigTextFault.{ConfigTextFault}
 use Rattle.gw_config.specs.declared.fault.ConfigTextFault.TheVariants.{Line, NoMemory}
-use Rattle.gw_config.specs.ConfigTexts.{Says, AllSay, mid_in, media_in, contexts_in, slots_in, members_in, keep_in, term_in, IsRepeated, IsMissing, IsOnce, IsOutcome}
+use Rattle.gw_config.specs.ConfigTexts.{Says, AllSay, mid_in, media_in, contexts_in, slots_in, members_in, keep_in, term_in, IsRepeated, IsMissing, IsOnce, IsConfigReading}
 use Rattle.gw_config.specs.Settings.{is_set, with_item, is_complete, IsStep, IsWrong, IsAll}
 
 -- what the items have said
@@ -223,7 +223,7 @@ wrong_reason : (line : List ℕ) (s : Settings) (names : List (List ℕ)) (items
 wrong_reason line s names items h (inl none) = inl none
 wrong_reason line s names items h (inr r) = inr (r.0, r.1, repeated r.0 s names items r.2 h)
 
-pub stopped : (text rest line behind : List ℕ) (number told : ℕ) (s : Settings) (names : List (List ℕ)) (e : ConfigTextFault) → IsPartway text rest number s names → lines rest ≡ line ∷ lines behind → told ≡ number + 1 → IsWrong told line s e → IsOutcome text (Err e)
+pub stopped : (text rest line behind : List ℕ) (number told : ℕ) (s : Settings) (names : List (List ℕ)) (e : ConfigTextFault) → IsPartway text rest number s names → lines rest ≡ line ∷ lines behind → told ≡ number + 1 → IsWrong told line s e → IsConfigReading text (Err e)
 stopped text rest line behind number told s names (Line n) h next is wrong = inl (record {
   before = h.before;
   line = line;
@@ -240,7 +240,7 @@ stopped text rest line behind number told s names NoMemory h next is wrong = tt
 whole : (text rest : List ℕ) (before : List (List ℕ)) → lines text ≡ before ++ lines rest → rest ≡ [] → lines text ≡ before
 whole text rest before split end = split ∙ ap (λ (z : List ℕ). before ++ lines z) end ∙ append_nil before
 
-pub short_of : (text rest : List ℕ) (number told : ℕ) (s : Settings) (names : List (List ℕ)) → IsPartway text rest number s names → rest ≡ [] → told ≡ number + 1 → is_complete s ≡ false → IsOutcome text (Err (Line told))
+pub short_of : (text rest : List ℕ) (number told : ℕ) (s : Settings) (names : List (List ℕ)) → IsPartway text rest number s names → rest ≡ [] → told ≡ number + 1 → is_complete s ≡ false → IsConfigReading text (Err (Line told))
 short_of text rest number told s names h end is none =
     let all = whole text rest h.before h.split end in
     inr (record {
@@ -251,7 +251,7 @@ short_of text rest number told s names h end is none =
       number_is = omega (arith, is, h.count, ap length all);
     })
 
-pub ended : (text rest : List ℕ) (number : ℕ) (s : Settings) (names : List (List ℕ)) (c : Config) → IsPartway text rest number s names → rest ≡ [] → IsAll c s names → IsOutcome text (Ok c)
+pub ended : (text rest : List ℕ) (number : ℕ) (s : Settings) (names : List (List ℕ)) (c : Config) → IsPartway text rest number s names → rest ≡ [] → IsAll c s names → IsConfigReading text (Ok c)
 ended text rest number s names c h end a =
     let all = whole text rest h.before h.split end in (
       h.items,

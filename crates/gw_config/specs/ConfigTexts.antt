@@ -143,7 +143,7 @@ pub record IsShort (number : ℕ) (all : List (List ℕ)) : Type 0 where
   pub number_is : number ≡ length all + 1
 
 -- what reading a text answers
-abbrev pub IsOutcome : List ℕ → Result Config ConfigTextFault → Type 0
-IsOutcome text (Ok c) = (items : List Item) × AllSay items (lines text) × IsConfigOf c items
-IsOutcome text (Err (Line number)) = IsWrongLine number (lines text) ⊎ IsShort number (lines text)
-IsOutcome text (Err NoMemory) = Unit {0}
+abbrev pub IsConfigReading : List ℕ → Result Config ConfigTextFault → Type 0
+IsConfigReading text (Ok c) = (items : List Item) × AllSay items (lines text) × IsConfigOf c items
+IsConfigReading text (Err (Line number)) = IsWrongLine number (lines text) ⊎ IsShort number (lines text)
+IsConfigReading text (Err NoMemory) = Unit {0}

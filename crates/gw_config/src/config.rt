@@ -1,7 +1,7 @@
 //! Reading a configuration.
 
 ghost use Rattle.std.specs.Prelude.{◌≤◌, length};
-ghost use Rattle.gw_config.specs.ConfigTexts.{IsOutcome};
+ghost use Rattle.gw_config.specs.ConfigTexts.{IsConfigReading};
 
 use crate::fault::ConfigTextFault;
 use crate::lines::next_line;
@@ -20,7 +20,7 @@ use std::alloc::Global;
 /// `NoMemory` where a growth was refused.
 pub fn read_config(alloc: Global, text: &[u8]) -> Result<Config, ConfigTextFault>
     requires { length text.now ≤ 16777216 }
-    ensures { IsOutcome text.now result }
+    ensures { IsConfigReading text.now result }
 {
     let mut settings = NOTHING;
     let mut terms = Items::new(alloc);

@@ -15,8 +15,8 @@ abbrev pub field_ends : List ℕ
 field_ends = codes " "
 
 -- the parts of a text between the bytes of a class, in order, empty ones too
-abbrev pub parts_of : List ℕ → List ℕ → List (List ℕ)
-parts_of ends text = slice_split (is_one_of ends) text
+abbrev pub pieces_of : List ℕ → List ℕ → List (List ℕ)
+pieces_of ends text = slice_split (is_one_of ends) text
 
 -- the bytes of the class, in order
 abbrev pub ends_of : List ℕ → List ℕ → List ℕ
@@ -29,10 +29,10 @@ laid (part ∷ parts) [] = part
 laid (part ∷ parts) (end ∷ ends) = part ++ end ∷ laid parts ends
 
 abbrev pub lines_of : List ℕ → List (List ℕ)
-lines_of text = parts_of line_ends text
+lines_of text = pieces_of line_ends text
 
 abbrev pub fields_of : List ℕ → List (List ℕ)
-fields_of line = parts_of field_ends line
+fields_of line = pieces_of field_ends line
 
 -- ---- one line
 

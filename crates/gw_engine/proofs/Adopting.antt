@@ -3,7 +3,7 @@ use Rattle.std.proofs.Common.{◌≡◌, ◌≤◌, length, sym, subst, ◌∙�
 use Rattle.gw_kept.proofs.Last.{few_after, most_after}
 use Rattle.gw_kept.specs.Pairs.{KeptList, kept_after}
 use Rattle.gw_reserve.specs.declared.owners.Cursors.{Cursors}
-use Rattle.gw_reserve.specs.Searches.{cursors_of}
+use Rattle.gw_reserve.specs.Searches.{search_cursors}
 use Rattle.gw_table.specs.Maps.{Maps}
 use Rattle.gw_engine.specs.declared.burst.Burst.{Burst}
 use Rattle.gw_engine.specs.OnTheWay.{progress_of, IsOnItsWay}
@@ -26,7 +26,7 @@ well_formed_after g b most w =
     }
 
 -- under whatever names its parts are known
-pub fits_after : (g : GatewayValue) (b : Burst) (m : Maps) (c : Cursors) (k : KeptList) → g.state.kept.most ≡ g.settings.keep → IsOnItsWay g b → m ≡ b.part.maps → c ≡ cursors_of b.reservation → k ≡ kept_after g.state.kept b.entries.items
+pub fits_after : (g : GatewayValue) (b : Burst) (m : Maps) (c : Cursors) (k : KeptList) → g.state.kept.most ≡ g.settings.keep → IsOnItsWay g b → m ≡ b.part.maps → c ≡ search_cursors b.reservation → k ≡ kept_after g.state.kept b.entries.items
     → IsWellFormed g.settings (record { maps = m; context_cursor = c.context; slot_cursor = c.slot; kept = k })
 fits_after g b m c k most w maps cursors kept =
     let p : State = (progress_of g b).state in

@@ -20,7 +20,7 @@ use Rattle.gw_reserve.proofs.Places.{owned_places}
 use Rattle.gw_tx.specs.KeptForms.{AreSlots, IsAskedRequest}
 use Rattle.gw_tx.proofs.FormsKept.{transaction_kept}
 use Rattle.gw_engine.specs.declared.heard.Heard.{Heard}
-use Rattle.gw_engine.specs.Bursts.{Progress, Step, owned_by, reply_to, entry_for, key_of_request, refusal_of, new_step, over_step, request_step, item_step, in_turn, message_step, heard_step, start_of, burst_outcome}
+use Rattle.gw_engine.specs.Bursts.{Progress, Step, owned_by, reply_to, entry_for, key_of_request, over_reply, new_step, over_step, request_step, item_step, in_turn, message_step, heard_step, start_of, burst_outcome}
 use Rattle.gw_engine.specs.OnTheWay.{IsAskedItem, IsAskedMessage, IsAskedHeard, AreAskedHeard}
 use Rattle.gw_engine.specs.Readable.{Question, question_in, questions_in, questions, IsAnswerTo}
 use Rattle.gw_engine.specs.State.{Settings, GatewayValue, IsKeptReply, IsWellFormed}
@@ -66,7 +66,7 @@ module _ (s : Settings) (is_mid : IsMid s.mid) (address : IsAddress s.rules.medi
   }
 
   over_answered : (peer : ℕ) (r : Request) (p : Progress) → IsAskedRequest r → IsSound s p → IsAnswered s (question_in peer (item.Request r)) (over_step s peer r p)
-  over_answered peer r p asked h = record { answers = (record { peer = refl; text = reply_is s.mid (refusal_of r) is_mid (asked.number, tt) }, tt); after = h }
+  over_answered peer r p asked h = record { answers = (record { peer = refl; text = reply_is s.mid (over_reply r) is_mid (asked.number, tt) }, tt); after = h }
 
   request_answered : (peer : ℕ) (from : List ℕ) (r : Request) (p : Progress) (o : Option (List ℕ)) → IsAskedRequest r → IsSound s p → bytes_for (key_of_request from r) p.state.kept.pairs ≡ o → IsAnswered s (question_in peer (item.Request r)) (request_step s peer from r p o)
   request_answered peer from r p (Some bytes) asked h e = record { answers = (record { peer = refl; text = kept_found s.mid (key_of_request from r) p.state.kept.pairs bytes h.replies e }, tt); after = h }

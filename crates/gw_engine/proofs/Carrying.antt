@@ -18,7 +18,7 @@ use Rattle.gw_kept.proofs.Repeats.{new_is_not_kept, stays_distinct}
 use Rattle.gw_kept.proofs.Last.{one_more_after}
 use Rattle.gw_reserve.specs.declared.owners.Cursors.{Cursors}
 use Rattle.gw_reserve.specs.Owners.{number_places, slot_places, new_cursors}
-use Rattle.gw_reserve.specs.Searches.{numbers_left, slots_left, most_contexts, most_slots, IsReservation}
+use Rattle.gw_reserve.specs.Searches.{numbers_left, slots_left, context_limit, slot_limit, IsReservation}
 use Rattle.gw_reserve.specs.Searches as search
 use Rattle.gw_table.specs.Maps.{Maps, Outcome}
 use Rattle.gw_table.specs.Unused.{owned, AreUnused}
@@ -30,7 +30,7 @@ use Rattle.gw_tx.proofs.FormsKept.{transaction_kept}
 use Rattle.gw_tx.proofs.LaterSlots.{front_unused, later_free}
 use Rattle.gw_tx.proofs.Whole.{transaction_whole}
 use Rattle.gw_engine.specs.declared.burst.Burst.{Burst}
-use Rattle.gw_engine.specs.Bursts.{answer_to, owned_by, carried, reply_to, entry_for, cursors_after, key_of_request, state_after, new_step}
+use Rattle.gw_engine.specs.Bursts.{answer_to, owned_by, carried_request, reply_to, entry_for, cursors_after, key_of_request, state_after, new_step}
 use Rattle.gw_engine.specs.OnTheWay.{progress_of, pairs_so_far, IsOnItsWay, HasGone}
 use Rattle.gw_engine.specs.State.{GatewayValue, IsKeptReply}
 use Rattle.gw_engine.proofs.Left.{owned_and_left}
@@ -45,8 +45,8 @@ pub record IsCarried (g : GatewayValue) (old new : Burst) (peer : ℕ) (mid : Li
   pub bytes_are : bytes ≡ reply_text g.settings.mid reply
   pub numbers : numbers_left g.state.maps new.reservation ≡ drop (number_places r) (numbers_left g.state.maps old.reservation)
   pub slots : slots_left g.state.maps new.reservation ≡ drop (slot_places r) (slots_left g.state.maps old.reservation)
-  pub cursors : search.cursors_of new.reservation ≡ new_cursors (search.cursors_of old.reservation) (ids ∷ [])
-  pub most : (most_contexts new.reservation ≡ most_contexts old.reservation) × (most_slots new.reservation ≡ most_slots old.reservation)
+  pub cursors : search.search_cursors new.reservation ≡ new_cursors (search.search_cursors old.reservation) (ids ∷ [])
+  pub most : (context_limit new.reservation ≡ context_limit old.reservation) × (slot_limit new.reservation ≡ slot_limit old.reservation)
   pub reservation : IsReservation new.reservation
   pub entries : new.entries.items ≡ old.entries.items ++ entry_for mid r bytes ∷ []
   pub answers : new.answers ≡ old.answers ++ answer_to peer bytes
@@ -75,15 +75,15 @@ slots_named g b r ids w e = named_slots ids.slots (slots_unused g b r ids w e).s
 -- ---- the burst afterwards
 
 module _ (g : GatewayValue) (old new : Burst) (peer : ℕ) (mid : List ℕ) (r : Request) (ids : Ids) (reply : TxReply) (bytes : List ℕ) (w : IsOnItsWay g old) (c : IsCarried g old new peer mid r ids reply bytes) where
-  done : transaction g.settings.rules r ids old.part.maps ≡ carried g.settings r (progress_of g old)
+  done : transaction g.settings.rules r ids old.part.maps ≡ carried_request g.settings r (progress_of g old)
   done = ap (λ (i : Ids). transaction g.settings.rules r i old.part.maps) c.ids_are
 
   text : bytes ≡ reply_to g.settings r (progress_of g old)
   text = c.bytes_are ∙ ap (λ (t : TxReply). reply_text g.settings.mid t) (c.reply_is ∙ ap (λ (o : Outcome TxReply). o.answer) done)
 
-  cursors : search.cursors_of new.reservation ≡ cursors_after r (progress_of g old)
+  cursors : search.search_cursors new.reservation ≡ cursors_after r (progress_of g old)
   unfolding cursors_after
-  cursors = c.cursors ∙ ap (λ (i : Ids). new_cursors (search.cursors_of old.reservation) (i ∷ [])) c.ids_are
+  cursors = c.cursors ∙ ap (λ (i : Ids). new_cursors (search.search_cursors old.reservation) (i ∷ [])) c.ids_are
 
   kept : kept_after g.state.kept new.entries.items ≡ with_pair (kept_after g.state.kept old.entries.items) (entry_for mid r (reply_to g.settings r (progress_of g old)))
   kept = ap (λ (l : List Entry). kept_after g.state.kept l) c.entries ∙ one_more_after g.state.kept old.entries.items (entry_for mid r bytes)

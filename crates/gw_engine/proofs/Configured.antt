@@ -11,7 +11,8 @@ use Rattle.gw_base.proofs.NameTests.{same_name}
 use Rattle.gw_base.proofs.NamesInLists.{or_left, or_right, itself, pushed}
 use Rattle.gw_engine.specs.declared.fault.LimitName.{LimitName}
 use Rattle.gw_engine.specs.declared.fault.LimitName.TheVariants.{Contexts, Slots, Members, Keep, Terms}
-use Rattle.gw_engine.specs.Configuration.{is_within, most_contexts, most_slots, most_members, most_kept, most_terms, first_limit}
+use Rattle.gw_engine.specs.Configuration.{is_within, most_contexts, most_slots, most_members, most_terms, first_limit}
+use Rattle.gw_kept.specs.Pairs.{most_kept}
 
 -- ---- limits
 

@@ -2,7 +2,7 @@
 use Rattle.std.proofs.Common.{◌≡◌, inl, inr, ℕ, ◌<◌, List, [], ◌∷◌, ◌++◌, true, decimal, Ok, refl, sym, append_assoc, append-nil, arith}
 use Rattle.std.specs.Prelude.{codes}
 use Rattle.std.proofs.lemmas.Fmt.{length-decimal-le}
-use Rattle.gw_base.specs.Codes.{number_of, text_of}
+use Rattle.gw_base.specs.Codes.{number_of, code_text}
 use Rattle.gw_base.specs.Mids.{IsMid}
 use Rattle.gw_base.specs.declared.code.Code.{Code}
 use Rattle.gw_base.specs.declared.code.Code.TheVariants.{SyntaxError}
@@ -61,7 +61,7 @@ small_number : (code : Code) → number_of code < 10000
 small_number SyntaxError = omega arith
 small_number _ = omega arith
 
-text_is_quotable : (code : Code) → IsRun is_quotable (text_of code)
+text_is_quotable : (code : Code) → IsRun is_quotable (code_text code)
 text_is_quotable SyntaxError = refl
 text_is_quotable _ = refl
 
@@ -74,25 +74,25 @@ number_spelled n small =
 error_spelled : (code : Code) → SpellsErrorOf (number_of code) (error_text code)
 error_spelled code = record {
   front = codes "Error";
-  back = codes "=" ++ (decimal (number_of code) ++ in_braces (quoted (text_of code)));
+  back = codes "=" ++ (decimal (number_of code) ++ in_braces (quoted (code_text code)));
   split = refl;
   first = error_word;
   second = record {
     front = codes "=";
-    back = decimal (number_of code) ++ in_braces (quoted (text_of code));
+    back = decimal (number_of code) ++ in_braces (quoted (code_text code));
     split = refl;
     first = plain_sign equals_sign;
     second = record {
       front = decimal (number_of code);
-      back = in_braces (quoted (text_of code));
+      back = in_braces (quoted (code_text code));
       split = refl;
       first = number_spelled (number_of code) (small_number code);
       second = record {
         front = codes "{";
-        back = quoted (text_of code) ++ codes "}";
+        back = quoted (code_text code) ++ codes "}";
         split = refl;
         first = plain_sign left_brace;
-        second = record { front = quoted (text_of code); back = codes "}"; split = refl; first = inr (is_quoted (text_of code) (text_is_quotable code)); second = plain_sign right_brace };
+        second = record { front = quoted (code_text code); back = codes "}"; split = refl; first = inr (is_quoted (code_text code) (text_is_quotable code)); second = plain_sign right_brace };
       };
     };
   };

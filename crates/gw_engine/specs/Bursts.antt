@@ -73,12 +73,12 @@ abbrev pub owned_by : Request → Progress → Ids
 owned_by r p = ids_of r p.numbers p.slots
 
 -- the transaction on the tables as they are, with the identifiers that it owns
-abbrev pub carried : Settings → Request → Progress → Outcome TxReply
-carried s r p = transaction s.rules r (owned_by r p) p.state.maps
+abbrev pub carried_request : Settings → Request → Progress → Outcome TxReply
+carried_request s r p = transaction s.rules r (owned_by r p) p.state.maps
 
 -- the text of its reply
 abbrev pub reply_to : Settings → Request → Progress → List ℕ
-reply_to s r p = reply_text s.mid (carried s r p).answer
+reply_to s r p = reply_text s.mid (carried_request s r p).answer
 
 -- what is kept of it
 abbrev pub entry_for : List ℕ → Request → List ℕ → Entry
@@ -90,7 +90,7 @@ cursors_after r p = new_cursors (cursors_of p.state) (owned_by r p ∷ [])
 
 abbrev pub state_after : Settings → List ℕ → Request → Progress → State
 state_after s mid r p = record {
-  maps = (carried s r p).maps;
+  maps = (carried_request s r p).maps;
   context_cursor = (cursors_after r p).context;
   slot_cursor = (cursors_after r p).slot;
   kept = with_pair p.state.kept (entry_for mid r (reply_to s r p));
@@ -106,11 +106,11 @@ new_step s peer mid r p = record {
 -- ---- one item after another
 
 -- the reply to a request that comes behind too many new ones
-abbrev pub refusal_of : Request → TxReply
-refusal_of r = record { id = r.id; result = Err InsufficientResources }
+abbrev pub over_reply : Request → TxReply
+over_reply r = record { id = r.id; result = Err InsufficientResources }
 
 abbrev pub over_step : Settings → (peer : ℕ) → Request → Progress → Step
-over_step s peer r p = unchanged p (answer_to peer (reply_text s.mid (refusal_of r)))
+over_step s peer r p = unchanged p (answer_to peer (reply_text s.mid (over_reply r)))
 
 -- A request whose reply is among the kept ones is a repeat: it gets that reply. Any other is new, if fewer than so many new ones
 -- came before it.

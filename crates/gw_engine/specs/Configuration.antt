@@ -6,7 +6,7 @@ use Rattle.gw_engine.specs.declared.fault.LimitName.{LimitName}
 use Rattle.gw_engine.specs.declared.fault.LimitName.TheVariants.{Contexts, Slots, Members, Keep, Terms}
 use Rattle.gw_engine.specs.declared.fault.ConfigFault.{ConfigFault}
 use Rattle.gw_engine.specs.declared.fault.ConfigFault.TheVariants.{LimitOutOfRange, ReservedName, DuplicateName, NoMemory}
-use Rattle.gw_kept.specs.Pairs.{none_kept}
+use Rattle.gw_kept.specs.Pairs.{most_kept, none_kept}
 use Rattle.gw_table.specs.Maps.{new_maps}
 use Rattle.gw_base.specs.NameLists.{NoDoubles}
 use Rattle.gw_table.specs.Reserved.{is_reserved}
@@ -25,9 +25,6 @@ most_slots = 4096
 
 abbrev pub most_members : ℕ
 most_members = 64
-
-abbrev pub most_kept : ℕ
-most_kept = 4096
 
 abbrev pub most_terms : ℕ
 most_terms = 65535

@@ -1,7 +1,8 @@
 -- A gateway's fields, as contracts see them (own).
 use Rattle.std.specs.Prelude.{◌≡◌, true}
 use Rattle.gw_engine.specs.declared.gateway.Gateway.TheInside.{Inside}
-use Rattle.gw_engine.specs.Configuration.{is_within, most_contexts, most_slots, most_members, most_kept}
+use Rattle.gw_engine.specs.Configuration.{is_within, most_contexts, most_slots, most_members}
+use Rattle.gw_kept.specs.Pairs.{most_kept}
 use Rattle.gw_engine.specs.State.{GatewayValue, IsWellFormed}
 
 abbrev pub value_of : Inside → GatewayValue

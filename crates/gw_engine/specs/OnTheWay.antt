@@ -15,7 +15,7 @@ use Rattle.gw_cmd.specs.KeptForms.{AreKept}
 use Rattle.gw_msg.specs.declared.message.Item.{Item}
 use Rattle.gw_msg.specs.declared.message.Item.TheVariants as item
 use Rattle.gw_msg.specs.declared.message.Message.{Message}
-use Rattle.gw_reserve.specs.Searches.{numbers_left, slots_left, cursors_of, most_contexts, most_slots, IsReservation}
+use Rattle.gw_reserve.specs.Searches.{numbers_left, slots_left, search_cursors, context_limit, slot_limit, IsReservation}
 use Rattle.gw_table.specs.Parts.{Every}
 use Rattle.gw_table.specs.Unused.{AreUnused}
 use Rattle.gw_table.specs.WellFormed.{AreWellFormed}
@@ -59,8 +59,8 @@ abbrev pub progress_of : GatewayValue → Burst → Progress
 progress_of g b = record {
   state = record {
     maps = b.part.maps;
-    context_cursor = (cursors_of b.reservation).context;
-    slot_cursor = (cursors_of b.reservation).slot;
+    context_cursor = (search_cursors b.reservation).context;
+    slot_cursor = (search_cursors b.reservation).slot;
     kept = kept_after g.state.kept b.entries.items;
   };
   numbers = numbers_left g.state.maps b.reservation;
@@ -109,8 +109,8 @@ pub record IsOnItsWay (g : GatewayValue) (b : Burst) : Type 0 where
   pub forms : AreKept b.part.maps
   pub unused : AreUnused b.part.maps [] (slots_left g.state.maps b.reservation)
   pub reservation : IsReservation b.reservation
-  pub contexts : most_contexts b.reservation ≡ g.settings.contexts
-  pub slots : most_slots b.reservation ≡ g.settings.slots
+  pub contexts : context_limit b.reservation ≡ g.settings.contexts
+  pub slots : slot_limit b.reservation ≡ g.settings.slots
   pub few : length b.entries.items ≤ most_new
   pub distinct : AreDistinct (kept_after g.state.kept b.entries.items).pairs
   pub replies : All (IsKeptReply g.settings.mid) (kept_after g.state.kept b.entries.items).pairs

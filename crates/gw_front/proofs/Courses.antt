@@ -14,7 +14,7 @@ use Rattle.gw_front.specs.declared.replay_fault.ReplayFault.TheVariants.{BadHead
 use Rattle.gw_front.specs.AnswerTexts.{answers_text, all_answers_text}
 use Rattle.gw_front.specs.Records.{AreWholeBursts, IsBurst, IsLastBurst, AreBursts}
 use Rattle.gw_front.specs.RecordFaults.{IsFirstFault}
-use Rattle.gw_front.specs.Inputs.{IsFaultAt, Takes, Ends}
+use Rattle.gw_front.specs.Inputs.{IsFaultAt, TakesFrom, Ends}
 use Rattle.gw_front.specs.Replays.{AnswersBursts, AreCounts, IsReplay, IsStopped, BeginsWith}
 use Rattle.gw_front.specs.Replaying.{IsBurstDone, CountsMore, IsSoFar}
 
@@ -70,7 +70,7 @@ begun input before old counts none = record {
 }
 
 -- what was taken behind whole bursts
-behind_more : (input now later : Option (List ℕ)) (bursts : List (List Datagram)) (b : List Datagram) → IfSome input (AreWholeBursts bursts ▹ (λ rest. now ≡ Some rest)) → Takes (IsBurst b) now later
+behind_more : (input now later : Option (List ℕ)) (bursts : List (List Datagram)) (b : List Datagram) → IfSome input (AreWholeBursts bursts ▹ (λ rest. now ≡ Some rest)) → TakesFrom (IsBurst b) now later
     → IfSome input (AreWholeBursts (bursts ++ b ∷ []) ▹ (λ rest. later ≡ Some rest))
 behind_more None now later bursts b h t = tt
 behind_more (Some x) None later bursts b h t = let clash = h.second in absurd cc
@@ -87,7 +87,7 @@ behind_more (Some x) (Some y) (Some z) bursts b h t =
 
 -- a burst was carried out and answered
 pub stepped : (input now later before between after : Option (List ℕ)) (old mid new : GatewayValue) (counts more : Counts) (b : List Datagram) → IsSoFar input now before between old mid counts
-    → Takes (IsBurst b) now later → IsBurstDone b counts between after mid new (Ok more) → IsSoFar input later before after old new more
+    → TakesFrom (IsBurst b) now later → IsBurstDone b counts between after mid new (Ok more) → IsSoFar input later before after old new more
 stepped input now later before between after old mid new counts more b h t d = record {
   bursts = h.bursts ++ b ∷ [];
   answers = h.answers ++ d.0 ∷ [];
@@ -118,7 +118,7 @@ ended input now later before after old new counts h e = record {
   counted = h.counted;
 }
 
-last_at : (input now later : Option (List ℕ)) (bursts : List (List Datagram)) (b : List Datagram) → IfSome input (AreWholeBursts bursts ▹ (λ rest. now ≡ Some rest)) → Takes (IsLastBurst b) now later → IsAtEnd later
+last_at : (input now later : Option (List ℕ)) (bursts : List (List Datagram)) (b : List Datagram) → IfSome input (AreWholeBursts bursts ▹ (λ rest. now ≡ Some rest)) → TakesFrom (IsLastBurst b) now later → IsAtEnd later
     → IfSome input (AreWholeBursts bursts ▹ IsLastBurst b)
 last_at None now later bursts b h t e = tt
 last_at (Some x) None later bursts b h t e = let clash = h.second in absurd cc
@@ -135,7 +135,7 @@ begins_last : (input : Option (List ℕ)) (bursts : List (List Datagram)) (b : L
 begins_last None bursts b h = tt
 begins_last (Some x) bursts b h = record { front = h.front; back = h.back; split = h.split; first = h.first; second = inr h.second }
 
-begins_whole : (input now later : Option (List ℕ)) (bursts : List (List Datagram)) (b : List Datagram) → IfSome input (AreWholeBursts bursts ▹ (λ rest. now ≡ Some rest)) → Takes (IsBurst b) now later
+begins_whole : (input now later : Option (List ℕ)) (bursts : List (List Datagram)) (b : List Datagram) → IfSome input (AreWholeBursts bursts ▹ (λ rest. now ≡ Some rest)) → TakesFrom (IsBurst b) now later
     → IfSome input (AreWholeBursts bursts ▹ BeginsWith b)
 begins_whole None now later bursts b h t = tt
 begins_whole (Some x) None later bursts b h t = let clash = h.second in absurd cc
@@ -180,7 +180,7 @@ refused input now before between after old mid new counts h k same = record {
 
 -- a burst was not carried out, or not written whole
 pub failed : (input now later before between after : Option (List ℕ)) (old mid new : GatewayValue) (counts : Counts) (b : List Datagram) (fault : ReplayFault) → IsSoFar input now before between old mid counts
-    → Takes (IsBurst b) now later → IsBurstDone b counts between after mid new (Err fault) → IsReplay input before after old new (Err fault)
+    → TakesFrom (IsBurst b) now later → IsBurstDone b counts between after mid new (Err fault) → IsReplay input before after old new (Err fault)
 failed input now later before between after old mid new counts b Write h t d = short_of input before between after now old mid new counts b h (begins_whole input now later h.bursts b h.read t) d
 failed input now later before between after old mid new counts b NoMemory h t d = refused input now before between after old mid new counts h d.0 d.1
 failed input now later before between after old mid new counts b BadHeader h t d = absurd d
@@ -190,7 +190,7 @@ failed input now later before between after old mid new counts b Read h t d = ab
 
 -- the last burst was carried out, or not
 pub last_done : (input now later before between after : Option (List ℕ)) (old mid new : GatewayValue) (counts : Counts) (b : List Datagram) (result : Result Counts ReplayFault) → IsSoFar input now before between old mid counts
-    → Takes (IsLastBurst b) now later × IsAtEnd later → IsBurstDone b counts between after mid new result → IsReplay input before after old new result
+    → TakesFrom (IsLastBurst b) now later × IsAtEnd later → IsBurstDone b counts between after mid new result → IsReplay input before after old new result
 last_done input now later before between after old mid new counts b (Ok more) h t d = record {
   bursts = h.bursts ++ b ∷ [];
   answers = h.answers ++ d.0 ∷ [];

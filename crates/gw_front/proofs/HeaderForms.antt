@@ -8,7 +8,7 @@ use Rattle.std.proofs.lemmas.List.{append_cancel_left, append-nil}
 use Rattle.std.proofs.lemmas.List.Folds.{list_any-append}
 use Rattle.gw_base.specs.Bytes.{is_digit}
 use Rattle.gw_text.specs.Forms.{IsUint32}
-use Rattle.gw_front.specs.Records.{IsHeader, IsLength}
+use Rattle.gw_front.specs.Records.{IsRecordHeader, IsLength}
 use Rattle.gw_front.specs.RecordFaults.{HasNoLineFeed, IsLongLine, IsCutLine}
 
 -- ---- the first byte of a kind
@@ -62,7 +62,7 @@ digits_without_feed xs h = none_of is_digit (λ c. c == 10) no_feed xs h
 -- ---- a header
 
 -- what a header says stands on both sides of its first space behind the D
-pub header_parts : (line rest a b : List ℕ) (peer len : ℕ) → line ≡ codes "D " ++ rest → rest ≡ a ++ 32 ∷ b → list_any (λ c. c == 32) a ≡ false → IsHeader peer len line → IsUint32 peer a × IsLength len b
+pub header_parts : (line rest a b : List ℕ) (peer len : ℕ) → line ≡ codes "D " ++ rest → rest ≡ a ++ 32 ∷ b → list_any (λ c. c == 32) a ≡ false → IsRecordHeader peer len line → IsUint32 peer a × IsLength len b
 header_parts line rest a b peer len begins split free h =
     let back : h.back ≡ rest = append_cancel_left (codes "D ") h.back rest (sym (h.split ∙ ap (λ (l : List ℕ). l ++ h.back) h.first) ∙ begins) in
     let inner : h.back ≡ h.second.front ++ 32 ∷ h.second.second.back =
@@ -71,7 +71,7 @@ header_parts line rest a b peer len begins split free h =
     (subst (IsUint32 peer) parts.0 h.second.first, subst (IsLength len) parts.1 h.second.second.second)
 
 -- a header has a space behind the D
-pub header_space : (line rest : List ℕ) (peer len : ℕ) → line ≡ codes "D " ++ rest → list_any (λ c. c == 32) rest ≡ false → ¬ IsHeader peer len line
+pub header_space : (line rest : List ℕ) (peer len : ℕ) → line ≡ codes "D " ++ rest → list_any (λ c. c == 32) rest ≡ false → ¬ IsRecordHeader peer len line
 header_space line rest peer len begins none h =
     let back : h.back ≡ rest = append_cancel_left (codes "D ") h.back rest (sym (h.split ∙ ap (λ (l : List ℕ). l ++ h.back) h.first) ∙ begins) in
     let inner : h.back ≡ h.second.front ++ 32 ∷ h.second.second.back =

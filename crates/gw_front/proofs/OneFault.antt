@@ -7,7 +7,7 @@ use Rattle.gw_base.specs.Lang.{◌▹◌}
 use Rattle.gw_engine.specs.declared.datagram.Datagram.{Datagram}
 use Rattle.gw_front.specs.declared.replay_fault.ReplayFault.{ReplayFault}
 use Rattle.gw_front.specs.declared.replay_fault.ReplayFault.TheVariants.{BadHeader, Truncated, TooLong, Read, Write, NoMemory}
-use Rattle.gw_front.specs.Records.{IsHeader, IsRecord, AreRecords, AreOfBurst, IsBurst, IsLastBurst, AreWholeBursts, AreBursts}
+use Rattle.gw_front.specs.Records.{IsRecordHeader, IsRecord, AreRecords, AreOfBurst, IsBurst, IsLastBurst, AreWholeBursts, AreBursts}
 use Rattle.gw_front.specs.RecordFaults.{HasNoLineFeed, IsOtherLine, IsLongLine, HasOtherByte, IsTooMuch, IsCutLine, IsCutDatagram, HasFault, IsFirstFault}
 use Rattle.gw_front.proofs.HeaderForms.{cut_once}
 use Rattle.gw_front.proofs.OneReading.{IsHeaded, headed_one, headed_line, header_plain, begins_d, same_fronts, record_headed, record_one, is_no_d, is_no_dot, burst_one}
@@ -43,7 +43,7 @@ within_line (a ∷ line) after (b ∷ bs) more e plain =
     omega arith
 
 -- a header is short
-header_short : (line : List ℕ) (peer len : ℕ) → IsHeader peer len line → length line ≤ 32
+header_short : (line : List ℕ) (peer len : ℕ) → IsRecordHeader peer len line → length line ≤ 32
 header_short line peer len h =
     let a = h.second.first.short in
     let b = h.second.second.second.few in
@@ -57,7 +57,7 @@ header_short line peer len h =
 headed_other : (text : List ℕ) (p l : ℕ) (a : List ℕ) → IsHeaded text p l a → IsOtherLine text → ⊥
 headed_other text p l a h o =
     let r = cut_once 10 h.line a o.line o.after (header_plain h.line p l h.form) o.plain (sym h.split ∙ o.split) in
-    o.no_header p l (subst (IsHeader p l) r.0 h.form)
+    o.no_header p l (subst (IsRecordHeader p l) r.0 h.form)
 
 headed_long : (text : List ℕ) (p l : ℕ) (a : List ℕ) → IsHeaded text p l a → IsLongLine text → ⊥
 headed_long text p l a h o =

@@ -4,14 +4,14 @@ use Rattle.std.specs.List.{list_any}
 use Rattle.std.proofs.lemmas.List.{append-nil}
 use Rattle.std.proofs.lemmas.List.Folds.{list_any-append}
 use Rattle.gw_engine.specs.declared.datagram.Datagram.{Datagram}
-use Rattle.gw_front.specs.Records.{IsHeader, IsHeaderLine, IsRecord, AreRecords, IsBurst, IsLastBurst, AreWholeBursts, AreBursts}
+use Rattle.gw_front.specs.Records.{IsRecordHeader, IsHeaderLine, IsRecord, AreRecords, IsBurst, IsLastBurst, AreWholeBursts, AreBursts}
 use Rattle.gw_front.specs.RecordFaults.{HasNoLineFeed}
 use Rattle.gw_front.proofs.HeaderForms.{cut_once, header_parts, digits_without_space, digits_without_feed}
 
 -- ---- headers
 
 -- a header has no line feed
-pub header_plain : (line : List ℕ) (peer len : ℕ) → IsHeader peer len line → HasNoLineFeed line
+pub header_plain : (line : List ℕ) (peer len : ℕ) → IsRecordHeader peer len line → HasNoLineFeed line
 header_plain line peer len h =
     let last : HasNoLineFeed h.second.second.back = digits_without_feed h.second.second.back h.second.second.second.number.digits in
     let rest : HasNoLineFeed h.second.second.front = ap (λ (l : List ℕ). list_any (λ c. c == 10) l) h.second.second.first in
@@ -27,7 +27,7 @@ header_plain line peer len h =
     ∙ ap (λ (x : Bool). x || list_any (λ c. c == 10) h.back) begins ∙ more
 
 -- a line is one header at most
-pub header_one : (line : List ℕ) (p l q m : ℕ) → IsHeader p l line → IsHeader q m line → (p ≡ q) × (l ≡ m)
+pub header_one : (line : List ℕ) (p l q m : ℕ) → IsRecordHeader p l line → IsRecordHeader q m line → (p ≡ q) × (l ≡ m)
 header_one line p l q m h k =
     let begins : line ≡ codes "D " ++ k.back = k.split ∙ ap (λ (x : List ℕ). x ++ k.back) k.first in
     let inner : k.back ≡ k.second.front ++ 32 ∷ k.second.second.back =
@@ -39,13 +39,13 @@ header_one line p l q m h k =
 pub record IsHeaded (text : List ℕ) (peer len : ℕ) (after : List ℕ) : Type 0 where
   pub line : List ℕ
   pub split : text ≡ line ++ 10 ∷ after
-  pub form : IsHeader peer len line
+  pub form : IsRecordHeader peer len line
 
 -- one header at most, and one text behind it
 pub headed_one : (text : List ℕ) (p l q m : ℕ) (a b : List ℕ) → IsHeaded text p l a → IsHeaded text q m b → (p ≡ q) × (l ≡ m) × (a ≡ b)
 headed_one text p l q m a b h k =
     let r = cut_once 10 h.line a k.line b (header_plain h.line p l h.form) (header_plain k.line q m k.form) (sym h.split ∙ k.split) in
-    let same = header_one h.line p l q m h.form (subst (IsHeader q m) (sym r.0) k.form) in
+    let same = header_one h.line p l q m h.form (subst (IsRecordHeader q m) (sym r.0) k.form) in
     (same.0, same.1, r.1)
 
 pub headed_line : (text header after : List ℕ) (peer len : ℕ) → text ≡ header ++ after → IsHeaderLine peer len header → IsHeaded text peer len after

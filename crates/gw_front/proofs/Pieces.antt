@@ -9,21 +9,21 @@ use Rattle.gw_front.specs.declared.header.Header.TheVariants as header
 use Rattle.gw_front.specs.declared.replay_fault.ReplayFault.{ReplayFault}
 use Rattle.gw_front.specs.declared.replay_fault.ReplayFault.TheVariants.{BadHeader, Truncated, TooLong, Read, Write, NoMemory}
 use Rattle.gw_front.specs.Headers.{SaysHeader}
-use Rattle.gw_front.specs.Records.{IsHeader, IsHeaderLine, IsRecord, AreRecords, AreOfBurst, IsBurst, IsLastBurst, longest_datagram, most_datagrams}
+use Rattle.gw_front.specs.Records.{IsRecordHeader, IsHeaderLine, IsRecord, AreRecords, AreOfBurst, IsBurst, IsLastBurst, longest_datagram, most_datagrams}
 use Rattle.gw_front.specs.RecordFaults.{HasNoLineFeed, IsTaken, HasFault, IsFirstFault, longest_line}
-use Rattle.gw_front.specs.Inputs.{IsBadDatagram, IsFaultAt, Takes, Ends}
+use Rattle.gw_front.specs.Inputs.{IsBadDatagram, IsFaultAt, TakesFrom, Ends}
 
 -- ---- one record
 
 -- a header and the line feed behind it
-pub header_line : (line : List ℕ) (peer len : ℕ) → IsHeader peer len line → IsHeaderLine peer len (line ++ 10 ∷ [])
+pub header_line : (line : List ℕ) (peer len : ℕ) → IsRecordHeader peer len line → IsHeaderLine peer len (line ++ 10 ∷ [])
 header_line line peer len h = record { front = line; back = 10 ∷ []; split = refl; first = h; second = refl }
 
-taken_header : (line : List ℕ) (n peer size : ℕ) → IsHeader peer size line → size ≤ longest_datagram → n < most_datagrams → IsTaken n peer size (line ++ 10 ∷ [])
+taken_header : (line : List ℕ) (n peer size : ℕ) → IsRecordHeader peer size line → size ≤ longest_datagram → n < most_datagrams → IsTaken n peer size (line ++ 10 ∷ [])
 taken_header line n peer size h short room = record { form = header_line line peer size h; short = short; room = room }
 
 -- a datagram that is not whole
-pub bad_datagram : (old mid : Option (List ℕ)) (line : List ℕ) (n peer size : ℕ) (fault : ReplayFault) → Consumes old mid (line ++ 10 ∷ []) → IsHeader peer size line → size ≤ longest_datagram → n < most_datagrams
+pub bad_datagram : (old mid : Option (List ℕ)) (line : List ℕ) (n peer size : ℕ) (fault : ReplayFault) → Consumes old mid (line ++ 10 ∷ []) → IsRecordHeader peer size line → size ≤ longest_datagram → n < most_datagrams
     → IsBadDatagram size mid fault → IsFaultAt (λ f. HasFault f n) old fault
 bad_datagram None mid line n peer size BadHeader p h short room bad = tt
 bad_datagram (Some x) None line n peer size BadHeader p h short room bad = absurd p
@@ -54,8 +54,8 @@ bad_datagram old mid line n peer size NoMemory p h short room bad = tt
 bad_datagram old mid line n peer size Write p h short room bad = absurd bad
 
 -- a whole record
-pub whole_record : (old mid new : Option (List ℕ)) (line : List ℕ) (peer size : ℕ) (d : Datagram) → Consumes old mid (line ++ 10 ∷ []) → IsHeader peer size line → size ≤ longest_datagram
-    → d.peer ≡ peer → length d.bytes ≡ size → Consumes mid new (d.bytes ++ 10 ∷ []) → Takes (IsRecord d) old new
+pub whole_record : (old mid new : Option (List ℕ)) (line : List ℕ) (peer size : ℕ) (d : Datagram) → Consumes old mid (line ++ 10 ∷ []) → IsRecordHeader peer size line → size ≤ longest_datagram
+    → d.peer ≡ peer → length d.bytes ≡ size → Consumes mid new (d.bytes ++ 10 ∷ []) → TakesFrom (IsRecord d) old new
 whole_record old mid new line peer size d p h short is all q =
     let header : IsHeaderLine d.peer (length d.bytes) (line ++ 10 ∷ []) =
     subst (λ (k : ℕ). IsHeaderLine k (length d.bytes) (line ++ 10 ∷ [])) (sym is) (subst (λ (k : ℕ). IsHeaderLine peer k (line ++ 10 ∷ [])) (sym all) (header_line line peer size h)) in (
@@ -91,7 +91,7 @@ other_line (Some x) (Some y) line n p plain short none = inl (record {
 -- ---- a burst
 
 -- no datagram yet
-pub none_taken : (a : Option (List ℕ)) → Takes (AreOfBurst []) a a
+pub none_taken : (a : Option (List ℕ)) → TakesFrom (AreOfBurst []) a a
 none_taken a = ([], record { few = omega arith; records = refl }, Consumes-nil a)
 
 records_more : (ds : List Datagram) (text more : List ℕ) (d : Datagram) → AreRecords ds text → IsRecord d more → AreRecords (ds ++ d ∷ []) (text ++ more)
@@ -106,32 +106,32 @@ records_more (e ∷ es) text more d h r = record {
 }
 
 -- one datagram more
-pub one_more : (old mid new : Option (List ℕ)) (ds : List Datagram) (d : Datagram) → Takes (AreOfBurst ds) old mid → (length ds < most_datagrams) × Takes (IsRecord d) mid new → Takes (AreOfBurst (ds ++ d ∷ [])) old new
+pub one_more : (old mid new : Option (List ℕ)) (ds : List Datagram) (d : Datagram) → TakesFrom (AreOfBurst ds) old mid → (length ds < most_datagrams) × TakesFrom (IsRecord d) mid new → TakesFrom (AreOfBurst (ds ++ d ∷ [])) old new
 one_more old mid new ds d p q =
     (p.0 ++ q.1.0, record { few = omega (arith, q.0, length-append ds (d ∷ [])); records = records_more ds p.0 q.1.0 d p.1.records q.1.1 }, Consumes-trans old mid new p.0 q.1.0 p.2 q.1.2)
 
 -- the line that ends it
-pub burst_ended : (old mid new : Option (List ℕ)) (ds : List Datagram) → Takes (AreOfBurst ds) old mid → Consumes mid new (codes ".\n") → Takes (IsBurst ds) old new
+pub burst_ended : (old mid new : Option (List ℕ)) (ds : List Datagram) → TakesFrom (AreOfBurst ds) old mid → Consumes mid new (codes ".\n") → TakesFrom (IsBurst ds) old new
 burst_ended old mid new ds p q =
     (p.0 ++ codes ".\n", record { front = p.0; back = codes ".\n"; split = refl; first = p.1; second = refl }, Consumes-trans old mid new p.0 (codes ".\n") p.2 q)
 
 -- the end of the input, behind a datagram
-pub last_ended : (old mid new : Option (List ℕ)) (ds : List Datagram) → 0 < length ds → Takes (AreOfBurst ds) old mid → Ends mid new → Takes (IsLastBurst ds) old new × IsAtEnd new
+pub last_ended : (old mid new : Option (List ℕ)) (ds : List Datagram) → 0 < length ds → TakesFrom (AreOfBurst ds) old mid → Ends mid new → TakesFrom (IsLastBurst ds) old new × IsAtEnd new
 last_ended old mid new ds some p q =
     ((p.0, record { some = some; datagrams = p.1 }, subst (λ (l : List ℕ). Consumes old new l) (append-nil p.0) (Consumes-trans old mid new p.0 [] p.2 q.0)), q.1)
 
 -- the end of the input where a burst is to begin
-pub none_left : (old mid new : Option (List ℕ)) (ds : List Datagram) → length ds ≤ 0 → Takes (AreOfBurst ds) old mid → Ends mid new → Ends old new
+pub none_left : (old mid new : Option (List ℕ)) (ds : List Datagram) → length ds ≤ 0 → TakesFrom (AreOfBurst ds) old mid → Ends mid new → Ends old new
 none_left old mid new [] none p q = (subst (λ (l : List ℕ). Consumes old new l) (append-nil p.0 ∙ p.1.records) (Consumes-trans old mid new p.0 [] p.2 q.0), q.1)
 none_left old mid new (d ∷ ds) none p q = absurd (omega arith)
 
-fault_behind : (f : ReplayFault) (old mid : Option (List ℕ)) (ds : List Datagram) → Takes (AreOfBurst ds) old mid → IfSome mid (HasFault f (length ds)) → IfSome old (IsFirstFault f)
+fault_behind : (f : ReplayFault) (old mid : Option (List ℕ)) (ds : List Datagram) → TakesFrom (AreOfBurst ds) old mid → IfSome mid (HasFault f (length ds)) → IfSome old (IsFirstFault f)
 fault_behind f None mid ds p h = tt
 fault_behind f (Some x) None ds p h = absurd p.2
 fault_behind f (Some x) (Some y) ds p h = (ds, record { front = p.0; back = y; split = p.2; first = p.1; second = h })
 
 -- what is wrong with the next record is wrong first in the burst
-pub first_fault : (fault : ReplayFault) (old mid : Option (List ℕ)) (ds : List Datagram) → Takes (AreOfBurst ds) old mid → IsFaultAt (λ f. HasFault f (length ds)) mid fault → IsFaultAt IsFirstFault old fault
+pub first_fault : (fault : ReplayFault) (old mid : Option (List ℕ)) (ds : List Datagram) → TakesFrom (AreOfBurst ds) old mid → IsFaultAt (λ f. HasFault f (length ds)) mid fault → IsFaultAt IsFirstFault old fault
 first_fault BadHeader old mid ds p h = fault_behind BadHeader old mid ds p h
 first_fault Truncated old mid ds p h = fault_behind Truncated old mid ds p h
 first_fault TooLong old mid ds p h = fault_behind TooLong old mid ds p h

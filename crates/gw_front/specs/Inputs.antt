@@ -8,7 +8,8 @@ use Rattle.gw_front.specs.declared.burst_reading.Piece.TheVariants as piece
 use Rattle.gw_front.specs.declared.burst_reading.Next.{Next}
 use Rattle.gw_front.specs.declared.burst_reading.Next.TheVariants as next
 use Rattle.gw_front.specs.Records.{IsRecord, IsBurst, IsLastBurst, most_datagrams}
-use Rattle.gw_front.specs.RecordFaults.{line_feed, IsLongLine, IsCutLine, HasFault, IsFirstFault}
+use Rattle.gw_text.specs.Lexical.{line_feed}
+use Rattle.gw_front.specs.RecordFaults.{IsLongLine, IsCutLine, HasFault, IsFirstFault}
 
 -- the input has fewer bytes than were asked for, if it is told to be cut
 abbrev pub IsShorter : ℕ → Option (List ℕ) → ReplayFault → Type 0
@@ -56,8 +57,8 @@ IsFaultAt At input NoMemory = Unit {0}
 IsFaultAt At input Write = ⊥
 
 -- the text was taken from the input
-abbrev pub Takes : (List ℕ → Type 0) → Option (List ℕ) → Option (List ℕ) → Type 0
-Takes Form old new = (text : List ℕ) × Form text × Consumes old new text
+abbrev pub TakesFrom : (List ℕ → Type 0) → Option (List ℕ) → Option (List ℕ) → Type 0
+TakesFrom Form old new = (text : List ℕ) × Form text × Consumes old new text
 
 -- nothing was taken, and nothing is left
 abbrev pub Ends : Option (List ℕ) → Option (List ℕ) → Type 0
@@ -65,14 +66,14 @@ Ends old new = Consumes old new [] × IsAtEnd new
 
 -- a record was taken, n datagrams of its burst before it
 abbrev pub IsPiece : ℕ → Option (List ℕ) → Option (List ℕ) → Result Piece ReplayFault → Type 0
-IsPiece n old new (Ok (piece.Datagram d)) = (n < most_datagrams) × Takes (IsRecord d) old new
+IsPiece n old new (Ok (piece.Datagram d)) = (n < most_datagrams) × TakesFrom (IsRecord d) old new
 IsPiece n old new (Ok piece.Stop) = Consumes old new (codes ".\n")
 IsPiece n old new (Ok piece.End) = Ends old new
 IsPiece n old new (Err fault) = IsFaultAt (λ f. HasFault f n) old fault
 
 -- a burst was taken
 abbrev pub IsNext : Option (List ℕ) → Option (List ℕ) → Result Next ReplayFault → Type 0
-IsNext old new (Ok (next.Burst burst)) = Takes (IsBurst burst) old new
-IsNext old new (Ok (next.Last burst)) = Takes (IsLastBurst burst) old new × IsAtEnd new
+IsNext old new (Ok (next.Burst burst)) = TakesFrom (IsBurst burst) old new
+IsNext old new (Ok (next.Last burst)) = TakesFrom (IsLastBurst burst) old new × IsAtEnd new
 IsNext old new (Ok next.End) = Ends old new
 IsNext old new (Err fault) = IsFaultAt IsFirstFault old fault

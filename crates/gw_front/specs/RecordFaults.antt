@@ -2,17 +2,15 @@
 use Rattle.std.specs.Prelude.{◌≡◌, ◌≢◌, ◌==◌, ℕ, ◌+◌, ◌<◌, ◌≤◌, ◌⊎◌, false, List, ◌∷◌, ◌++◌, length, codes}
 use Rattle.std.specs.List.{list_any}
 use Rattle.gw_base.specs.Lang.{◌▹◌}
+use Rattle.gw_text.specs.Lexical.{line_feed}
 use Rattle.gw_engine.specs.declared.datagram.Datagram.{Datagram}
 use Rattle.gw_front.specs.declared.replay_fault.ReplayFault.{ReplayFault}
 use Rattle.gw_front.specs.declared.replay_fault.ReplayFault.TheVariants.{BadHeader, Truncated, TooLong, Read, Write, NoMemory}
-use Rattle.gw_front.specs.Records.{longest_datagram, most_datagrams, IsHeader, IsHeaderLine, AreOfBurst}
+use Rattle.gw_front.specs.Records.{longest_datagram, most_datagrams, IsRecordHeader, IsHeaderLine, AreOfBurst}
 
 -- how many bytes a line of a header may have, its line feed not counted
 abbrev pub longest_line : ℕ
 longest_line = 32
-
-abbrev pub line_feed : ℕ
-line_feed = 10
 
 -- bytes without a line feed among them
 abbrev pub HasNoLineFeed : List ℕ → Type 0
@@ -34,7 +32,7 @@ pub record IsOtherLine (text : List ℕ) : Type 0 where
   pub plain : HasNoLineFeed line
   pub short : length line ≤ longest_line
   pub no_end : line ≢ codes "."
-  pub no_header : (peer len : ℕ) → ¬ IsHeader peer len line
+  pub no_header : (peer len : ℕ) → ¬ IsRecordHeader peer len line
 
 -- a line that is longer than a header may be
 pub record IsLongLine (text : List ℕ) : Type 0 where

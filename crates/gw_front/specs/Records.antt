@@ -18,12 +18,12 @@ pub record IsLength (len : ℕ) (text : List ℕ) : Type 0 where
   pub few : length text ≤ 5
 
 -- D <peer> <length>
-abbrev pub IsHeader : ℕ → ℕ → List ℕ → Type 0
-IsHeader peer len = IsText (codes "D ") ▹ IsUint32 peer ▹ IsText (codes " ") ▹ IsLength len
+abbrev pub IsRecordHeader : ℕ → ℕ → List ℕ → Type 0
+IsRecordHeader peer len = IsText (codes "D ") ▹ IsUint32 peer ▹ IsText (codes " ") ▹ IsLength len
 
 -- a header and its line feed
 abbrev pub IsHeaderLine : ℕ → ℕ → List ℕ → Type 0
-IsHeaderLine peer len = IsHeader peer len ▹ IsText (codes "\n")
+IsHeaderLine peer len = IsRecordHeader peer len ▹ IsText (codes "\n")
 
 -- a datagram: its header line, its bytes, a line feed
 pub record IsRecord (d : Datagram) (text : List ℕ) : Type 0 where

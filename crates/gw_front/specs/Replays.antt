@@ -26,7 +26,7 @@ pub record AreCounts (counts : Counts) (bursts answers : List (List Datagram)) :
   pub replies_are : counts.replies ≡ length (flat_map (λ burst. burst) answers)
 
 -- All of the input is bursts; each was carried out, and the text of all answers is out.
-pub record IsWhole (input before after : Option (List ℕ)) (old new : GatewayValue) (counts : Counts) : Type 0 where
+pub record IsWholeReplay (input before after : Option (List ℕ)) (old new : GatewayValue) (counts : Counts) : Type 0 where
   pub bursts : List (List Datagram)
   pub answers : List (List Datagram)
   pub read : IfSome input (AreBursts bursts)
@@ -60,7 +60,7 @@ pub record IsCutShort (input before after : Option (List ℕ)) (old new : Gatewa
 
 -- What was read, carried out and written, by how the replay ended.
 abbrev pub IsReplay : Option (List ℕ) → Option (List ℕ) → Option (List ℕ) → GatewayValue → GatewayValue → Result Counts ReplayFault → Type 0
-IsReplay input before after old new (Ok counts) = IsWhole input before after old new counts
+IsReplay input before after old new (Ok counts) = IsWholeReplay input before after old new counts
 IsReplay input before after old new (Err BadHeader) = IsStopped (IsFirstFault BadHeader) input before after old new
 IsReplay input before after old new (Err Truncated) = IsStopped (IsFirstFault Truncated) input before after old new
 IsReplay input before after old new (Err TooLong) = IsStopped (IsFirstFault TooLong) input before after old new

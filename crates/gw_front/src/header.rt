@@ -3,7 +3,7 @@
 ghost use Rattle.std.specs.Prelude.{◌≡◌, ◌<◌, ◌≤◌, ◌==◌, ◌++◌, ◌∷◌, [], ℕ, List, false, length, MatchOption, IfOk, IfErr, IfSome, IfNone, codes};
 ghost use Rattle.std.specs.List.{list_any};
 ghost use Rattle.std.specs.Io.KnownBytes.{Consumes, IsAtEnd};
-ghost use Rattle.gw_front.specs.Records.{IsLength, IsHeader};
+ghost use Rattle.gw_front.specs.Records.{IsLength, IsRecordHeader};
 ghost use Rattle.gw_front.specs.RecordFaults.{HasNoLineFeed, longest_line};
 ghost use Rattle.gw_front.specs.Headers.{SaysHeader};
 ghost use Rattle.gw_front.specs.Inputs.{IsBadLine};
@@ -58,7 +58,7 @@ fn length_of(text: &[u8]) -> Option<u32>
 
 /// The peer and the length of a datagram's header.
 fn datagram_of(line: &[u8]) -> Option<(u32, u32)>
-    ensures { MatchOption result ((peer len : ℕ) → ¬ IsHeader peer len line.now) (λ h. IsHeader h.0 h.1 line.now) }
+    ensures { MatchOption result ((peer len : ℕ) → ¬ IsRecordHeader peer len line.now) (λ h. IsRecordHeader h.0 h.1 line.now) }
 {
     let (peer, size) = cut(behind(line, b"D ")?)?;
     Some((number_of(peer)?, length_of(size)?))

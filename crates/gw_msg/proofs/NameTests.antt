@@ -13,7 +13,7 @@ use Rattle.gw_base.specs.Addresses.{is_address_byte, IsAddress, address_max}
 use Rattle.gw_base.specs.Mids.{is_domain_byte, is_device_byte, IsDomain, IsPort, IsOptionalPort, IsDevice, IsMid, port_digits, port_max}
 use Rattle.gw_base.specs.Names.{IsName, name_max}
 use Rattle.gw_base.specs.TermRefs.{IsChoose, IsClass}
-use Rattle.gw_base.specs.Wildcards.{is_wildcard, is_term_byte, IsTermText, IsRoot, IsUnder}
+use Rattle.gw_base.specs.Wildcards.{is_wildcard_byte, is_term_byte, IsTermText, IsRoot, IsUnder}
 use Rattle.gw_base.specs.declared.term_ref.TermRef.TheVariants.{Root, All, Choose, Under, Name, Other}
 use Rattle.gw_text.specs.Tokens.{is_same_word}
 use Rattle.gw_msg.specs.NameWords.{is_bytes, is_term_text, is_name, is_choose_word, without_last, is_under, term_class, splits, is_text, is_address, is_domain, is_device, is_port, is_optional_port, is_bracketed, is_mid}
@@ -47,7 +47,7 @@ decides_with b most p text = Decides-and b (is_bytes most p text) (decides_itsel
 pub decides_term_text : (text : List ℕ) → Decides (is_term_text text) (IsTermText text)
 decides_term_text text =
     Decides-like (is_term_text text) (λ h. record { some = h.1.0; short = h.1.1.0; first = h.0; each = h.1.1.1 }) (λ h. (h.first, (h.some, (h.short, h.each))))
-    (decides_with (is_letter (get_or text 0 0) || is_wildcard (get_or text 0 0)) name_max is_term_byte text)
+    (decides_with (is_letter (get_or text 0 0) || is_wildcard_byte (get_or text 0 0)) name_max is_term_byte text)
 
 decides_name : (text : List ℕ) → Decides (is_name text) (IsName text)
 decides_name text =
@@ -69,7 +69,7 @@ decides_under text =
     (Decides-and (bytes_eq text (front ++ codes "*")) (is_name front && last_byte front == byte (codes "/")) (bytes_eq-Decides text (front ++ codes "*"))
     (Decides-and (is_name front) (last_byte front == byte (codes "/")) (decides_name front) (Decides-eqb (last_byte front) (byte (codes "/")))))
 
-class_by : (text : List ℕ) (r a c u w : Bool) → Decides r (IsRoot text) → Decides a (text ≡ codes "*") → Decides c (IsChoose text) → Decides u (IsUnder (without_last text) text) → list_any is_wildcard text ≡ w
+class_by : (text : List ℕ) (r a c u w : Bool) → Decides r (IsRoot text) → Decides a (text ≡ codes "*") → Decides c (IsChoose text) → Decides u (IsUnder (without_last text) text) → list_any is_wildcard_byte text ≡ w
     → IsClass (cond r Root (cond a All (cond c Choose (cond u (Under (without_last text)) (cond w (Other text) (Name text)))))) text
 class_by text true a c u w root all choose under wild = root.0 refl
 class_by text false true c u w root all choose under wild = all.0 refl
@@ -81,7 +81,7 @@ class_by text false false false false false root all choose under wild = (refl, 
 
 pub class_fits : (text : List ℕ) → IsClass (term_class text) text
 class_fits text =
-    class_by text (is_same_word text (codes "ROOT")) (bytes_eq text (codes "*")) (is_choose_word text) (is_under text) (list_any is_wildcard text)
+    class_by text (is_same_word text (codes "ROOT")) (bytes_eq text (codes "*")) (is_choose_word text) (is_under text) (list_any is_wildcard_byte text)
     (bytes_eq-Decides _ _) (bytes_eq-Decides text (codes "*")) (decides_choose text) (decides_under text) refl
 
 -- ---- one form behind another

@@ -10,7 +10,7 @@ use Rattle.gw_base.proofs.NameForms.{some_mid}
 use Rattle.gw_base.specs.Lang.{Both, ◌▹◌, IsText}
 use Rattle.gw_base.specs.Addresses.{is_address_byte, IsAddress}
 use Rattle.gw_base.specs.Mids.{is_domain_byte, is_device_byte, IsDomain, IsPort, IsOptionalPort, IsMid}
-use Rattle.gw_base.specs.Wildcards.{is_wildcard, is_term_byte, IsTermText}
+use Rattle.gw_base.specs.Wildcards.{is_wildcard_byte, is_term_byte, IsTermText}
 use Rattle.gw_base.specs.declared.command_words.CtxRef.{CtxRef}
 use Rattle.gw_base.specs.declared.command_words.CtxRef.TheVariants as ctx
 use Rattle.gw_base.specs.declared.command_words.Verb.{Verb}
@@ -133,7 +133,7 @@ name_byte_safe c h =
 
 term_byte_safe : (c : ℕ) → is_term_byte c ≡ true → is_safe c ≡ true
 term_byte_safe c h =
-    elim (or_cases (is_name_byte c) (is_wildcard c) h) [
+    elim (or_cases (is_name_byte c) (is_wildcard_byte c) h) [
       | inl e ↦ name_byte_safe c e
       | inr e ↦ one_of is_safe (codes "*$") c refl e
     ]

@@ -7,7 +7,7 @@ use Rattle.gw_base.specs.Bytes.{byte, is_letter, is_digit, is_name_byte, is_one_
 use Rattle.gw_base.specs.Addresses.{is_address_byte, address_max}
 use Rattle.gw_base.specs.Mids.{is_domain_byte, is_device_byte, port_digits, port_max}
 use Rattle.gw_base.specs.Names.{name_max}
-use Rattle.gw_base.specs.Wildcards.{is_wildcard, is_term_byte}
+use Rattle.gw_base.specs.Wildcards.{is_wildcard_byte, is_term_byte}
 use Rattle.gw_base.specs.declared.term_ref.TermRef.{TermRef}
 use Rattle.gw_base.specs.declared.term_ref.TermRef.TheVariants.{Root, All, Choose, Under, Name, Other}
 use Rattle.gw_text.specs.Tokens.{is_same_word}
@@ -24,7 +24,7 @@ has_first p text = p (slice_index text 0)
 
 -- IsTermText
 abbrev pub is_term_text : List ℕ → Bool
-is_term_text text = has_first (λ b. is_letter b || is_wildcard b) text && is_bytes name_max is_term_byte text
+is_term_text text = has_first (λ b. is_letter b || is_wildcard_byte b) text && is_bytes name_max is_term_byte text
 
 -- IsName
 abbrev pub is_name : List ℕ → Bool
@@ -49,7 +49,7 @@ term_class text =
     else if bytes_eq text (codes "*") then All
     else if is_choose_word text then Choose
     else if is_under text then Under (without_last text)
-    else if list_any is_wildcard text then Other text
+    else if list_any is_wildcard_byte text then Other text
     else Name text
 
 -- the TerminationID that a word spells

@@ -105,25 +105,25 @@ value_in None = None
 value_in (Some parm) = parm.value
 
 -- the value of the first parameter of this name in the first Services
-abbrev pub value_of : Token → List Descriptor → Option ServiceValue
-value_of wanted descriptors = value_in (find (is_parm wanted) (parms_in (find is_services descriptors)))
+abbrev pub parm_value : Token → List Descriptor → Option ServiceValue
+parm_value wanted descriptors = value_in (find (is_parm wanted) (parms_in (find is_services descriptors)))
 
 abbrev pub method : List Descriptor → Option ServiceValue
-method descriptors = value_of token.Method descriptors
+method descriptors = parm_value token.Method descriptors
 
 abbrev pub delay : List Descriptor → Option ServiceValue
-delay descriptors = value_of token.Delay descriptors
+delay descriptors = parm_value token.Delay descriptors
 
 -- Forced takes out of service, Restart brings back
-abbrev pub service_for : Option Token → Option Service
-service_for (Some token.Forced) = Some service.OutOfService
-service_for (Some token.Restart) = Some service.InService
-service_for _ = None
+abbrev pub service_by_word : Option Token → Option Service
+service_by_word (Some token.Forced) = Some service.OutOfService
+service_by_word (Some token.Restart) = Some service.InService
+service_by_word _ = None
 
 -- the service state that a Method asks for; a quoted value is no word
 abbrev pub service_by : ServiceValue → Option Service
 service_by (value.Quoted text) = None
-service_by (value.Run text) = service_for (token_of text)
+service_by (value.Run text) = service_by_word (token_of text)
 
 abbrev pub service_if : Option ServiceValue → Option Service
 service_if None = None

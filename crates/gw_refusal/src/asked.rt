@@ -5,7 +5,7 @@ ghost use Rattle.std.specs.List.{find};
 ghost use Rattle.gw_desc.specs.declared.values.AuditItem.TheVariants as item;
 ghost use Rattle.gw_desc.specs.Checks.{is_asking, is_audit, is_services};
 ghost use Rattle.gw_desc.specs.Values.{is_parm};
-ghost use Rattle.gw_refusal.specs.Asked.{is_add, is_move, is_modify, is_subtract, is_service_change, brings, is_unsupported, is_root, is_choose, is_other_term, is_wildcard, matches, words_in, audited, is_some_list, asks_media, parms_in, value_of, service_for, service_by, service_asked, is_other_method, is_other_delay, method, delay};
+ghost use Rattle.gw_refusal.specs.Asked.{is_add, is_move, is_modify, is_subtract, is_service_change, brings, is_unsupported, is_root, is_choose, is_other_term, is_wildcard, matches, words_in, audited, is_some_list, asks_media, parms_in, parm_value, service_by_word, service_by, service_asked, is_other_method, is_other_delay, method, delay};
 
 use gw_base::{Items, Service, Span, TermName, TermRef, Verb};
 use gw_desc::{
@@ -186,11 +186,11 @@ fn first_parm<'a, 'b>(wanted: Token, parms: &'b [ServiceParm<'a>]) -> Option<&'b
 }
 
 /// The value of the first parameter of this name in the first Services.
-fn value_of<'a, 'b>(
+fn parm_value<'a, 'b>(
     wanted: Token,
     descriptors: &'b [Descriptor<'a>],
 ) -> Option<&'b ServiceValue<'a>>
-    ensures { option_copied result ≡ value_of wanted descriptors.now }
+    ensures { option_copied result ≡ parm_value wanted descriptors.now }
 {
     let parms = first_services(descriptors)?;
     let parm = first_parm(wanted, parms.as_slice())?;
@@ -215,14 +215,14 @@ fn service_by(value: &ServiceValue<'_>) -> Option<Service>
 pub fn service_asked(descriptors: &[Descriptor<'_>]) -> Option<Service>
     ensures { result ≡ service_asked descriptors.now }
 {
-    service_by(value_of(Token::Method, descriptors)?)
+    service_by(parm_value(Token::Method, descriptors)?)
 }
 
 /// Whether the first Method is not carried out.
 pub(crate) fn is_other_method(descriptors: &[Descriptor<'_>]) -> bool
     ensures { result ≡ is_other_method (method descriptors.now) }
 {
-    match value_of(Token::Method, descriptors) {
+    match parm_value(Token::Method, descriptors) {
         Some(value) => service_by(value).is_none(),
         None => false,
     }
@@ -232,7 +232,7 @@ pub(crate) fn is_other_method(descriptors: &[Descriptor<'_>]) -> bool
 pub(crate) fn is_other_delay(descriptors: &[Descriptor<'_>]) -> bool
     ensures { result ≡ is_other_delay (delay descriptors.now) }
 {
-    match value_of(Token::Delay, descriptors) {
+    match parm_value(Token::Delay, descriptors) {
         Some(ServiceValue::Run(text)) => matches!(uint32_of(text.as_bytes()), Some(1..)),
         _ => false,
     }

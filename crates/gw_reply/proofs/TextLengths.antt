@@ -1,7 +1,7 @@
 -- How long errors are, and the reply with error 533.
 use Rattle.std.proofs.Common.{◌≡◌, ℕ, zero, suc, Bool, true, false, if◌then◌else◌, ◌==◌, ◌/◌, ◌%◌, List, [], ◌∷◌, ◌+◌, ◌≤◌, ◌++◌, length, codes, decimal, arith, length-append}
 use Rattle.std.specs.Fmt.{digit_glyph, digits_onto, digits}
-use Rattle.gw_base.specs.Codes.{number_of, text_of}
+use Rattle.gw_base.specs.Codes.{number_of, code_text}
 use Rattle.gw_base.specs.declared.code.Code.{Code}
 use Rattle.gw_base.specs.declared.code.Code.TheVariants.{SyntaxError, ReplyTooLong}
 use Rattle.gw_reply.specs.Lists.{in_braces}
@@ -10,7 +10,7 @@ use Rattle.gw_reply.specs.Messages.{too_long}
 use Rattle.gw_reply.specs.Replies.{transaction_reply_text}
 use Rattle.gw_base.specs.declared.ids.TxId.{TxId}
 
-short_text : (code : Code) → length (text_of code) ≤ 43
+short_text : (code : Code) → length (code_text code) ≤ 43
 short_text SyntaxError = omega arith
 short_text _ = omega arith
 
@@ -36,9 +36,9 @@ number_is_short number = omega (arith, digits_are_few 64 10 false number [])
 
 pub error_is_short : (code : Code) → length (error_text code) ≤ 117
 error_is_short code =
-    let group = length-in_braces (quoted (text_of code)) in
-    let inner = length-quoted (text_of code) in
-    omega (arith, number_is_short (number_of code), short_text code, length-append (decimal (number_of code)) (in_braces (quoted (text_of code))))
+    let group = length-in_braces (quoted (code_text code)) in
+    let inner = length-quoted (code_text code) in
+    omega (arith, number_is_short (number_of code), short_text code, length-append (decimal (number_of code)) (in_braces (quoted (code_text code))))
 
 refused_is_short : (number : ℕ) (code : Code) → length (codes "Reply=" ++ decimal number ++ in_braces (error_text code)) ≤ 189
 refused_is_short number code =

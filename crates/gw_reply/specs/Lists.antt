@@ -8,8 +8,8 @@ abbrev pub comma : ℕ
 comma = byte (codes ",")
 
 -- the texts in a row, with a comma between each two
-abbrev pub joined : List (List ℕ) → List ℕ
-joined texts = join_with_byte comma texts
+abbrev pub comma_separated : List (List ℕ) → List ℕ
+comma_separated texts = join_with_byte comma texts
 
 -- the text in braces
 abbrev pub in_braces : List ℕ → List ℕ

@@ -17,7 +17,7 @@ use Rattle.gw_reply.specs.declared.parts.ReplyPart.TheVariants as part
 use Rattle.gw_reply.specs.declared.parts.FilledStream.{FilledStream}
 use Rattle.gw_reply.specs.declared.parts.MediaReply.{MediaReply}
 use Rattle.gw_reply.specs.declared.parts.StreamReply.{StreamReply}
-use Rattle.gw_reply.specs.Lists.{in_braces, joined, later}
+use Rattle.gw_reply.specs.Lists.{in_braces, comma_separated, later}
 
 -- ---- words
 
@@ -87,8 +87,8 @@ stream_parts s = control_text s.mode s.properties ++ later_octets (codes "Local"
 abbrev pub stream_text : StreamReply → List ℕ
 stream_text s = numbered s.number (stream_parts s)
 
-abbrev pub filled_text : FilledStream → List ℕ
-filled_text s = numbered s.number (codes "Local" ++ in_braces s.local)
+abbrev pub filled_stream_text : FilledStream → List ℕ
+filled_stream_text s = numbered s.number (codes "Local" ++ in_braces s.local)
 
 -- ---- parts
 
@@ -101,7 +101,7 @@ abbrev pub media_text : MediaReply → List ℕ
 media_text m = codes "Media" ++ in_braces (state_text m.service m.properties ++ later stream_text m.streams)
 
 abbrev pub part_text : ReplyPart → List ℕ
-part_text (part.Filled streams) = codes "Media" ++ in_braces (joined (map filled_text streams))
+part_text (part.Filled streams) = codes "Media" ++ in_braces (comma_separated (map filled_stream_text streams))
 part_text (part.Media media) = media_text media
 part_text (part.Kept kind tail) = kind_word kind ++ tail_text tail
 part_text (part.Bare item) = item_word item

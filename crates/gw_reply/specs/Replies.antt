@@ -6,7 +6,7 @@ use Rattle.gw_reply.specs.declared.reply.ActionReply.{ActionReply}
 use Rattle.gw_reply.specs.declared.reply.CommandReply.{CommandReply}
 use Rattle.gw_reply.specs.declared.parts.ReplyPart.{ReplyPart}
 use Rattle.gw_reply.specs.Parts.{part_text}
-use Rattle.gw_reply.specs.Lists.{joined, in_braces}
+use Rattle.gw_reply.specs.Lists.{comma_separated, in_braces}
 use Rattle.gw_reply.specs.Terminations.{term_text}
 use Rattle.gw_reply.specs.Contexts.{context_text}
 use Rattle.gw_reply.specs.Commands.{command_word}
@@ -14,13 +14,13 @@ use Rattle.gw_reply.specs.Errors.{error_text}
 
 -- the replies joined by commas, or the error that stands for all of them
 abbrev pub replies_text : {T : Type 0} → (T → List ℕ) → Result (List T) Code → List ℕ
-replies_text text (Ok replies) = joined (map text replies)
+replies_text text (Ok replies) = comma_separated (map text replies)
 replies_text text (Err code) = error_text code
 
 -- what follows the TerminationID in a command reply: the parts in braces, if there are any, or an error in braces
 abbrev pub body_text : Result (List ReplyPart) Code → List ℕ
 body_text (Ok []) = []
-body_text (Ok (part ∷ parts)) = in_braces (joined (map part_text (part ∷ parts)))
+body_text (Ok (part ∷ parts)) = in_braces (comma_separated (map part_text (part ∷ parts)))
 body_text (Err code) = in_braces (error_text code)
 
 -- <Command>=<TerminationID>, and the body where there is one

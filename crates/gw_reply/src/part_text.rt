@@ -159,9 +159,9 @@ impl WireText for StreamReply {
 }
 
 impl WireText for FilledStream {
-    ghost use Rattle.gw_reply.specs.Parts.{filled_text};
+    ghost use Rattle.gw_reply.specs.Parts.{filled_stream_text};
 
-    ghost text = { filled_text };
+    ghost text = { filled_stream_text };
 
     fn write_to(&self, out: &mut Vec<u8>) -> Result<(), AllocError> {
         out.extend_from_slice(b"Stream=")?;

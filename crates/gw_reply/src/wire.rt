@@ -1,7 +1,7 @@
 //! How a text grows: the parts of a message, one behind the other in one buffer.
 
 ghost use Rattle.std.specs.Prelude.{◌≡◌, ◌++◌, ℕ, List, OnOk, map, decimal};
-ghost use Rattle.gw_reply.specs.Lists.{joined, later};
+ghost use Rattle.gw_reply.specs.Lists.{comma_separated, later};
 ghost use Rattle.gw_reply.specs.Replies.{replies_text};
 
 use gw_base::{Code, Items};
@@ -41,7 +41,7 @@ pub(crate) fn write_later<T: WireText>(parts: &[T], out: &mut Vec<u8>) -> Result
 
 /// The parts, with a comma between each two.
 pub(crate) fn write_joined<T: WireText>(parts: &[T], out: &mut Vec<u8>) -> Result<(), AllocError>
-    ensures { OnOk result (out.new.items ≡ out.old.items ++ joined (map T.text parts.now)) }
+    ensures { OnOk result (out.new.items ≡ out.old.items ++ comma_separated (map T.text parts.now)) }
 {
     let Some((first, rest)) = parts.split_first() else {
         return Ok(());

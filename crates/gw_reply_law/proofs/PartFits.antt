@@ -27,9 +27,9 @@ use Rattle.gw_reply.specs.Contexts.{context_text}
 use Rattle.gw_reply.specs.Terminations.{term_text}
 use Rattle.gw_reply.specs.Errors.{error_text}
 use Rattle.gw_reply.specs.KeptParts.{IsKeptFilled, IsKeptStreamReply, HasKeptReply, AllOk}
-use Rattle.gw_reply.specs.Lists.{in_braces, joined, later}
+use Rattle.gw_reply.specs.Lists.{in_braces, comma_separated, later}
 use Rattle.gw_reply.specs.Messages.{message_text, longest_message, too_long, reply_text}
-use Rattle.gw_reply.specs.Parts.{mode_word, service_word, kind_word, item_word, property_text, text_if, equals_text, later_octets, control_text, numbered, stream_parts, stream_text, filled_text, state_text, part_text}
+use Rattle.gw_reply.specs.Parts.{mode_word, service_word, kind_word, item_word, property_text, text_if, equals_text, later_octets, control_text, numbered, stream_parts, stream_text, filled_stream_text, state_text, part_text}
 use Rattle.gw_reply.specs.Replies.{replies_text, body_text, command_reply_text, action_reply_text, transaction_reply_text}
 use Rattle.gw_reply.specs.declared.parts.ReplyPart.{ReplyPart}
 use Rattle.gw_reply.specs.declared.parts.ReplyPart.TheVariants as part
@@ -53,7 +53,7 @@ P = Property (List ℕ)
 -- ---- lists
 
 -- texts with commas between them, each of which may stand behind a comma
-joined_runs : {T : Type 0} (levels : ℕ) (text : T → List ℕ) (IsForm : T → Type 0) → ((t : T) → IsForm t → Runs levels Other false (text t)) → (ts : List T) → All IsForm ts → Runs levels Other false (joined (map text ts))
+joined_runs : {T : Type 0} (levels : ℕ) (text : T → List ℕ) (IsForm : T → Type 0) → ((t : T) → IsForm t → Runs levels Other false (text t)) → (ts : List T) → All IsForm ts → Runs levels Other false (comma_separated (map text ts))
 joined_runs levels text IsForm each [] h = as_runs (fits_nothing levels Other false)
 joined_runs levels text IsForm each (x ∷ []) h = each x (All-head IsForm x [] h)
 joined_runs levels text IsForm each (x ∷ (y ∷ ys)) h =
@@ -143,7 +143,7 @@ stream_runs levels s room h =
     (later_octets_runs (levels - 1) (codes "Local") s.local (omega arith) (record { run = refl; some = omega arith }) refl h.local Other false))
     (λ b v. later_octets_runs (levels - 1) (codes "Remote") s.remote (omega arith) (record { run = refl; some = omega arith }) refl h.remote b v))
 
-filled_runs : (levels : ℕ) (f : FilledStream) → 1 < levels → IsKeptFilled f → Runs levels Other false (filled_text f)
+filled_runs : (levels : ℕ) (f : FilledStream) → 1 < levels → IsKeptFilled f → Runs levels Other false (filled_stream_text f)
 unfolding token_of is_spelling
 filled_runs levels f room h =
     numbered_runs levels f.number (codes "Local" ++ in_braces f.local) (omega arith)
@@ -184,8 +184,8 @@ item_is_word _ = record { run = refl; some = omega arith }
 part_runs : (levels : ℕ) (p : ReplyPart) → request_depth + 2 < levels → HasKeptReply p → Runs levels Other false (part_text p)
 unfolding token_of is_spelling
 part_runs levels (part.Filled streams) room h =
-    as_runs (block levels (codes "Media") (joined (map filled_text streams)) (omega arith) (record { run = refl; some = omega arith }) refl
-    (joined_runs (levels - 1) filled_text IsKeptFilled (λ f k. filled_runs (levels - 1) f (omega arith) k) streams h))
+    as_runs (block levels (codes "Media") (comma_separated (map filled_stream_text streams)) (omega arith) (record { run = refl; some = omega arith }) refl
+    (joined_runs (levels - 1) filled_stream_text IsKeptFilled (λ f k. filled_runs (levels - 1) f (omega arith) k) streams h))
 part_runs levels (part.Media m) room h =
     as_runs (block levels (codes "Media") (state_text m.service m.properties ++ later stream_text m.streams) (omega arith) (record { run = refl; some = omega arith }) refl
     (then_runs (state_fits (levels - 1) m.service m.properties (omega arith) h.properties)
@@ -196,7 +196,7 @@ part_runs levels (part.Bare i) room h = as_runs (fits_word levels Other (item_wo
 body_runs : (levels : ℕ) (w : List ℕ) (r : Result (List ReplyPart) Code) → request_depth + 3 < levels → AllOk HasKeptReply r → Runs levels (after_word Equals w) true (body_text r)
 body_runs levels w (Ok []) room h = as_runs (fits_nothing levels (after_word Equals w) true)
 body_runs levels w (Ok (p ∷ ps)) room h =
-    as_runs (fits_braces levels (after_word Equals w) true (joined (map part_text (p ∷ ps))) refl (omega arith)
+    as_runs (fits_braces levels (after_word Equals w) true (comma_separated (map part_text (p ∷ ps))) refl (omega arith)
     (joined_runs (levels - 1) part_text HasKeptReply (λ q k. part_runs (levels - 1) q (omega arith) k) (p ∷ ps) h))
 body_runs levels w (Err code) room h = as_runs (fits_braces levels (after_word Equals w) true (error_text code) refl (omega arith) (as_runs (error_fits (levels - 1) code (omega arith))))
 

@@ -7,7 +7,7 @@ use Rattle.std.proofs.Common.{length-append}
 use Rattle.std.proofs.lemmas.List.Folds.{list_all-append}
 use Rattle.std.proofs.lemmas.Bool.{and_from}
 use Rattle.gw_base.specs.Mids.{IsMid}
-use Rattle.gw_base.specs.Codes.{number_of, text_of}
+use Rattle.gw_base.specs.Codes.{number_of, code_text}
 use Rattle.gw_base.specs.declared.code.Code.{Code}
 use Rattle.gw_base.specs.declared.code.Code.TheVariants.{SyntaxError}
 use Rattle.gw_base.specs.declared.term_ref.TermRef.{TermRef}
@@ -28,7 +28,7 @@ use Rattle.gw_reply.specs.Commands.{command_word}
 use Rattle.gw_reply.specs.Contexts.{context_text}
 use Rattle.gw_reply.specs.Terminations.{term_text}
 use Rattle.gw_reply.specs.Errors.{quoted, error_text}
-use Rattle.gw_reply.specs.Lists.{joined}
+use Rattle.gw_reply.specs.Lists.{comma_separated}
 use Rattle.gw_reply.specs.Replies.{replies_text}
 use Rattle.gw_reply.specs.Messages.{message_text}
 use Rattle.gw_msg.specs.Grammar.{IsHeader, Spells, reply_depth, spoken_version}
@@ -43,7 +43,7 @@ use Rattle.gw_reply_law.proofs.Words.{decimal_word, decimal_uint32, term_word, n
 
 -- ---- errors
 
-text_is_quotable : (code : Code) → IsRun is_quotable (text_of code)
+text_is_quotable : (code : Code) → IsRun is_quotable (code_text code)
 text_is_quotable SyntaxError = refl
 text_is_quotable _ = refl
 
@@ -55,8 +55,8 @@ pub error_fits : (levels : ℕ) (code : Code) → 0 < levels → Fits levels Oth
 error_fits levels code room =
     then (then (fits_key levels Other (codes "Error") equals_sign (record { run = refl; some = omega arith }) refl)
     (fits_word levels Equals (decimal (number_of code)) (decimal_word (number_of code))))
-    (fits_braces levels (after_word Equals (decimal (number_of code))) true (quoted (text_of code)) refl room
-    (as_runs (fits_quoted (levels - 1) Other false (quoted (text_of code)) (is_quoted (text_of code) (text_is_quotable code)))))
+    (fits_braces levels (after_word Equals (decimal (number_of code))) true (quoted (code_text code)) refl room
+    (as_runs (fits_quoted (levels - 1) Other false (quoted (code_text code)) (is_quoted (code_text code) (text_is_quotable code)))))
 
 -- ---- words
 
@@ -88,7 +88,7 @@ pub replies_run : {T : Type 0} (levels : ℕ) (text : T → List ℕ) (P : T →
 replies_run {T} levels text P room each (Err code) h = as_runs (error_fits levels code room)
 replies_run {T} levels text P room each (Ok replies) h = all replies h
   where
-    all : (replies : List T) → All P replies → Runs levels Other false (joined (map text replies))
+    all : (replies : List T) → All P replies → Runs levels Other false (comma_separated (map text replies))
     all [] h = as_runs (fits_nothing levels Other false)
     all (x ∷ []) h = each x (All-head P x [] h)
     all (x ∷ (y ∷ ys)) h = runs_then_runs (each x (All-head P x (y ∷ ys) h)) (λ b v. then_runs (fits_comma levels b v) (all (y ∷ ys) (All-tail P x (y ∷ ys) h)))

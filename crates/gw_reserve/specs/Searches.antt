@@ -9,17 +9,17 @@ use Rattle.gw_reserve.specs.declared.owners.Cursors.{Cursors}
 use Rattle.gw_reserve.specs.declared.owners.Reservation.{Reservation}
 use Rattle.gw_reserve.specs.Owners.{cyclic, number_of_index}
 
-abbrev pub in_order : Order → List ℕ
-in_order o = cyclic o.start o.limit
+abbrev pub whole_order : Order → List ℕ
+whole_order o = cyclic o.start o.limit
 
 abbrev pub numbers_in_order : Order → List CtxNum
-numbers_in_order o = map number_of_index (in_order o)
+numbers_in_order o = map number_of_index (whole_order o)
 
 abbrev pub numbers_from : Maps → Order → ℕ → List CtxNum
 numbers_from m o place = filter (λ k. is_none (ctx m k)) (drop place (numbers_in_order o))
 
 abbrev pub slots_from : Maps → Order → ℕ → List ℕ
-slots_from m o place = filter (λ s. is_none (term m (slot_name s))) (drop place (in_order o))
+slots_from m o place = filter (λ s. is_none (term m (slot_name s))) (drop place (whole_order o))
 
 -- an order of at most so many, and a search in it
 pub record IsSearch (most : ℕ) (o : Order) (s : Search) : Type 0 where
@@ -35,15 +35,15 @@ numbers_left m r = numbers_from m r.numbers r.number_search.next
 abbrev pub slots_left : Maps → Reservation → List ℕ
 slots_left m r = slots_from m r.slots r.slot_search.next
 
-abbrev pub cursors_of : Reservation → Cursors
-cursors_of r = record { context = r.number_search.cursor; slot = r.slot_search.cursor }
+abbrev pub search_cursors : Reservation → Cursors
+search_cursors r = record { context = r.number_search.cursor; slot = r.slot_search.cursor }
 
 -- how many contexts and slots there may be
-abbrev pub most_contexts : Reservation → ℕ
-most_contexts r = r.numbers.limit
+abbrev pub context_limit : Reservation → ℕ
+context_limit r = r.numbers.limit
 
-abbrev pub most_slots : Reservation → ℕ
-most_slots r = r.slots.limit
+abbrev pub slot_limit : Reservation → ℕ
+slot_limit r = r.slots.limit
 
 -- the searches keep their limits
 pub record IsReservation (r : Reservation) : Type 0 where

@@ -1,7 +1,7 @@
 //! The cyclic order in which free identifiers are looked for.
 
 ghost use Rattle.std.specs.Prelude.{◌≡◌, ℕ, ◌<◌, ◌≤◌, slice_index};
-ghost use Rattle.gw_reserve.specs.Searches.{in_order};
+ghost use Rattle.gw_reserve.specs.Searches.{whole_order};
 
 /// So many indices, from a start on and round.
 #[derive(Clone, Copy)]
@@ -24,7 +24,7 @@ impl Order {
     pub(crate) fn at(self, place: u32) -> u32
         requires start { self.start ≤ self.limit }
         requires place { place < self.limit }
-        ensures value { result ≡ slice_index (in_order self) place }
+        ensures value { result ≡ slice_index (whole_order self) place }
         ensures small { result < self.limit }
     {
         let behind = self.limit - self.start;

@@ -3,7 +3,7 @@
 ghost use Rattle.std.specs.Prelude.{◌≡◌, ℕ, ◌≤◌, ◌∷◌, [], IfOk, OnOk, drop};
 ghost use Rattle.gw_table.specs.Maps.{Maps};
 ghost use Rattle.gw_reserve.specs.Owners.{free_numbers, free_slots, new_cursors, number_places, slot_places, ids_of, AreWithin};
-ghost use Rattle.gw_reserve.specs.Searches.{numbers_left, slots_left, cursors_of, most_contexts, most_slots, IsReservation};
+ghost use Rattle.gw_reserve.specs.Searches.{numbers_left, slots_left, search_cursors, context_limit, slot_limit, IsReservation};
 
 use crate::numbers::own_numbers;
 use crate::order::{Order, Search};
@@ -40,8 +40,8 @@ impl Reservation {
         requires cursors { AreWithin contexts slots cursors.now }
         ensures numbers { (m : Maps) → numbers_left m result ≡ free_numbers m cursors.now.context contexts }
         ensures slots { (m : Maps) → slots_left m result ≡ free_slots m cursors.now.slot slots }
-        ensures cursors { cursors_of result ≡ cursors.now }
-        ensures most { (most_contexts result ≡ contexts) × (most_slots result ≡ slots) }
+        ensures cursors { search_cursors result ≡ cursors.now }
+        ensures most { (context_limit result ≡ contexts) × (slot_limit result ≡ slots) }
         ensures reservation { IsReservation result }
     {
         Reservation {
@@ -81,8 +81,8 @@ impl Reservation {
         ensures ids { IfOk result (λ i. i ≡ ids_of request.now (numbers_left tables.now self.old) (slots_left tables.now self.old)) }
         ensures numbers { OnOk result (numbers_left tables.now self.new ≡ drop (number_places request.now) (numbers_left tables.now self.old)) }
         ensures slots { OnOk result (slots_left tables.now self.new ≡ drop (slot_places request.now) (slots_left tables.now self.old)) }
-        ensures cursors { IfOk result (λ i. cursors_of self.new ≡ new_cursors (cursors_of self.old) (i ∷ [])) }
-        ensures most { OnOk result ((most_contexts self.new ≡ most_contexts self.old) × (most_slots self.new ≡ most_slots self.old)) }
+        ensures cursors { IfOk result (λ i. search_cursors self.new ≡ new_cursors (search_cursors self.old) (i ∷ [])) }
+        ensures most { OnOk result ((context_limit self.new ≡ context_limit self.old) × (slot_limit self.new ≡ slot_limit self.old)) }
         ensures reservation { OnOk result (IsReservation self.new) }
     {
         let actions = request.actions.as_slice();
@@ -99,8 +99,8 @@ impl Reservation {
 
     /// Where the next burst's search is to begin.
     pub fn cursors(&self) -> Cursors
-        ensures cursors { result ≡ cursors_of self.now }
-        ensures within { IsReservation self.now → AreWithin (most_contexts self.now) (most_slots self.now) result }
+        ensures cursors { result ≡ search_cursors self.now }
+        ensures within { IsReservation self.now → AreWithin (context_limit self.now) (slot_limit self.now) result }
     {
         Cursors {
             context: self.number_search.cursor,

@@ -14,7 +14,7 @@ use Rattle.gw_desc.specs.Values.{is_mode, is_service_states, mode_set_by}
 use Rattle.gw_term.specs.declared.record.Stream.{Stream}
 use Rattle.gw_term.specs.declared.record.Termination.{Termination}
 use Rattle.gw_term.specs.declared.streams.Merging.{Merging}
-use Rattle.gw_term.specs.Merge.{each, and_then, most_properties, place_of, put_property, put_state, put_control, put_part, begun, unnamed, stream_in, merged, merged_properties, merged_stream, is_named_in, parts_in, states_in}
+use Rattle.gw_term.specs.Merge.{each, and_then, most_properties, property_place, put_property, put_state, put_control, put_part, begun, unnamed, stream_in, merged, merged_properties, merged_stream, is_named_in, parts_in, states_in}
 use Rattle.gw_term.specs.Limits.{HasFew, HasFewIn}
 use Rattle.gw_term.specs.Laws.{IsStreamAfter}
 use Rattle.gw_term.proofs.ByField.{by_field}
@@ -33,10 +33,10 @@ IsFew list = length list ≤ most_properties
 
 put_keeps : (p : Property (List ℕ)) (old new : List (Property (List ℕ))) → IsFew old → put_property p old ≡ Some new → IsFew new
 unfolding IsFew
-put_keeps p old new few h = at (nat_lt (place_of p.name old) (length old)) (nat_lt (length old) most_properties) refl h
+put_keeps p old new few h = at (nat_lt (property_place p.name old) (length old)) (nat_lt (length old) most_properties) refl h
   where
-    at : (b c : Bool) → nat_lt (length old) most_properties ≡ c → (if b then Some (slice_set old (place_of p.name old) p) else if c then Some (old ++ p ∷ []) else None) ≡ Some new → length new ≤ most_properties
-    at true c room e = let same : slice_set old (place_of p.name old) p ≡ new = cc in subst (λ (l : List (Property (List ℕ))). length l ≤ most_properties) same (omega (arith, few, length-set old (place_of p.name old) p))
+    at : (b c : Bool) → nat_lt (length old) most_properties ≡ c → (if b then Some (slice_set old (property_place p.name old) p) else if c then Some (old ++ p ∷ []) else None) ≡ Some new → length new ≤ most_properties
+    at true c room e = let same : slice_set old (property_place p.name old) p ≡ new = cc in subst (λ (l : List (Property (List ℕ))). length l ≤ most_properties) same (omega (arith, few, length-set old (property_place p.name old) p))
     at false true room e =
         let same : old ++ p ∷ [] ≡ new = cc in
         let less : length old < most_properties = ltb-true (length old) most_properties room in

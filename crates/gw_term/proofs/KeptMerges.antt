@@ -28,7 +28,7 @@ use Rattle.gw_term.specs.declared.record.Stream.{Stream}
 use Rattle.gw_term.specs.declared.record.Termination.{Termination}
 use Rattle.gw_term.specs.declared.streams.Merging.{Merging}
 use Rattle.gw_term.specs.Record.{unset, placed, serviced, tail_of}
-use Rattle.gw_term.specs.Merge.{each, most_properties, place_of, put_property, put_state, put_control, put_part, local_text, is_filled, begun, unnamed, stream_in, is_named_in, media_parts, states_in_part, states_in, parts_in_part, parts_in, merged_properties, merged_stream, merged_tail, tail_after, kept_tail, is_blank_group, merged_media, merged, local_if, filled_in, filled_of, filled_by}
+use Rattle.gw_term.specs.Merge.{each, most_properties, property_place, put_property, put_state, put_control, put_part, local_text, is_filled, begun, unnamed, stream_in, is_named_in, media_parts, states_in_part, states_in, parts_in_part, parts_in, merged_properties, merged_stream, merged_tail, tail_after, kept_tail, is_blank_group, merged_media, merged, local_if, filled_in, filled_of, filled_by}
 use Rattle.gw_term.specs.Laws.{IsStreamAfter}
 use Rattle.gw_term.specs.KeptRecords.{IsKeptStream, IsKeptRecord}
 use Rattle.gw_term.proofs.ByField.{by_field}
@@ -59,10 +59,10 @@ all_of of IsGood IsForm each (x ∷ xs) good = All-append IsForm (of x) (flat_ma
 -- ---- properties
 
 property_keeps : (p : P) (list new : List P) → IsKeptProperty p → AreKept list → put_property p list ≡ Some new → AreKept new
-property_keeps p list new good form h = by (nat_lt (place_of p.name list) (length list)) (nat_lt (length list) most_properties) h
+property_keeps p list new good form h = by (nat_lt (property_place p.name list) (length list)) (nat_lt (length list) most_properties) h
   where
-    by : (t u : Bool) → cond t (Some (slice_set list (place_of p.name list) p)) (cond u (Some (list ++ p ∷ [])) None) ≡ Some new → AreKept new
-    by true u k = let same : slice_set list (place_of p.name list) p ≡ new = cc in subst AreKept same (All-set IsKeptProperty list (place_of p.name list) p good form)
+    by : (t u : Bool) → cond t (Some (slice_set list (property_place p.name list) p)) (cond u (Some (list ++ p ∷ [])) None) ≡ Some new → AreKept new
+    by true u k = let same : slice_set list (property_place p.name list) p ≡ new = cc in subst AreKept same (All-set IsKeptProperty list (property_place p.name list) p good form)
     by false true k = let same : list ++ p ∷ [] ≡ new = cc in subst AreKept same (All-push IsKeptProperty list p form good)
     by false false k = absurd cc
 

@@ -5,7 +5,7 @@ use Rattle.std.specs.Bool.{Decides}
 use Rattle.gw_text.specs.Runs.{begins, is_byte}
 use Rattle.gw_text.specs.Tokens.{is_same_word}
 use Rattle.gw_desc.specs.declared.descriptor.Property.{Property}
-use Rattle.gw_term.specs.Merge.{each, and_then, place_of, last_service}
+use Rattle.gw_term.specs.Merge.{each, and_then, property_place, last_service}
 use Rattle.gw_base.specs.declared.command_words.Service.{Service}
 
 pub at_place : {T : Type 0} (list : List T) (i : ℕ) (x : T) → i < length list → x ≡ get_or list i x → drop i list ≡ x ∷ drop (i + 1) list
@@ -40,12 +40,12 @@ service_next of list i x s h is = ap (λ l. last_service (flat_map of l) s) (at_
 
 -- the place of a name, from one property to the next
 pub place_here : (name : List ℕ) (list : List (Property (List ℕ))) (i : ℕ) (p : Property (List ℕ)) → i < length list → p ≡ get_or list i p
-    → is_same_word p.name name ≡ true → place_of name (drop i list) ≡ 0
-place_here name list i p h is found = ap (place_of name) (at_place list i p h is) ∙ rw found refl
+    → is_same_word p.name name ≡ true → property_place name (drop i list) ≡ 0
+place_here name list i p h is found = ap (property_place name) (at_place list i p h is) ∙ rw found refl
 
 pub place_later : (name : List ℕ) (list : List (Property (List ℕ))) (i : ℕ) (p : Property (List ℕ)) → i < length list → p ≡ get_or list i p
-    → is_same_word p.name name ≡ false → place_of name (drop i list) ≡ 1 + place_of name (drop (i + 1) list)
-place_later name list i p h is other = ap (place_of name) (at_place list i p h is) ∙ rw other refl
+    → is_same_word p.name name ≡ false → property_place name (drop i list) ≡ 1 + property_place name (drop (i + 1) list)
+place_later name list i p h is other = ap (property_place name) (at_place list i p h is) ∙ rw other refl
 
 -- ---- the brace that closes a blank group
 

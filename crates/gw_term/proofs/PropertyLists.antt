@@ -9,7 +9,7 @@ use Rattle.std.proofs.lemmas.Slice.Eq.{bytes_eq-Decides}
 use Rattle.gw_desc.specs.Checks.{names_of}
 use Rattle.gw_desc.specs.Twice.{folded, has_same, has_name_twice}
 use Rattle.gw_desc.specs.declared.descriptor.Property.{Property}
-use Rattle.gw_term.specs.Merge.{and_then, each, most_properties, place_of, put_property}
+use Rattle.gw_term.specs.Merge.{and_then, each, most_properties, property_place, put_property}
 use Rattle.gw_term.specs.Lookups.{is_of_name, look_up, lower_names, new_names, IsListAfter, IsTooLong}
 
 abbrev pub P : Type 0
@@ -42,7 +42,7 @@ pub record Stands (p : P) (list : List P) : Type 0 where
   was : P
   back : List P
   split : list ≡ front ++ was ∷ back
-  new : slice_set list (place_of p.name list) p ≡ front ++ p ∷ back
+  new : slice_set list (property_place p.name list) p ≡ front ++ p ∷ back
   same : is_of_name p.name was ≡ true
   first : list_any (is_of_name p.name) front ≡ false
 
@@ -63,7 +63,7 @@ stands_later p q qs other s = record {
 -- it stands nowhere
 pub record StandsNot (p : P) (list : List P) : Type 0 where
   none : list_any (is_of_name p.name) list ≡ false
-  place : place_of p.name list ≡ length list
+  place : property_place p.name list ≡ length list
 
 stands_not : (p q : P) (qs : List P) → is_of_name p.name q ≡ false → StandsNot p qs → StandsNot p (q ∷ qs)
 stands_not p q qs other s = record { none = let rest = s.none in rw (other, rest) refl; place = rw (other, one-add) (ap suc s.place) }
@@ -98,11 +98,11 @@ pub record IsAdded (p : P) (list new : List P) : Type 0 where
 abbrev pub IsOnePut : P → List P → List P → Type 0
 IsOnePut p list new = IsReplaced p list new ⊎ IsAdded p list new
 
-place_within : (p : P) (front back : List P) (was : P) → is_of_name p.name was ≡ true → place_of p.name (front ++ was ∷ back) < length (front ++ was ∷ back)
+place_within : (p : P) (front back : List P) (was : P) → is_of_name p.name was ≡ true → property_place p.name (front ++ was ∷ back) < length (front ++ was ∷ back)
 place_within p [] back was same = rw same (omega arith)
 place_within p (q ∷ qs) back was same = by (is_of_name p.name q) (place_within p qs back was same)
   where
-    by : (t : Bool) → place_of p.name (qs ++ was ∷ back) < length (qs ++ was ∷ back) → cond (not t) (1 + place_of p.name (qs ++ was ∷ back)) 0 < suc (length (qs ++ was ∷ back))
+    by : (t : Bool) → property_place p.name (qs ++ was ∷ back) < length (qs ++ was ∷ back) → cond (not t) (1 + property_place p.name (qs ++ was ∷ back)) 0 < suc (length (qs ++ was ∷ back))
     by true h = omega arith
     by false h = omega (arith, h)
 
@@ -111,18 +111,18 @@ some_of a b h = cc
 
 put_there : (p : P) (list new : List P) → put_property p list ≡ Some new → Stands p list → IsReplaced p list new
 put_there p list new h s =
-    let within : nat_lt (place_of p.name list) (length list) ≡ true = lt_is (place_of p.name list) (length list) (in_list s.split) in
+    let within : nat_lt (property_place p.name list) (length list) ≡ true = lt_is (property_place p.name list) (length list) (in_list s.split) in
     record {
       front = s.front;
       was = s.was;
       back = s.back;
       split = s.split;
-      is = sym (some_of (slice_set list (place_of p.name list) p) new (rw within at h)) ∙ s.new;
+      is = sym (some_of (slice_set list (property_place p.name list) p) new (rw within at h)) ∙ s.new;
       same = same_name s.was.name p.name s.same;
       first = s.first;
     }
   where
-    in_list : list ≡ s.front ++ s.was ∷ s.back → place_of p.name list < length list
+    in_list : list ≡ s.front ++ s.was ∷ s.back → property_place p.name list < length list
     in_list e = rw e (place_within p s.front s.back s.was s.same)
 
     lt_is : (a b : ℕ) → a < b → nat_lt a b ≡ true
@@ -152,10 +152,10 @@ pub record IsFull (p : P) (list : List P) : Type 0 where
 
 full_there : (p : P) (list : List P) → put_property p list ≡ None → Stands p list → IsFull p list
 full_there p list h s =
-    let within : nat_lt (place_of p.name list) (length list) ≡ true = lt_is (place_of p.name list) (length list) (in_list s.split) in
-    absurd (let clash : Some (slice_set list (place_of p.name list) p) ≡ None = rw within at h in cc)
+    let within : nat_lt (property_place p.name list) (length list) ≡ true = lt_is (property_place p.name list) (length list) (in_list s.split) in
+    absurd (let clash : Some (slice_set list (property_place p.name list) p) ≡ None = rw within at h in cc)
   where
-    in_list : list ≡ s.front ++ s.was ∷ s.back → place_of p.name list < length list
+    in_list : list ≡ s.front ++ s.was ∷ s.back → property_place p.name list < length list
     in_list e = rw e (place_within p s.front s.back s.was s.same)
 
     lt_is : (a b : ℕ) → a < b → nat_lt a b ≡ true

@@ -23,7 +23,7 @@ use Rattle.gw_term.specs.declared.streams.Merging.{Merging}
 use Rattle.gw_term.specs.Record.{tail_of}
 use Rattle.gw_term.specs.Merge.{and_then, each, put_property, put_state, put_control, put_part, local_text, is_filled, begun, unnamed, stream_in, names_stream, is_named_in, media_parts, parts_in_part, parts_in, states_in, last_service, merged_service, merged_properties, merged_stream, merged_tail, kept_tail, merged}
 use Rattle.gw_term.specs.Laws.{IsStreamAfter}
-use Rattle.gw_term.specs.Lookups.{IsListAfter, states_sent, service_by, controls_in, locals_in, remotes_in, controls_sent, mode_by, modes_sent, tails_sent, list_in, mode_in, local_in, remote_in, IsStreamFound, IsFoundAfter}
+use Rattle.gw_term.specs.Lookups.{IsListAfter, states_sent, service_of_property, controls_in, locals_in, remotes_in, controls_sent, mode_by, modes_sent, tails_sent, list_in, mode_in, local_in, remote_in, IsStreamFound, IsFoundAfter}
 use Rattle.gw_term.proofs.ByField.{by_field}
 use Rattle.gw_term.proofs.PropertyLists.{first_then, after_puts}
 
@@ -56,13 +56,13 @@ last_set (Some t) old rest = refl
 
 -- ---- the service state, and the termination's list
 
-service_found : (ps : List P) (old : Service) → Some (last_service ps old) ≡ last_or (Some old) (filter_map service_by ps)
+service_found : (ps : List P) (old : Service) → Some (last_service ps old) ≡ last_or (Some old) (filter_map service_of_property ps)
 service_found [] old = refl
 service_found (p ∷ ps) old = by (is_service_states p.name) (service_found ps)
   where
-    by : (t : Bool) → ((s : Service) → Some (last_service ps s) ≡ last_or (Some s) (filter_map service_by ps))
-        → Some (last_service ps (cond t (unwrap_or (service_set_by p) old) old)) ≡ last_or (Some old) (cons_option (cond t (service_set_by p) None) (filter_map service_by ps))
-    by true rest = rest (unwrap_or (service_set_by p) old) ∙ last_set (service_set_by p) old (filter_map service_by ps)
+    by : (t : Bool) → ((s : Service) → Some (last_service ps s) ≡ last_or (Some s) (filter_map service_of_property ps))
+        → Some (last_service ps (cond t (unwrap_or (service_set_by p) old) old)) ≡ last_or (Some old) (cons_option (cond t (service_set_by p) None) (filter_map service_of_property ps))
+    by true rest = rest (unwrap_or (service_set_by p) old) ∙ last_set (service_set_by p) old (filter_map service_of_property ps)
     by false rest = rest old
 
 abbrev pub not_service : P → Bool

@@ -62,12 +62,12 @@ pub record IsListAfter (sent old new : List (Property (List ℕ))) : Type 0 wher
 abbrev pub states_sent : List Descriptor → List (Property (List ℕ))
 states_sent descriptors = filter (λ p. not (is_service_states p.name)) (flat_map states_in descriptors)
 
-abbrev pub service_by : Property (List ℕ) → Option Service
-service_by p = if is_service_states p.name then service_set_by p else None
+abbrev pub service_of_property : Property (List ℕ) → Option Service
+service_of_property p = if is_service_states p.name then service_set_by p else None
 
 -- service states
 abbrev pub services_sent : List Descriptor → List Service
-services_sent descriptors = filter_map service_by (flat_map states_in descriptors)
+services_sent descriptors = filter_map service_of_property (flat_map states_in descriptors)
 
 abbrev pub controls_in : StreamPart → List (Property (List ℕ))
 controls_in (part.LocalControl properties) = properties

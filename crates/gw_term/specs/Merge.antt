@@ -44,13 +44,13 @@ abbrev pub most_properties : ℕ
 most_properties = 32
 
 -- the place of the property of this name, in any case, or the length of the list
-abbrev pub place_of : List ℕ → List (Property (List ℕ)) → ℕ
-place_of name list = position_or_len (λ q. is_same_word q.name name) list
+abbrev pub property_place : List ℕ → List (Property (List ℕ)) → ℕ
+property_place name list = position_or_len (λ q. is_same_word q.name name) list
 
 -- the property in the place of the one of its name, or last; none where that would be too many
 abbrev pub put_property : Property (List ℕ) → List (Property (List ℕ)) → Option (List (Property (List ℕ)))
 put_property p list =
-    if nat_lt (place_of p.name list) (length list) then Some (slice_set list (place_of p.name list) p)
+    if nat_lt (property_place p.name list) (length list) then Some (slice_set list (property_place p.name list) p)
     else if nat_lt (length list) most_properties then Some (list ++ p ∷ []) else None
 
 -- ---- TerminationState
@@ -147,14 +147,14 @@ merged_stream rules slot number descriptors old =
 -- ---- tails
 
 -- nothing but white space between its braces
-abbrev pub is_blank : List ℕ → Bool
-is_blank [] = false
-is_blank (brace ∷ inside) = bytes_eq (skip inside) (codes "}")
+abbrev pub has_blank_inside : List ℕ → Bool
+has_blank_inside [] = false
+has_blank_inside (brace ∷ inside) = bytes_eq (skip inside) (codes "}")
 
 -- no group, or such a one
 abbrev pub is_blank_group : Option (List ℕ) → Bool
 is_blank_group None = true
-is_blank_group (Some group) = is_blank group
+is_blank_group (Some group) = has_blank_inside group
 
 -- what is kept of a tail: nothing of one without `=` that has no group, or a blank one
 abbrev pub kept_tail : Tail (List ℕ) → Option (Tail (List ℕ))

@@ -2,7 +2,7 @@
 
 ghost use Rattle.std.specs.Prelude.{◌≡◌, ◌≤◌, length};
 ghost use Rattle.std.specs.List.{flat_map};
-ghost use Rattle.gw_term.specs.Merge.{place_of, put_property, put_state, service_after, last_service, merged_service, merged_properties, states_in, states_in_part, media_parts, each};
+ghost use Rattle.gw_term.specs.Merge.{property_place, put_property, put_state, service_after, last_service, merged_service, merged_properties, states_in, states_in_part, media_parts, each};
 ghost use Rattle.gw_term.specs.Applies.{Becomes, Yields};
 
 use crate::copies::{copied_properties, property_of};
@@ -16,8 +16,8 @@ use std::alloc::Global;
 const MOST_PROPERTIES: usize = 32;
 
 /// The place of the property of this name, in any case, or the length of the list.
-fn place_of(name: &[u8], list: &[KeptProperty]) -> usize
-    ensures value { result ≡ place_of name.now list.now }
+fn property_place(name: &[u8], list: &[KeptProperty]) -> usize
+    ensures value { result ≡ property_place name.now list.now }
     ensures within { result ≤ length list.now }
 {
     for (i, property) in list.iter().enumerate() {
@@ -36,7 +36,7 @@ pub(crate) fn put_property(
 ) -> Result<(), ApplyFault>
     ensures { Becomes result list.new (put_property property.now list.old) }
 {
-    let place = place_of(property.name.as_bytes(), list.as_slice());
+    let place = property_place(property.name.as_bytes(), list.as_slice());
     let is_there = place < list.len();
     if !is_there && list.len() >= MOST_PROPERTIES {
         return Err(ApplyFault::Code(Code::InsufficientResources));

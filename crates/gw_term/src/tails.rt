@@ -2,7 +2,7 @@
 
 ghost use Rattle.std.specs.Prelude.{◌≡◌, bytes_eq, codes, IfOk, OnOk};
 ghost use Rattle.gw_text.specs.SpaceScan.{skip};
-ghost use Rattle.gw_term.specs.Merge.{is_blank, is_blank_group, kept_tail, merged_tail, tail_after};
+ghost use Rattle.gw_term.specs.Merge.{has_blank_inside, is_blank_group, kept_tail, merged_tail, tail_after};
 
 use crate::copies::{copied_tail_if, owned_tail, put};
 use gw_base::Span;
@@ -21,8 +21,8 @@ fn is_closed(inside: &[u8]) -> bool
 }
 
 /// Whether nothing but white space stands between the braces of the group.
-fn is_blank(group: &[u8]) -> bool
-    ensures { result ≡ is_blank group.now }
+fn has_blank_inside(group: &[u8]) -> bool
+    ensures { result ≡ has_blank_inside group.now }
 {
     match group {
         [_, inside @ ..] => is_closed(inside),
@@ -35,7 +35,7 @@ fn is_blank_group(group: &Option<Span<'_>>) -> bool
     ensures { result ≡ is_blank_group group.now }
 {
     match group {
-        Some(group) => is_blank(group.as_bytes()),
+        Some(group) => has_blank_inside(group.as_bytes()),
         None => true,
     }
 }

@@ -13,7 +13,7 @@ use Rattle.gw_text.specs.QuotedScan.{quoted_len}
 use Rattle.gw_text.specs.Octets.{IsOctets}
 use Rattle.gw_text.specs.OctetsScan.{octets_ends}
 use Rattle.gw_text.specs.Group.{Pieces, nothing, space, quoted, word, mark, octets, group, text_of, is_mark, after_word, after_mark, after, begins_octets, is_word_first, AreValid, IsGroup, open_text, GoesDeeper, AreOpen, IsTooDeep}
-use Rattle.gw_text.specs.GroupScan.{Step, place, passed, octets_passed, step_at, group_rest, group_found, balanced_at}
+use Rattle.gw_text.specs.GroupScan.{ScanStep, place, passed, octets_passed, step_at, group_rest, group_found, balanced_at}
 use Rattle.gw_text.specs.declared.group.Before.{Before}
 use Rattle.gw_text.specs.declared.group.Before.TheVariants.{Equals, OctetsWord, Other}
 use Rattle.gw_text.specs.declared.fault.ScanFault.{ScanFault}
@@ -28,16 +28,16 @@ use Rattle.gw_text.proofs.GroupSteps.{rest_goes_on, rest_ends, rest_fails, is_ze
 
 -- ---- the step over each kind of piece
 
-pick3 : (a b c : Bool) (x1 x2 x3 y : Step) → a ≡ false → b ≡ false → c ≡ true → cond a x1 (cond b x2 (cond c x3 y)) ≡ x3
+pick3 : (a b c : Bool) (x1 x2 x3 y : ScanStep) → a ≡ false → b ≡ false → c ≡ true → cond a x1 (cond b x2 (cond c x3 y)) ≡ x3
 pick3 a b c x1 x2 x3 y p q r = rw (p, q, r) refl
 
-pick4 : (a b c d : Bool) (x1 x2 x3 x4 y : Step) → a ≡ false → b ≡ false → c ≡ false → d ≡ true → cond a x1 (cond b x2 (cond c x3 (cond d x4 y))) ≡ x4
+pick4 : (a b c d : Bool) (x1 x2 x3 x4 y : ScanStep) → a ≡ false → b ≡ false → c ≡ false → d ≡ true → cond a x1 (cond b x2 (cond c x3 (cond d x4 y))) ≡ x4
 pick4 a b c d x1 x2 x3 x4 y p q r s = rw (p, q, r, s) refl
 
-pick5 : (a b c d e : Bool) (x1 x2 x3 x4 x5 y : Step) → a ≡ false → b ≡ false → c ≡ false → d ≡ false → e ≡ true → cond a x1 (cond b x2 (cond c x3 (cond d x4 (cond e x5 y)))) ≡ x5
+pick5 : (a b c d e : Bool) (x1 x2 x3 x4 x5 y : ScanStep) → a ≡ false → b ≡ false → c ≡ false → d ≡ false → e ≡ true → cond a x1 (cond b x2 (cond c x3 (cond d x4 (cond e x5 y)))) ≡ x5
 pick5 a b c d e x1 x2 x3 x4 x5 y p q r s t = rw (p, q, r, s, t) refl
 
-pick6 : (a b c d e : Bool) (x1 x2 x3 x4 x5 y : Step) → a ≡ false → b ≡ false → c ≡ false → d ≡ false → e ≡ false → cond a x1 (cond b x2 (cond c x3 (cond d x4 (cond e x5 y)))) ≡ y
+pick6 : (a b c d e : Bool) (x1 x2 x3 x4 x5 y : ScanStep) → a ≡ false → b ≡ false → c ≡ false → d ≡ false → e ≡ false → cond a x1 (cond b x2 (cond c x3 (cond d x4 (cond e x5 y)))) ≡ y
 pick6 a b c d e x1 x2 x3 x4 x5 y p q r s t = rw (p, q, r, s, t) refl
 
 not_below : (limit depth : ℕ) → depth < limit → nat_le limit depth ≡ false
@@ -80,7 +80,7 @@ quoted_step limit depth before span more h =
     let first : span ++ more ≡ quote_mark ∷ (h.back ++ more) = ap (λ (x : List ℕ). x ++ more) (h.split ∙ ap (λ (x : List ℕ). x ++ h.back) h.first) in
     quoted_first limit depth before (span ++ more) (h.back ++ more) (length span) first (quoted_again span more h)
 
-word_by : (depth : ℕ) (before : Before) (text w : List ℕ) (n : ℕ) → n ≡ length w → take (length w) text ≡ w → let x : Step = Ok (place depth (after_word before (take n text)), n) in x ≡ Ok (place depth (after_word before w), length w)
+word_by : (depth : ℕ) (before : Before) (text w : List ℕ) (n : ℕ) → n ≡ length w → take (length w) text ≡ w → let x : ScanStep = Ok (place depth (after_word before (take n text)), n) in x ≡ Ok (place depth (after_word before w), length w)
 word_by depth before text w n e is = rw (e, is) refl
 
 not_true : (b : Bool) → not b ≡ true → b ≡ false

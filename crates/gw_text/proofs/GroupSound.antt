@@ -11,7 +11,7 @@ use Rattle.gw_text.specs.Forms.{IsWord}
 use Rattle.gw_text.specs.QuotedScan.{quoted_len}
 use Rattle.gw_text.specs.OctetsScan.{octets_ends}
 use Rattle.gw_text.specs.Group.{Pieces, nothing, space, quoted, word, mark, octets, group, text_of, after_word, after_mark, after, begins_octets, is_word_first, AreValid, IsGroup, open_text, GoesDeeper, AreOpen, IsTooDeep, HasNoGroup}
-use Rattle.gw_text.specs.GroupScan.{Step, place, passed, octets_passed, brace_at, step_at, go_on, group_from, group_rest, group_found, balanced_at}
+use Rattle.gw_text.specs.GroupScan.{ScanStep, place, passed, octets_passed, brace_at, step_at, go_on, group_from, group_rest, group_found, balanced_at}
 use Rattle.gw_text.specs.declared.group.Before.{Before}
 use Rattle.gw_text.specs.declared.group.Before.TheVariants.{Equals, OctetsWord, Other}
 use Rattle.gw_text.specs.declared.group.Place.{Place}
@@ -84,7 +84,7 @@ extend limit k before text left rest next (takes_space span split sep is) h =
     let i : Closes limit (suc k) before left rest = subst (λ (n : Place). Closes limit n.depth n.before left rest) is h in
     (space span i.0, i.1, split ∙ ap (λ (x : List ℕ). span ++ x) i.2 ∙ sym (append_assoc span (text_of i.0) (right_brace ∷ i.1)), (sep, i.3), i.4)
 
-ok_next : (text rest : List ℕ) (s : Step) (more : Place → List ℕ → Result (List ℕ) ScanFault) → go_on more text s ≡ Ok rest → (next : Place) × (n : ℕ) × (s ≡ Ok (next, n)) × (cond (next.depth == 0) (Ok (drop n text)) (more next (drop n text)) ≡ Ok rest)
+ok_next : (text rest : List ℕ) (s : ScanStep) (more : Place → List ℕ → Result (List ℕ) ScanFault) → go_on more text s ≡ Ok rest → (next : Place) × (n : ℕ) × (s ≡ Ok (next, n)) × (cond (next.depth == 0) (Ok (drop n text)) (more next (drop n text)) ≡ Ok rest)
 ok_next text rest (Err f) more e = absurd cc
 ok_next text rest (Ok x) more e = (x.0, x.1, refl, e)
 
@@ -187,10 +187,10 @@ deepen limit k before text left next (takes_space span split sep is) h =
 abbrev StepFault : ℕ → ℕ → ScanFault → List ℕ → Type 0
 StepFault limit depth f text = (f ≡ Unexpected) ⊎ ((f ≡ TooDeep) × (inner : List ℕ) × (text ≡ left_brace ∷ inner) × (limit ≤ depth))
 
-step_err : (f g : ScanFault) → let r : Step = Err f in r ≡ Err g → g ≡ f
+step_err : (f g : ScanFault) → let r : ScanStep = Err f in r ≡ Err g → g ≡ f
 step_err f g e = cc
 
-not_err : (P : Type 0) (x : Place × ℕ) (g : ScanFault) → let r : Step = Ok x in r ≡ Err g → P
+not_err : (P : Type 0) (x : Place × ℕ) (g : ScanFault) → let r : ScanStep = Ok x in r ≡ Err g → P
 not_err P x g e = absurd cc
 
 octets_fault : (depth : ℕ) (o : Option (ℕ × ℕ)) (f : ScanFault) → octets_passed depth o ≡ Err f → f ≡ Unexpected
@@ -210,7 +210,7 @@ passed_fault : (at : Place) (o : Option ℕ) (f : ScanFault) → passed at o ≡
 passed_fault at None f e = step_err Unexpected f e
 passed_fault at (Some len) f e = not_err _ (at, len) f e
 
-guard_fault : (t : Bool) (x : Place × ℕ) (f : ScanFault) → let r : Step = Ok x in cond t (Err Unexpected) r ≡ Err f → f ≡ Unexpected
+guard_fault : (t : Bool) (x : Place × ℕ) (f : ScanFault) → let r : ScanStep = Ok x in cond t (Err Unexpected) r ≡ Err f → f ≡ Unexpected
 guard_fault true x f e = step_err Unexpected f e
 guard_fault false x f e = not_err _ x f e
 
@@ -230,7 +230,7 @@ step_fault limit depth before (b ∷ bs) f e =
 abbrev GroupFault : ℕ → ℕ → Before → ScanFault → List ℕ → Type 0
 GroupFault limit k before f text = (f ≡ Unexpected) ⊎ ((f ≡ TooDeep) × Deepens limit (suc k) before text)
 
-err_next : (text : List ℕ) (f : ScanFault) (s : Step) (more : Place → List ℕ → Result (List ℕ) ScanFault) → go_on more text s ≡ Err f
+err_next : (text : List ℕ) (f : ScanFault) (s : ScanStep) (more : Place → List ℕ → Result (List ℕ) ScanFault) → go_on more text s ≡ Err f
     → (s ≡ Err f) ⊎ ((next : Place) × (n : ℕ) × (s ≡ Ok (next, n)) × (cond (next.depth == 0) (Ok (drop n text)) (more next (drop n text)) ≡ Err f))
 err_next text f (Err g) more e = inl cc
 err_next text f (Ok x) more e = inr (x.0, x.1, refl, e)

@@ -13,7 +13,7 @@ use Rattle.gw_text.specs.QuotedScan.{quoted_len}
 use Rattle.gw_text.specs.Octets.{IsOctets}
 use Rattle.gw_text.specs.OctetsScan.{octets_ends}
 use Rattle.gw_text.specs.Group.{is_mark, after_word, after_mark, begins_octets}
-use Rattle.gw_text.specs.GroupScan.{Step, place, passed, octets_passed, brace_at, opened, marked, spaced, step_at, go_on, group_from, group_rest}
+use Rattle.gw_text.specs.GroupScan.{ScanStep, place, passed, octets_passed, brace_at, opened, marked, spaced, step_at, go_on, group_from, group_rest}
 use Rattle.gw_text.specs.declared.group.Before.{Before}
 use Rattle.gw_text.specs.declared.group.Before.TheVariants.{Equals, OctetsWord, Other}
 use Rattle.gw_text.specs.declared.group.Place.{Place}
@@ -38,7 +38,7 @@ pub data Taken (limit depth : ℕ) (before : Before) (text left : List ℕ) (nex
 
 -- ---- one of six
 
-pub piece_cases : (P : Type 0) (a b c d e : Bool) (x1 x2 x3 x4 x5 x6 y : Step) → cond a x1 (cond b x2 (cond c x3 (cond d x4 (cond e x5 x6)))) ≡ y → (a ≡ true → x1 ≡ y → P) → (b ≡ true → x2 ≡ y → P) → (c ≡ true → x3 ≡ y → P) → (d ≡ true → x4 ≡ y → P)
+pub piece_cases : (P : Type 0) (a b c d e : Bool) (x1 x2 x3 x4 x5 x6 y : ScanStep) → cond a x1 (cond b x2 (cond c x3 (cond d x4 (cond e x5 x6)))) ≡ y → (a ≡ true → x1 ≡ y → P) → (b ≡ true → x2 ≡ y → P) → (c ≡ true → x3 ≡ y → P) → (d ≡ true → x4 ≡ y → P)
     → (a ≡ false → b ≡ false → c ≡ false → d ≡ false → e ≡ true → x5 ≡ y → P) → (x6 ≡ y → P) → P
 piece_cases P true b c d e x1 x2 x3 x4 x5 x6 y is f1 f2 f3 f4 f5 f6 = f1 refl is
 piece_cases P false true c d e x1 x2 x3 x4 x5 x6 y is f1 f2 f3 f4 f5 f6 = f2 refl is
@@ -47,15 +47,15 @@ piece_cases P false false false true e x1 x2 x3 x4 x5 x6 y is f1 f2 f3 f4 f5 f6 
 piece_cases P false false false false true x1 x2 x3 x4 x5 x6 y is f1 f2 f3 f4 f5 f6 = f5 refl refl refl refl refl is
 piece_cases P false false false false false x1 x2 x3 x4 x5 x6 y is f1 f2 f3 f4 f5 f6 = f6 is
 
-ok_parts : (P : Type 0) (p q : Place) (m n : ℕ) → let x : Step = Ok (p, m) in x ≡ Ok (q, n) → (q ≡ p → m ≡ n → P) → P
+ok_parts : (P : Type 0) (p q : Place) (m n : ℕ) → let x : ScanStep = Ok (p, m) in x ≡ Ok (q, n) → (q ≡ p → m ≡ n → P) → P
 ok_parts P p q m n e f =
     let s : ◌≡◌ {A = Place × ℕ} (p, m) (q, n) = cc in
     f (sym (ap (λ (x : Place × ℕ). x.0) s)) (ap (λ (x : Place × ℕ). x.1) s)
 
-not_ok : (P : Type 0) (f : ScanFault) (x : Place × ℕ) → let r : Step = Err f in r ≡ Ok x → P
+not_ok : (P : Type 0) (f : ScanFault) (x : Place × ℕ) → let r : ScanStep = Err f in r ≡ Ok x → P
 not_ok P f x e = absurd cc
 
-guarded : (P : Type 0) (t : Bool) (f : ScanFault) (x : Step) (y : Place × ℕ) → cond t (Err f) x ≡ Ok y → (t ≡ false → x ≡ Ok y → P) → P
+guarded : (P : Type 0) (t : Bool) (f : ScanFault) (x : ScanStep) (y : Place × ℕ) → cond t (Err f) x ≡ Ok y → (t ≡ false → x ≡ Ok y → P) → P
 guarded P true f x y e g = absurd cc
 guarded P false f x y e g = g refl e
 
@@ -106,7 +106,7 @@ quoted_taken limit at text next n (Some len) is e =
     takes_quoted q.0 (q.2 ∙ ap (λ (x : List ℕ). q.0 ++ x) (sym left)) q.4 next-is)
 
 word_taken : (limit : ℕ) (at : Place) (b : ℕ) (bs : List ℕ) (next : Place) (n : ℕ) → is_safe b ≡ true
-    → let len = run_len is_safe (b ∷ bs) in let x : Step = Ok (place at.depth (after_word at.before (take len (b ∷ bs))), len) in x ≡ Ok (next, n) → Taken limit at.depth at.before (b ∷ bs) (drop n (b ∷ bs)) next
+    → let len = run_len is_safe (b ∷ bs) in let x : ScanStep = Ok (place at.depth (after_word at.before (take len (b ∷ bs))), len) in x ≡ Ok (next, n) → Taken limit at.depth at.before (b ∷ bs) (drop n (b ∷ bs)) next
 word_taken limit at b bs next n safe e =
     let text : List ℕ = b ∷ bs in
     let len = run_len is_safe text in
@@ -167,7 +167,7 @@ step_shrinks limit at text next n e = taken_shrinks limit at.depth at.before tex
 
 -- ---- more fuel changes nothing
 
-continues : (limit : ℕ) (f g : Place → List ℕ → Result (List ℕ) ScanFault) (text : List ℕ) (s : Step) → ((next : Place) (n : ℕ) → s ≡ Ok (next, n) → f next (drop n text) ≡ g next (drop n text)) → go_on f text s ≡ go_on g text s
+continues : (limit : ℕ) (f g : Place → List ℕ → Result (List ℕ) ScanFault) (text : List ℕ) (s : ScanStep) → ((next : Place) (n : ℕ) → s ≡ Ok (next, n) → f next (drop n text) ≡ g next (drop n text)) → go_on f text s ≡ go_on g text s
 continues limit f g text (Err e) h = refl
 continues limit f g text (Ok x) h = ap (cond (x.0.depth == 0) (Ok (drop x.1 text))) (h x.0 x.1 refl)
 

@@ -14,37 +14,37 @@ use Rattle.gw_text.specs.declared.fault.ScanFault.{ScanFault}
 use Rattle.gw_text.specs.declared.fault.ScanFault.TheVariants.{Unexpected, TooDeep}
 
 -- where a scan goes on, and how many bytes it passed
-abbrev pub Step : Type 0
-Step = Result (Place × ℕ) ScanFault
+abbrev pub ScanStep : Type 0
+ScanStep = Result (Place × ℕ) ScanFault
 
 abbrev pub place : ℕ → Before → Place
 place depth before = record { depth = depth; before = before }
 
-abbrev pub passed : Place → Option ℕ → Step
+abbrev pub passed : Place → Option ℕ → ScanStep
 passed at None = Err Unexpected
 passed at (Some len) = Ok (at, len)
 
-abbrev pub octets_passed : ℕ → Option (ℕ × ℕ) → Step
+abbrev pub octets_passed : ℕ → Option (ℕ × ℕ) → ScanStep
 octets_passed depth None = Err Unexpected
 octets_passed depth (Some ends) = Ok (place depth Other, ends.0 + 2)
 
 -- at a `{`, of which inner stands behind
-abbrev pub brace_at : ℕ → Before → List ℕ → Step
+abbrev pub brace_at : ℕ → Before → List ℕ → ScanStep
 brace_at depth OctetsWord inner = octets_passed depth (octets_ends inner)
 brace_at depth Equals inner = Ok (place (depth + 1) Other, 1)
 brace_at depth Other inner = Ok (place (depth + 1) Other, 1)
 
-abbrev pub opened : ℕ → Place → List ℕ → Step
+abbrev pub opened : ℕ → Place → List ℕ → ScanStep
 opened limit at inner = if nat_le limit at.depth then Err TooDeep else brace_at at.depth at.before inner
 
-abbrev pub spaced : Place → ℕ → Step
+abbrev pub spaced : Place → ℕ → ScanStep
 spaced at len = if len == 0 then Err Unexpected else Ok (at, len)
 
-abbrev pub marked : Place → ℕ → Step
+abbrev pub marked : Place → ℕ → ScanStep
 marked at b = if b == nul then Err Unexpected else Ok (place at.depth (after_mark b), 1)
 
 -- at the first byte of a piece
-abbrev pub piece_at : ℕ → Place → ℕ → List ℕ → Step
+abbrev pub piece_at : ℕ → Place → ℕ → List ℕ → ScanStep
 piece_at limit at b bs =
     if b == left_brace then opened limit at bs
     else if b == right_brace then Ok (place (at.depth - 1) Other, 1)
@@ -54,12 +54,12 @@ piece_at limit at b bs =
     else spaced at (space_len (b ∷ bs))
 
 -- over the next piece
-unfoldable pub step_at : ℕ → Place → List ℕ → Step
+unfoldable pub step_at : ℕ → Place → List ℕ → ScanStep
 step_at limit at [] = Err Unexpected
 step_at limit at (b ∷ bs) = piece_at limit at b bs
 
 -- on behind a piece, unless all groups are closed
-abbrev pub go_on : (Place → List ℕ → Result (List ℕ) ScanFault) → List ℕ → Step → Result (List ℕ) ScanFault
+abbrev pub go_on : (Place → List ℕ → Result (List ℕ) ScanFault) → List ℕ → ScanStep → Result (List ℕ) ScanFault
 go_on more text (Err e) = Err e
 go_on more text (Ok next) = if next.0.depth == 0 then Ok (drop next.1 text) else more next.0 (drop next.1 text)
 

@@ -17,7 +17,7 @@ use Rattle.gw_refusal.specs.declared.at.At.TheVariants.{Each}
 use Rattle.gw_refusal.specs.Asked.{is_unsupported, is_wildcard}
 use Rattle.gw_refusal.specs.Places.{made, is_each}
 use Rattle.gw_refusal.specs.Forms.{is_left_out, is_misplaced, refusal_by_form}
-use Rattle.gw_cmd.specs.Refusals.{refusal_by_tables, or_else}
+use Rattle.gw_cmd.specs.Refusals.{refusal_by_tables, first_code}
 use Rattle.gw_cmd.specs.Commands.{carried, refused, unless_refused, command}
 use Rattle.gw_tx.specs.Owned.{is_adding, first_owned}
 use Rattle.gw_tx.proofs.FreeSlots.{taken}
@@ -52,7 +52,7 @@ by_form n c e =
 
 refused_there : (rules : Rules) (n : CtxNum) (slot : Option ℕ) (c : Command) (m : Maps) → is_adding c ≡ true → command rules (Each n) slot c m ≡ refused (Each n) c NotImplemented m
 unfolding command
-refused_there rules n slot c m e = ap (λ (r : Option Code). unless_refused (or_else r (refusal_by_tables (Each n) slot c m)) (Each n) c m (carried rules (Each n) slot c m c.term)) (by_form n c e)
+refused_there rules n slot c m e = ap (λ (r : Option Code). unless_refused (first_code r (refusal_by_tables (Each n) slot c m)) (Each n) c m (carried rules (Each n) slot c m c.term)) (by_form n c e)
 
 pub each_takes_none : (rules : Rules) (n : CtxNum) (slots : List (Option ℕ)) (c : Command) (m : Maps) → command rules (Each n) (taken (is_adding c) slots) c m ≡ command rules (Each n) None c m
 each_takes_none rules n slots c m = by (is_adding c) refl

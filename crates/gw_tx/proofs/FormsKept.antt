@@ -21,7 +21,7 @@ use Rattle.gw_reply.specs.declared.reply.CommandReply.{CommandReply}
 use Rattle.gw_reply.specs.Messages.{reply_text}
 use Rattle.gw_reply_law.specs.Spellings.{IsReplyMessage}
 use Rattle.gw_table.specs.declared.attempts.Attempts.{Attempts}
-use Rattle.gw_table.specs.Folds.{none_from, behind, in_order}
+use Rattle.gw_table.specs.Folds.{none_from, attempts_behind, in_order}
 use Rattle.gw_table.specs.Maps.{Maps, Outcome, ctx, numbers}
 use Rattle.gw_refusal.specs.declared.at.At.{At}
 use Rattle.gw_refusal.specs.declared.at.At.TheVariants.{Null, Live, Unmade, Each}
@@ -29,7 +29,7 @@ use Rattle.gw_cmd.specs.KeptForms.{AreKept, IsAsked, IsSlot}
 use Rattle.gw_cmd.proofs.FormsKept.{command_kept}
 use Rattle.gw_tx.specs.KeptForms.{AreAsked, IsAskedRequest, AreSlots}
 use Rattle.gw_tx.specs.Owned.{OwnedAction, first_owned, later_owned, is_adding, with_slots, slots_behind, owning, with_owned}
-use Rattle.gw_tx.specs.Transactions.{attempt, commands, action_reply, refused, carried, in_each, in_all, gathered, action_for_each, action_in, action_for, action_on, action, actions, transaction}
+use Rattle.gw_tx.specs.Transactions.{attempt, commands, action_reply, refused_action, carried_action, in_each, in_all, gathered, action_for_each, action_in, action_for, action_on, action, actions, transaction}
 
 -- ---- in order
 
@@ -49,7 +49,7 @@ module _ {X S A : Type 0} (step : S → X → Maps → Outcome (Attempts S A)) (
       by now.answer.stopped one more
     where
       by : (b : Bool) → Keeps (step s x m) → Keeps (in_order step (step s x m).answer.next xs (step s x m).maps)
-          → Keeps (behind (step s x m).answer.answers (cond b (none_from (step s x m).answer.next true (step s x m).maps) (in_order step (step s x m).answer.next xs (step s x m).maps)))
+          → Keeps (attempts_behind (step s x m).answer.answers (cond b (none_from (step s x m).answer.next true (step s x m).maps) (in_order step (step s x m).answer.next xs (step s x m).maps)))
       by true one more = (one.0, All-append IsForm (step s x m).answer.answers [] one.1 (All-nil IsForm))
       by false one more = (more.0, All-append IsForm (step s x m).answer.answers (in_order step (step s x m).answer.next xs (step s x m).maps).answer.answers one.1 more.1)
 
@@ -104,10 +104,10 @@ Tells o = AreKept o.maps × All IsKeptAction o.answer.answers
 one_told : (r : ActionReply) → IsKeptAction r → All IsKeptAction (r ∷ [])
 one_told r h = All-cons IsKeptAction r [] h (All-nil IsKeptAction)
 
-refused_kept : (sent : CtxRef) (code : Code) (m : Maps) → AreKept m → Tells (refused sent code m)
+refused_kept : (sent : CtxRef) (code : Code) (m : Maps) → AreKept m → Tells (refused_action sent code m)
 refused_kept sent code m k = (k, one_told (record { ctx = sent; result = Err code }) tt)
 
-carried_kept : (o : Outcome (Attempts At CommandReply)) → AreKept o.maps → All IsKeptCommand o.answer.answers → Tells (carried o)
+carried_kept : (o : Outcome (Attempts At CommandReply)) → AreKept o.maps → All IsKeptCommand o.answer.answers → Tells (carried_action o)
 carried_kept o k h = (k, one_told (action_reply o.answer) h)
 
 module _ (rules : Rules) (address : IsAddress rules.media) where
@@ -149,7 +149,7 @@ module _ (rules : Rules) (address : IsAddress rules.media) where
   action_kept : (u : Unit {0}) (a : OwnedAction) (m : Maps) → IsGoodAction a → AreKept m → Tells (action rules u a m)
   action_kept u a m good k = by a.sent.props
     where
-      by : (b : Bool) → Tells (cond b (refused a.sent.ctx NotImplemented m) (action_on rules a m a.sent.ctx))
+      by : (b : Bool) → Tells (cond b (refused_action a.sent.ctx NotImplemented m) (action_on rules a m a.sent.ctx))
       by true = refused_kept a.sent.ctx NotImplemented m k
       by false = on_kept a m a.sent.ctx good k
 

@@ -21,7 +21,7 @@ use Rattle.gw_refusal.specs.declared.at.At.TheVariants.{Null, Live, Unmade, Each
 use Rattle.gw_cmd.specs.Commands.{command}
 use Rattle.gw_cmd.specs.Suits.{IsUnused}
 use Rattle.gw_tx.specs.Owned.{OwnedAction, owning, is_adding, with_slots, slots_behind, with_owned, AreFreeSlots}
-use Rattle.gw_tx.specs.Transactions.{refused, attempted, attempt, commands, in_each, in_all, action_for_each, action_in, action_for, action_on, action, actions}
+use Rattle.gw_tx.specs.Transactions.{refused_action, attempted, attempt, commands, in_each, in_all, action_for_each, action_in, action_for, action_on, action, actions}
 use Rattle.gw_tx.proofs.FreeSlots.{MakesNone, IsOfKind, taken, left, free_slot, free_left, free_on, free_after, kind_slot, kind_left}
 use Rattle.gw_tx.proofs.EachContext.{each_takes_none, stays_each}
 
@@ -113,7 +113,7 @@ module _ {S : ℕ → Type 0} {Q : Maps → Type 0} (rules : Rules) (k : Command
 
   pub kept_action : (a : Action) (number : Option CtxNum) (slots : List (Option ℕ)) (m : Maps) → With S Q slots m → With S Q (slots_behind slots a.commands) (action rules tt (owned_one a number slots) m).maps
   kept_action a number slots m w =
-      one_of (λ x. With S Q (slots_behind slots a.commands) x) a.props (refused a.ctx NotImplemented m) (action_on rules (owned_one a number slots) m a.ctx)
+      one_of (λ x. With S Q (slots_behind slots a.commands) x) a.props (refused_action a.ctx NotImplemented m) (action_on rules (owned_one a number slots) m a.ctx)
       (less slots a.commands m w) (kept_on a number slots m a.ctx w)
 
   pub kept_actions : (held : List (Option CtxNum)) (slots : List (Option ℕ)) (asked : List Action) (m : Maps) → With S Q slots m → Q (actions rules (with_owned held slots asked) m).maps

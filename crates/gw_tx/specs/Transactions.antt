@@ -52,28 +52,28 @@ answered (Each n) = ref.Num n
 abbrev pub action_reply : Attempts At CommandReply → ActionReply
 action_reply done = record { ctx = answered done.next; result = Ok done.answers }
 
-abbrev pub one_reply : {S : Type 0} → S → ActionReply → Bool → Attempts S ActionReply
-one_reply s reply stopped = record { next = s; answers = reply ∷ []; stopped = stopped }
+abbrev pub one_action_reply : {S : Type 0} → S → ActionReply → Bool → Attempts S ActionReply
+one_action_reply s reply stopped = record { next = s; answers = reply ∷ []; stopped = stopped }
 
 -- an error of the whole action, which ends the transaction
 abbrev pub action_error : CtxRef → Code → Attempts Unit ActionReply
-action_error sent code = one_reply tt (record { ctx = sent; result = Err code }) true
+action_error sent code = one_action_reply tt (record { ctx = sent; result = Err code }) true
 
-abbrev pub refused : CtxRef → Code → Maps → Outcome (Attempts Unit ActionReply)
-refused sent code m = record { maps = m; answer = action_error sent code }
+abbrev pub refused_action : CtxRef → Code → Maps → Outcome (Attempts Unit ActionReply)
+refused_action sent code m = record { maps = m; answer = action_error sent code }
 
 -- the reply of an action whose commands were attempted
 abbrev pub replied : Attempts At CommandReply → Attempts Unit ActionReply
-replied done = one_reply tt (action_reply done) done.stopped
+replied done = one_action_reply tt (action_reply done) done.stopped
 
-abbrev pub carried : Outcome (Attempts At CommandReply) → Outcome (Attempts Unit ActionReply)
-carried o = record { maps = o.maps; answer = replied o.answer }
+abbrev pub carried_action : Outcome (Attempts At CommandReply) → Outcome (Attempts Unit ActionReply)
+carried_action o = record { maps = o.maps; answer = replied o.answer }
 
 -- ---- an action for each context
 
 -- the commands in one of the contexts: a stop ends those of this context alone, and is remembered
 abbrev pub remembered : Bool → Attempts At CommandReply → Attempts Bool ActionReply
-remembered stopped done = one_reply (stopped || done.stopped) (action_reply done) false
+remembered stopped done = one_action_reply (stopped || done.stopped) (action_reply done) false
 
 abbrev pub in_each : Rules → List (Option ℕ × Command) → Bool → CtxNum → Maps → Outcome (Attempts Bool ActionReply)
 in_each rules cs stopped n m =
@@ -94,28 +94,28 @@ gathered o = record { maps = o.maps; answer = after_all o.answer }
 
 -- an action with *: each context that exists when it begins, in rising number, with an action reply for each
 abbrev pub action_for_each : Rules → List (Option ℕ × Command) → Maps → List CtxNum → Outcome (Attempts Unit ActionReply)
-action_for_each rules cs m [] = refused ref.All NoWildcardMatch m
+action_for_each rules cs m [] = refused_action ref.All NoWildcardMatch m
 action_for_each rules cs m (n ∷ ns) = gathered (in_all rules cs (n ∷ ns) m)
 
 -- an action by number, by whether the context is there
 abbrev pub action_in : Rules → CtxNum → List (Option ℕ × Command) → Maps → Option ContextRecord → Outcome (Attempts Unit ActionReply)
-action_in rules n cs m None = refused (ref.Num n) UnknownContext m
-action_in rules n cs m (Some c) = carried (commands rules (Live n) cs m)
+action_in rules n cs m None = refused_action (ref.Num n) UnknownContext m
+action_in rules n cs m (Some c) = carried_action (commands rules (Live n) cs m)
 
 -- an action with $, by the number that it owns
 abbrev pub action_for : Rules → Option CtxNum → List (Option ℕ × Command) → Maps → Outcome (Attempts Unit ActionReply)
-action_for rules None cs m = refused ref.Choose NoContextLeft m
-action_for rules (Some n) cs m = carried (commands rules (Unmade n) cs m)
+action_for rules None cs m = refused_action ref.Choose NoContextLeft m
+action_for rules (Some n) cs m = carried_action (commands rules (Unmade n) cs m)
 
 abbrev pub action_on : Rules → OwnedAction → Maps → CtxRef → Outcome (Attempts Unit ActionReply)
 action_on rules a m (ref.Num n) = action_in rules n a.commands m (ctx m n)
 action_on rules a m ref.Choose = action_for rules a.number a.commands m
-action_on rules a m ref.Null = carried (commands rules Null a.commands m)
+action_on rules a m ref.Null = carried_action (commands rules Null a.commands m)
 action_on rules a m ref.All = action_for_each rules a.commands m (numbers m)
 
 -- an action, with what it owns; of one with context properties or a ContextAudit nothing is attempted
 abbrev pub action : Rules → Unit {0} → OwnedAction → Maps → Outcome (Attempts Unit ActionReply)
-action rules u a m = if a.sent.props then refused a.sent.ctx NotImplemented m else action_on rules a m a.sent.ctx
+action rules u a m = if a.sent.props then refused_action a.sent.ctx NotImplemented m else action_on rules a m a.sent.ctx
 
 -- ---- transactions
 

@@ -1,7 +1,7 @@
 //! Replies of actions.
 
 ghost use Rattle.std.specs.Prelude.{◌≡◌, true, IfOk};
-ghost use Rattle.gw_tx.specs.Transactions.{answered, action_reply, one_reply, replied, action_error};
+ghost use Rattle.gw_tx.specs.Transactions.{answered, action_reply, one_action_reply, replied, action_error};
 
 use gw_base::{Code, CtxRef, Items, NoMemory};
 use gw_cmd::At;
@@ -31,12 +31,12 @@ pub(crate) fn action_reply(done: Attempts<At, CommandReply>) -> ActionReply
 }
 
 /// The only reply of an action.
-fn one_reply(
+fn one_action_reply(
     alloc: Global,
     reply: ActionReply,
     stopped: bool,
 ) -> Result<Attempts<(), ActionReply>, NoMemory>
-    ensures { IfOk result (λ done. done ≡ one_reply tt reply stopped) }
+    ensures { IfOk result (λ done. done ≡ one_action_reply tt reply stopped) }
 {
     let mut answers = Items::new(alloc);
     answers.push(reply)?;
@@ -59,7 +59,7 @@ pub(crate) fn action_error(
         ctx: sent,
         result: Err(code),
     };
-    one_reply(alloc, reply, true)
+    one_action_reply(alloc, reply, true)
 }
 
 /// What an action gave whose commands were attempted.
@@ -70,5 +70,5 @@ pub(crate) fn replied(
     ensures { IfOk result (λ reply. reply ≡ replied done) }
 {
     let stopped = done.stopped;
-    one_reply(alloc, action_reply(done), stopped)
+    one_action_reply(alloc, action_reply(done), stopped)
 }

@@ -4,7 +4,7 @@ use Rattle.std.proofs.Math.ListN.{drop_of_length-le}
 use Rattle.gw_base.specs.declared.key.Key.TheVariants.{Term}
 use Rattle.gw_reply.specs.declared.reply.CommandReply.{CommandReply}
 use Rattle.gw_table.specs.declared.attempts.Attempts.{Attempts}
-use Rattle.gw_table.specs.Folds.{behind}
+use Rattle.gw_table.specs.Folds.{attempts_behind}
 use Rattle.gw_term.specs.declared.record.Termination.{Termination}
 use Rattle.gw_table.specs.Reserved.{slot_name}
 use Rattle.gw_table.specs.Maps.{Maps, Outcome, term}
@@ -42,7 +42,7 @@ loop-name-preserved c =
     let did : now ≡ on_target c.args.rules.now c.args.at c.args.command.now tt t c.loop-name.part.maps = target_is c.args.rules.now c.args.at c.args.command.now t c.loop-name.part.maps c.on_target.new.part.maps c.in_ok-reply.reply c.in_ok-reply.ensures.maps c.in_ok-reply.ensures.answer in
     let held : is_some (term c.loop-name.part.maps t) ≡ true → holds c.args.part.now.keys (Term t) ≡ true = λ found. c.requires.term_keys t (in_at c.args.named.now i t c.loop-name-test.true c.name-item.is) (was_there t c.args.part.now.maps c.loop-name.part.maps (c.loop-name.invariant.absent t) found) in
     record {
-      told = ap (λ (l : List CommandReply). behind l (on_targets c.args.rules.now c.args.at c.args.command.now rest c.on_target.new.part.maps)) c.in_ok-push.ensures.ok
+      told = ap (λ (l : List CommandReply). attempts_behind l (on_targets c.args.rules.now c.args.at c.args.command.now rest c.on_target.new.part.maps)) c.in_ok-push.ensures.ok
           ∙ goes_on (on_target c.args.rules.now c.args.at c.args.command.now) tt t (drop i c.args.named.now) rest c.loop-name.part.maps c.loop-name.replies now (on_targets c.args.rules.now c.args.at c.args.command.now c.args.named.now c.args.part.now.maps) split did refl c.loop-name.invariant.told;
       sound = subst (IsSound c.args.part.now.keys) (sym c.in_ok-reply.ensures.maps)
           (kept_name c.args.rules.now (λ x. holds c.args.part.now.keys (Term x)) (λ _. Unit {0}) (sound_is_kept c.args.rules.now c.args.part.now.keys (λ _. Unit {0})) (place_at c.args.at) c.args.command.now t c.loop-name.part.maps held c.loop-name.invariant.sound);

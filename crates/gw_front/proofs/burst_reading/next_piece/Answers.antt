@@ -3,7 +3,7 @@ use Rattle.std.specs.Io.KnownBytes.{Consumes}
 use Rattle.std.proofs.lemmas.Result.{err_from_is_err_and}
 use Rattle.gw_front.specs.declared.header.Header.{Header}
 use Rattle.gw_front.specs.Headers.{SaysHeader}
-use Rattle.gw_front.specs.Records.{IsHeader, most_datagrams}
+use Rattle.gw_front.specs.Records.{IsRecordHeader, most_datagrams}
 use Rattle.gw_front.specs.RecordFaults.{HasNoLineFeed}
 use Rattle.gw_front.proofs.Pieces.{bad_datagram, whole_record, other_line}
 use Rattle.gw_front.proofs.burst_reading.next_piece.Goals as goal
@@ -17,8 +17,8 @@ returns-in_err-datagram-in-Some-Datagram g c =
     let size = c.in-Some-Datagram.size in
     let line = c.in-Some.line.items in
     let taken : Consumes old mid (line ++ 10 ∷ []) = rw c.in-Some.is at c.in_ok-line.ensures.line in
-    let says : IsHeader peer size c.as_slice.result.now = rw c.in-Some-Datagram.field-0-is at c.in-Some-Datagram.ensures in
-    let header : IsHeader peer size line = subst (λ (l : List ℕ). IsHeader peer size l) c.as_slice.ensures.value says in
+    let says : IsRecordHeader peer size c.as_slice.result.now = rw c.in-Some-Datagram.field-0-is at c.in-Some-Datagram.ensures in
+    let header : IsRecordHeader peer size line = subst (λ (l : List ℕ). IsRecordHeader peer size l) c.as_slice.ensures.value says in
     let room : c.args.before < most_datagrams = grind arith in
     rw (p.1, p.2) (bad_datagram old mid line c.args.before peer size c.in_err-datagram-in-Some-Datagram.field-0.0 taken header c.if-size-gt-LONGEST_DATAGRAM.false room c.in_err-datagram-in-Some-Datagram.ensures.fault)
 
@@ -31,8 +31,8 @@ returns-in_ok-datagram-in-Some-Datagram g c =
     let size = c.in-Some-Datagram.size in
     let line = c.in-Some.line.items in
     let taken : Consumes old mid (line ++ 10 ∷ []) = rw c.in-Some.is at c.in_ok-line.ensures.line in
-    let says : IsHeader peer size c.as_slice.result.now = rw c.in-Some-Datagram.field-0-is at c.in-Some-Datagram.ensures in
-    let header : IsHeader peer size line = subst (λ (l : List ℕ). IsHeader peer size l) c.as_slice.ensures.value says in
+    let says : IsRecordHeader peer size c.as_slice.result.now = rw c.in-Some-Datagram.field-0-is at c.in-Some-Datagram.ensures in
+    let header : IsRecordHeader peer size line = subst (λ (l : List ℕ). IsRecordHeader peer size l) c.as_slice.ensures.value says in
     let room : c.args.before < most_datagrams = grind arith in
     let d = c.in_ok-datagram-in-Some-Datagram.datagram in
     let e = c.in_ok-datagram-in-Some-Datagram.ensures in

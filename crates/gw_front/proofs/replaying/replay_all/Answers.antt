@@ -3,7 +3,7 @@ use Rattle.std.proofs.lemmas.Result.{err_from_is_err_and}
 use Rattle.gw_engine.specs.declared.datagram.Datagram.{Datagram}
 use Rattle.std.specs.Io.KnownBytes.{IsAtEnd}
 use Rattle.gw_front.specs.Records.{IsBurst, IsLastBurst}
-use Rattle.gw_front.specs.Inputs.{Takes}
+use Rattle.gw_front.specs.Inputs.{TakesFrom}
 use Rattle.gw_front.specs.Replaying.{IsBurstDone}
 use Rattle.gw_front.proofs.Courses.{begun, stepped, failed, last_done}
 use Rattle.gw_front.proofs.replaying.replay_all.Goals as goal
@@ -25,7 +25,7 @@ returns-in_err-counts-in-Burst g c =
     let after = g.W.Write.contents c.carry_out.new.out in
     let burst = c.in-Burst.burst in
     let fault = c.in_err-counts-in-Burst.field-0.0 in
-    let taken : Takes (IsBurst burst) now later = rw c.in-Burst.is at c.in_ok-burst.ensures in
+    let taken : TakesFrom (IsBurst burst) now later = rw c.in-Burst.is at c.in_ok-burst.ensures in
     let done : IsBurstDone burst c.loop-turn.counts between after c.loop-turn.gateway c.carry_out.new.gateway (Err fault) =
     subst (λ (b : List Datagram). IsBurstDone b c.loop-turn.counts between after c.loop-turn.gateway c.carry_out.new.gateway (Err fault)) c.as_slice.ensures c.in_err-counts-in-Burst.ensures.done in
     rw (p.1, p.2) (failed input now later before between after c.args.gateway.now c.loop-turn.gateway c.carry_out.new.gateway c.loop-turn.counts burst fault c.loop-turn.invariant.so_far taken done)
@@ -39,7 +39,7 @@ returns-in-Last g c =
     let between = g.W.Write.contents c.loop-turn.out in
     let after = g.W.Write.contents c.carry_out-in-Last.new.out in
     let burst = c.in-Last.burst in
-    let taken : Takes (IsLastBurst burst) now later × IsAtEnd later = rw c.in-Last.is at c.in_ok-burst.ensures in
+    let taken : TakesFrom (IsLastBurst burst) now later × IsAtEnd later = rw c.in-Last.is at c.in_ok-burst.ensures in
     let done : IsBurstDone burst c.loop-turn.counts between after c.loop-turn.gateway c.carry_out-in-Last.new.gateway c.carry_out-in-Last.result =
     subst (λ (b : List Datagram). IsBurstDone b c.loop-turn.counts between after c.loop-turn.gateway c.carry_out-in-Last.new.gateway c.carry_out-in-Last.result) c.as_slice-in-Last.ensures c.carry_out-in-Last.ensures.done in
     last_done input now later before between after c.args.gateway.now c.loop-turn.gateway c.carry_out-in-Last.new.gateway c.loop-turn.counts burst c.carry_out-in-Last.result c.loop-turn.invariant.so_far taken done
@@ -54,7 +54,7 @@ loop-turn-preserved g c =
     let after = g.W.Write.contents c.carry_out.new.out in
     let burst = c.in-Burst.burst in
     let more = c.in_ok-counts-in-Burst.counts in
-    let taken : Takes (IsBurst burst) now later = rw c.in-Burst.is at c.in_ok-burst.ensures in
+    let taken : TakesFrom (IsBurst burst) now later = rw c.in-Burst.is at c.in_ok-burst.ensures in
     let done : IsBurstDone burst c.loop-turn.counts between after c.loop-turn.gateway c.carry_out.new.gateway (Ok more) =
     subst (λ (b : List Datagram). IsBurstDone b c.loop-turn.counts between after c.loop-turn.gateway c.carry_out.new.gateway (Ok more)) c.as_slice.ensures c.in_ok-counts-in-Burst.ensures.done in
     record {

@@ -3,32 +3,32 @@ use Rattle.std.specs.Prelude.{is_none}
 use Rattle.gw_table.specs.Maps.{term}
 use Rattle.gw_table.specs.Reserved.{slot_name}
 use Rattle.gw_reserve.specs.declared.order.Search.{Search}
-use Rattle.gw_reserve.specs.Searches.{in_order, slots_from}
-use Rattle.gw_reserve.proofs.Orders.{length-in_order}
+use Rattle.gw_reserve.specs.Searches.{whole_order, slots_from}
+use Rattle.gw_reserve.proofs.Orders.{length-whole_order}
 use Rattle.gw_reserve.proofs.Places.{found, passed, none_left, seen_none}
 use Rattle.gw_reserve.proofs.slots.take_slot.Goals as goal
 
 pub returns-then-is_none : goal.returns-then-is_none
 returns-then-is_none c =
     let none : is_none (term c.args.tables.now c.slot_name.result) ≡ true = seen_none c.find_term.result (term c.args.tables.now c.slot_name.result) false c.find_term.ensures c.if-is_none.ensures in
-    let here : c.loop-place.place < length (in_order c.args.order) = omega (arith, length-in_order c.args.order c.requires.search.start) in
-    let got = found (λ (s : ℕ). is_none (term c.args.tables.now (slot_name s))) (in_order c.args.order) (slots_from c.args.tables.now c.args.order c.args.search.now.next) c.loop-place.place c.at-slot.result (0) here c.at-slot.ensures.value (ap (λ (n : List ℕ). is_none (term c.args.tables.now n)) (sym c.slot_name.ensures) ∙ none) c.loop-place.invariant.same in
+    let here : c.loop-place.place < length (whole_order c.args.order) = omega (arith, length-whole_order c.args.order c.requires.search.start) in
+    let got = found (λ (s : ℕ). is_none (term c.args.tables.now (slot_name s))) (whole_order c.args.order) (slots_from c.args.tables.now c.args.order c.args.search.now.next) c.loop-place.place c.at-slot.result (0) here c.at-slot.ensures.value (ap (λ (n : List ℕ). is_none (term c.args.tables.now n)) (sym c.slot_name.ensures) ∙ none) c.loop-place.invariant.same in
     record { value = got.0; rest = got.1; cursor = omega arith; search = record { start = c.requires.search.start; limit = c.requires.search.limit; next = omega arith; cursor = omega (arith, c.at-slot.ensures.small) } }
 
 pub loop-place-preserved : goal.loop-place-preserved
 loop-place-preserved c =
     let some : is_none (term c.args.tables.now c.slot_name.result) ≡ false = seen_none c.find_term.result (term c.args.tables.now c.slot_name.result) true c.find_term.ensures c.if-is_none.ensures in
-    let here : c.loop-place.place < length (in_order c.args.order) = omega (arith, length-in_order c.args.order c.requires.search.start) in
+    let here : c.loop-place.place < length (whole_order c.args.order) = omega (arith, length-whole_order c.args.order c.requires.search.start) in
     record {
-      same = passed (λ (s : ℕ). is_none (term c.args.tables.now (slot_name s))) (in_order c.args.order) (slots_from c.args.tables.now c.args.order c.args.search.now.next) c.loop-place.place c.at-slot.result (0) here c.at-slot.ensures.value (ap (λ (n : List ℕ). is_none (term c.args.tables.now n)) (sym c.slot_name.ensures) ∙ some) c.loop-place.invariant.same;
+      same = passed (λ (s : ℕ). is_none (term c.args.tables.now (slot_name s))) (whole_order c.args.order) (slots_from c.args.tables.now c.args.order c.args.search.now.next) c.loop-place.place c.at-slot.result (0) here c.at-slot.ensures.value (ap (λ (n : List ℕ). is_none (term c.args.tables.now n)) (sym c.slot_name.ensures) ∙ some) c.loop-place.invariant.same;
       search = c.loop-place.invariant.search;
     }
 
 pub returns : goal.returns
 returns c =
-    let all : length (in_order c.args.order) ≤ c.loop-place.place = omega (arith, length-in_order c.args.order c.requires.search.start) in
-    let end : length (in_order c.args.order) ≤ c.args.order.limit = omega (arith, length-in_order c.args.order c.requires.search.start) in
-    let got = none_left (λ (s : ℕ). is_none (term c.args.tables.now (slot_name s))) (in_order c.args.order) (slots_from c.args.tables.now c.args.order c.args.search.now.next) c.loop-place.place c.args.order.limit all end c.loop-place.invariant.same in
+    let all : length (whole_order c.args.order) ≤ c.loop-place.place = omega (arith, length-whole_order c.args.order c.requires.search.start) in
+    let end : length (whole_order c.args.order) ≤ c.args.order.limit = omega (arith, length-whole_order c.args.order c.requires.search.start) in
+    let got = none_left (λ (s : ℕ). is_none (term c.args.tables.now (slot_name s))) (whole_order c.args.order) (slots_from c.args.tables.now c.args.order c.args.search.now.next) c.loop-place.place c.args.order.limit all end c.loop-place.invariant.same in
     record {
       value = got.0;
       rest = got.1;

@@ -6,7 +6,7 @@ use Rattle.gw_msg.specs.declared.message.Action.{Action}
 use Rattle.gw_msg.specs.declared.message.Command.{Command}
 use Rattle.gw_reply.specs.declared.reply.ActionReply.{ActionReply}
 use Rattle.gw_table.specs.declared.attempts.Attempts.{Attempts}
-use Rattle.gw_table.specs.Folds.{behind}
+use Rattle.gw_table.specs.Folds.{attempts_behind}
 use Rattle.gw_table.specs.Maps.{Maps, Outcome}
 use Rattle.gw_table.specs.Parts.{Every}
 use Rattle.gw_table.specs.WellFormed.{IsSound}
@@ -62,9 +62,9 @@ loop-sent-preserved c =
     let kept : With AnySlot (IsSound Every) (slots_behind slots sent.commands) (action c.args.rules.now tt pair c.loop-sent.part.maps).maps = kept_action c.args.rules.now (commands_keep_sound c.args.rules.now) sent (taken (is_choose sent.ctx) numbers) slots c.loop-sent.part.maps c.loop-sent.invariant.kept in
     let maps : (action c.args.rules.now tt pair c.loop-sent.part.maps).maps ≡ c.action.new.part.maps = ap (λ (o : Outcome (Attempts Unit ActionReply)). o.maps) (sym did) in
     record {
-      told = ap (λ (l : List ActionReply). behind l (actions c.args.rules.now (with_owned c.number_of-number.result.1.now c.slots_behind-slots_left.result.now rest) now.maps)) c.in_ok-append.ensures.ok
-          ∙ ap (λ (o : List (Option CtxNum)). behind (c.loop-sent.replies ++ now.answer.answers) (actions c.args.rules.now (with_owned o c.slots_behind-slots_left.result.now rest) now.maps)) c.number_of-number.ensures.later
-          ∙ ap (λ (o : List (Option ℕ)). behind (c.loop-sent.replies ++ now.answer.answers) (actions c.args.rules.now (with_owned (left (is_choose sent.ctx) numbers) o rest) now.maps)) behind_it
+      told = ap (λ (l : List ActionReply). attempts_behind l (actions c.args.rules.now (with_owned c.number_of-number.result.1.now c.slots_behind-slots_left.result.now rest) now.maps)) c.in_ok-append.ensures.ok
+          ∙ ap (λ (o : List (Option CtxNum)). attempts_behind (c.loop-sent.replies ++ now.answer.answers) (actions c.args.rules.now (with_owned o c.slots_behind-slots_left.result.now rest) now.maps)) c.number_of-number.ensures.later
+          ∙ ap (λ (o : List (Option ℕ)). attempts_behind (c.loop-sent.replies ++ now.answer.answers) (actions c.args.rules.now (with_owned (left (is_choose sent.ctx) numbers) o rest) now.maps)) behind_it
           ∙ goes_on (action c.args.rules.now) tt pair (with_owned numbers slots (drop i c.args.asked.now)) later c.loop-sent.part.maps c.loop-sent.replies now whole pairs did c.if-done.false c.loop-sent.invariant.told;
       kept = subst (λ (o : List (Option ℕ)). With AnySlot (IsSound Every) o c.action.new.part.maps) (sym behind_it) (subst (λ (m : Maps). With AnySlot (IsSound Every) (slots_behind slots sent.commands) m) maps kept);
       every = c.in_ok-done.ensures.keys ∙ c.loop-sent.invariant.every;

@@ -3,7 +3,7 @@ use Rattle.std.proofs.Math.ListN.{drop_of_length-le}
 use Rattle.gw_msg.specs.declared.message.Command.{Command}
 use Rattle.gw_reply.specs.declared.reply.CommandReply.{CommandReply}
 use Rattle.gw_table.specs.declared.attempts.Attempts.{Attempts}
-use Rattle.gw_table.specs.Folds.{behind}
+use Rattle.gw_table.specs.Folds.{attempts_behind}
 use Rattle.gw_table.specs.Maps.{Maps, Outcome}
 use Rattle.gw_table.specs.Parts.{Every}
 use Rattle.gw_table.specs.WellFormed.{IsSound}
@@ -61,8 +61,8 @@ loop-sent-preserved c =
     let kept : With AnySlot (IsSound Every) (left (is_adding sent) slots) (command c.args.rules.now c.loop-sent.at (taken (is_adding sent) slots) sent c.loop-sent.part.maps).maps = kept_command c.args.rules.now (commands_keep_sound c.args.rules.now) c.loop-sent.at slots sent c.loop-sent.part.maps c.loop-sent.invariant.kept in
     let maps : (command c.args.rules.now c.loop-sent.at (taken (is_adding sent) slots) sent c.loop-sent.part.maps).maps ≡ c.attempt.new.part.maps = ap (λ (o : Outcome (Attempts At CommandReply)). o.maps) (sym did) in
     record {
-      told = ap (λ (l : List CommandReply). behind l (commands c.args.rules.now now.answer.next (with_slots c.slot_of-slot.result.1.now rest) now.maps)) c.in_ok-append.ensures.ok
-          ∙ ap (λ (o : List (Option ℕ)). behind (c.loop-sent.answers ++ now.answer.answers) (commands c.args.rules.now now.answer.next (with_slots o rest) now.maps)) c.slot_of-slot.ensures.later
+      told = ap (λ (l : List CommandReply). attempts_behind l (commands c.args.rules.now now.answer.next (with_slots c.slot_of-slot.result.1.now rest) now.maps)) c.in_ok-append.ensures.ok
+          ∙ ap (λ (o : List (Option ℕ)). attempts_behind (c.loop-sent.answers ++ now.answer.answers) (commands c.args.rules.now now.answer.next (with_slots o rest) now.maps)) c.slot_of-slot.ensures.later
           ∙ goes_on (attempt c.args.rules.now) c.loop-sent.at pair (with_slots slots (drop i c.args.asked.now)) later c.loop-sent.part.maps c.loop-sent.answers now whole pairs did c.if-done.false c.loop-sent.invariant.told;
       kept = subst (λ (o : List (Option ℕ)). With AnySlot (IsSound Every) o c.attempt.new.part.maps) (sym c.slot_of-slot.ensures.later) (subst (λ (m : Maps). With AnySlot (IsSound Every) (left (is_adding sent) slots) m) maps kept);
       every = c.in_ok-done.ensures.keys ∙ c.loop-sent.invariant.every;

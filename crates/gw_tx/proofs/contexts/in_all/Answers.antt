@@ -5,7 +5,7 @@ use Rattle.gw_base.specs.declared.ids.CtxNum.{CtxNum}
 use Rattle.gw_msg.specs.declared.message.Command.{Command}
 use Rattle.gw_reply.specs.declared.reply.ActionReply.{ActionReply}
 use Rattle.gw_table.specs.declared.attempts.Attempts.{Attempts}
-use Rattle.gw_table.specs.Folds.{behind, in_order}
+use Rattle.gw_table.specs.Folds.{attempts_behind, in_order}
 use Rattle.gw_table.specs.Maps.{Maps, Outcome, number}
 use Rattle.gw_table.specs.Parts.{Every}
 use Rattle.gw_table.specs.WellFormed.{IsSound}
@@ -35,7 +35,7 @@ loop-number-preserved c =
     each_is c.args.rules.now asked c.loop-number.stopped c.if-stopped.stopped n c.loop-number.part.maps c.commands.new.part.maps c.in_ok-done.done c.action_reply.result c.in_ok-done.ensures.maps c.in_ok-done.ensures.answer c.action_reply.ensures stopped in
     let whole : Outcome (Attempts Bool ActionReply) = in_all c.args.rules.now asked c.args.numbers.now c.args.part.now.maps in
     record {
-      told = ap (λ (l : List ActionReply). behind l (in_order (in_each c.args.rules.now asked) now.answer.next rest now.maps)) c.in_ok-push.ensures.ok
+      told = ap (λ (l : List ActionReply). attempts_behind l (in_order (in_each c.args.rules.now asked) now.answer.next rest now.maps)) c.in_ok-push.ensures.ok
           ∙ goes_on (in_each c.args.rules.now asked) c.loop-number.stopped n (drop i c.args.numbers.now) rest c.loop-number.part.maps c.loop-number.answers now whole split did refl c.loop-number.invariant.told;
       kept = subst (λ (m : Maps). With AnySlot (IsSound Every) c.args.slots.now m) (sym c.in_ok-done.ensures.maps) (kept_in_each c.args.rules.now (commands_keep_sound c.args.rules.now) n c.args.slots.now c.args.asked.now c.loop-number.part.maps c.loop-number.invariant.kept);
       every = c.in_ok-done.ensures.keys ∙ c.loop-number.invariant.every;

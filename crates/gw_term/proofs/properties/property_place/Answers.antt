@@ -1,7 +1,7 @@
 use Rattle.std.proofs.Common.{◌≡◌, ◌∙◌, true, false, arith, rules}
 use Rattle.gw_text.specs.Tokens.{is_same_word}
 use Rattle.gw_term.proofs.Merges.{place_here, place_later}
-use Rattle.gw_term.proofs.properties.place_of.Goals as goal
+use Rattle.gw_term.proofs.properties.property_place.Goals as goal
 
 pub returns-then-eq_ignore_ascii_case-clause-value : goal.returns-then-eq_ignore_ascii_case-clause-value
 returns-then-eq_ignore_ascii_case-clause-value c =
