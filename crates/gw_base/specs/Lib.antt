@@ -4,6 +4,7 @@ pub mod Choose
 pub mod Codes
 pub mod Keys
 pub mod Lang
+pub mod Lending
 pub mod Mids
 pub mod NameLists
 pub mod Names

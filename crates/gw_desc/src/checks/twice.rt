@@ -1,7 +1,7 @@
 //! Two of a kind: descriptors of a command, and what stands once in a Media.
 
-ghost use Rattle.std.specs.Prelude.{◌≡◌, ◌≤◌, ◌<◌, ◌^◌, ◌%◌, length, min, option_to_list};
-ghost use Rattle.std.specs.List.{count_by};
+ghost use Rattle.std.specs.Prelude.{◌≡◌, ◌≤◌, ◌<◌, ◌^◌, ◌%◌, ◌==◌, length, min, option_to_list};
+ghost use Rattle.std.specs.List.{count_by, list_any};
 ghost use Rattle.gw_desc.specs.Checks.{has_twice, has_kind_twice, has_part_twice, is_media_twice, numbers_in, number_in, first_stream, first_in};
 ghost use Rattle.gw_desc.specs.Twice.{has_number_twice};
 ghost use Rattle.gw_desc.specs.OfKind.{is_part_of};
@@ -10,6 +10,9 @@ ghost use Rattle.gw_desc.specs.Marks.{is_marked, with_mark};
 use super::counts::{OfKind, has_one, has_two, up_to_two};
 use super::kinds::same_kept;
 use crate::descriptor::{Descriptor, KeptKind, MediaPart, StreamPart};
+
+/// The numbers of up to so many parts are compared pair by pair.
+const FEW: usize = 8;
 
 /// The kinds of descriptors of which a command may have one.
 #[derive(Clone, Copy)]
@@ -165,8 +168,45 @@ fn number_of(part: &MediaPart<'_>) -> Option<u16>
     }
 }
 
-/// Whether two Streams have one number.
-fn has_number_twice(parts: &[MediaPart<'_>]) -> bool
+/// Whether a Stream of this number is among the parts.
+fn has_number(number: u16, parts: &[MediaPart<'_>]) -> bool
+    ensures { result ≡ list_any (λ other. number == other) (numbers_in parts.now) }
+{
+    for part in parts {
+        if number_of(part) == Some(number) {
+            return true;
+        }
+    }
+    false
+}
+
+/// Whether the part is a Stream whose number one of those behind it has.
+fn has_number_of(part: &MediaPart<'_>, behind: &[MediaPart<'_>]) -> bool
+    ensures { result ≡ list_any (λ number. list_any (λ other. number == other) (numbers_in behind.now)) (number_in part.now) }
+{
+    match part {
+        MediaPart::Stream(number, _) => has_number(*number, behind),
+        _ => false,
+    }
+}
+
+/// Whether two Streams have one number, by comparing each pair.
+#[tactic(auto, unfolding(crate::specs::Twice::has_number_twice))]
+fn is_number_twice_by_pairs(parts: &[MediaPart<'_>]) -> bool
+    ensures { result ≡ has_number_twice (numbers_in parts.now) }
+{
+    for (i, part) in parts.iter().enumerate() {
+        if has_number_of(part, &parts[i + 1..]) {
+            return true;
+        }
+    }
+    false
+}
+
+/// Whether two Streams have one number, by a mark for each. Not inlined, since the marks are 8,192 bytes, which are cleared
+/// where the function begins.
+#[inline(never)]
+fn is_number_twice_by_marks(parts: &[MediaPart<'_>]) -> bool
     ensures { result ≡ has_number_twice (numbers_in parts.now) }
 {
     let mut seen = [0u64; 1024];
@@ -178,6 +218,17 @@ fn has_number_twice(parts: &[MediaPart<'_>]) -> bool
         }
     }
     false
+}
+
+/// Whether two Streams have one number.
+fn has_number_twice(parts: &[MediaPart<'_>]) -> bool
+    ensures { result ≡ has_number_twice (numbers_in parts.now) }
+{
+    if parts.len() <= FEW {
+        is_number_twice_by_pairs(parts)
+    } else {
+        is_number_twice_by_marks(parts)
+    }
 }
 
 /// What has parts twice that stand there once.

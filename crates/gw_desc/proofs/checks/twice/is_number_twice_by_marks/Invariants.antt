@@ -3,7 +3,7 @@ use Rattle.std.specs.List.{list_any}
 use Rattle.gw_desc.specs.Twice.{has_number_twice}
 use Rattle.gw_desc.specs.Checks.{numbers_in}
 use Rattle.gw_desc.specs.Marks.{is_marked}
-use Rattle.gw_desc.proofs.checks.twice.has_number_twice.Given as goal
+use Rattle.gw_desc.proofs.checks.twice.is_number_twice_by_marks.Given as goal
 
 -- two of all are equal if one that is left has its mark, or two that are left are equal
 abbrev pub invariant-loop-part : goal.invariant-loop-part

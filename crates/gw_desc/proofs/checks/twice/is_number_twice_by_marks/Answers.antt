@@ -4,8 +4,8 @@ use Rattle.gw_desc.specs.Twice.{has_number_twice}
 use Rattle.gw_desc.specs.Checks.{numbers_in, number_in}
 use Rattle.gw_desc.specs.Marks.{is_marked, with_mark}
 use Rattle.gw_desc.proofs.Marking.{none_marked, past_other, past_number, left_twice, length-marked}
-use Rattle.gw_desc.proofs.checks.twice.has_number_twice.Goals.{in-Some+else-mark, in_default}
-use Rattle.gw_desc.proofs.checks.twice.has_number_twice.Goals as goal
+use Rattle.gw_desc.proofs.checks.twice.is_number_twice_by_marks.Goals.{in-Some+else-mark, in_default}
+use Rattle.gw_desc.proofs.checks.twice.is_number_twice_by_marks.Goals as goal
 
 pub loop-part-init : goal.loop-part-init
 loop-part-init c = (refl, ap (λ (t : Bool). t || has_number_twice (numbers_in c.args.parts.now)) (sym (none_marked (numbers_in c.args.parts.now))))
