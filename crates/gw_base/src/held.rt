@@ -59,3 +59,14 @@ impl<T> Held<T> {
         Box::into_inner(self.block)
     }
 }
+
+// So that a map of handles is copied by its own `clone`, each value in a block of its own.
+impl<T: Clone + Drop> Clone for Held<T> {
+    ghost is_clone = { T.is_clone };
+
+    fn clone(&self) -> Result<Held<T>, AllocError> {
+        Ok(Held {
+            block: self.block.clone()?,
+        })
+    }
+}

@@ -12,12 +12,16 @@ use std::alloc::Global;
 /// How many bytes a message with a reply may have.
 const LONGEST_MESSAGE: usize = 16_384;
 
+/// Room for so many bytes is there from the start: most messages need no more.
+const ROOM: usize = 512;
+
 /// The message that has this body.
 fn write_message<T: WireText>(alloc: Global, body: &T, mid: &Mid) -> Result<Vec<u8>, NoMemory>
     ensures text { IfOk result (λ text. text.items ≡ message_text mid.now (T.text body.now)) }
     ensures header { IfOk result (λ text. length text.items ≤ longest_header + length (T.text body.now)) }
 {
-    let mut out = Vec::from_slice(alloc, b"MEGACO/1 ")?;
+    let mut out = Vec::with_capacity(alloc, ROOM)?;
+    out.extend_from_slice(b"MEGACO/1 ")?;
     out.extend_from_slice(mid.as_bytes())?;
     out.push(b'\n')?;
     body.write_to(&mut out)?;

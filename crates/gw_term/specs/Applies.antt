@@ -6,6 +6,7 @@ use Rattle.gw_base.specs.declared.command_words.Rules.{Rules}
 use Rattle.gw_desc.specs.declared.descriptor.Descriptor.{Descriptor}
 use Rattle.gw_reply.specs.declared.parts.FilledStream.{FilledStream}
 use Rattle.gw_term.specs.Merge.{merged, filled_by}
+use Rattle.gw_term.specs.declared.apply.Applied.{Applied}
 use Rattle.gw_term.specs.declared.record.Termination.{Termination}
 use Rattle.gw_term.specs.declared.fault.ApplyFault.{ApplyFault}
 use Rattle.gw_term.specs.declared.fault.ApplyFault.TheVariants as fault
@@ -21,6 +22,12 @@ abbrev pub Becomes : {S V : Type 0} → Result V ApplyFault → S → Option S �
 Becomes (Ok v) new expected = expected ≡ Some new
 Becomes (Err (fault.Code code)) new expected = (code ≡ InsufficientResources) × (expected ≡ None)
 Becomes (Err fault.NoMemory) new expected = Unit {0}
+
+-- What `merged` answers: the merge and the streams that were filled, or the code where there is no merge.
+abbrev pub IsMerged : Rules → List Descriptor → Termination → Result Applied ApplyFault → Type 0
+IsMerged rules descriptors old (Ok a) = (merged rules descriptors old ≡ Some a.record) × (a.filled ≡ filled_by rules descriptors old)
+IsMerged rules descriptors old (Err (fault.Code code)) = (code ≡ InsufficientResources) × (merged rules descriptors old ≡ None)
+IsMerged rules descriptors old (Err fault.NoMemory) = Unit {0}
 
 -- What `apply` leaves and answers: the merge and the streams that were filled; or nothing changed, and the code where there
 -- is no merge.

@@ -10,7 +10,7 @@ use crate::properties::{merged_properties, merged_service};
 use crate::record::{Stream, Termination};
 use crate::streams::{Merging, merge_stream};
 use crate::tails::merge_tail;
-use gw_base::{CtxNum, Items, NoMemory, Rules, Service};
+use gw_base::{CtxNum, Held, Items, NoMemory, Rules, Service};
 use gw_desc::{Descriptor, KeptKind};
 use gw_reply::{FilledStream, KeptProperty, KeptTail};
 use std::alloc::{AllocError, Global};
@@ -111,7 +111,7 @@ fn push_filled(
     if !merging.filled {
         return Ok(());
     }
-    if let Some(text) = &merging.stream.local {
+    if let Some(text) = &merging.stream.get().local {
         let local = Items::from_slice(alloc, text.as_slice())?;
         filled.push(FilledStream { number, local })?;
     }
@@ -129,7 +129,7 @@ fn push_all_filled(alloc: Global, media: &Media, filled: &mut Filled) -> Result<
 }
 
 /// The stream without what was noted of it.
-fn stream_in(merging: Option<Merging>) -> Option<Stream>
+fn stream_in(merging: Option<Merging>) -> Option<Held<Stream>>
     ensures { result ≡ stream_in merging }
 {
     match merging {
@@ -206,24 +206,56 @@ pub(crate) fn merge_tails(
     )
 }
 
+/// A record after descriptors.
+#[derive(Drop)]
+pub struct Applied {
+    /// The record.
+    pub record: Termination,
+    /// The streams whose Local was filled, with their Locals.
+    pub filled: Filled,
+}
+
 impl Termination {
     ghost use Rattle.gw_base.specs.declared.command_words.Verb.TheVariants.{Add as add_verb};
     ghost use Rattle.gw_desc.specs.Checks.{check_code};
     ghost use Rattle.gw_term.specs.Merge.{merged, filled_by};
-    ghost use Rattle.gw_term.specs.Applies.{IsApplied};
+    ghost use Rattle.gw_term.specs.Applies.{IsApplied, IsMerged};
 
-    /// What the descriptors set, it keeps; what they do not name stays. A stream that is named and missing comes with mode
-    /// Inactive and nothing else; Mode, ServiceStates, Local and Remote take the place of the old ones; a property takes
-    /// the place of the one of its name, in any case, or goes last; a tail takes the place of the old one, and one without
-    /// `=` whose group is missing or blank removes it. The `$` of a Local are filled where the termination has a slot.
-    /// Answers the streams whose Local was filled, in rising order, with their Locals. The caller knows that no code of
-    /// `check` applies to the descriptors, taken as those of an Add. The work is linear in the descriptors and the record.
+    /// The record after the descriptors: what they set, it keeps; what they do not name stays. A stream that is named and
+    /// missing comes with mode Inactive and nothing else; Mode, ServiceStates, Local and Remote take the place of the old ones;
+    /// a property takes the place of the one of its name, in any case, or goes last; a tail takes the place of the old one, and
+    /// one without `=` whose group is missing or blank removes it. The `$` of a Local are filled where the termination has a
+    /// slot. The streams whose Local was filled are told in rising order. It is meant for descriptors of which no code of
+    /// `check` applies, taken as those of an Add. The work is linear in the descriptors and the record.
     ///
     /// # Errors
     ///
-    /// `Code(InsufficientResources)` where a list would hold more than 32 properties; `NoMemory`. After either the
-    /// termination is as it was.
+    /// `Code(InsufficientResources)` where a list would hold more than 32 properties; `NoMemory`.
     #[tactic(auto, unfolding(crate::specs::Merge::merged, crate::specs::Merge::filled_by))]
+    pub fn merged(
+        &self,
+        alloc: Global,
+        rules: &Rules,
+        descriptors: &[Descriptor<'_>],
+    ) -> Result<Applied, ApplyFault>
+        ensures { IsMerged rules.now descriptors.now self.now result }
+    {
+        let media = merged_media(alloc, rules, descriptors, self)?;
+        let mut filled = Items::new(alloc);
+        push_all_filled(alloc, &media, &mut filled)?;
+        let service = merged_service(descriptors, self.service);
+        let mut record = media.into_record(self.place, service, self.slot);
+        merge_tails(alloc, descriptors, self, &mut record)?;
+        Ok(Applied { record, filled })
+    }
+
+    /// The termination becomes its record after the descriptors, as `merged` tells it. Answers the streams whose Local was
+    /// filled, in rising order, with their Locals. The caller knows that no code of `check` applies to the descriptors, taken as
+    /// those of an Add.
+    ///
+    /// # Errors
+    ///
+    /// Those of `merged`, after which the termination is as it was.
     pub fn apply(
         &mut self,
         alloc: Global,
@@ -233,13 +265,8 @@ impl Termination {
         requires { check_code add_verb descriptors.now ≡ None }
         ensures applied { IsApplied rules.now descriptors.now self.old self.new result }
     {
-        let media = merged_media(alloc, rules, descriptors, self)?;
-        let mut filled = Items::new(alloc);
-        push_all_filled(alloc, &media, &mut filled)?;
-        let service = merged_service(descriptors, self.service);
-        let mut new = media.into_record(self.place, service, self.slot);
-        merge_tails(alloc, descriptors, self, &mut new)?;
-        *self = new;
+        let Applied { record, filled } = self.merged(alloc, rules, descriptors)?;
+        *self = record;
         Ok(filled)
     }
 }

@@ -3,9 +3,9 @@
 ghost use Rattle.std.specs.Prelude.{◌≡◌, ◌++◌, IfOk, OnOk};
 ghost use Rattle.gw_term.specs.Audit.{stream_told, streams_told, media_told, tail_told, item_told, word_told};
 
-use crate::copies::{copied_properties, copied_stream, copied_tail_if};
+use crate::copies::{copied_properties, copied_stream, copied_tail};
 use crate::record::{Stream, Termination};
-use gw_base::{Items, NoMemory};
+use gw_base::{Held, Items, NoMemory};
 use gw_desc::{AuditItem, AuditItems, KeptKind, item_of};
 use gw_reply::{AuditReply, KeptTail, MediaReply, ReplyPart, StreamReply};
 use std::alloc::Global;
@@ -14,7 +14,7 @@ use std::alloc::Global;
 fn push_stream(
     alloc: Global,
     number: u8,
-    stream: &Option<Stream>,
+    stream: &Option<Held<Stream>>,
     streams: &mut Items<StreamReply>,
 ) -> Result<(), NoMemory>
     ensures { OnOk result (streams.new ≡ streams.old ++ stream_told number stream.now) }
@@ -22,7 +22,7 @@ fn push_stream(
     let Some(stream) = stream else {
         return Ok(());
     };
-    let copy = copied_stream(alloc, stream)?;
+    let copy = copied_stream(alloc, stream.get())?;
     streams.push(copy.into_reply(number))?;
     Ok(())
 }
@@ -55,11 +55,15 @@ fn media_told(alloc: Global, termination: &Termination) -> Result<MediaReply, No
 }
 
 /// The tail, or the bare word where there is none.
-fn tail_told(alloc: Global, kind: KeptKind, tail: &Option<KeptTail>) -> Result<ReplyPart, NoMemory>
+fn tail_told(
+    alloc: Global,
+    kind: KeptKind,
+    tail: &Option<Held<KeptTail>>,
+) -> Result<ReplyPart, NoMemory>
     ensures { IfOk result (λ part. part ≡ tail_told kind tail.now) }
 {
-    match copied_tail_if(alloc, tail)? {
-        Some(tail) => Ok(ReplyPart::Kept(kind, tail)),
+    match tail {
+        Some(tail) => Ok(ReplyPart::Kept(kind, copied_tail(alloc, tail.get())?)),
         None => Ok(ReplyPart::Bare(AuditItem::Kept(kind))),
     }
 }

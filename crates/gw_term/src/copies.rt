@@ -4,7 +4,7 @@ ghost use Rattle.std.specs.Prelude.{◌≡◌, IfOk, OnOk};
 
 use crate::apply::merge_tails;
 use crate::record::{Stream, Termination};
-use gw_base::{Items, NoMemory, Span};
+use gw_base::{Held, Items, NoMemory, Span};
 use gw_desc::{Property, Sign, Tail};
 use gw_reply::{KeptProperty, KeptTail};
 use std::alloc::{AllocError, Global};
@@ -78,7 +78,8 @@ pub(crate) fn copied_properties(
     Ok(copy)
 }
 
-fn copied_tail(alloc: Global, tail: &KeptTail) -> Result<KeptTail, AllocError>
+/// A copy of the tail.
+pub(crate) fn copied_tail(alloc: Global, tail: &KeptTail) -> Result<KeptTail, AllocError>
     ensures { IfOk result (λ copy. copy ≡ tail.now) }
 {
     let word = copied_if(alloc, &tail.word)?;
@@ -93,12 +94,12 @@ fn copied_tail(alloc: Global, tail: &KeptTail) -> Result<KeptTail, AllocError>
 /// A copy of the tail, if it is there.
 pub(crate) fn copied_tail_if(
     alloc: Global,
-    tail: &Option<KeptTail>,
-) -> Result<Option<KeptTail>, AllocError>
+    tail: &Option<Held<KeptTail>>,
+) -> Result<Option<Held<KeptTail>>, AllocError>
     ensures { IfOk result (λ copy. copy ≡ tail.now) }
 {
     match tail {
-        Some(tail) => Ok(Some(copied_tail(alloc, tail)?)),
+        Some(tail) => Ok(Some(Held::new(alloc, copied_tail(alloc, tail.get())?)?)),
         None => Ok(None),
     }
 }
@@ -131,13 +132,13 @@ pub(crate) fn put<T: Drop>(place: &mut T, value: T)
 #[inline(never)]
 fn copy_stream(
     alloc: Global,
-    stream: &Option<Stream>,
-    copy: &mut Option<Stream>,
+    stream: &Option<Held<Stream>>,
+    copy: &mut Option<Held<Stream>>,
 ) -> Result<(), AllocError>
     ensures { OnOk result (copy.new ≡ stream.now) }
 {
     let value = match stream {
-        Some(stream) => Some(copied_stream(alloc, stream)?),
+        Some(stream) => Some(Held::new(alloc, copied_stream(alloc, stream.get())?)?),
         None => None,
     };
     put(copy, value);

@@ -11,7 +11,7 @@ mod record;
 mod streams;
 mod tails;
 
-pub use apply::Filled;
+pub use apply::{Applied, Filled};
 pub use fault::ApplyFault;
 pub use laws::{look_ups_after_a_merge, merges_go_by_field, merges_keep_forms};
 pub use record::{Stream, Termination};

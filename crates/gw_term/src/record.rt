@@ -2,7 +2,7 @@
 
 ghost use Rattle.std.specs.Prelude.{◌≡◌};
 
-use gw_base::{CtxNum, Items, Service};
+use gw_base::{CtxNum, Held, Items, Service};
 use gw_desc::Mode;
 use gw_reply::{KeptProperty, KeptTail, StreamReply};
 use std::alloc::Global;
@@ -52,7 +52,7 @@ impl Stream {
     }
 }
 
-/// What is kept of a termination (RFC 3525, section 6.2).
+/// What is kept of a termination (RFC 3525, section 6.2). Streams and tails lie in blocks of their own: most terminations have few.
 pub struct Termination {
     /// The context that it is in, or none for the null context.
     pub place: Option<CtxNum>,
@@ -63,21 +63,21 @@ pub struct Termination {
     /// The properties of its TerminationState but ServiceStates: at most 32.
     pub properties: Items<KeptProperty>,
     /// Stream 1, if it has one.
-    pub first: Option<Stream>,
+    pub first: Option<Held<Stream>>,
     /// Stream 2, if it has one.
-    pub second: Option<Stream>,
+    pub second: Option<Held<Stream>>,
     /// Stream 3, if it has one.
-    pub third: Option<Stream>,
+    pub third: Option<Held<Stream>>,
     /// Stream 4, if it has one.
-    pub fourth: Option<Stream>,
+    pub fourth: Option<Held<Stream>>,
     /// What it keeps of Events, if anything.
-    pub events: Option<KeptTail>,
+    pub events: Option<Held<KeptTail>>,
     /// What it keeps of Signals, if anything.
-    pub signals: Option<KeptTail>,
+    pub signals: Option<Held<KeptTail>>,
     /// What it keeps of a DigitMap, if anything.
-    pub digit_map: Option<KeptTail>,
+    pub digit_map: Option<Held<KeptTail>>,
     /// What it keeps of an EventBuffer, if anything.
-    pub event_buffer: Option<KeptTail>,
+    pub event_buffer: Option<Held<KeptTail>>,
 }
 
 // As for a stream; and each tail goes by one call more.

@@ -10,7 +10,7 @@ use crate::copies::{copied_stream, put};
 use crate::fault::ApplyFault;
 use crate::properties::{media_parts, put_property};
 use crate::record::Stream;
-use gw_base::{Items, NoMemory, Rules, Span};
+use gw_base::{Held, Items, NoMemory, Rules, Span};
 use gw_desc::{
     Descriptor, MediaPart, Mode, Property, StreamPart, fill_local, is_mode, mode_set_by,
 };
@@ -19,7 +19,7 @@ use std::alloc::Global;
 /// A stream while descriptors are merged into it.
 pub(crate) struct Merging {
     /// The stream.
-    pub stream: Stream,
+    pub stream: Held<Stream>,
     /// Whether its Local was filled.
     pub filled: bool,
 }
@@ -36,7 +36,7 @@ impl Drop for Merging {
 
 impl Merging {
     /// The stream, without what was noted of it.
-    pub(crate) fn into_stream(self) -> Stream
+    pub(crate) fn into_stream(self) -> Held<Stream>
         ensures { result ≡ self.stream }
     {
         let Merging { stream, filled: _ } = self;
@@ -95,7 +95,10 @@ fn put_local(
         Some(slot) => fill_local(alloc, text, &target.rules.media, slot, target.number)?,
         None => (Vec::from_slice(alloc, text)?, false),
     };
-    put(&mut merging.stream.local, Some(Items::from(local)));
+    put(
+        &mut merging.stream.get_mut().local,
+        Some(Items::from(local)),
+    );
     merging.filled = filled;
     Ok(())
 }
@@ -115,11 +118,11 @@ fn put_part(
         StreamPart::Local(text) => put_local(alloc, target, text.as_bytes(), merging),
         StreamPart::Remote(text) => {
             let remote = Items::from_slice(alloc, text.as_bytes())?;
-            put(&mut merging.stream.remote, Some(remote));
+            put(&mut merging.stream.get_mut().remote, Some(remote));
             Ok(())
         }
         StreamPart::LocalControl(properties) => {
-            put_controls(alloc, properties.as_slice(), &mut merging.stream)
+            put_controls(alloc, properties.as_slice(), merging.stream.get_mut())
         }
     }
 }
@@ -218,11 +221,11 @@ fn is_named(number: u8, descriptors: &[Descriptor<'_>]) -> bool
 }
 
 /// A copy of the stream, or a new one where there was none: in mode Inactive, and nothing else.
-fn begun(alloc: Global, old: &Option<Stream>) -> Result<Merging, NoMemory>
+fn begun(alloc: Global, old: &Option<Held<Stream>>) -> Result<Merging, NoMemory>
     ensures { IfOk result (λ merging. merging ≡ begun old.now) }
 {
     let stream = match old {
-        Some(stream) => copied_stream(alloc, stream)?,
+        Some(stream) => copied_stream(alloc, stream.get())?,
         None => Stream {
             mode: Mode::Inactive,
             properties: Items::new(alloc),
@@ -231,7 +234,7 @@ fn begun(alloc: Global, old: &Option<Stream>) -> Result<Merging, NoMemory>
         },
     };
     Ok(Merging {
-        stream,
+        stream: Held::new(alloc, stream)?,
         filled: false,
     })
 }
@@ -244,7 +247,7 @@ pub(crate) fn merge_stream(
     slot: Option<u16>,
     number: u8,
     descriptors: &[Descriptor<'_>],
-    old: &Option<Stream>,
+    old: &Option<Held<Stream>>,
     new: &mut Option<Merging>,
 ) -> Result<(), ApplyFault>
     requires first { 1 ≤ number }

@@ -5,7 +5,7 @@ ghost use Rattle.gw_text.specs.SpaceScan.{skip};
 ghost use Rattle.gw_term.specs.Merge.{has_blank_inside, is_blank_group, kept_tail, merged_tail, tail_after};
 
 use crate::copies::{copied_tail_if, owned_tail, put};
-use gw_base::Span;
+use gw_base::{Held, Span};
 use gw_desc::{Descriptor, KeptKind, Tail, same_kept};
 use gw_reply::KeptTail;
 use gw_text::Cursor;
@@ -41,13 +41,13 @@ fn is_blank_group(group: &Option<Span<'_>>) -> bool
 }
 
 /// What is kept of a tail: nothing of one without `=` that has no group, or a blank one.
-fn kept_tail(alloc: Global, tail: &Tail<Span<'_>>) -> Result<Option<KeptTail>, AllocError>
+fn kept_tail(alloc: Global, tail: &Tail<Span<'_>>) -> Result<Option<Held<KeptTail>>, AllocError>
     ensures { IfOk result (λ kept. kept ≡ kept_tail tail.now) }
 {
     if !tail.equals && is_blank_group(&tail.group) {
         return Ok(None);
     }
-    Ok(Some(owned_tail(alloc, tail)?))
+    Ok(Some(Held::new(alloc, owned_tail(alloc, tail)?)?))
 }
 
 /// The tail after a descriptor.
@@ -55,7 +55,7 @@ fn put_tail(
     alloc: Global,
     kind: KeptKind,
     descriptor: &Descriptor<'_>,
-    tail: &mut Option<KeptTail>,
+    tail: &mut Option<Held<KeptTail>>,
 ) -> Result<(), AllocError>
     ensures { OnOk result (tail.new ≡ tail_after kind descriptor.now tail.old) }
 {
@@ -72,8 +72,8 @@ pub(crate) fn merge_tail(
     alloc: Global,
     kind: KeptKind,
     descriptors: &[Descriptor<'_>],
-    old: &Option<KeptTail>,
-    new: &mut Option<KeptTail>,
+    old: &Option<Held<KeptTail>>,
+    new: &mut Option<Held<KeptTail>>,
 ) -> Result<(), AllocError>
     ensures { OnOk result (new.new ≡ merged_tail kind descriptors.now old.now) }
 {
