@@ -29,7 +29,6 @@ use Rattle.gw_table.specs.Reserved.{slot_name}
 use Rattle.gw_refusal.specs.declared.at.At.{At}
 use Rattle.gw_refusal.specs.declared.at.At.TheVariants.{Null, Live, Unmade, Each}
 use Rattle.gw_refusal.specs.Asked.{is_add, is_move, is_modify, is_subtract, is_service_change, brings, is_unsupported, is_root, is_choose, is_other_term, is_wildcard, matches, audited, is_some_list, method, delay, is_other_method, is_other_delay}
-use Rattle.gw_cmd.specs.Effects.{CanMerge}
 use Rattle.gw_cmd.specs.Keys.{every_key, is_for_all, keys_if, action_keys, place_key, slot_key, member_keys, term_keys, command_keys}
 use Rattle.gw_refusal.specs.Places.{place_at, is_null, is_unmade, is_each}
 use Rattle.gw_refusal.specs.Forms.{is_left_out, is_misplaced, refusal_by_form}
@@ -67,32 +66,13 @@ form_none at c h = by (is_unsupported c.verb) (is_left_out at c) (is_misplaced a
     by false false true e f k = absurd cc
     by false false false e f k = record { kept = e; placed = f }
 
-record PassesTables (at : At) (slot : Option ℕ) (c : Command) (m : Maps) : Type 0 where
-  live : has_ended at m ≡ false
-  right : check_code c.verb c.descriptors ≡ None
-
-tables_none : (at : At) (slot : Option ℕ) (c : Command) (m : Maps) → refusal_by_tables at slot c m ≡ None → PassesTables at slot c m
+live_by : (at : At) (slot : Option ℕ) (c : Command) (m : Maps) → refusal_by_tables at slot c m ≡ None → has_ended at m ≡ false
 unfolding refusal_by_tables
-tables_none at slot c m h = by (has_ended at m) refl (missing at slot c m c.term) (check_code c.verb c.descriptors) refl h
+live_by at slot c m h = by (has_ended at m) refl h
   where
-    by : (b : Bool) → has_ended at m ≡ b → (x y : Option Code) → check_code c.verb c.descriptors ≡ y → first_code (code_if UnknownContext b) (first_code x y) ≡ None → PassesTables at slot c m
-    by true e x y f k = absurd cc
-    by false e (Some code) y f k = absurd cc
-    by false e None (Some code) f k = absurd cc
-    by false e None None f k = record { live = e; right = f }
-
--- ---- descriptors
-
-can_merge : (v : Verb) (ds : List Descriptor) → check_code v ds ≡ None → CanMerge v ds
-unfolding check_code has_illegal has_bad
-can_merge Add ds h = h
-can_merge Move ds h = h
-can_merge Modify ds h = h
-can_merge Subtract ds h = tt
-can_merge AuditValue ds h = tt
-can_merge ServiceChange ds h = tt
-can_merge AuditCapability ds h = tt
-can_merge Notify ds h = tt
+    by : (b : Bool) → has_ended at m ≡ b → first_code (code_if UnknownContext b) (first_code (missing at slot c m c.term) (check_code c.verb c.descriptors)) ≡ None → has_ended at m ≡ false
+    by true e f = absurd cc
+    by false e f = e
 
 -- ---- keys
 
@@ -296,11 +276,10 @@ module _ (keys : PartKeys) (at : At) (slot : Option ℕ) (c : Command) (m : Maps
   pub ready : refusal_by_form at c ≡ None → refusal_by_tables at slot c m ≡ None → IsReady keys at c m
   ready form tables =
       let p = form_none at c form in
-      let q = tables_none at slot c m tables in
+      let live = live_by at slot c m tables in
       record {
-        merges = can_merge c.verb c.descriptors q.right;
         targets = λ t h. found_target c.term refl t h;
-        place = held_place at refl q.live;
+        place = held_place at refl live;
         moved = λ t e _. held_moved t e (place_of (term m t)) refl;
         stays = stays_by at c p c.term refl;
         root = held_root;

@@ -27,7 +27,7 @@ use Rattle.gw_cmd.specs.declared.outcome.CmdOutcome.{CmdOutcome}
 use Rattle.gw_refusal.specs.Asked.{is_wildcard, audited, service_asked}
 use Rattle.gw_cmd.specs.Effects.{on_record, on_name}
 use Rattle.gw_refusal.specs.Places.{place_at, is_unmade}
-use Rattle.gw_cmd.specs.Refusals.{refusal}
+use Rattle.gw_cmd.specs.Refusals.{refusal, refusal_by_tables}
 use Rattle.gw_refusal.specs.Targets.{targets}
 
 -- ---- replies
@@ -152,6 +152,10 @@ carried rules at slot c m (Other text) = on_names rules at c m
 abbrev pub unless_refused : Option Code → At → Command → Maps → Outcome CmdOutcome → Outcome CmdOutcome
 unless_refused (Some code) at c m o = refused at c code m
 unless_refused None at c m o = o
+
+-- one that its form allows
+abbrev pub allowed : Rules → At → Option ℕ → Command → Maps → Outcome CmdOutcome
+allowed rules at slot c m = unless_refused (refusal_by_tables at slot c m) at c m (carried rules at slot c m c.term)
 
 unfoldable pub command : Rules → At → Option ℕ → Command → Maps → Outcome CmdOutcome
 command rules at slot c m = unless_refused (refusal at slot c m) at c m (carried rules at slot c m c.term)

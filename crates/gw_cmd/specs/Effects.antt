@@ -9,7 +9,6 @@ use Rattle.gw_base.specs.declared.command_words.Rules.{Rules}
 use Rattle.gw_base.specs.declared.command_words.Verb.{Verb}
 use Rattle.gw_base.specs.declared.command_words.Verb.TheVariants.{Add, Modify, Move, Subtract, AuditValue, AuditCapability, Notify, ServiceChange}
 use Rattle.gw_desc.specs.declared.descriptor.Descriptor.{Descriptor}
-use Rattle.gw_desc.specs.Checks.{check_code}
 use Rattle.gw_msg.specs.declared.message.Command.{Command}
 use Rattle.gw_reply.specs.declared.parts.FilledStream.{FilledStream}
 use Rattle.gw_reply.specs.declared.parts.ReplyPart.{ReplyPart}
@@ -118,17 +117,6 @@ after_change descriptors r = serviced r (unwrap_or (service_asked descriptors) r
 
 abbrev pub service_changed : List Descriptor → Option CtxNum → Termination → Result Decided Code
 service_changed descriptors place r = unless (refusal_elsewhere place r.place) (record { change = Becomes (after_change descriptors r); parts = [] })
-
--- what a command that merges wants of its descriptors: that no code applies to them
-abbrev pub CanMerge : Verb → List Descriptor → Type 0
-CanMerge Add descriptors = check_code Add descriptors ≡ None
-CanMerge Move descriptors = check_code Add descriptors ≡ None
-CanMerge Modify descriptors = check_code Add descriptors ≡ None
-CanMerge Subtract descriptors = Unit {0}
-CanMerge AuditValue descriptors = Unit {0}
-CanMerge ServiceChange descriptors = Unit {0}
-CanMerge AuditCapability descriptors = Unit {0}
-CanMerge Notify descriptors = Unit {0}
 
 -- ---- by the command's word; those that want a context were refused in the null context
 

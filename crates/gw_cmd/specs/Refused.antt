@@ -1,15 +1,9 @@
 -- Why a termination is not changed (own).
-use Rattle.std.specs.Prelude.{◌≡◌, List, Some, None, Result, Ok, Err}
+use Rattle.std.specs.Prelude.{◌≡◌, Result, Ok, Err}
 use Rattle.gw_base.specs.declared.code.Code.{Code}
-use Rattle.gw_base.specs.declared.code.Code.TheVariants.{InsufficientResources}
-use Rattle.gw_base.specs.declared.command_words.Rules.{Rules}
-use Rattle.gw_desc.specs.declared.descriptor.Descriptor.{Descriptor}
 use Rattle.gw_term.specs.declared.fault.ApplyFault.{ApplyFault}
 use Rattle.gw_term.specs.declared.fault.ApplyFault.TheVariants as apply
-use Rattle.gw_term.specs.declared.record.Termination.{Termination}
-use Rattle.gw_term.specs.Merge.{merged, filled_by}
 use Rattle.gw_table.specs.Maps.{Maps, Outcome}
-use Rattle.gw_cmd.specs.declared.merge.MergedCopy.{MergedCopy}
 use Rattle.gw_cmd.specs.declared.refusal.Refusal.{Refusal}
 use Rattle.gw_cmd.specs.declared.refusal.Refusal.TheVariants as refusal
 
@@ -29,9 +23,3 @@ abbrev pub Answers : {A : Type 0} → Result A Refusal → Result A Code → Typ
 Answers (Ok a) o = Ok a ≡ o
 Answers (Err (refusal.Code code)) o = Err code ≡ o
 Answers (Err refusal.NoMemory) o = Unit {0}
-
--- what a merge of a copy answers, but for want of memory
-abbrev pub Merges : Rules → List Descriptor → Termination → Result MergedCopy Refusal → Type 0
-Merges rules descriptors old (Ok a) = (merged rules descriptors old ≡ Some a.new) × (a.filled ≡ filled_by rules descriptors old)
-Merges rules descriptors old (Err (refusal.Code code)) = (code ≡ InsufficientResources) × (merged rules descriptors old ≡ None)
-Merges rules descriptors old (Err refusal.NoMemory) = Unit {0}

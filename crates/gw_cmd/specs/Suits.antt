@@ -16,7 +16,6 @@ use Rattle.gw_cmd.specs.declared.change.Change.{Change}
 use Rattle.gw_cmd.specs.declared.change.Change.TheVariants.{Stays, Becomes, Joins, Crosses, Leaves}
 use Rattle.gw_refusal.specs.declared.at.At.{At}
 use Rattle.gw_refusal.specs.Asked.{is_move}
-use Rattle.gw_cmd.specs.Effects.{CanMerge}
 use Rattle.gw_refusal.specs.Places.{place_at}
 use Rattle.gw_refusal.specs.Targets.{targets_of}
 
@@ -52,7 +51,6 @@ HoldsFound keys t m = is_some (term m t) ≡ true → holds keys (Term t) ≡ tr
 
 -- a command that is refused neither by its form nor by the tables, on a part that has its keys
 pub record IsReady (keys : PartKeys) (at : At) (c : Command) (m : Maps) : Type 0 where
-  pub merges : CanMerge c.verb c.descriptors
   pub targets : (t : List ℕ) → is_in t (targets_of c.term at c m) ≡ true → HoldsFound keys t m
   pub place : HoldsPlace keys (place_at at)
   pub moved : (t : List ℕ) → c.term ≡ Name t → HoldsMoved keys c.verb (place_of (term m t))

@@ -9,11 +9,12 @@ ghost use Rattle.gw_table.specs.Maps.{term, names, place_of};
 ghost use Rattle.gw_table.specs.Parts.{holds, Holds, HoldsPlace};
 ghost use Rattle.gw_table.specs.WellFormed.{IsSound};
 ghost use Rattle.gw_refusal.specs.Asked.{is_move};
-ghost use Rattle.gw_cmd.specs.Commands.{reply, outcome_of, on_targets, refused, on_names, on_new as made_new, on_root as root_done, carried as carried_out, command as command_done};
-ghost use Rattle.gw_cmd.specs.Effects.{CanMerge, on_name as name_done};
+ghost use Rattle.gw_cmd.specs.Commands.{reply, outcome_of, on_targets, refused, on_names, on_new as made_new, on_root as root_done, carried as carried_out, allowed, command as command_done};
+ghost use Rattle.gw_cmd.specs.Effects.{on_name as name_done};
 ghost use Rattle.gw_cmd.specs.Keys.{command_keys};
 ghost use Rattle.gw_refusal.specs.Places.{place_at};
 ghost use Rattle.gw_cmd.specs.Suits.{HoldsMoved, HoldsFound, HoldsSlot, IsUnused, IsReady, HoldsNew};
+ghost use Rattle.gw_refusal.specs.Forms.{refusal_by_form};
 ghost use Rattle.gw_refusal.specs.Targets.{targets};
 
 use crate::effects::{on_name, on_new};
@@ -46,7 +47,6 @@ fn on_target(
     name: TermName,
 ) -> Result<CommandReply, NoMemory>
     requires sound { IsSound part.old.keys part.old.maps }
-    requires merges { CanMerge command.now.verb command.now.descriptors }
     requires term_key { HoldsFound part.old.keys name part.old.maps }
     requires ctx_key { HoldsPlace part.old.keys (place_at at) }
     requires moved_key { HoldsMoved part.old.keys command.now.verb (place_of (term part.old.maps name)) }
@@ -72,7 +72,6 @@ fn on_targets(
     named: &[TermName],
 ) -> Result<Items<CommandReply>, NoMemory>
     requires sound { IsSound part.old.keys part.old.maps }
-    requires merges { CanMerge command.now.verb command.now.descriptors }
     requires term_keys { (t : List ℕ) → is_in t named.now ≡ true → HoldsFound part.old.keys t part.old.maps }
     requires ctx_key { HoldsPlace part.old.keys (place_at at) }
     requires stays { is_move command.now.verb ≡ false }
@@ -98,7 +97,6 @@ fn on_one(
     name: TermName,
 ) -> Result<Items<CommandReply>, NoMemory>
     requires sound { IsSound part.old.keys part.old.maps }
-    requires merges { CanMerge command.now.verb command.now.descriptors }
     requires term_key { HoldsFound part.old.keys name part.old.maps }
     requires ctx_key { HoldsPlace part.old.keys (place_at at) }
     requires moved_key { HoldsMoved part.old.keys command.now.verb (place_of (term part.old.maps name)) }
@@ -143,7 +141,6 @@ fn on_slot(
     command: &Command<'_>,
 ) -> Result<CmdOutcome, NoMemory>
     requires sound { IsSound part.old.keys part.old.maps }
-    requires merges { CanMerge command.now.verb command.now.descriptors }
     requires ctx_key { HoldsPlace part.old.keys (place_at at) }
     requires slot_key { HoldsSlot part.old.keys slot }
     requires unused { IsUnused slot part.old.maps }
@@ -210,6 +207,31 @@ fn carried(
     }
 }
 
+/// Carries out a command that its form allows, on its targets, unless the tables refuse it.
+fn with_targets(
+    alloc: Global,
+    rules: &Rules,
+    part: &mut Part,
+    at: At,
+    slot: Option<u16>,
+    command: &Command<'_>,
+    named: &[TermName],
+) -> Result<CmdOutcome, NoMemory>
+    requires sound { IsSound part.old.keys part.old.maps }
+    requires covered { Holds part.old.keys (command_keys at slot command.now part.old.maps) }
+    requires unused { IsUnused slot part.old.maps }
+    requires form { refusal_by_form at command.now ≡ None }
+    requires named { named.now ≡ targets at command.now part.old.maps }
+    ensures maps { OnOk result (part.new.maps ≡ (allowed rules.now at slot command.now part.old.maps).maps) }
+    ensures answer { IfOk result (λ done. done ≡ (allowed rules.now at slot command.now part.old.maps).answer) }
+    ensures keys { part.new.keys ≡ part.old.keys }
+{
+    if let Some(code) = refusal_by_tables(part, at, slot, command, named) {
+        return refused(alloc, at, command, code);
+    }
+    carried(alloc, rules, part, at, slot, command, named)
+}
+
 /// Carries one command out (RFC 3525, section 7.2): its refusals in their order, and then what it does to each termination
 /// that it is for. `slot` is what an Add of `$` owns. A command by name costs look-ups in the tables and the size of its
 /// context, of its descriptors and of the termination's record; a wildcard one pass of the members, or, in the null context
@@ -240,9 +262,9 @@ pub fn command(
     if let Some(code) = refusal_by_form(at, command) {
         return refused(alloc, at, command, code);
     }
-    let named = targets(alloc, part, at, command)?;
-    if let Some(code) = refusal_by_tables(part, at, slot, command, &named) {
-        return refused(alloc, at, command, code);
+    if let TermRef::Name(name) = command.term {
+        return with_targets(alloc, rules, part, at, slot, command, &[name]);
     }
-    carried(alloc, rules, part, at, slot, command, &named)
+    let named = targets(alloc, part, at, command)?;
+    with_targets(alloc, rules, part, at, slot, command, &named)
 }

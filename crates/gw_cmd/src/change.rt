@@ -1,6 +1,6 @@
 //! What a command makes of a termination.
 
-use gw_base::{CtxNum, Items};
+use gw_base::{CtxNum, Held, Items};
 use gw_reply::ReplyPart;
 use gw_term::Termination;
 
@@ -10,13 +10,13 @@ pub(crate) enum Change {
     /// Nothing.
     Stays,
     /// Its record becomes this one, in the same place.
-    Becomes(Termination),
+    Becomes(Held<Termination>),
     /// It joins the context, with this record.
-    Joins(CtxNum, Termination),
+    Joins(CtxNum, Held<Termination>),
     /// It leaves the first context and joins the second, with this record.
-    Crosses(CtxNum, CtxNum, Termination),
+    Crosses(CtxNum, CtxNum, Held<Termination>),
     /// It leaves the context, and has this record, or none.
-    Leaves(CtxNum, Option<Termination>),
+    Leaves(CtxNum, Option<Held<Termination>>),
 }
 
 /// What is decided of a termination that is not refused.
@@ -32,7 +32,7 @@ pub(crate) struct Decided {
 #[derive(Drop)]
 pub(crate) struct Merged {
     /// The record after it.
-    pub record_after: Termination,
+    pub record_after: Held<Termination>,
     /// What the reply tells of it.
     pub parts: Items<ReplyPart>,
 }

@@ -1,22 +1,20 @@
 //! What is decided of one termination, by its record and by whether the action's context is full.
 
 ghost use Rattle.std.specs.Prelude.{◌≡◌, ◌++◌, None, Some, Ok, IfOk};
-ghost use Rattle.gw_base.specs.declared.command_words.Verb.TheVariants.{Add as add_verb};
-ghost use Rattle.gw_desc.specs.Checks.{check_code};
 ghost use Rattle.gw_term.specs.Audit.{audit_parts};
 ghost use Rattle.gw_refusal.specs.Asked.{audited};
-ghost use Rattle.gw_cmd.specs.Effects.{refusal_to_add, refusal_to_move, refusal_elsewhere, added, crosses, moved, modified, what_remains, subtracted, told_of, service_changed, decided_in, decided_in_null, CanMerge};
+ghost use Rattle.gw_cmd.specs.Effects.{refusal_to_add, refusal_to_move, refusal_elsewhere, added, crosses, moved, modified, what_remains, subtracted, told_of, service_changed, decided_in, decided_in_null};
 ghost use Rattle.gw_refusal.specs.Places.{same_place};
 ghost use Rattle.gw_cmd.specs.Refused.{Answers};
 
 use crate::change::{Change, Decided, Merged};
 use crate::merge::{audit, merging};
 use crate::refusal::Refusal;
-use gw_base::{Code, CtxNum, Items, Rules, Verb};
+use gw_base::{Code, CtxNum, Held, Items, Rules, Verb};
 use gw_desc::Descriptor;
 use gw_refusal::service_asked;
 use gw_term::Termination;
-use std::alloc::Global;
+use std::alloc::{AllocError, Global};
 
 /// Whether both are the null context or one context.
 fn is_same_place(a: Option<CtxNum>, b: Option<CtxNum>) -> bool
@@ -71,7 +69,6 @@ fn added(
     number: CtxNum,
     old: &Termination,
 ) -> Result<Decided, Refusal>
-    requires { check_code add_verb descriptors.now ≡ None }
     ensures { Answers result (added rules.now descriptors.now full number old.now) }
 {
     let refused = refusal_to_add(full, old.place());
@@ -103,7 +100,6 @@ fn moved(
     number: CtxNum,
     old: &Termination,
 ) -> Result<Decided, Refusal>
-    requires { check_code add_verb descriptors.now ≡ None }
     ensures { Answers result (moved rules.now descriptors.now full number old.now) }
 {
     let refused = refusal_to_move(full, number, old.place());
@@ -118,7 +114,6 @@ fn modified(
     place: Option<CtxNum>,
     old: &Termination,
 ) -> Result<Decided, Refusal>
-    requires { check_code add_verb descriptors.now ≡ None }
     ensures { Answers result (modified rules.now descriptors.now place old.now) }
 {
     let refused = refusal_elsewhere(place, old.place());
@@ -130,15 +125,18 @@ fn modified(
 }
 
 /// What a subtracted termination becomes: an ephemeral one is destroyed.
-fn what_remains(alloc: Global, old: &Termination) -> Option<Termination>
-    ensures { result ≡ what_remains old.now }
+fn what_remains(
+    alloc: Global,
+    old: &Termination,
+) -> Result<Option<Held<Termination>>, AllocError>
+    ensures { IfOk result (λ remains. remains ≡ what_remains old.now) }
 {
     if old.slot.is_some() {
-        return None;
+        return Ok(None);
     }
     let mut remains = Termination::provisioned(alloc);
     remains.set_service(old.service());
-    Some(remains)
+    Ok(Some(Held::new(alloc, remains)?))
 }
 
 fn subtracted(
@@ -153,8 +151,9 @@ fn subtracted(
         return Err(Refusal::Code(code));
     }
     let parts = audit(alloc, old, descriptors)?;
+    let remains = what_remains(alloc, old)?;
     Ok(Decided {
-        change: Change::Leaves(number, what_remains(alloc, old)),
+        change: Change::Leaves(number, remains),
         parts,
     })
 }
@@ -188,8 +187,8 @@ fn service_changed(
     if let Some(code) = refusal_elsewhere(place, old.place()) {
         return Err(Refusal::Code(code));
     }
-    let mut after = old.copy(alloc)?;
-    after.set_service(service_asked(descriptors).unwrap_or(old.service()));
+    let mut after = Held::new(alloc, old.copy(alloc)?)?;
+    after.get_mut().set_service(service_asked(descriptors).unwrap_or(old.service()));
     Ok(Decided {
         change: Change::Becomes(after),
         parts: Items::new(alloc),
@@ -206,7 +205,6 @@ pub(crate) fn decided_in(
     number: CtxNum,
     old: &Termination,
 ) -> Result<Decided, Refusal>
-    requires { CanMerge verb descriptors.now }
     ensures { Answers result (decided_in rules.now verb descriptors.now full number old.now) }
 {
     let place = Some(number);
@@ -229,7 +227,6 @@ pub(crate) fn decided_in_null(
     descriptors: &[Descriptor<'_>],
     old: &Termination,
 ) -> Result<Decided, Refusal>
-    requires { CanMerge verb descriptors.now }
     ensures { Answers result (decided_in_null rules.now verb descriptors.now old.now) }
 {
     match verb {

@@ -7,7 +7,7 @@ ghost use Rattle.gw_table.specs.Parts.{holds, HoldsPlace};
 ghost use Rattle.gw_table.specs.Reserved.{slot_name};
 ghost use Rattle.gw_table.specs.WellFormed.{IsSound};
 ghost use Rattle.gw_term.specs.Record.{ephemeral};
-ghost use Rattle.gw_cmd.specs.Effects.{CanMerge, decided as decided_by, done, on_record, on_name};
+ghost use Rattle.gw_cmd.specs.Effects.{decided as decided_by, done, on_record, on_name};
 ghost use Rattle.gw_cmd.specs.Moves.{changed};
 ghost use Rattle.gw_cmd.specs.Refused.{Answers, Tells};
 ghost use Rattle.gw_cmd.specs.Suits.{Suits, HoldsMoved, HoldsFound};
@@ -16,7 +16,7 @@ use crate::change::{Change, Decided};
 use crate::decide::{decided_in, decided_in_null};
 use crate::members::{is_full, join, leave};
 use crate::refusal::Refusal;
-use gw_base::{Code, CtxNum, Items, NoMemory, Rules, TermName};
+use gw_base::{Code, CtxNum, Held, Items, NoMemory, Rules, TermName};
 use gw_msg::Command;
 use gw_reply::ReplyPart;
 use gw_table::{Part, slot_name};
@@ -27,7 +27,7 @@ use std::alloc::Global;
 pub(crate) fn put(
     part: &mut Part,
     name: TermName,
-    entry: Option<Termination>,
+    entry: Option<Held<Termination>>,
 ) -> Result<(), NoMemory>
     requires { holds part.old.keys (Term name) ≡ true }
     ensures ok { OnOk result (part.new.maps ≡ put_term part.old.maps name entry) }
@@ -93,7 +93,6 @@ fn decided(
     command: &Command<'_>,
     old: &Termination,
 ) -> Result<Decided, Refusal>
-    requires { CanMerge command.now.verb command.now.descriptors }
     ensures { Answers result (decided_by rules.now place command.now part.now.maps old.now) }
 {
     let descriptors = command.descriptors.as_slice();
@@ -117,7 +116,6 @@ pub(crate) fn on_name(
     name: TermName,
 ) -> Result<Items<ReplyPart>, Refusal>
     requires sound { IsSound part.old.keys part.old.maps }
-    requires merges { CanMerge command.now.verb command.now.descriptors }
     requires term_key { HoldsFound part.old.keys name part.old.maps }
     requires ctx_key { HoldsPlace part.old.keys place }
     requires moved_key { HoldsMoved part.old.keys command.now.verb (place_of (term part.old.maps name)) }
@@ -140,7 +138,6 @@ fn decided_new(
     command: &Command<'_>,
     slot: u16,
 ) -> Result<Decided, Refusal>
-    requires { CanMerge command.now.verb command.now.descriptors }
     ensures { Answers result (decided_by rules.now place command.now part.now.maps (ephemeral slot)) }
 {
     let new = Termination::ephemeral(alloc, slot);
@@ -158,7 +155,6 @@ pub(crate) fn on_new(
     slot: u16,
 ) -> Result<Items<ReplyPart>, Refusal>
     requires sound { IsSound part.old.keys part.old.maps }
-    requires merges { CanMerge command.now.verb command.now.descriptors }
     requires unused { term part.old.maps (slot_name slot) ≡ None }
     requires term_key { holds part.old.keys (Term (slot_name slot)) ≡ true }
     requires ctx_key { HoldsPlace part.old.keys place }

@@ -1,14 +1,11 @@
-//! Merges of descriptors into a copy of a termination's record, and what the reply tells of them.
+//! Merges of descriptors into a termination's record, and what the reply tells of them.
 
 ghost use Rattle.std.specs.Prelude.{◌≡◌, ◌++◌, None, Some, Ok, IfOk};
-ghost use Rattle.gw_base.specs.declared.command_words.Verb.TheVariants.{Add as add_verb};
-ghost use Rattle.gw_desc.specs.Checks.{check_code};
 ghost use Rattle.gw_term.specs.Audit.{audit_parts};
-ghost use Rattle.gw_term.specs.Applies.{IsApplied};
 ghost use Rattle.gw_refusal.specs.Asked.{audited};
 ghost use Rattle.gw_term.specs.Record.{placed};
 ghost use Rattle.gw_cmd.specs.Effects.{filled_part, parts_of, with_parts, merging};
-ghost use Rattle.gw_cmd.specs.Refused.{Answers, Merges};
+ghost use Rattle.gw_cmd.specs.Refused.{Answers};
 
 use crate::change::Merged;
 use crate::refusal::Refusal;
@@ -16,7 +13,7 @@ use gw_base::{Code, CtxNum, Items, NoMemory, Rules};
 use gw_desc::Descriptor;
 use gw_refusal::{asks_media, first_audit};
 use gw_reply::{AuditReply, ReplyPart};
-use gw_term::{Filled, Termination};
+use gw_term::{Applied, Filled, Termination};
 use std::alloc::Global;
 
 /// What the first Audit asks for, if there is one.
@@ -65,40 +62,19 @@ fn parts_of(
     Ok(parts)
 }
 
-/// A record, and the streams whose Local was filled in it.
-#[derive(Drop)]
-pub(crate) struct MergedCopy {
-    pub new: Termination,
-    pub filled: Filled,
-}
-
-/// The record after the descriptors, a copy.
-fn applied(
-    alloc: Global,
-    rules: &Rules,
-    descriptors: &[Descriptor<'_>],
-    old: &Termination,
-) -> Result<MergedCopy, Refusal>
-    requires { check_code add_verb descriptors.now ≡ None }
-    ensures { Merges rules.now descriptors.now old.now result }
-{
-    let mut new = old.copy(alloc)?;
-    let filled = new.apply(alloc, rules, descriptors)?;
-    Ok(MergedCopy { new, filled })
-}
-
 /// The record in its place, and what the reply tells of it.
 fn in_place(
     alloc: Global,
     descriptors: &[Descriptor<'_>],
-    applied: MergedCopy,
+    applied: Applied,
     place: Option<CtxNum>,
 ) -> Result<Merged, Refusal>
-    ensures { Answers result (Ok (with_parts descriptors.now applied.filled (placed applied.new place))) }
+    ensures { Answers result (Ok (with_parts descriptors.now applied.filled (placed applied.record place))) }
 {
-    let mut record_after = applied.new;
-    record_after.set_place(place);
-    let parts = parts_of(alloc, descriptors, applied.filled, &record_after)?;
+    let Applied { record, filled } = applied;
+    let mut record_after = record;
+    record_after.get_mut().set_place(place);
+    let parts = parts_of(alloc, descriptors, filled, record_after.get())?;
     Ok(Merged {
         record_after,
         parts,
@@ -116,10 +92,9 @@ pub(crate) fn merging(
     place: Option<CtxNum>,
     refused: Option<Code>,
 ) -> Result<Merged, Refusal>
-    requires { check_code add_verb descriptors.now ≡ None }
     ensures { Answers result (merging rules.now descriptors.now old.now place refused) }
 {
-    let applied = applied(alloc, rules, descriptors, old)?;
+    let applied = old.merged(alloc, rules, descriptors)?;
     if let Some(code) = refused {
         return Err(Refusal::Code(code));
     }

@@ -24,7 +24,7 @@ fn put_service(part: &mut Part, service: Service, name: TermName) -> Result<(), 
     ensures keys { part.new.keys ≡ part.old.keys }
 {
     if let Some(mut termination) = part.set_term(name, None)? {
-        termination.set_service(service);
+        termination.get_mut().set_service(service);
         put(part, name, Some(termination))?;
     }
     Ok(())

@@ -6,7 +6,7 @@ ghost use Rattle.gw_table.specs.Maps.{term, ctx, put_term, put_ctx, names, numbe
 ghost use Rattle.gw_table.specs.Parts.{holds, Every};
 
 use crate::tables::Tables;
-use gw_base::{CtxNum, NoMemory, TermName};
+use gw_base::{CtxNum, Held, NoMemory, TermName};
 use gw_ctx::Context;
 use gw_term::Termination;
 use std::alloc::Global;
@@ -67,8 +67,8 @@ impl Part {
     pub fn set_term(
         &mut self,
         name: TermName,
-        entry: Option<Termination>,
-    ) -> Result<Option<Termination>, NoMemory>
+        entry: Option<Held<Termination>>,
+    ) -> Result<Option<Held<Termination>>, NoMemory>
         requires { holds self.old.keys (Term name) ≡ true }
         ensures before { IfOk result (λ before. before ≡ term self.old.maps name) }
         ensures ok { OnOk result (self.new.maps ≡ put_term self.old.maps name entry) }

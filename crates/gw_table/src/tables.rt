@@ -3,16 +3,16 @@
 ghost use Rattle.std.specs.Prelude.{◌≡◌, IfOk, OnOk, OnErr, option_copied};
 ghost use Rattle.gw_table.specs.Maps.{Maps, term, ctx, put_term, put_ctx, names, numbers, no_maps, new_maps};
 
-use gw_base::{Config, CtxNum, NoMemory, TermName};
+use gw_base::{Config, CtxNum, Held, NoMemory, TermName};
 use gw_ctx::Context;
 use gw_term::Termination;
 use std::alloc::Global;
 use std::collections::BTreeMap;
 use std::marker::Model;
 
-/// Terminations by name, and contexts by number. A look-up takes log n steps.
+/// Terminations by name, each by its handle, and contexts by number. A look-up takes log n steps.
 pub struct Tables {
-    terms: BTreeMap<TermName, Termination>,
+    terms: BTreeMap<TermName, Held<Termination>>,
     contexts: BTreeMap<u32, Context>,
 }
 
@@ -59,7 +59,8 @@ impl Tables {
     {
         let mut tables = Tables::new(alloc);
         for name in config.terms.as_slice() {
-            tables.set_term(*name, Some(Termination::provisioned(alloc)))?;
+            let new = Held::new(alloc, Termination::provisioned(alloc))?;
+            tables.set_term(*name, Some(new))?;
         }
         Ok(tables)
     }
@@ -82,7 +83,10 @@ impl Tables {
     pub fn find_term(&self, name: &TermName) -> Option<&Termination>
         ensures { option_copied result ≡ term self.now name.now }
     {
-        self.terms.get(name)
+        match self.terms.get(name) {
+            Some(termination) => Some(termination.get()),
+            None => None,
+        }
     }
 
     /// The context with a number.
@@ -122,8 +126,8 @@ impl Tables {
     pub(crate) fn set_term(
         &mut self,
         name: TermName,
-        entry: Option<Termination>,
-    ) -> Result<Option<Termination>, NoMemory>
+        entry: Option<Held<Termination>>,
+    ) -> Result<Option<Held<Termination>>, NoMemory>
         ensures before { IfOk result (λ before. before ≡ term self.old name) }
         ensures ok { OnOk result (self.new ≡ put_term self.old name entry) }
         ensures err { OnErr result (self.new ≡ self.old) }

@@ -210,7 +210,7 @@ pub(crate) fn merge_tails(
 #[derive(Drop)]
 pub struct Applied {
     /// The record.
-    pub record: Termination,
+    pub record: Held<Termination>,
     /// The streams whose Local was filled, with their Locals.
     pub filled: Filled,
 }
@@ -244,8 +244,8 @@ impl Termination {
         let mut filled = Items::new(alloc);
         push_all_filled(alloc, &media, &mut filled)?;
         let service = merged_service(descriptors, self.service);
-        let mut record = media.into_record(self.place, service, self.slot);
-        merge_tails(alloc, descriptors, self, &mut record)?;
+        let mut record = Held::new(alloc, media.into_record(self.place, service, self.slot))?;
+        merge_tails(alloc, descriptors, self, record.get_mut())?;
         Ok(Applied { record, filled })
     }
 
@@ -266,7 +266,7 @@ impl Termination {
         ensures applied { IsApplied rules.now descriptors.now self.old self.new result }
     {
         let Applied { record, filled } = self.merged(alloc, rules, descriptors)?;
-        *self = record;
+        *self = record.into_inner();
         Ok(filled)
     }
 }

@@ -11,7 +11,7 @@ loop-name-init c = subst (λ (m : Maps). Holds [] m) (sym c.new-tables.ensures) 
 pub loop-name-preserved : goal.loop-name-preserved
 loop-name-preserved c =
     holds_more c.as_slice-name-items.result.now c.loop-name.name-index c.name-item.result c.loop-name.tables c.set_term.new.self c.loop-name-test.true c.name-item.is c.loop-name.invariant
-    (c.in_ok-set_term.ensures.ok ∙ ap (λ (r : Termination). put_term c.loop-name.tables c.name-item.result (Some r)) c.provisioned.ensures)
+    (c.in_ok-set_term.ensures.ok ∙ ap (λ (r : Termination). put_term c.loop-name.tables c.name-item.result (Some r)) (c.in_ok-new.ensures ∙ c.provisioned.ensures))
 
 pub returns : goal.returns
 returns c =
