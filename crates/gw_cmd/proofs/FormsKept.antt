@@ -52,10 +52,12 @@ use Rattle.gw_cmd.specs.declared.change.Decided.{Decided}
 use Rattle.gw_cmd.specs.declared.change.Merged.{Merged}
 use Rattle.gw_cmd.specs.declared.outcome.CmdOutcome.{CmdOutcome}
 use Rattle.gw_refusal.specs.Asked.{is_wildcard, matches, audited, asks_media, is_some_list, service_asked}
-use Rattle.gw_cmd.specs.Commands.{has_error, error_of, error_in, first_error, told, on_targets, on_names, new_reply, on_new, put_service, all_serviced, serviced_if, bare_if, bare_told, root_parts, root_maps, on_root, refused, carried, unless_refused, command}
+use Rattle.gw_table.specs.Members.{put_service}
+use Rattle.gw_cmd.specs.Commands.{has_error, error_of, error_in, first_error, told, on_targets, on_names, new_reply, on_new, all_serviced, serviced_if, bare_if, bare_told, root_parts, root_maps, on_root, refused, carried, unless_refused, command}
 use Rattle.gw_cmd.specs.Effects.{filled_part, parts_of, merging_to, merging, refusal_to_add, refusal_to_move, refusal_elsewhere, joins, crosses, becomes, unless, what_remains, after_change, decided_in, decided_in_null, is_full, decided, done, on_record, on_found, on_name}
 use Rattle.gw_cmd.specs.KeptForms.{AreKept, IsAsked, IsSlot, KeepsForms}
-use Rattle.gw_cmd.specs.Moves.{with_member, without_member, unless_none, unless_empty, changed}
+use Rattle.gw_table.specs.Members.{with_member, without_member, unless_none, unless_empty}
+use Rattle.gw_cmd.specs.Changes.{changed}
 use Rattle.gw_refusal.specs.Places.{place_at}
 use Rattle.gw_cmd.specs.Refusals.{refusal}
 use Rattle.gw_refusal.specs.Targets.{is_free, those_in, source, matched, targets_of, targets}

@@ -21,9 +21,10 @@ use Rattle.gw_cmd.specs.declared.change.Change.TheVariants.{Becomes}
 use Rattle.gw_cmd.specs.declared.change.Decided.{Decided}
 use Rattle.gw_cmd.specs.declared.outcome.CmdOutcome.{CmdOutcome}
 use Rattle.gw_refusal.specs.Asked.{service_asked}
-use Rattle.gw_cmd.specs.Commands.{on_target, on_names, on_new, put_service, all_serviced, serviced_if, root_maps, carried, unless_refused, command}
+use Rattle.gw_table.specs.Members.{put_service}
+use Rattle.gw_cmd.specs.Commands.{on_target, on_names, on_new, all_serviced, serviced_if, root_maps, carried, unless_refused, command}
 use Rattle.gw_cmd.specs.Effects.{decided, done, on_record, on_found, on_name}
-use Rattle.gw_cmd.specs.Moves.{changed}
+use Rattle.gw_cmd.specs.Changes.{changed}
 use Rattle.gw_refusal.specs.Places.{place_at}
 use Rattle.gw_cmd.specs.Refusals.{refusal}
 use Rattle.gw_cmd.specs.Suits.{IsUnused}

@@ -15,7 +15,8 @@ use Rattle.gw_table.proofs.Lookups.{term-put_term, ctx-put_term}
 use Rattle.gw_cmd.specs.declared.change.Change.{Change}
 use Rattle.gw_cmd.specs.declared.change.Change.TheVariants.{Stays, Becomes, Joins, Crosses, Leaves}
 use Rattle.gw_cmd.specs.Effects.{what_remains}
-use Rattle.gw_cmd.specs.Moves.{with_member, without_member, unless_empty, changed}
+use Rattle.gw_table.specs.Members.{with_member, without_member, unless_empty}
+use Rattle.gw_cmd.specs.Changes.{changed}
 use Rattle.gw_cmd.proofs.Kept.{IsKnown, Found, Made, IsKept}
 use Rattle.gw_cmd.proofs.KeptSound.{known_place, nowhere_after}
 use Rattle.gw_cmd.proofs.Lawful.{IsRewritten, Lawful}

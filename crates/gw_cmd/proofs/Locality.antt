@@ -179,11 +179,11 @@ module _ (rules : Rules) (at : At) (slot : Option ℕ) (c : Command) (m : Maps) 
   do_carried f p Root e = within-then keys (of_root c.verb c.descriptors) (λ _. Done (commands.outcome_of at (commands.reply c Root (Ok (commands.root_parts c)) ∷ []))) m (do_root e c.verb refl) tt
   do_carried f p Choose e = do_new slot (ready_new (Only keys) at slot c m covered f e) p.place
   do_carried f p (Name t) e =
-      within-then keys (of_names rules at c (t ∷ [])) (λ rs. Done (commands.outcome_of at (commands.told c rs))) m
+      within-then keys (of_names rules at c (t ∷ [])) (λ rs. Done (commands.outcome_told at c rs)) m
       (within-one keys rules at c t m p.place (in_term (Name t) e (Term t) (has-head (Term t) (place_key (place_of (term m t))))) (p.moved t e)) tt
-  do_carried f p All e = within-then keys (of_names rules at c (targets_of All at c m)) (λ rs. Done (commands.outcome_of at (commands.told c rs))) m (do_wild p All e (λ t x. cc)) tt
-  do_carried f p (Under x) e = within-then keys (of_names rules at c (targets_of (Under x) at c m)) (λ rs. Done (commands.outcome_of at (commands.told c rs))) m (do_wild p (Under x) e (λ t y. cc)) tt
-  do_carried f p (Other x) e = within-then keys (of_names rules at c []) (λ rs. Done (commands.outcome_of at (commands.told c rs))) m tt tt
+  do_carried f p All e = within-then keys (of_names rules at c (targets_of All at c m)) (λ rs. Done (commands.outcome_told at c rs)) m (do_wild p All e (λ t x. cc)) tt
+  do_carried f p (Under x) e = within-then keys (of_names rules at c (targets_of (Under x) at c m)) (λ rs. Done (commands.outcome_told at c rs)) m (do_wild p (Under x) e (λ t y. cc)) tt
+  do_carried f p (Other x) e = within-then keys (of_names rules at c []) (λ rs. Done (commands.outcome_told at c rs)) m tt tt
 
   do_unless : refusal_by_form at c ≡ None → (x : Option Code) → refusal_by_tables at slot c m ≡ x → Within keys (unless_told at c x (of_carried rules at slot c (targets at c m) c.term)) m
   do_unless f (Some code) e = tt

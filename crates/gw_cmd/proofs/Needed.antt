@@ -30,7 +30,8 @@ use Rattle.gw_cmd.specs.declared.change.Change.TheVariants.{Crosses}
 use Rattle.gw_cmd.specs.declared.change.Decided.{Decided}
 use Rattle.gw_cmd.specs.Commands as commands
 use Rattle.gw_cmd.specs.Effects.{done, decided, on_record, on_found}
-use Rattle.gw_cmd.specs.Moves.{changed, without_member}
+use Rattle.gw_table.specs.Members.{without_member}
+use Rattle.gw_cmd.specs.Changes.{changed}
 use Rattle.gw_cmd.specs.Needs.{named, named_with}
 use Rattle.gw_refusal.specs.Forms.{refusal_by_form}
 use Rattle.gw_cmd.specs.Refusals.{refusal, refusal_by_tables}

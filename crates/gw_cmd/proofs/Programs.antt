@@ -34,7 +34,8 @@ use Rattle.gw_cmd.specs.declared.outcome.CmdOutcome.{CmdOutcome}
 use Rattle.gw_refusal.specs.Asked.{matches, is_some_list, service_asked}
 use Rattle.gw_cmd.specs.Commands as commands
 use Rattle.gw_cmd.specs.Effects.{decided_in, decided_in_null, done, on_record, on_found, on_name}
-use Rattle.gw_cmd.specs.Moves.{unless_empty, changed}
+use Rattle.gw_table.specs.Members.{unless_empty}
+use Rattle.gw_cmd.specs.Changes.{changed}
 use Rattle.gw_refusal.specs.Places.{place_at}
 use Rattle.gw_refusal.specs.Forms.{refusal_by_form}
 use Rattle.gw_cmd.specs.Refusals.{has_ended, code_if, missing, first_code, refusal_by_tables}
@@ -253,12 +254,12 @@ effect-of_new rules at c (Some slot) m =
 -- ---- the command
 
 abbrev pub of_each : Rules → At → Command → List (List ℕ) → Accesses CmdOutcome
-of_each rules at c ts = and_then (of_names rules at c ts) (λ rs. Done (commands.outcome_of at (commands.told c rs)))
+of_each rules at c ts = and_then (of_names rules at c ts) (λ rs. Done (commands.outcome_told at c rs))
 
 effect-of_each : (rules : Rules) (at : At) (c : Command) (m : Maps) → effect (of_each rules at c (targets at c m)) m ≡ commands.on_names rules at c m
 effect-of_each rules at c m =
-    effect-then (of_names rules at c (targets at c m)) (λ rs. Done (commands.outcome_of at (commands.told c rs))) m
-    ∙ ap (λ (o : Outcome (List CommandReply)). giving o.maps (commands.outcome_of at (commands.told c o.answer))) (effect-of_names rules at c (targets at c m) m)
+    effect-then (of_names rules at c (targets at c m)) (λ rs. Done (commands.outcome_told at c rs)) m
+    ∙ ap (λ (o : Outcome (List CommandReply)). giving o.maps (commands.outcome_told at c o.answer)) (effect-of_names rules at c (targets at c m) m)
 
 abbrev pub of_gateway : At → Command → Accesses CmdOutcome
 of_gateway at c = and_then (of_root c.verb c.descriptors) (λ _. Done (commands.outcome_of at (commands.reply c Root (Ok (commands.root_parts c)) ∷ [])))

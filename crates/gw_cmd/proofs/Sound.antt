@@ -12,7 +12,7 @@ use Rattle.gw_table.specs.Maps.{Maps, term, ctx, put_term, place_of, context_of,
 use Rattle.gw_table.specs.Parts.{PartKeys, holds}
 use Rattle.gw_table.specs.WellFormed.{IsSound}
 use Rattle.gw_table.proofs.Lookups.{term-put_term, ctx-put_term, term-put_ctx, ctx-put_ctx}
-use Rattle.gw_cmd.specs.Moves.{with_member, without_member, unless_none, unless_empty}
+use Rattle.gw_table.specs.Members.{with_member, without_member, unless_none, unless_empty}
 
 pub members-unless_empty : (c : ContextRecord) → members_of (unless_empty c) ≡ c.members
 members-unless_empty c = by c.members c refl

@@ -16,7 +16,7 @@ use Rattle.gw_table.proofs.Lookups.{ctx-put_term}
 use Rattle.gw_cmd.specs.declared.change.Change.{Change}
 use Rattle.gw_cmd.specs.declared.change.Change.TheVariants.{Stays, Becomes, Joins, Crosses, Leaves}
 use Rattle.gw_cmd.specs.Effects.{is_full}
-use Rattle.gw_cmd.specs.Moves.{without_member, unless_empty}
+use Rattle.gw_table.specs.Members.{without_member, unless_empty}
 use Rattle.gw_ctx.specs.Contexts.{left}
 use Rattle.gw_table.specs.Maps.{context_of}
 use Rattle.gw_cmd.specs.Suits.{HoldsMoved, Suits}

@@ -13,7 +13,7 @@ use Rattle.gw_table.specs.WellFormed.{IsSound, AreWellFormed, Fits}
 use Rattle.gw_term.specs.Limits.{HasFew}
 use Rattle.gw_table.proofs.Lookups.{term-put_term, ctx-put_term}
 use Rattle.gw_table.proofs.PartLookups.{sound_whole}
-use Rattle.gw_cmd.specs.Moves.{with_member, without_member, unless_none, unless_empty}
+use Rattle.gw_table.specs.Members.{with_member, without_member, unless_none, unless_empty}
 use Rattle.gw_cmd.proofs.Sound.{members-unless_empty, ctx-with_member, ctx-without_member, term-with_member, term-without_member, free_at_none, sound_joined, sound_departed}
 
 -- a record fits its name, and has few properties

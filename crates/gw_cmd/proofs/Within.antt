@@ -30,7 +30,7 @@ use Rattle.gw_cmd.specs.declared.change.Decided.{Decided}
 use Rattle.gw_refusal.specs.Asked.{is_move}
 use Rattle.gw_cmd.specs.Commands as commands
 use Rattle.gw_cmd.specs.Effects.{decided, decided_in_null}
-use Rattle.gw_cmd.specs.Moves.{unless_empty}
+use Rattle.gw_table.specs.Members.{unless_empty}
 use Rattle.gw_refusal.specs.Places.{place_at}
 use Rattle.gw_cmd.proofs.Kept.{kept_service}
 use Rattle.gw_cmd.proofs.KeptSound.{nowhere_after}

@@ -5,7 +5,7 @@ use Rattle.gw_ctx.specs.Contexts.{ContextRecord, joined, left}
 use Rattle.gw_term.specs.declared.record.Termination.{Termination}
 use Rattle.gw_table.specs.Maps.{Maps, ctx, put_term, context_of}
 use Rattle.gw_table.proofs.Lookups.{term-put_term, ctx-put_term, same_maps}
-use Rattle.gw_cmd.specs.Moves.{with_member, without_member, unless_empty}
+use Rattle.gw_table.specs.Members.{with_member, without_member, unless_empty}
 use Rattle.gw_cmd.proofs.Sound.{ctx-with_member, ctx-without_member, term-with_member, term-without_member}
 
 -- a write of a record and a change of a context, in either order

@@ -21,6 +21,7 @@ use Rattle.gw_term.specs.Record.{ephemeral, serviced}
 use Rattle.gw_table.specs.declared.attempts.Attempts.{Attempts}
 use Rattle.gw_table.specs.Folds.{in_order}
 use Rattle.gw_table.specs.Maps.{Maps, Outcome, term, names, put_term}
+use Rattle.gw_table.specs.Members.{put_service}
 use Rattle.gw_table.specs.Reserved.{slot_name}
 use Rattle.gw_refusal.specs.declared.at.At.{At}
 use Rattle.gw_cmd.specs.declared.outcome.CmdOutcome.{CmdOutcome}
@@ -86,10 +87,14 @@ first_error replies = error_in (find has_error replies)
 abbrev pub told : Command → List CommandReply → List CommandReply
 told c replies = if c.wild && is_wildcard c.term then reply c c.term (first_error replies) ∷ [] else replies
 
+-- what its targets gave: it failed if one of them did, and made its context if it was carried out on one of them
+abbrev pub outcome_told : At → Command → List CommandReply → CmdOutcome
+outcome_told at c replies = record (outcome_of at replies) { replies = told c replies }
+
 abbrev pub on_names : Rules → At → Command → Maps → Outcome CmdOutcome
 on_names rules at c m =
     let o = on_targets rules at c (targets at c m) m in
-    with_replies at o.maps (told c o.answer.answers)
+    record { maps = o.maps; answer = outcome_told at c o.answer.answers }
 
 -- ---- on a termination that is made
 
@@ -105,11 +110,6 @@ on_new rules at c (Some slot) m =
     with_replies at o.maps (new_reply c slot o.answer ∷ [])
 
 -- ---- on ROOT, the gateway itself
-
--- the termination of a name has this service state
-abbrev pub put_service : Service → List ℕ → Maps → Option Termination → Maps
-put_service s t m None = m
-put_service s t m (Some r) = put_term m t (Some (serviced r s))
 
 abbrev pub all_serviced : Service → List (List ℕ) → Maps → Maps
 all_serviced s [] m = m

@@ -22,7 +22,7 @@ use Rattle.gw_refusal.specs.Asked.{audited, asks_media, is_some_list, service_as
 use Rattle.gw_cmd.specs.declared.change.Change.TheVariants.{Stays, Becomes, Joins, Crosses, Leaves}
 use Rattle.gw_cmd.specs.declared.change.Decided.{Decided}
 use Rattle.gw_cmd.specs.declared.change.Merged.{Merged}
-use Rattle.gw_cmd.specs.Moves.{changed}
+use Rattle.gw_cmd.specs.Changes.{changed}
 use Rattle.gw_refusal.specs.Places.{same_place}
 
 -- ---- commands that merge

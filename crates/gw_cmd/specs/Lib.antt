@@ -1,7 +1,7 @@
 pub mod Commands
 pub mod Effects
 pub mod Keys
-pub mod Moves
+pub mod Changes
 pub mod Needs
 pub mod Refusals
 pub mod Refused

@@ -20,7 +20,7 @@ ghost use Rattle.gw_refusal.specs.Targets.{targets};
 use crate::effects::{on_name, on_new};
 use crate::outcome::CmdOutcome;
 use crate::refusal::Refusal;
-use crate::replies::{alone, one, reply, told};
+use crate::replies::{alone, one, outcome_told, reply};
 use crate::root::{every_serviced, root_parts};
 use crate::tables::refusal_by_tables;
 use gw_base::{Code, Items, NoMemory, Rules, TermName, TermRef, Verb};
@@ -128,7 +128,7 @@ fn on_names(
         TermRef::Name(name) => on_one(alloc, rules, part, at, command, name),
         _ => on_targets(alloc, rules, part, at, command, named),
     }?;
-    told(alloc, at, command, replies)
+    outcome_told(alloc, at, command, replies)
 }
 
 /// Carries the command out on a termination that it makes in the slot, if one is owned.

@@ -125,10 +125,7 @@ fn modified(
 }
 
 /// What a subtracted termination becomes: an ephemeral one is destroyed.
-fn what_remains(
-    alloc: Global,
-    old: &Termination,
-) -> Result<Option<Held<Termination>>, AllocError>
+fn what_remains(alloc: Global, old: &Termination) -> Result<Option<Held<Termination>>, AllocError>
     ensures { IfOk result (λ remains. remains ≡ what_remains old.now) }
 {
     if old.slot.is_some() {
@@ -188,7 +185,9 @@ fn service_changed(
         return Err(Refusal::Code(code));
     }
     let mut after = Held::new(alloc, old.copy(alloc)?)?;
-    after.get_mut().set_service(service_asked(descriptors).unwrap_or(old.service()));
+    after
+        .get_mut()
+        .set_service(service_asked(descriptors).unwrap_or(old.service()));
     Ok(Decided {
         change: Change::Becomes(after),
         parts: Items::new(alloc),

@@ -8,13 +8,13 @@ ghost use Rattle.gw_table.specs.Reserved.{slot_name};
 ghost use Rattle.gw_table.specs.WellFormed.{IsSound};
 ghost use Rattle.gw_term.specs.Record.{ephemeral};
 ghost use Rattle.gw_cmd.specs.Effects.{decided as decided_by, done, on_record, on_name};
-ghost use Rattle.gw_cmd.specs.Moves.{changed};
+ghost use Rattle.gw_cmd.specs.Changes.{changed};
 ghost use Rattle.gw_cmd.specs.Refused.{Answers, Tells};
 ghost use Rattle.gw_cmd.specs.Suits.{Suits, HoldsMoved, HoldsFound};
 
 use crate::change::{Change, Decided};
 use crate::decide::{decided_in, decided_in_null};
-use crate::members::{is_full, join, leave};
+use crate::members::is_full;
 use crate::refusal::Refusal;
 use gw_base::{Code, CtxNum, Held, Items, NoMemory, Rules, TermName};
 use gw_msg::Command;
@@ -54,16 +54,17 @@ fn changed(
         Change::Becomes(record) => put(part, name, Some(record)),
         Change::Joins(number, record) => {
             put(part, name, Some(record))?;
-            join(alloc, rules, part, number, name)
+            part.join(alloc, number, name, usize::from(rules.members))
         }
         Change::Crosses(from, number, record) => {
             put(part, name, Some(record))?;
-            leave(part, from, &name)?;
-            join(alloc, rules, part, number, name)
+            part.leave(from, &name);
+            part.join(alloc, number, name, usize::from(rules.members))
         }
         Change::Leaves(number, remains) => {
             put(part, name, remains)?;
-            leave(part, number, &name)
+            part.leave(number, &name);
+            Ok(())
         }
     }
 }

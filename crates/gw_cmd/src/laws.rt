@@ -7,7 +7,7 @@ ghost use Rattle.gw_base.specs.declared.command_words.Verb.TheVariants.{Add, Mov
 ghost use Rattle.gw_base.specs.declared.term_ref.TermRef.TheVariants.{Name};
 ghost use Rattle.gw_base.specs.declared.ids.CtxNum.{CtxNum};
 ghost use Rattle.gw_base.specs.declared.key.Key.{Key};
-ghost use Rattle.gw_base.specs.declared.key.Key.TheVariants.{Term, Ctx};
+ghost use Rattle.gw_base.specs.declared.key.Key.TheVariants.{Term, Ctx, Whole};
 ghost use Rattle.gw_base.specs.Keys.{has};
 ghost use Rattle.gw_base.specs.NameLists.{is_in};
 ghost use Rattle.gw_desc.specs.declared.descriptor.Descriptor.{Descriptor};
@@ -21,7 +21,7 @@ ghost use Rattle.gw_refusal.specs.declared.at.At.TheVariants.{Live};
 ghost use Rattle.gw_cmd.specs.Commands.{reply, outcome_of, command};
 ghost use Rattle.gw_cmd.specs.Needs.{named, named_with};
 ghost use Rattle.gw_table.specs.Parts.{restricted, overlaid};
-ghost use Rattle.gw_cmd.specs.Keys.{command_keys};
+ghost use Rattle.gw_cmd.specs.Keys.{command_keys, is_for_all};
 ghost use Rattle.gw_cmd.specs.Suits.{IsUnused};
 
 /// A command leaves well-formed tables well-formed.
@@ -39,6 +39,11 @@ pub fn commands_keep_forms()
 pub fn commands_keep_to_their_keys()
     ensures answer { (rules : Rules) (at : At) (slot : Option ℕ) (c : Command) (m : Maps) → AreWellFormed rules.members m → (command rules at slot c (restricted (command_keys at slot c m) m)).answer ≡ (command rules at slot c m).answer }
     ensures maps { (rules : Rules) (at : At) (slot : Option ℕ) (c : Command) (m : Maps) → AreWellFormed rules.members m → overlaid (command_keys at slot c m) (command rules at slot c (restricted (command_keys at slot c m) m)).maps m ≡ (command rules at slot c m).maps }
+{}
+
+/// The whole of the tables is among the keys of a command exactly where the command is for all.
+pub fn the_whole_is_a_key_of_commands_for_all()
+    ensures { (at : At) (slot : Option ℕ) (c : Command) (m : Maps) → has (command_keys at slot c m) Whole ≡ is_for_all at c }
 {}
 
 /// Keys that cannot be left out. Without the key of its context an Add is told that there is no such context, and without

@@ -2,7 +2,7 @@
 
 ghost use Rattle.std.specs.Prelude.{◌≡◌, ◌∷◌, [], IfOk};
 ghost use Rattle.std.specs.List.{list_all, list_any};
-ghost use Rattle.gw_cmd.specs.Commands.{reply, has_error, outcome_of, first_error, told};
+ghost use Rattle.gw_cmd.specs.Commands.{reply, has_error, outcome_of, first_error, told, outcome_told};
 
 use crate::outcome::CmdOutcome;
 use gw_base::{Code, Items, NoMemory, TermRef};
@@ -85,19 +85,40 @@ fn first_error(alloc: Global, replies: &[CommandReply]) -> Result<AuditReply, Co
     Ok(Items::new(alloc))
 }
 
-/// What the command gave that is told of the replies: with `W-` and a wildcard one reply to it as sent, with the first error
-/// if there is one.
-pub(crate) fn told(
+/// What is told of the replies of the targets: with `W-` and a wildcard one reply to it as sent, with the first error if there
+/// is one.
+fn told(
+    alloc: Global,
+    command: &Command<'_>,
+    replies: Items<CommandReply>,
+) -> Result<Items<CommandReply>, NoMemory>
+    ensures { IfOk result (λ list. list ≡ told command.now replies) }
+{
+    if !(command.wild && is_wildcard(&command.term)) {
+        return Ok(replies);
+    }
+    let result = first_error(alloc, replies.as_slice());
+    alone(alloc, reply(command, command.term, result))
+}
+
+/// What a command gave whose targets have these replies.
+pub(crate) fn outcome_told(
     alloc: Global,
     at: At,
     command: &Command<'_>,
     replies: Items<CommandReply>,
 ) -> Result<CmdOutcome, NoMemory>
-    ensures { IfOk result (λ done. done ≡ outcome_of at (told command.now replies)) }
+    ensures { IfOk result (λ done. done ≡ outcome_told at command.now replies) }
 {
-    if !(command.wild && is_wildcard(&command.term)) {
-        return Ok(outcome_of(at, replies));
-    }
-    let result = first_error(alloc, replies.as_slice());
-    one(alloc, at, reply(command, command.term, result))
+    let CmdOutcome {
+        replies,
+        failed,
+        made,
+    } = outcome_of(at, replies);
+    let replies = told(alloc, command, replies)?;
+    Ok(CmdOutcome {
+        replies,
+        failed,
+        made,
+    })
 }

@@ -4,12 +4,11 @@ ghost use Rattle.std.specs.Prelude.{◌≡◌, true, List, ℕ, IfOk, OnOk};
 ghost use Rattle.std.specs.List.{flat_map};
 ghost use Rattle.gw_base.specs.declared.key.Key.TheVariants.{Term};
 ghost use Rattle.gw_base.specs.NameLists.{is_in};
-ghost use Rattle.gw_table.specs.Maps.{term, names};
+ghost use Rattle.gw_table.specs.Maps.{names};
 ghost use Rattle.gw_table.specs.Parts.{holds};
 ghost use Rattle.gw_refusal.specs.Asked.{audited};
-ghost use Rattle.gw_cmd.specs.Commands.{put_service, all_serviced, bare_told};
+ghost use Rattle.gw_cmd.specs.Commands.{all_serviced, bare_told};
 
-use crate::effects::put;
 use gw_base::{Items, NoMemory, Service, Span, TermName};
 use gw_desc::{Descriptor, item_of};
 use gw_refusal::first_audit;
@@ -17,29 +16,15 @@ use gw_reply::{AuditReply, ReplyPart};
 use gw_table::Part;
 use std::alloc::Global;
 
-/// The termination of a name has this service state, if there is one.
-fn put_service(part: &mut Part, service: Service, name: TermName) -> Result<(), NoMemory>
-    requires { holds part.old.keys (Term name) ≡ true }
-    ensures ok { OnOk result (part.new.maps ≡ put_service service name part.old.maps (term part.old.maps name)) }
-    ensures keys { part.new.keys ≡ part.old.keys }
-{
-    if let Some(mut termination) = part.set_term(name, None)? {
-        termination.get_mut().set_service(service);
-        put(part, name, Some(termination))?;
-    }
-    Ok(())
-}
-
 /// The terminations of these names have this service state.
-fn all_serviced(part: &mut Part, service: Service, named: &[TermName]) -> Result<(), NoMemory>
+fn all_serviced(part: &mut Part, service: Service, named: &[TermName])
     requires { (t : List ℕ) → is_in t named.now ≡ true → holds part.old.keys (Term t) ≡ true }
-    ensures ok { OnOk result (part.new.maps ≡ all_serviced service named.now part.old.maps) }
+    ensures maps { part.new.maps ≡ all_serviced service named.now part.old.maps }
     ensures keys { part.new.keys ≡ part.old.keys }
 {
     for name in named {
-        put_service(part, service, *name)?;
+        part.set_service(name, service);
     }
-    Ok(())
 }
 
 /// Every termination has this service state.
@@ -53,7 +38,8 @@ pub(crate) fn every_serviced(
     ensures keys { part.new.keys ≡ part.old.keys }
 {
     let named = part.names(alloc)?;
-    all_serviced(part, service, &named)
+    all_serviced(part, service, &named);
+    Ok(())
 }
 
 /// The items that the words ask for, each bare.

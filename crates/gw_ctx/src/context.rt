@@ -5,7 +5,7 @@ ghost use Rattle.gw_base.specs.NameLists.{is_in, NoDoubles};
 ghost use Rattle.gw_ctx.specs.Contexts.{new_context, joined, left};
 
 use crate::fault::JoinFault;
-use gw_base::{NoMemory, TermName};
+use gw_base::TermName;
 use indexmap::IndexSet;
 use std::alloc::{AllocError, Global};
 use std::marker::Model;
@@ -37,9 +37,7 @@ impl Clone for Context {
     ghost is_clone = { λ a b. b ≡ a };
 
     fn clone(&self) -> Result<Self, AllocError> {
-        Ok(Context {
-            members: self.members.clone()?,
-        })
+        self.copy()
     }
 }
 
@@ -91,9 +89,11 @@ impl Context {
     /// # Errors
     ///
     /// Want of memory.
-    pub fn copy(&self) -> Result<Context, NoMemory>
+    pub fn copy(&self) -> Result<Context, AllocError>
         ensures { IfOk result (λ copy. copy ≡ self.now) }
     {
-        Ok(self.clone()?)
+        Ok(Context {
+            members: self.members.clone()?,
+        })
     }
 }

@@ -1,6 +1,7 @@
 pub mod Accesses
 pub mod Folds
 pub mod Maps
+pub mod Members
 pub mod Parts
 pub mod Reserved
 pub mod TableTexts

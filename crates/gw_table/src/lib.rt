@@ -2,6 +2,7 @@
 #![tactic(auto)]
 
 mod attempts;
+mod in_place;
 mod laws;
 mod part;
 mod reserved;

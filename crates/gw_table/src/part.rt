@@ -1,12 +1,14 @@
 //! A part of the tables, on which commands work.
 
-ghost use Rattle.std.specs.Prelude.{◌≡◌, true, IfOk, OnOk, OnErr, option_copied};
+ghost use Rattle.std.specs.Prelude.{◌≡◌, ◌<◌, true, false, length, IfOk, OnOk, OnErr, option_copied};
 ghost use Rattle.gw_base.specs.declared.key.Key.TheVariants.{Term, Ctx};
-ghost use Rattle.gw_table.specs.Maps.{term, ctx, put_term, put_ctx, names, numbers};
+ghost use Rattle.gw_base.specs.NameLists.{is_in};
+ghost use Rattle.gw_table.specs.Maps.{term, ctx, put_term, names, numbers, members_of};
+ghost use Rattle.gw_table.specs.Members.{put_service, with_member, without_member};
 ghost use Rattle.gw_table.specs.Parts.{holds, Every};
 
 use crate::tables::Tables;
-use gw_base::{CtxNum, Held, NoMemory, TermName};
+use gw_base::{CtxNum, Held, NoMemory, Service, TermName};
 use gw_ctx::Context;
 use gw_term::Termination;
 use std::alloc::Global;
@@ -78,24 +80,45 @@ impl Part {
         self.tables.set_term(name, entry)
     }
 
-    /// Sets the context with a number, and hands back the one before. The caller knows that the number is one of the part's
+    /// The termination of a name has another service state, if there is one. The caller knows that the name is one of the part's
     /// keys.
+    pub fn set_service(&mut self, name: &TermName, service: Service)
+        requires { holds self.old.keys (Term name.now) ≡ true }
+        ensures maps { self.new.maps ≡ put_service service name.now self.old.maps (term self.old.maps name.now) }
+        ensures keys { self.new.keys ≡ self.old.keys }
+    {
+        self.tables.set_service(name, service);
+    }
+
+    /// The name joins the context as its last member. A context comes into being with its first. The caller knows that the number
+    /// is one of the part's keys, that the name is no member, and that there are fewer members than `limit`.
     ///
     /// # Errors
     ///
-    /// Want of memory, after which the part is as it was.
-    pub fn set_ctx(
+    /// Want of memory.
+    pub fn join(
         &mut self,
+        alloc: Global,
         number: CtxNum,
-        entry: Option<Context>,
-    ) -> Result<Option<Context>, NoMemory>
-        requires { holds self.old.keys (Ctx number) ≡ true }
-        ensures before { IfOk result (λ before. before ≡ ctx self.old.maps number) }
-        ensures ok { OnOk result (self.new.maps ≡ put_ctx self.old.maps number entry) }
-        ensures err { OnErr result (self.new.maps ≡ self.old.maps) }
+        name: TermName,
+        limit: usize,
+    ) -> Result<(), NoMemory>
+        requires new { is_in name (members_of (ctx self.old.maps number)) ≡ false }
+        requires room { length (members_of (ctx self.old.maps number)) < limit }
+        requires key { holds self.old.keys (Ctx number) ≡ true }
+        ensures maps { OnOk result (self.new.maps ≡ with_member number name self.old.maps) }
         ensures keys { self.new.keys ≡ self.old.keys }
     {
-        self.tables.set_ctx(number, entry)
+        self.tables.join(alloc, number, name, limit)
+    }
+
+    /// The name leaves the context, which ends if it is empty. The caller knows that the number is one of the part's keys.
+    pub fn leave(&mut self, number: CtxNum, name: &TermName)
+        requires { holds self.old.keys (Ctx number) ≡ true }
+        ensures maps { self.new.maps ≡ without_member number name.now self.old.maps }
+        ensures keys { self.new.keys ≡ self.old.keys }
+    {
+        self.tables.leave(number, name);
     }
 
     /// The names of all terminations that the part shows, in the order of their bytes.
@@ -118,18 +141,5 @@ impl Part {
         ensures { IfOk result (λ list. list.items ≡ numbers self.now.maps) }
     {
         self.tables.numbers(alloc)
-    }
-
-    /// An equal part.
-    ///
-    /// # Errors
-    ///
-    /// Want of memory.
-    pub fn copy(&self) -> Result<Part, NoMemory>
-        ensures { IfOk result (λ copy. copy ≡ self.now) }
-    {
-        Ok(Part {
-            tables: self.tables.copy()?,
-        })
     }
 }

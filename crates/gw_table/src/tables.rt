@@ -1,7 +1,7 @@
 //! The gateway's tables: two ordered maps, which contracts see as finite maps.
 
 ghost use Rattle.std.specs.Prelude.{◌≡◌, IfOk, OnOk, OnErr, option_copied};
-ghost use Rattle.gw_table.specs.Maps.{Maps, term, ctx, put_term, put_ctx, names, numbers, no_maps, new_maps};
+ghost use Rattle.gw_table.specs.Maps.{Maps, term, ctx, put_term, names, numbers, no_maps, new_maps};
 
 use gw_base::{Config, CtxNum, Held, NoMemory, TermName};
 use gw_ctx::Context;
@@ -12,8 +12,8 @@ use std::marker::Model;
 
 /// Terminations by name, each by its handle, and contexts by number. A look-up takes log n steps.
 pub struct Tables {
-    terms: BTreeMap<TermName, Held<Termination>>,
-    contexts: BTreeMap<u32, Context>,
+    pub(crate) terms: BTreeMap<TermName, Held<Termination>>,
+    pub(crate) contexts: BTreeMap<u32, Context>,
 }
 
 // By hand, so that a function that lets tables go does so by one call. A derived one would stand in it field by field.
@@ -135,22 +135,6 @@ impl Tables {
         match entry {
             Some(entry) => Ok(self.terms.insert(name, entry)?),
             None => Ok(self.terms.remove(&name)),
-        }
-    }
-
-    /// Sets the context with a number, and hands back the one before. A refused growth changes nothing.
-    pub(crate) fn set_ctx(
-        &mut self,
-        number: CtxNum,
-        entry: Option<Context>,
-    ) -> Result<Option<Context>, NoMemory>
-        ensures before { IfOk result (λ before. before ≡ ctx self.old number) }
-        ensures ok { OnOk result (self.new ≡ put_ctx self.old number entry) }
-        ensures err { OnErr result (self.new ≡ self.old) }
-    {
-        match entry {
-            Some(entry) => Ok(self.contexts.insert(number.0, entry)?),
-            None => Ok(self.contexts.remove(&number.0)),
         }
     }
 }

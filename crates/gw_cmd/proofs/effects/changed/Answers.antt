@@ -1,10 +1,11 @@
-use Rattle.std.proofs.Common.{◌<◌, Some, Option, ap, sym, subst, ◌∙◌, length}
+use Rattle.std.proofs.Common.{◌≡◌, ◌<◌, ℕ, Some, Option, ap, sym, subst, ◌∙◌, length}
 use Rattle.gw_base.specs.NameLists.{is_in}
 use Rattle.gw_ctx.specs.Contexts.{ContextRecord}
 use Rattle.gw_base.specs.declared.key.Key.TheVariants.{Ctx}
 use Rattle.gw_table.specs.Maps.{Maps, ctx, members_of}
 use Rattle.gw_table.specs.Parts.{PartKeys, holds}
-use Rattle.gw_cmd.specs.Moves.{changed, with_member}
+use Rattle.gw_table.specs.Members.{with_member}
+use Rattle.gw_cmd.specs.Changes.{changed}
 use Rattle.std.proofs.lemmas.Result.{on_ok_weaker}
 use Rattle.gw_cmd.specs.declared.change.Change.{Change}
 use Rattle.gw_cmd.specs.Suits.{Suits}
@@ -14,14 +15,16 @@ use Rattle.gw_cmd.proofs.effects.changed.Goals as goal
 pub join-requires-in-Crosses-clause-new : goal.join-requires-in-Crosses-clause-new
 join-requires-in-Crosses-clause-new c =
     let s = subst (λ (x : Change). Suits c.args.rules.now c.args.part.now.keys c.args.name x c.args.part.now.maps) c.in-Crosses.is c.requires in
-    ap (λ (o : Option ContextRecord). is_in c.args.name (members_of o)) (other_context c.in-Crosses.from c.in-Crosses.number c.args.name (Some c.in-Crosses.record) c.args.part.now.maps c.put-in-Crosses.new.part.maps c.leave.new.part.maps s.4 c.in_ok-put-in-Crosses.ensures.ok c.in_ok-leave-in-Crosses.ensures.left)
+    ap (λ (o : Option ContextRecord). is_in c.args.name (members_of o)) (other_context c.in-Crosses.from c.in-Crosses.number c.args.name (Some c.in-Crosses.record) c.args.part.now.maps c.put-in-Crosses.new.part.maps c.leave.new.self.maps s.4 c.in_ok-put-in-Crosses.ensures.ok c.leave.ensures.maps)
     ∙ s.3.new
 
 pub join-requires-in-Crosses-clause-room : goal.join-requires-in-Crosses-clause-room
 join-requires-in-Crosses-clause-room c =
     let s = subst (λ (x : Change). Suits c.args.rules.now c.args.part.now.keys c.args.name x c.args.part.now.maps) c.in-Crosses.is c.requires in
-    subst (λ (o : Option ContextRecord). length (members_of o) < c.args.rules.now.members) (sym (other_context c.in-Crosses.from c.in-Crosses.number c.args.name (Some c.in-Crosses.record) c.args.part.now.maps c.put-in-Crosses.new.part.maps c.leave.new.part.maps s.4 c.in_ok-put-in-Crosses.ensures.ok c.in_ok-leave-in-Crosses.ensures.left))
-    s.3.room
+    let limit : c.args.rules.now.members ≡ c.from-in-Crosses.result = sym c.from-in-Crosses.ensures in
+    subst (λ (k : ℕ). length (members_of (ctx c.leave.new.self.maps c.in-Crosses.number)) < k) limit
+    (subst (λ (o : Option ContextRecord). length (members_of o) < c.args.rules.now.members) (sym (other_context c.in-Crosses.from c.in-Crosses.number c.args.name (Some c.in-Crosses.record) c.args.part.now.maps c.put-in-Crosses.new.part.maps c.leave.new.self.maps s.4 c.in_ok-put-in-Crosses.ensures.ok c.leave.ensures.maps))
+    s.3.room)
 
 pub put-requires-in-Joins : goal.put-requires-in-Joins
 put-requires-in-Joins c = (subst (λ (x : Change). Suits c.args.rules.now c.args.part.now.keys c.args.name x c.args.part.now.maps) c.in-Joins.is c.requires).0
@@ -47,4 +50,4 @@ returns-in_ok-put-in-Joins-clause-ok c =
     on_ok_weaker c.join.result
     (λ e. e ∙ ap (λ (m : Maps). with_member c.in-Joins.number c.args.name m) c.in_ok-put-in-Joins.ensures.ok
     ∙ ap (λ (x : Change). changed c.args.name x c.args.part.now.maps) (sym c.in-Joins.is))
-    c.join.ensures.joined
+    c.join.ensures.maps

@@ -4,7 +4,7 @@ use Rattle.gw_table.specs.Parts.{PartKeys, holds}
 use Rattle.gw_cmd.proofs.OneByOne.{in_at}
 use Rattle.gw_cmd.proofs.root.all_serviced.Goals as goal
 
-pub put_service-requires : goal.put_service-requires
-put_service-requires c =
+pub set_service-requires : goal.set_service-requires
+set_service-requires c =
     ap (λ (k : PartKeys). holds k (Term c.name-item.result)) c.loop-name.invariant.keys
     ∙ c.requires c.name-item.result (in_at c.args.named.now c.loop-name.name-index c.name-item.result c.loop-name-test.true c.name-item.is)

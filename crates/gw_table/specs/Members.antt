@@ -1,10 +1,16 @@
--- Terminations that join and leave contexts, come and go (RFC 3525, section 6.1).
+-- Who joins and leaves a context, and the service state of a termination, in the maps (RFC 3525, section 6.1).
 use Rattle.std.specs.Prelude.{ℕ, List, [], ◌∷◌, Option, None, Some}
 use Rattle.gw_base.specs.declared.ids.CtxNum.{CtxNum}
+use Rattle.gw_base.specs.declared.command_words.Service.{Service}
 use Rattle.gw_ctx.specs.Contexts.{ContextRecord, joined, left}
-use Rattle.gw_table.specs.Maps.{Maps, ctx, put_term, put_ctx, context_of}
-use Rattle.gw_cmd.specs.declared.change.Change.{Change}
-use Rattle.gw_cmd.specs.declared.change.Change.TheVariants.{Stays, Becomes, Joins, Crosses, Leaves}
+use Rattle.gw_term.specs.declared.record.Termination.{Termination}
+use Rattle.gw_term.specs.Record.{serviced}
+use Rattle.gw_table.specs.Maps.{Maps, ctx, put_ctx, put_term, context_of}
+
+-- the termination of a name has this service state
+abbrev pub put_service : Service → List ℕ → Maps → Option Termination → Maps
+put_service s t m None = m
+put_service s t m (Some r) = put_term m t (Some (serviced r s))
 
 -- the name joins the context as its last member; a context comes into being with its first
 abbrev pub with_member : CtxNum → List ℕ → Maps → Maps
@@ -21,11 +27,3 @@ unless_empty c = unless_none c.members c
 -- the name leaves the context, which ends if it is empty
 abbrev pub without_member : CtxNum → List ℕ → Maps → Maps
 without_member n t m = put_ctx m n (unless_empty (left t (context_of (ctx m n))))
-
--- the maps after a change: the record is what it becomes, and the contexts have the name where the record says
-abbrev pub changed : List ℕ → Change → Maps → Maps
-changed t Stays m = m
-changed t (Becomes r) m = put_term m t (Some r)
-changed t (Joins n r) m = with_member n t (put_term m t (Some r))
-changed t (Crosses p n r) m = with_member n t (without_member p t (put_term m t (Some r)))
-changed t (Leaves n o) m = without_member n t (put_term m t o)
