@@ -34,7 +34,7 @@ use Rattle.gw_cmd.specs.declared.outcome.CmdOutcome.{CmdOutcome}
 use Rattle.gw_refusal.specs.Asked.{matches, is_some_list, service_asked}
 use Rattle.gw_cmd.specs.Commands as commands
 use Rattle.gw_cmd.specs.Effects.{decided_in, decided_in_null, done, on_record, on_found, on_name}
-use Rattle.gw_table.specs.Members.{unless_empty}
+use Rattle.gw_table.specs.Members.{put_service, unless_empty}
 use Rattle.gw_cmd.specs.Changes.{changed}
 use Rattle.gw_refusal.specs.Places.{place_at}
 use Rattle.gw_refusal.specs.Forms.{refusal_by_form}
@@ -215,9 +215,9 @@ effect-of_services : (s : Service) (ts : List (List ℕ)) (m : Maps) → effect 
 effect-of_services s [] m = refl
 effect-of_services s (t ∷ ts) m = by (term m t) (λ n. effect-of_services s ts n)
   where
-    by : (o : Option Termination) → ((n : Maps) → effect (of_services s ts) n ≡ giving (commands.all_serviced s ts n) tt) → effect (of_service s t o (of_services s ts)) m ≡ giving (commands.all_serviced s ts (commands.put_service s t m o)) tt
+    by : (o : Option Termination) → ((n : Maps) → effect (of_services s ts) n ≡ giving (commands.all_serviced s ts n) tt) → effect (of_service s t o (of_services s ts)) m ≡ giving (commands.all_serviced s ts (put_service s t m o)) tt
     by None later = later m
-    by (Some r) later = later (commands.put_service s t m (Some r))
+    by (Some r) later = later (put_service s t m (Some r))
 
 abbrev pub of_serviced_if : Option Service → Accesses (Unit {0})
 of_serviced_if None = Done tt
