@@ -9,7 +9,10 @@ fill, and a Subtract of both.
 `--rates` measures 20,000 of them in bursts of 1, 16 and 256 datagrams, with 4 and with 400 terminations, and 200,000.
 `--tables` measures one transaction as the tables grow, the copy that each burst makes of them apart.
 `--bursts` measures new transactions and repeats in bursts of 64 and of 1,024, with 4,096 kept replies.
+`--records` measures what carrying out costs where the copy of the tables is left out, and the memory of bare terminations; it
+fails where one is above its limit.
 """
+import os
 import pathlib
 import re
 import subprocess
@@ -129,14 +132,64 @@ def repeats(folder):
             print(f"| {count:,} {name} | {work / count:,.0f} |")
 
 
+def of_all(folder, terms, fill, body):
+    """What a transaction for all terminations costs for each: a second one in the same burst, where each has media or none."""
+    conf = config(folder, terms, slots=0)
+    before = [fill % (number, number) for number in range(1, terms + 1)] if fill else []
+    first, second = body % 5_001, body % 5_002
+    head = bursts(before, 256)
+    once = instructions(conf, head + bursts([first], 256))
+    twice = instructions(conf, head + bursts([first, second], 256))
+    return (twice - once) / terms
+
+
+def memory(folder, terms):
+    """The bytes that the process has at most where it is given nothing to answer."""
+    run = subprocess.Popen([PROGRAM, "replay", config(folder, terms, slots=0)], stdin=subprocess.DEVNULL, stdout=subprocess.DEVNULL)
+    return os.wait4(run.pid, 0)[2].ru_maxrss * 1_024
+
+
+MEDIA = b"Transaction=%d{Context=-{Modify=T/%d{Media{Stream=1{LocalControl{Mode=SendReceive}}}}}}"
+AUDIT_ALL = b"Transaction=%d{Context=-{AuditValue=*{Audit{Media}}}}"
+RESTART = b'Transaction=%d{Context=-{ServiceChange=ROOT{Services{Method=Restart,Reason="901"}}}}'
+TWO_ADDS = (b"Transaction=%d{Context=${Add=T/1{Media{Stream=1{LocalControl{Mode=SendReceive}}}},"
+            b"Add=${Media{Stream=1{LocalControl{Mode=ReceiveOnly},Local{\nv=0\nc=IN IP4 $\nm=audio $ RTP/AVP 0\na=ptime:20\n}}}}}}")
+
+
+def two_adds(folder):
+    """Two Adds beyond reading: a datagram of them, less the same that is read and ends in a comment without an end."""
+    conf = config(folder, 4)
+    told = TWO_ADDS % 1
+    datagram = HEAD + told + b" ;"
+    unended = b"D 7 %d\n%s\n.\n" % (len(datagram), datagram)
+    return instructions(conf, bursts([told], 16)) - instructions(conf, unended)
+
+
+def records(folder):
+    conf = config(folder, 4)
+    typical_work = (instructions(conf, bursts(typical(2_048, 4), 16)) - instructions(conf, bursts(typical(1_024, 4), 16))) / 1_024
+    lines = [
+        ("a typical transaction, 4 terminations, bursts of 16", typical_work, 24_000),
+        ("two Adds with Media and a Local to fill, beyond reading", two_adds(folder), 22_000),
+        ("AuditValue=* under - with Media, a termination", of_all(folder, 200, MEDIA, AUDIT_ALL), 2_500),
+        ("ServiceChange of ROOT, a termination", of_all(folder, 200, None, RESTART), 1_300),
+        ("bytes for 65,535 bare terminations", memory(folder, 65_535) - memory(folder, 1), 30_000_000),
+    ]
+    print("| What | instructions, or bytes | at most |\n|---|---|---|")
+    for name, found, limit in lines:
+        print(f"| {name} | {found:,.0f} | {limit:,} |")
+    return any(found > limit for _, found, limit in lines)
+
+
 def main():
     with tempfile.TemporaryDirectory() as folder:
-        chosen = sys.argv[1:] or ["--rates", "--tables", "--bursts"]
+        chosen = sys.argv[1:] or ["--rates", "--tables", "--bursts", "--records"]
         for word, measure in (("--rates", rates), ("--tables", tables), ("--bursts", repeats)):
             if word in chosen:
                 measure(folder)
                 print()
+        return 1 if "--records" in chosen and records(folder) else 0
 
 
 if __name__ == "__main__":
-    main()
+    sys.exit(main())
