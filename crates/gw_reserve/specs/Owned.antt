@@ -7,7 +7,8 @@ use Rattle.gw_base.specs.Choose.{is_choose}
 use Rattle.gw_msg.specs.declared.message.Command.{Command}
 use Rattle.gw_msg.specs.declared.message.Action.{Action}
 use Rattle.gw_msg.specs.declared.message.Request.{Request}
-use Rattle.gw_table.specs.Unused.{owns_slot}
+use Rattle.gw_table.specs.Maps.{Maps}
+use Rattle.gw_table.specs.Unused.{owns_slot, owned, AreUnused}
 use Rattle.gw_reserve.specs.declared.owned.Owned.{Owned}
 
 -- an action with the number that it owns, and its commands with the slots that they own
@@ -51,6 +52,10 @@ with_owned numbers slots (a ∷ more) = owning numbers slots a ∷ with_owned (i
 
 abbrev pub with_ids : Request → Ids → List OwnedAction
 with_ids r ids = with_owned ids.contexts ids.slots r.actions
+
+-- no two $ own the same slot, and none of the slots has a termination
+abbrev pub AreFreeSlots : Maps → List (Option ℕ) → Type 0
+AreFreeSlots m slots = AreUnused m [] (owned slots)
 
 -- ---- with an entry for each action, and for each command
 

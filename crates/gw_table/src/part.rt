@@ -25,7 +25,11 @@ impl Model for Part {
 
     ghost coded = { coded_part };
 
+    ghost use Rattle.gw_table.specs.Parts.{IsPart};
+
     ghost view = { λ a. record { keys = Every; maps = a.tables } };
+
+    ghost invariant = { λ a. IsPart Every a.tables };
 }
 
 impl Tables {
@@ -118,18 +122,5 @@ impl Part {
         ensures { IfOk result (λ list. list.items ≡ numbers self.now.maps) }
     {
         self.tables.numbers(alloc)
-    }
-
-    /// An equal part.
-    ///
-    /// # Errors
-    ///
-    /// Want of memory.
-    pub fn copy(&self) -> Result<Part, NoMemory>
-        ensures { IfOk result (λ copy. copy ≡ self.now) }
-    {
-        Ok(Part {
-            tables: self.tables.copy()?,
-        })
     }
 }

@@ -15,7 +15,7 @@ ghost use Rattle.gw_table.specs.Maps.{Maps};
 ghost use Rattle.gw_table.specs.Unused.{owned, AreUnused};
 ghost use Rattle.gw_table.specs.WellFormed.{AreWellFormed};
 ghost use Rattle.gw_tx.specs.KeptForms.{AreSlots, IsAskedRequest};
-ghost use Rattle.gw_tx.specs.Owned.{AreFreeSlots};
+ghost use Rattle.gw_reserve.specs.Owned.{AreFreeSlots};
 ghost use Rattle.gw_tx.specs.Transactions.{transaction};
 
 /// A transaction leaves well-formed tables well-formed, where the slots that it owns are unused in them.
