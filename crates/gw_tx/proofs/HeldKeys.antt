@@ -166,7 +166,7 @@ module _ (keys : PartKeys) where
 
   -- ---- the keys of an action are those of its commands, in the context that it is for
 
-  module _ (m : Maps) (p : IsPart keys m) where
+  module _ (m : Maps) where
     same_term : (at : At) (one : Option CtxNum) (slot : Option ℕ) (c : Command) (r : TermRef) → (Holds keys (keys_of_members one m) → Holds keys (member_keys at m)) → Holds keys (named_keys one slot c m r) → Holds keys (term_keys at slot c m r)
     same_term at one slot c (term_ref.Name t) e h = h
     same_term at one slot c term_ref.Choose e h = h

@@ -7,5 +7,6 @@ pub mod FreeSlots
 pub mod HeldKeys
 pub mod Kept
 pub mod Parts
+pub mod RequestKeys
 pub mod Steps
 pub mod Unowned

@@ -54,21 +54,21 @@ pub listed : (keys : PartKeys) (m : Maps) (at : At) (ps : List (Option ℕ × Co
 listed keys m at [] h = tt
 listed keys m at (p ∷ ps) h = (left_held keys (command_keys at p.0 p.1 m) (list_keys at ps m) h, listed keys m at ps (right_held keys (command_keys at p.0 p.1 m) (list_keys at ps m) h))
 
-pub listed_in : (keys : PartKeys) (m : Maps) → IsPart keys m → (a : OwnedAction) → Holds keys (action_footprint a m) → OksIn (IsHeld keys m) a.commands a.sent.ctx a.number
-listed_in keys m p a h = by a.sent.ctx a.number h
+pub listed_in : (keys : PartKeys) (m : Maps) (a : OwnedAction) → Holds keys (action_footprint a m) → OksIn (IsHeld keys m) a.commands a.sent.ctx a.number
+listed_in keys m a h = by a.sent.ctx a.number h
   where
     by : (sent : CtxRef) (owned : Option CtxNum) → Holds keys (footprint_in m a.commands sent owned) → OksIn (IsHeld keys m) a.commands sent owned
-    by ref.Null owned k = listed keys m Null a.commands (in_null keys m p a.commands ref.Null owned refl k)
-    by (ref.Num n) owned k = listed keys m (Live n) a.commands (in_live keys m p a.commands (ref.Num n) owned n refl k)
+    by ref.Null owned k = listed keys m Null a.commands (in_null keys m a.commands ref.Null owned refl k)
+    by (ref.Num n) owned k = listed keys m (Live n) a.commands (in_live keys m a.commands (ref.Num n) owned n refl k)
     by ref.Choose None k = tt
-    by ref.Choose (Some n) k = listed keys m (Unmade n) a.commands (in_unmade keys m p a.commands ref.Choose (Some n) n refl refl k)
-    by ref.All owned k = λ n. listed keys m (Each n) a.commands (in_each keys m p a.commands ref.All owned n refl k)
+    by ref.Choose (Some n) k = listed keys m (Unmade n) a.commands (in_unmade keys m a.commands ref.Choose (Some n) n refl refl k)
+    by ref.All owned k = λ n. listed keys m (Each n) a.commands (in_each keys m a.commands ref.All owned n refl k)
 
 -- commands, in the context that their action is for
 pub covers_in : (part : Parted) (number : Option CtxNum) (slots : List (Option ℕ)) (sent : Action) (asked : List Command) → asked ≡ sent.commands → Covers part (action_footprint (paired_action number slots sent) part.maps) → (at : At)
-    → (IsPart part.keys part.maps → Holds part.keys (action_footprint (paired_action number slots sent) part.maps) → Holds part.keys (list_keys at (paired_commands slots sent.commands) part.maps)) → Covers part (list_keys at (paired_commands slots asked) part.maps)
+    → (Holds part.keys (action_footprint (paired_action number slots sent) part.maps) → Holds part.keys (list_keys at (paired_commands slots sent.commands) part.maps)) → Covers part (list_keys at (paired_commands slots asked) part.maps)
 covers_in part number slots sent asked e c at f = record {
   sound = c.sound;
   entries = c.entries;
-  held = subst (λ (l : List Command). Holds part.keys (list_keys at (paired_commands slots l) part.maps)) (sym e) (f c.entries c.held);
+  held = subst (λ (l : List Command). Holds part.keys (list_keys at (paired_commands slots l) part.maps)) (sym e) (f c.held);
 }

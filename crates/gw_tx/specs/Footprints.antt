@@ -1,6 +1,7 @@
 -- The entries of the maps that a request may read or write: its keys, in the maps as they are, over all its actions and commands,
 -- reached or not (own).
 use Rattle.std.specs.Prelude.{ℕ, Bool, true, false, ◌&&◌, ◌||◌, List, [], ◌∷◌, ◌++◌, map, flat_map, Option, None, Some}
+use Rattle.std.specs.List.{list_any}
 use Rattle.gw_base.specs.declared.ids.CtxNum.{CtxNum}
 use Rattle.gw_base.specs.declared.command_words.CtxRef.{CtxRef}
 use Rattle.gw_base.specs.declared.command_words.CtxRef.TheVariants as ref
@@ -73,6 +74,10 @@ action_footprint a m =
 
 abbrev pub footprint_of : List OwnedAction → Maps → List Key
 footprint_of actions m = flat_map (λ a. action_footprint a m) actions
+
+-- an action for each context, or one with a command that stands for all
+abbrev pub is_meant_for_all : OwnedAction → Bool
+is_meant_for_all a = is_for_each a.sent.ctx || list_any (λ p. stands_for_all a.sent.ctx p.1) a.commands
 
 -- the keys of commands that are carried out in one context
 abbrev pub list_keys : At → List (Option ℕ × Command) → Maps → List Key

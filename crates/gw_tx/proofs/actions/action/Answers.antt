@@ -15,7 +15,7 @@ pub action_for_each-requires-clause-covered : goal.action_for_each-requires-clau
 action_for_each-requires-clause-covered c = λ n.
     let part : Parted = c.args.part.now in
     let sent : Action = c.args.sent.now in
-    covers_in part c.args.number c.args.slots.now sent c.as_slice-asked.result.now c.as_slice-asked.ensures c.requires.covered (Each n) (λ p h. in_each part.keys part.maps p (paired_commands c.args.slots.now sent.commands) sent.ctx c.args.number n c.in-All.is h)
+    covers_in part c.args.number c.args.slots.now sent c.as_slice-asked.result.now c.as_slice-asked.ensures c.requires.covered (Each n) (λ h. in_each part.keys part.maps (paired_commands c.args.slots.now sent.commands) sent.ctx c.args.number n c.in-All.is h)
 
 pub commands-requires-clause-covered : goal.commands-requires-clause-covered
 commands-requires-clause-covered c =
@@ -24,7 +24,7 @@ commands-requires-clause-covered c =
     let all = paired_commands c.args.slots.now sent.commands in
     let IsCovered : At → Type 0 = λ a. Covers part (list_keys a (paired_commands c.args.slots.now c.as_slice-asked.result.now) part.maps) in
     elim c.match-sent.branch [
-      | in-Null w ↦ subst IsCovered (sym w.at-is) (covers_in part c.args.number c.args.slots.now sent c.as_slice-asked.result.now c.as_slice-asked.ensures c.requires.covered Null (λ p h. in_null part.keys part.maps p all sent.ctx c.args.number w.in-Null.is h))
-      | in-Num+else-is_none w ↦ subst IsCovered (sym w.at-is) (covers_in part c.args.number c.args.slots.now sent c.as_slice-asked.result.now c.as_slice-asked.ensures c.requires.covered (Live w.in-Num.number) (λ p h. in_live part.keys part.maps p all sent.ctx c.args.number w.in-Num.number w.in-Num.is h))
-      | in-Choose+in-Some w ↦ subst IsCovered (sym w.at-is) (covers_in part c.args.number c.args.slots.now sent c.as_slice-asked.result.now c.as_slice-asked.ensures c.requires.covered (Unmade w.in-Some.number) (λ p h. in_unmade part.keys part.maps p all sent.ctx c.args.number w.in-Some.number w.in-Choose.is w.in-Some.is h))
+      | in-Null w ↦ subst IsCovered (sym w.at-is) (covers_in part c.args.number c.args.slots.now sent c.as_slice-asked.result.now c.as_slice-asked.ensures c.requires.covered Null (λ h. in_null part.keys part.maps all sent.ctx c.args.number w.in-Null.is h))
+      | in-Num+else-is_none w ↦ subst IsCovered (sym w.at-is) (covers_in part c.args.number c.args.slots.now sent c.as_slice-asked.result.now c.as_slice-asked.ensures c.requires.covered (Live w.in-Num.number) (λ h. in_live part.keys part.maps all sent.ctx c.args.number w.in-Num.number w.in-Num.is h))
+      | in-Choose+in-Some w ↦ subst IsCovered (sym w.at-is) (covers_in part c.args.number c.args.slots.now sent c.as_slice-asked.result.now c.as_slice-asked.ensures c.requires.covered (Unmade w.in-Some.number) (λ h. in_unmade part.keys part.maps all sent.ctx c.args.number w.in-Some.number w.in-Choose.is w.in-Some.is h))
     ]

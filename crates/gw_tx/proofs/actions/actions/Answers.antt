@@ -87,7 +87,7 @@ loop-sent-preserved c =
     action_is c.args.rules.now (mine c.next_entry-number.result.0) pair c.loop-sent.part.maps c.action.new.part.maps c.in_ok-done.done c.in_ok-done.ensures.maps c.in_ok-done.ensures.answer (ap (λ (o : Option CtxNum). mine o) c.next_entry-number.ensures.own) in
     let whole : Outcome (Attempts Unit ActionReply) = actions c.args.rules.now (paired_actions c.args.numbers.now c.args.slots.now c.args.asked.now) start.maps in
     let held : Holds start.keys (footprint_of (pair ∷ later) start.maps) = subst (λ (l : List OwnedAction). Holds start.keys (footprint_of l start.maps)) pairs c.loop-sent.invariant.held in
-    let kept : With AnySlot (StaysPart start.keys start.maps) behind (action c.args.rules.now tt pair c.loop-sent.part.maps).maps = kept_action c.args.rules.now (commands_keep_part c.args.rules.now start.keys start.maps) sent (first_owned numbers) slots c.loop-sent.part.maps (listed_in start.keys start.maps c.requires.covered.entries pair (left_held start.keys (action_footprint pair start.maps) (footprint_of later start.maps) held)) c.loop-sent.invariant.kept in
+    let kept : With AnySlot (StaysPart start.keys start.maps) behind (action c.args.rules.now tt pair c.loop-sent.part.maps).maps = kept_action c.args.rules.now (commands_keep_part c.args.rules.now start.keys start.maps) sent (first_owned numbers) slots c.loop-sent.part.maps (listed_in start.keys start.maps pair (left_held start.keys (action_footprint pair start.maps) (footprint_of later start.maps) held)) c.loop-sent.invariant.kept in
     let maps : (action c.args.rules.now tt pair c.loop-sent.part.maps).maps ≡ now.maps = ap (λ (o : Outcome (Attempts Unit ActionReply)). o.maps) (sym did) in
     let slots_are : c.entries_behind-slots_left.result.now ≡ behind = c.entries_behind-slots_left.ensures ∙ ap (λ (k : ℕ). drop k slots) c.len.ensures in
     record {
