@@ -23,7 +23,7 @@ cyclic_high d n p x a h b =
     get_or-append_right (range_with_len d (n - d)) (range_with_len 0 d) (n - d) p x (length-range_with_len d (n - d)) h
     ∙ get_or-range_with_len 0 d (p - (n - d)) x (omega arith) ∙ omega arith
 
--- what stands at a place
+-- what stands at a rank
 pub record Stands (d n p y : ℕ) : Type 0 where
   pub low : p < n - d → y ≡ d + p
   pub high : n - d ≤ p → y ≡ p - (n - d)

@@ -14,33 +14,14 @@ use Rattle.gw_table.specs.Unused.{AreUnused}
 use Rattle.gw_reserve.specs.declared.owners.Cursors.{Cursors}
 use Rattle.gw_reserve.specs.Owners.{cyclic, number_of_index, free_numbers, free_slots, number_places, slot_places, ids_of, owners_of, owners, owned_numbers, owned_slots, AreFresh, AreWithin}
 use Rattle.gw_reserve.proofs.Cyclic.{indices_below, indices_apart, numbers_within, numbers_apart}
-use Rattle.gw_reserve.proofs.Places.{owned_places, take_none, Moves}
-
--- ---- one request more
-
-pub owners_step : (ids new all : List Ids) (i : Ids) (r : Request) (rs : List Request) (left later : List CtxNum) (free after : List ℕ) → new ≡ ids ++ i ∷ [] → i ≡ ids_of r left free → later ≡ drop (number_places r) left → after ≡ drop (slot_places r) free → ids ++ owners_of (r ∷ rs) left free ≡ all
-    → new ++ owners_of rs later after ≡ all
-owners_step ids new all i r rs left later free after a b d e o =
-    ap (λ (l : List Ids). l ++ owners_of rs later after) (a ∙ ap (λ (x : Ids). ids ++ x ∷ []) b)
-    ∙ append_assoc ids (ids_of r left free ∷ []) (owners_of rs later after)
-    ∙ ap (λ (l : List CtxNum). ids ++ ids_of r left free ∷ owners_of rs l after) d
-    ∙ ap (λ (l : List ℕ). ids ++ ids_of r left free ∷ owners_of rs (drop (number_places r) left) l) e ∙ o
-
-pub cursor_step : {X : Type 0} (last : ℕ → List X → ℕ) (moves : Moves last) (f : Ids → List X) (c cursor moved : ℕ) (ids new : List Ids) (i : Ids) → new ≡ ids ++ i ∷ [] → cursor ≡ last c (flat_map f ids) → moved ≡ last cursor (f i) → moved ≡ last c (flat_map f new)
-cursor_step last moves f c cursor moved ids new i a b d =
-    d ∙ ap (λ (k : ℕ). last k (f i)) b ∙ sym (moves.both c (flat_map f ids) (f i))
-    ∙ ap (λ l. last c l) (ap (λ l. flat_map f ids ++ l) (sym (append-nil (f i))) ∙ sym (flat_map-append f ids (i ∷ [])) ∙ ap (λ (l : List Ids). flat_map f l) (sym a))
+use Rattle.gw_reserve.proofs.Places.{owned_places}
+use Rattle.gw_reserve.proofs.Taken.{take-plus}
 
 -- ---- all requests own the first ones
 
 total : (Request → ℕ) → List Request → ℕ
 total f [] = 0
 total f (r ∷ rs) = f r + total f rs
-
-take-plus : {X : Type 0} (k t : ℕ) (l : List X) → take k l ++ take t (drop k l) ≡ take (k + t) l
-take-plus zero t l = let e : t ≡ 0 + t = omega arith in ap (λ (n : ℕ). take n l) e
-take-plus {X} (suc k) t [] = take_none {X = X} t ∙ sym (take_none {X = X} (suc k + t))
-take-plus (suc k) t (x ∷ xs) = let e : suc (k + t) ≡ suc k + t = omega arith in ap (λ l. x ∷ l) (take-plus k t xs) ∙ ap (λ (n : ℕ). take n (x ∷ xs)) e
 
 numbers_are : (rs : List Request) (left : List CtxNum) (free : List ℕ) → owned_numbers (owners_of rs left free) ≡ take (total number_places rs) left
 unfolding total

@@ -23,17 +23,6 @@ module _ {X : Type 0} where
   pub places_suc : (k : ℕ) (F : List X) → places (suc k) F ≡ slice_get F 0 ∷ places k (drop 1 F)
   places_suc k F = ap (λ l. slice_get F 0 ∷ l) (shifted F 0 k)
 
-  -- later places have what earlier ones left
-  pub places-plus : (a b : ℕ) (F : List X) → places (a + b) F ≡ places a F ++ places b (drop a F)
-  places-plus zero b F = ap (λ (n : ℕ). places n F) (omega arith)
-  places-plus (suc a) b F =
-      let e : suc a + b ≡ suc (a + b) = omega arith in
-      let one : 1 + a ≡ suc a = omega arith in
-      ap (λ (n : ℕ). places n F) e ∙ places_suc (a + b) F
-      ∙ ap (λ l. slice_get F 0 ∷ l) (places-plus a b (drop 1 F))
-      ∙ ap (λ (l : List X). slice_get F 0 ∷ (places a (drop 1 F) ++ places b l)) (drop-drop a 1 F ∙ ap (λ (n : ℕ). drop n F) one)
-      ∙ ap (λ l. l ++ places b (drop (suc a) F)) (sym (places_suc a F))
-
   abbrev pub nothing : List X
   nothing = []
 
@@ -111,47 +100,3 @@ numbers_move = record { none = λ c. refl; both = numbers_both }
 
 pub slots_move : Moves behind_last
 slots_move = record { none = λ c. refl; both = slots_both }
-
--- ---- what is owned so far, and what the places that are left own, are all
-
-pub record Owns {X : Type 0} (last : ℕ → List X → ℕ) (so_far : List (Option X)) (k : ℕ) (left : List X) (now : ℕ) (all : List (Option X)) (end : List X) (final : ℕ) : Type 0 where
-  pub given : so_far ++ places k left ≡ all
-  pub rest : drop k left ≡ end
-  pub cursor : last now (owned (places k left)) ≡ final
-
-module _ {X : Type 0} (last : ℕ → List X → ℕ) (moves : Moves last) where
-  pub own_none : (so_far : List (Option X)) (k : ℕ) (left : List X) (cursor : ℕ) (all : List (Option X)) (end : List X) (final : ℕ) → k ≡ 0 → Owns last so_far k left cursor all end final → (so_far ≡ all) × (left ≡ end) × (cursor ≡ final)
-  own_none so_far k left cursor all end final e o = (
-    sym (append-nil so_far) ∙ ap (λ (n : ℕ). so_far ++ places n left) (sym e) ∙ o.given,
-    ap (λ (n : ℕ). drop n left) (sym e) ∙ o.rest,
-    sym (moves.none cursor) ∙ ap (λ (n : ℕ). last cursor (owned (places n left))) (sym e) ∙ o.cursor,
-  )
-
-  pub own_some : (so_far new : List (Option X)) (n k j : ℕ) (left after : List X) (cursor moved : ℕ) (all : List (Option X)) (end : List X) (final : ℕ) → n ≡ k + j → new ≡ so_far ++ places k left → after ≡ drop k left → moved ≡ last cursor (owned (places k left)) → Owns last so_far n left cursor all end final
-      → Owns last new j after moved all end final
-  own_some so_far new n k j left after cursor moved all end final e a b c o = record {
-    given = ap (λ (l : List (Option X)). l ++ places j after) a ∙ ap (λ (l : List X). (so_far ++ places k left) ++ places j l) b
-        ∙ append_assoc so_far (places k left) (places j (drop k left)) ∙ ap (λ l. so_far ++ l) (sym (places-plus k j left) ∙ ap (λ (i : ℕ). places i left) (sym e)) ∙ o.given;
-    rest = ap (λ (l : List X). drop j l) b ∙ drop-drop j k left ∙ ap (λ (i : ℕ). drop i left) (sym e) ∙ o.rest;
-    cursor = ap (λ (i : ℕ). last i (owned (places j after))) c ∙ ap (λ (l : List X). last (last cursor (owned (places k left))) (owned (places j l))) b
-        ∙ sym (moves.both cursor (owned (places k left)) (owned (places j (drop k left))))
-        ∙ ap (λ l. last cursor l) (sym (filter_map-append (λ o. o) (places k left) (places j (drop k left))))
-        ∙ ap (λ (l : List (Option X)). last cursor (owned l)) (sym (places-plus k j left) ∙ ap (λ (i : ℕ). places i left) (sym e)) ∙ o.cursor;
-  }
-
-  -- one place more
-  pub own_one : (so_far new : List (Option X)) (n j : ℕ) (x : Option X) (left after : List X) (cursor moved : ℕ) (all : List (Option X)) (end : List X) (final : ℕ) → n ≡ 1 + j → new ≡ so_far ++ x ∷ [] → x ≡ slice_get left 0 → after ≡ drop 1 left → moved ≡ last cursor (option_to_list x) → Owns last so_far n left cursor all end final
-      → Owns last new j after moved all end final
-  own_one so_far new n j x left after cursor moved all end final e a f b c o =
-      own_some so_far new n 1 j left after cursor moved all end final e
-      (a ∙ ap (λ y. so_far ++ y ∷ []) f) b
-      (c ∙ ap (λ l. last cursor l) (only x ∙ ap (λ (y : Option X). owned (y ∷ [])) f)) o
-    where
-      only : (y : Option X) → option_to_list y ≡ owned (y ∷ [])
-      only None = refl
-      only (Some z) = refl
-
-  -- one that is no place
-  pub own_same : (so_far : List (Option X)) (n j : ℕ) (left : List X) (cursor : ℕ) (all : List (Option X)) (end : List X) (final : ℕ) → n ≡ 0 + j → Owns last so_far n left cursor all end final → Owns last so_far j left cursor all end final
-  own_same so_far n j left cursor all end final e o =
-      own_some so_far so_far n 0 j left left cursor cursor all end final e (sym (append-nil so_far)) refl (sym (moves.none cursor)) o

@@ -1,6 +1,6 @@
 -- Who owns which identifier (own): at the start of a burst the free numbers and the free slots are listed in cyclic order from
 -- the cursors, and the j-th place that needs one owns the j-th of them, whether it is reached or not.
-use Rattle.std.specs.Prelude.{ℕ, ◌+◌, ◌-◌, ◌<◌, ◌≤◌, List, [], ◌∷◌, ◌++◌, map, length, drop, slice_get, Option, is_none, All, filter, flat_map}
+use Rattle.std.specs.Prelude.{ℕ, ◌+◌, ◌-◌, ◌<◌, ◌≤◌, Bool, if◌then◌else◌, List, [], ◌∷◌, ◌++◌, map, length, drop, slice_get, Option, None, is_none, All, filter, flat_map}
 use Rattle.std.specs.List.{range_with_len}
 use Rattle.gw_base.specs.declared.ids.CtxNum.{CtxNum}
 use Rattle.gw_base.specs.declared.ids.Ids.{Ids}
@@ -41,8 +41,11 @@ chosen actions = length (filter (λ a. is_choose a.ctx) actions)
 abbrev pub adding : List Command → ℕ
 adding commands = length (filter (λ c. owns_slot c.verb c.term) commands)
 
+abbrev pub all_commands : List Action → List Command
+all_commands actions = flat_map (λ a. a.commands) actions
+
 abbrev pub all_adding : List Action → ℕ
-all_adding actions = adding (flat_map (λ a. a.commands) actions)
+all_adding actions = adding (all_commands actions)
 
 -- how many places of each kind a request has
 abbrev pub number_places : Request → ℕ
@@ -50,6 +53,11 @@ number_places r = chosen r.actions
 
 abbrev pub slot_places : Request → ℕ
 slot_places r = all_adding r.actions
+
+-- each item that wants one takes the first of what those before it left
+abbrev pub taken_by : {X Y : Type 0} → (X → Bool) → List X → List Y → List (Option Y)
+taken_by wants [] free = []
+taken_by wants (x ∷ xs) free = (if wants x then slice_get free 0 else None) ∷ taken_by wants xs (if wants x then drop 1 free else free)
 
 -- what a request owns of what is left
 abbrev pub ids_of : Request → List CtxNum → List ℕ → Ids

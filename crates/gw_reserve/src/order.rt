@@ -13,25 +13,25 @@ pub(crate) struct Order {
 /// How far the search for free identifiers of one kind has come.
 #[derive(Clone, Copy)]
 pub(crate) struct Search {
-    /// The place of the order at which it goes on.
+    /// The rank at which it goes on.
     pub(crate) next: u32,
     /// Where the next burst's search is to begin.
     pub(crate) cursor: u32,
 }
 
 impl Order {
-    /// The index at a place.
-    pub(crate) fn at(self, place: u32) -> u32
+    /// The index at a rank.
+    pub(crate) fn at(self, rank: u32) -> u32
         requires start { self.start ≤ self.limit }
-        requires place { place < self.limit }
-        ensures value { result ≡ slice_index (whole_order self) place }
+        requires rank { rank < self.limit }
+        ensures value { result ≡ slice_index (whole_order self) rank }
         ensures small { result < self.limit }
     {
         let behind = self.limit - self.start;
-        if place < behind {
-            self.start + place
+        if rank < behind {
+            self.start + rank
         } else {
-            place - behind
+            rank - behind
         }
     }
 }

@@ -1,17 +1,22 @@
-//! Reserving: what the `$` places of a burst's requests own.
+//! Reserving: what the requests of a burst own.
 
-ghost use Rattle.std.specs.Prelude.{◌≡◌, ℕ, ◌≤◌, ◌∷◌, [], IfOk, OnOk, drop};
-ghost use Rattle.gw_table.specs.Maps.{Maps};
-ghost use Rattle.gw_reserve.specs.Owners.{free_numbers, free_slots, new_cursors, number_places, slot_places, ids_of, AreWithin};
-ghost use Rattle.gw_reserve.specs.Searches.{numbers_left, slots_left, search_cursors, context_limit, slot_limit, IsReservation};
+ghost use Rattle.std.specs.Prelude.{◌≡◌, ℕ, ◌≤◌, ◌∷◌, [], IfOk, OnOk, take, drop};
+ghost use Rattle.gw_base.specs.Choose.{is_choose};
+ghost use Rattle.gw_table.specs.Unused.{owned};
+ghost use Rattle.gw_reserve.specs.Owned.{is_adding, paired, with_ids};
+ghost use Rattle.gw_reserve.specs.Owners.{number_places, slot_places, chosen, all_adding, all_commands, taken_by, last_number, behind_last, new_cursors, ids_of, AreWithin};
+ghost use Rattle.gw_reserve.specs.Reservations.{begun, numbers_left, slots_left};
+ghost use Rattle.gw_reserve.specs.Searches.{numbers_from, slots_from, IsSearch};
 
-use crate::numbers::own_numbers;
+use crate::numbers::number_for;
 use crate::order::{Order, Search};
+use crate::owned::Owned;
 use crate::slots::own_slots;
-use gw_base::{Ids, NoMemory};
-use gw_msg::Request;
+use gw_base::{Items, NoMemory};
+use gw_msg::{Action, Request};
 use gw_table::Tables;
 use std::alloc::Global;
+use std::marker::Model;
 
 /// Where the search for free identifiers begins.
 #[derive(Clone, Copy, PartialEq, Eq)]
@@ -23,12 +28,71 @@ pub struct Cursors {
 }
 
 /// What the requests of a burst own, one request after another: each owns the first of what those before it left.
-#[derive(Clone, Copy)]
 pub struct Reservation {
-    pub(crate) numbers: Order,
-    pub(crate) slots: Order,
-    pub(crate) number_search: Search,
-    pub(crate) slot_search: Search,
+    numbers: Order,
+    slots: Order,
+    number_search: Search,
+    slot_search: Search,
+}
+
+impl Drop for Reservation {
+    fn drop(self) {
+        let Reservation {
+            numbers: _,
+            slots: _,
+            number_search: _,
+            slot_search: _,
+        } = self;
+    }
+}
+
+impl Model for Reservation {
+    ghost use Rattle.gw_reserve.specs.Reservations.{Reserving, coded_reserving};
+
+    ghost Value = { Reserving };
+
+    ghost coded = { coded_reserving };
+
+    ghost use Rattle.gw_reserve.specs.ReservationView.{value_of, IsReservation};
+
+    ghost view = { value_of };
+
+    ghost invariant = { IsReservation };
+}
+
+/// What actions own, in one pass over them and their commands.
+fn own_all(
+    alloc: Global,
+    tables: &Tables,
+    numbers: Order,
+    number_search: &mut Search,
+    slots: Order,
+    slot_search: &mut Search,
+    actions: &[Action<'_>],
+) -> Result<Owned, NoMemory>
+    requires numbers { IsSearch 65535 numbers number_search.old }
+    requires slots { IsSearch 4096 slots slot_search.old }
+    ensures contexts { IfOk result (λ o. o.contexts ≡ taken_by (λ a. is_choose a.ctx) actions.now (numbers_from tables.now numbers number_search.old.next)) }
+    ensures slots { IfOk result (λ o. o.slots ≡ taken_by is_adding (all_commands actions.now) (slots_from tables.now slots slot_search.old.next)) }
+    ensures numbers_left { OnOk result (numbers_from tables.now numbers number_search.new.next ≡ drop (chosen actions.now) (numbers_from tables.now numbers number_search.old.next)) }
+    ensures slots_left { OnOk result (slots_from tables.now slots slot_search.new.next ≡ drop (all_adding actions.now) (slots_from tables.now slots slot_search.old.next)) }
+    ensures number_cursor { OnOk result (number_search.new.cursor ≡ last_number number_search.old.cursor (take (chosen actions.now) (numbers_from tables.now numbers number_search.old.next))) }
+    ensures slot_cursor { OnOk result (slot_search.new.cursor ≡ behind_last slot_search.old.cursor (take (all_adding actions.now) (slots_from tables.now slots slot_search.old.next))) }
+    ensures number_search { IsSearch 65535 numbers number_search.new }
+    ensures slot_search { IsSearch 4096 slots slot_search.new }
+{
+    let mut owned = Owned {
+        contexts: Items::new(alloc),
+        slots: Items::new(alloc),
+    };
+    for action in actions {
+        owned
+            .contexts
+            .push(number_for(tables, numbers, number_search, action))?;
+        let commands = action.commands.as_slice();
+        own_slots(tables, slots, slot_search, commands, &mut owned.slots)?;
+    }
+    Ok(owned)
 }
 
 impl Reservation {
@@ -38,11 +102,7 @@ impl Reservation {
         requires contexts { contexts ≤ 65535 }
         requires slots { slots ≤ 4096 }
         requires cursors { AreWithin contexts slots cursors.now }
-        ensures numbers { (m : Maps) → numbers_left m result ≡ free_numbers m cursors.now.context contexts }
-        ensures slots { (m : Maps) → slots_left m result ≡ free_slots m cursors.now.slot slots }
-        ensures cursors { search_cursors result ≡ cursors.now }
-        ensures most { (context_limit result ≡ contexts) × (slot_limit result ≡ slots) }
-        ensures reservation { IsReservation result }
+        ensures { result ≡ begun contexts slots cursors.now }
     {
         Reservation {
             numbers: Order {
@@ -64,9 +124,9 @@ impl Reservation {
         }
     }
 
-    /// What the places of the burst's next request own, in the tables as they are at the burst's start. Over a whole burst each
-    /// number and each slot is looked at once, from the cursor to the last one owned, or round to the cursor where they run
-    /// out, and so is each command.
+    /// What the burst's next request owns, in the tables as they are at the burst's start. Over a whole burst each number and
+    /// each slot is looked at once, from the cursor to the last one owned, or round to the cursor where they run out, and so is
+    /// each command.
     ///
     /// # Errors
     ///
@@ -76,31 +136,31 @@ impl Reservation {
         alloc: Global,
         tables: &Tables,
         request: &Request<'_>,
-    ) -> Result<Ids, NoMemory>
-        requires { IsReservation self.old }
-        ensures ids { IfOk result (λ i. i ≡ ids_of request.now (numbers_left tables.now self.old) (slots_left tables.now self.old)) }
+    ) -> Result<Owned, NoMemory>
+        ensures paired { IfOk result (λ o. paired request.now o ≡ with_ids request.now (ids_of request.now (numbers_left tables.now self.old) (slots_left tables.now self.old))) }
+        ensures contexts { IfOk result (λ o. owned o.contexts ≡ take (number_places request.now) (numbers_left tables.now self.old)) }
+        ensures owned_slots { IfOk result (λ o. owned o.slots ≡ take (slot_places request.now) (slots_left tables.now self.old)) }
         ensures numbers { OnOk result (numbers_left tables.now self.new ≡ drop (number_places request.now) (numbers_left tables.now self.old)) }
         ensures slots { OnOk result (slots_left tables.now self.new ≡ drop (slot_places request.now) (slots_left tables.now self.old)) }
-        ensures cursors { IfOk result (λ i. search_cursors self.new ≡ new_cursors (search_cursors self.old) (i ∷ [])) }
-        ensures most { OnOk result ((context_limit self.new ≡ context_limit self.old) × (slot_limit self.new ≡ slot_limit self.old)) }
-        ensures reservation { OnOk result (IsReservation self.new) }
+        ensures cursors { OnOk result (self.new.cursors ≡ new_cursors self.old.cursors (ids_of request.now (numbers_left tables.now self.old) (slots_left tables.now self.old) ∷ [])) }
+        ensures contexts_stay { OnOk result (self.new.most_contexts ≡ self.old.most_contexts) }
+        ensures slots_stay { OnOk result (self.new.most_slots ≡ self.old.most_slots) }
     {
-        let actions = request.actions.as_slice();
-        let contexts = own_numbers(
+        own_all(
             alloc,
             tables,
             self.numbers,
             &mut self.number_search,
-            actions,
-        )?;
-        let slots = own_slots(alloc, tables, self.slots, &mut self.slot_search, actions)?;
-        Ok(Ids { contexts, slots })
+            self.slots,
+            &mut self.slot_search,
+            request.actions.as_slice(),
+        )
     }
 
-    /// Where the next burst's search is to begin.
+    /// Where the next burst's search is to begin. The cursors are at most the numbers of contexts and of slots.
     pub fn cursors(&self) -> Cursors
-        ensures cursors { result ≡ search_cursors self.now }
-        ensures within { IsReservation self.now → AreWithin (context_limit self.now) (slot_limit self.now) result }
+        ensures cursors { result ≡ self.now.cursors }
+        ensures within { AreWithin self.now.most_contexts self.now.most_slots result }
     {
         Cursors {
             context: self.number_search.cursor,

@@ -1,5 +1,5 @@
 -- What is read in a part, beside a part and after a part was laid over the maps.
-use Rattle.std.proofs.Common.{nat_eq, ◌≡◌, ℕ, Bool, true, false, cond, not, List, [], ◌∷◌, bytes_eq, Option, None, refl, sym, ap, subst, ◌∙◌}
+use Rattle.std.proofs.Common.{nat_eq, ◌≡◌, ℕ, Bool, true, false, cond, not, List, [], ◌∷◌, bytes_eq, Option, None, is_some, refl, sym, ap, subst, ◌∙◌}
 use Rattle.std.specs.Prelude.{◌||◌}
 use Rattle.std.specs.FinMap.{get-retain_keys, nat_cmp-IsAntisymmetric}
 use Rattle.gw_base.specs.declared.ids.CtxNum.{CtxNum}
@@ -9,7 +9,7 @@ use Rattle.gw_base.specs.Keys.{has}
 use Rattle.gw_base.specs.NameLists.{is_in, NoDoubles}
 use Rattle.gw_base.proofs.NameTests.{names_same, same_name, same_number}
 use Rattle.gw_table.specs.Maps.{Maps, term, ctx, place_of, members_of}
-use Rattle.gw_table.specs.Parts.{Every, Only, restricted, cut, overlaid}
+use Rattle.gw_table.specs.Parts.{Every, Only, IsPart, restricted, cut, overlaid}
 use Rattle.gw_table.specs.WellFormed.{IsSound, AreWellFormed}
 use Rattle.gw_table.proofs.Lookups.{term-put_term, ctx-put_term, term-put_ctx, ctx-put_ctx, same_maps}
 
@@ -87,6 +87,16 @@ sound_restricted keys m s = record {
   recorded = λ t n k h. ap (λ o. place_of o) (term-restricted keys m t ∙ ap (λ b. cond b (term m t) None) k) ∙ s.recorded t n refl (shown_member t n keys m h);
   once = λ n. shown_once keys m n (s.once n);
 }
+
+pub part_restricted : (keys : List Key) (m : Maps) → IsPart (Only keys) (restricted keys m)
+part_restricted keys m = record {
+  terms = λ t h. listed (has keys (Term t)) (term m t) (ap (λ o. is_some o) (sym (term-restricted keys m t)) ∙ h);
+  contexts = λ n h. listed (has keys (Ctx n)) (ctx m n) (ap (λ o. is_some o) (sym (ctx-restricted keys m n)) ∙ h);
+}
+  where
+    listed : {A : Type 0} (b : Bool) (o : Option A) → is_some (cond b o None) ≡ true → b ≡ true
+    listed true o h = refl
+    listed false o h = absurd cc
 
 pub sound_whole : (limit : ℕ) (m : Maps) → AreWellFormed limit m → IsSound Every m
 sound_whole limit m w = record { recorded = λ t n k h. w.recorded t n h; once = w.once }

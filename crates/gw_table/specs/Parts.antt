@@ -1,5 +1,6 @@
 -- Parts of tables: their keys, and the entries that they show (own).
 use Rattle.std.specs.Prelude.{◌≡◌, ℕ, Bool, true, not, List, [], ◌∷◌, Option, None, Some, ◌⊎◌, refl}
+use Rattle.std.specs.Option.{is_some}
 use Rattle.std.proofs.Common.{inl, inr}
 use Rattle.std.specs.FinMap as finite
 use Rattle.std.specs.Coded.{Coded, code_by, coded×, coded⊎, coded_list, coded_option, coded_ℕ}
@@ -32,6 +33,11 @@ Holds part keys = (k : Key) → has keys k ≡ true → holds part k ≡ true
 pub record Parted : Type 0 where
   pub keys : PartKeys
   pub maps : Maps
+
+-- there is no entry at any other key
+pub record IsPart (keys : PartKeys) (m : Maps) : Type 0 where
+  pub terms : (t : List ℕ) → is_some (term m t) ≡ true → holds keys (Term t) ≡ true
+  pub contexts : (n : CtxNum) → is_some (ctx m n) ≡ true → holds keys (Ctx n) ≡ true
 
 -- the entries at these keys
 abbrev pub restricted : List Key → Maps → Maps

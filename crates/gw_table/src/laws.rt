@@ -3,13 +3,14 @@
 ghost use Rattle.std.specs.Prelude.{◌≡◌, ℕ, ◌<◌, ◌^◌, true, List};
 ghost use Rattle.gw_base.specs.declared.key.Key.{Key};
 ghost use Rattle.gw_table.specs.Maps.{Maps};
-ghost use Rattle.gw_table.specs.Parts.{Every, Only, restricted, cut, overlaid};
+ghost use Rattle.gw_table.specs.Parts.{Every, Only, IsPart, restricted, cut, overlaid};
 ghost use Rattle.gw_table.specs.Reserved.{is_reserved, slot_name};
 ghost use Rattle.gw_table.specs.WellFormed.{IsSound, AreWellFormed};
 
-/// A part of sound tables is sound, and well-formed tables are.
+/// A part of sound tables is sound and has no entry but at its keys; well-formed tables are sound.
 pub fn sound_part()
     ensures part { (keys : List Key) (m : Maps) → IsSound Every m → IsSound (Only keys) (restricted keys m) }
+    ensures entries { (keys : List Key) (m : Maps) → IsPart (Only keys) (restricted keys m) }
     ensures whole { (limit : ℕ) (m : Maps) → AreWellFormed limit m → IsSound Every m }
 {}
 

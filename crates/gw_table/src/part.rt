@@ -27,7 +27,11 @@ impl Model for Part {
 
     ghost coded = { coded_part };
 
+    ghost use Rattle.gw_table.specs.Parts.{IsPart};
+
     ghost view = { λ a. record { keys = Every; maps = a.tables } };
+
+    ghost invariant = { λ a. IsPart Every a.tables };
 }
 
 impl Tables {

@@ -28,8 +28,8 @@ use Rattle.gw_refusal.specs.declared.at.At.TheVariants.{Null, Live, Unmade, Each
 use Rattle.gw_cmd.specs.KeptForms.{AreKept, IsAsked, IsSlot}
 use Rattle.gw_cmd.proofs.FormsKept.{command_kept}
 use Rattle.gw_tx.specs.KeptForms.{AreAsked, IsAskedRequest, AreSlots}
-use Rattle.gw_tx.specs.Owned.{OwnedAction, first_owned, later_owned, is_adding, with_slots, slots_behind, owning, with_owned}
-use Rattle.gw_tx.specs.Transactions.{attempt, commands, action_reply, refused_action, carried_action, in_each, in_all, gathered, action_for_each, action_in, action_for, action_on, action, actions, transaction}
+use Rattle.gw_reserve.specs.Owned.{OwnedAction, first_owned, later_owned, is_adding, with_slots, slots_behind, owning, with_owned}
+use Rattle.gw_tx.specs.Transactions.{attempt, commands, action_reply, refused_action, carried_action, in_each, in_all, gathered, action_for_each, action_in, action_for, action_on, action, actions, paired_transaction, transaction}
 
 -- ---- in order
 
@@ -154,12 +154,12 @@ module _ (rules : Rules) (address : IsAddress rules.media) where
       by false = on_kept a m a.sent.ctx good k
 
   pub transaction_kept : (r : Request) (ids : Ids) (m : Maps) → AreSlots ids → IsAskedRequest r → AreKept m → AreKept (transaction rules r ids m).maps × IsKeptTree (transaction rules r ids m).answer
-  unfolding transaction
+  unfolding transaction paired_transaction
   transaction_kept r ids m slots asked k =
       let h = order_kept (action rules) IsGoodAction IsKeptAction action_kept tt (with_owned ids.contexts ids.slots r.actions) m (owned_kept ids.contexts ids.slots r.actions slots asked.actions) k in
       (h.0, (asked.number, h.1))
 
 -- the reply has the number of the request
 pub transaction_id : (rules : Rules) (mid : List ℕ) (r : Request) (ids : Ids) (m : Maps) → IsReplyMessage mid (transaction rules r ids m).answer.id.0 (reply_text mid (transaction rules r ids m).answer) → IsReplyMessage mid r.id.0 (reply_text mid (transaction rules r ids m).answer)
-unfolding transaction
+unfolding transaction paired_transaction
 transaction_id rules mid r ids m h = h

@@ -1,12 +1,18 @@
 -- Slots that are free, while commands use them up one after another.
-use Rattle.std.proofs.Common.{◌≡◌, ℕ, suc, ◌<◌, ◌^◌, Bool, true, false, List, [], ◌∷◌, length, get_or, Option, None, Some, arith}
-use Rattle.std.specs.Prelude.{◌≢◌, if◌then◌else◌, All}
+use Rattle.std.proofs.Common.{◌≡◌, ℕ, suc, ◌<◌, ◌^◌, true, List, [], ◌∷◌, length, get_or, Option, None, Some, refl, arith}
+use Rattle.std.specs.Prelude.{◌≢◌, All}
+use Rattle.gw_base.specs.declared.command_words.Rules.{Rules}
+use Rattle.gw_msg.specs.declared.message.Command.{Command}
 use Rattle.gw_table.specs.Maps.{Maps, term}
 use Rattle.gw_table.specs.Reserved.{slot_name}
-use Rattle.gw_table.specs.Unused.{owned, AreUnused}
+use Rattle.gw_table.specs.Unused.{owned}
 use Rattle.gw_table.proofs.SlotNames.{slots_apart}
+use Rattle.gw_refusal.specs.declared.at.At.{At}
+use Rattle.gw_cmd.specs.Commands.{command}
 use Rattle.gw_cmd.specs.Suits.{IsUnused}
-use Rattle.gw_tx.specs.Owned.{first_owned, later_owned, AreFreeSlots}
+use Rattle.gw_cmd.proofs.Kept.{MayMake, kept_command}
+use Rattle.gw_cmd.proofs.KeptSound.{absent_is_kept}
+use Rattle.gw_reserve.specs.Owned.{first_owned, later_owned, AreFreeSlots}
 
 -- another slot than the one that a command owns
 abbrev pub IsOther : Option ℕ → ℕ → Type 0
@@ -17,37 +23,37 @@ IsOther (Some s) t = slot_name s ≢ slot_name t
 abbrev pub MakesNone : Option ℕ → Maps → Maps → Type 0
 MakesNone slot m n = (t : ℕ) → IsOther slot t → term m (slot_name t) ≡ None → term n (slot_name t) ≡ None
 
--- the slot that a command owns, if any, is of a kind
-abbrev pub IsOfKind : (ℕ → Type 0) → Option ℕ → Type 0
+-- what is owned, if anything, is of a kind
+abbrev pub IsOfKind : {X : Type 0} → (X → Type 0) → Option X → Type 0
 IsOfKind S None = Unit {0}
 IsOfKind S (Some s) = S s
 
 abbrev pub AnySlot : ℕ → Type 0
 AnySlot s = Unit {0}
 
-abbrev pub taken : {X : Type 0} → Bool → List (Option X) → Option X
-taken b slots = if b then first_owned slots else None
+other : (t : ℕ) (slot : Option ℕ) → IsOther slot t → MayMake (λ s. slot_name s ≢ slot_name t) slot
+other t None o = tt
+other t (Some s) o = o
 
-abbrev pub left : {X : Type 0} → Bool → List (Option X) → List (Option X)
-left b slots = if b then later_owned slots else slots
+-- a command makes none but in its own
+pub makes_none : (rules : Rules) (at : At) (slot : Option ℕ) (c : Command) (m : Maps) → IsUnused slot m → MakesNone slot m (command rules at slot c m).maps
+makes_none rules at slot c m u t o none =
+    kept_command rules (λ _. true) (λ s. slot_name s ≢ slot_name t) (absent_is_kept rules (slot_name t)) at slot c m (λ _. refl) u (other t slot o) none
 
-pub free_slot : (m : Maps) (slots : List (Option ℕ)) (b : Bool) → AreFreeSlots m slots → IsUnused (taken b slots) m
-free_slot m slots false f = tt
-free_slot m [] true f = tt
-free_slot m (None ∷ os) true f = tt
-free_slot m (Some s ∷ os) true f = f.no_terminations 0 s (omega arith)
+pub free_slot : (m : Maps) (slots : List (Option ℕ)) → AreFreeSlots m slots → IsUnused (first_owned slots) m
+free_slot m [] f = tt
+free_slot m (None ∷ os) f = tt
+free_slot m (Some s ∷ os) f = f.no_terminations 0 s (omega arith)
 
-pub kind_slot : (S : ℕ → Type 0) (slots : List (Option ℕ)) (b : Bool) → All S (owned slots) → IsOfKind S (taken b slots)
-kind_slot S slots false f = tt
-kind_slot S [] true f = tt
-kind_slot S (None ∷ os) true f = tt
-kind_slot S (Some s ∷ os) true f = f 0 s (omega arith)
+pub kind_first : {X : Type 0} (S : X → Type 0) (slots : List (Option X)) → All S (owned slots) → IsOfKind S (first_owned slots)
+kind_first S [] f = tt
+kind_first S (None ∷ os) f = tt
+kind_first S (Some s ∷ os) f = f 0 s (omega arith)
 
-pub kind_left : (S : ℕ → Type 0) (slots : List (Option ℕ)) (b : Bool) → All S (owned slots) → All S (owned (left b slots))
-kind_left S slots false f = f
-kind_left S [] true f = f
-kind_left S (None ∷ os) true f = f
-kind_left S (Some s ∷ os) true f = λ k d h. f (suc k) d (omega arith)
+pub kind_later : {X : Type 0} (S : X → Type 0) (slots : List (Option X)) → All S (owned slots) → All S (owned (later_owned slots))
+kind_later S [] f = f
+kind_later S (None ∷ os) f = f
+kind_later S (Some s ∷ os) f = λ k d h. f (suc k) d (omega arith)
 
 behind_first : (m : Maps) (s : ℕ) (os : List (Option ℕ)) → AreFreeSlots m (Some s ∷ os) → AreFreeSlots m os
 behind_first m s os f = record {
@@ -64,11 +70,10 @@ small m s os f = omega (arith, f.slots_small 0 s (omega arith))
 later_small : (m : Maps) (s : ℕ) (os : List (Option ℕ)) → AreFreeSlots m (Some s ∷ os) → (k d : ℕ) → k < length (owned os) → get_or (owned os) k d < 2 ^ 16
 later_small m s os f k d h = omega (arith, f.slots_small (suc k) d (omega arith))
 
-pub free_left : (m : Maps) (slots : List (Option ℕ)) (b : Bool) → AreFreeSlots m slots → AreFreeSlots m (left b slots)
-free_left m slots false f = f
-free_left m [] true f = f
-free_left m (None ∷ os) true f = f
-free_left m (Some s ∷ os) true f = behind_first m s os f
+pub free_later : (m : Maps) (slots : List (Option ℕ)) → AreFreeSlots m slots → AreFreeSlots m (later_owned slots)
+free_later m [] f = f
+free_later m (None ∷ os) f = f
+free_later m (Some s ∷ os) f = behind_first m s os f
 
 pub free_on : (m n : Maps) (slot : Option ℕ) (slots : List (Option ℕ)) → All (IsOther slot) (owned slots) → MakesNone slot m n → AreFreeSlots m slots → AreFreeSlots n slots
 free_on m n slot slots other none f = record {
@@ -80,9 +85,8 @@ free_on m n slot slots other none f = record {
 }
 
 -- the slots behind the one that a command owns stay free
-pub free_after : (m n : Maps) (slots : List (Option ℕ)) (b : Bool) → MakesNone (taken b slots) m n → AreFreeSlots m slots → AreFreeSlots n (left b slots)
-free_after m n slots false none f = free_on m n None slots (λ k d h. tt) none f
-free_after m n [] true none f = free_on m n None [] (λ k d h. tt) none f
-free_after m n (None ∷ os) true none f = free_on m n None os (λ k d h. tt) none f
-free_after m n (Some s ∷ os) true none f = free_on m n (Some s) os
+pub free_after : (m n : Maps) (slots : List (Option ℕ)) → MakesNone (first_owned slots) m n → AreFreeSlots m slots → AreFreeSlots n (later_owned slots)
+free_after m n [] none f = free_on m n None [] (λ k d h. tt) none f
+free_after m n (None ∷ os) none f = free_on m n None os (λ k d h. tt) none f
+free_after m n (Some s ∷ os) none f = free_on m n (Some s) os
     (λ k d h e. f.slots_apart 0 (suc k) d (omega arith) (omega arith) (slots_apart s (get_or (owned os) k d) (small m s os f) (later_small m s os f k d h) e)) none (behind_first m s os f)

@@ -1,7 +1,6 @@
 -- What each command keeps, transactions keep.
-use Rattle.std.proofs.Common.{◌≡◌, ℕ, Bool, true, false, List, [], ◌∷◌, Option, None, Some, refl, sym, ap, subst, ◌∙◌}
+use Rattle.std.proofs.Common.{◌≡◌, ℕ, zero, suc, Bool, true, false, List, [], ◌∷◌, length, drop, Option, None, Some, refl, sym, ap, subst, ◌∙◌}
 use Rattle.std.specs.Prelude.{if◌then◌else◌, All}
-use Rattle.gw_base.specs.Choose.{is_choose}
 use Rattle.gw_base.specs.declared.code.Code.TheVariants.{NotImplemented}
 use Rattle.gw_base.specs.declared.ids.CtxNum.{CtxNum}
 use Rattle.gw_base.specs.declared.command_words.Rules.{Rules}
@@ -18,19 +17,39 @@ use Rattle.gw_table.specs.Maps.{Maps, Outcome, ctx, numbers}
 use Rattle.gw_table.specs.Unused.{owned}
 use Rattle.gw_refusal.specs.declared.at.At.{At}
 use Rattle.gw_refusal.specs.declared.at.At.TheVariants.{Null, Live, Unmade, Each}
+use Rattle.gw_refusal.specs.Places.{made}
 use Rattle.gw_cmd.specs.Commands.{command}
 use Rattle.gw_cmd.specs.Suits.{IsUnused}
-use Rattle.gw_tx.specs.Owned.{OwnedAction, owning, is_adding, with_slots, slots_behind, with_owned, AreFreeSlots}
+use Rattle.gw_reserve.specs.Owned.{OwnedAction, first_owned, later_owned, paired_commands, paired_action, paired_actions, AreFreeSlots}
 use Rattle.gw_tx.specs.Transactions.{refused_action, attempted, attempt, commands, in_each, in_all, action_for_each, action_in, action_for, action_on, action, actions}
-use Rattle.gw_tx.proofs.FreeSlots.{MakesNone, IsOfKind, taken, left, free_slot, free_left, free_on, free_after, kind_slot, kind_left}
+use Rattle.gw_tx.proofs.FreeSlots.{IsOfKind, makes_none, free_slot, free_later, free_on, free_after, kind_first, kind_later}
 use Rattle.gw_tx.proofs.EachContext.{each_takes_none, stays_each}
 
--- what commands keep that find their slot free and of a kind, and that they make no termination in another slot
-pub record CommandsKeep (rules : Rules) (S : ℕ → Type 0) (Q : Maps → Type 0) : Type 0 where
-  pub keeps : (at : At) (slot : Option ℕ) (c : Command) (m : Maps) → IsUnused slot m → IsOfKind S slot → Q m → Q (command rules at slot c m).maps
-  pub makes : (at : At) (slot : Option ℕ) (c : Command) (m : Maps) → IsUnused slot m → MakesNone slot m (command rules at slot c m).maps
+-- What commands of some kind keep that find their slot free and of a kind. A command is of its kind when its action's context is
+-- made too, and without its slot.
+pub record CommandsKeep (rules : Rules) (Ok : At → Option ℕ → Command → Type 0) (S : ℕ → Type 0) (Q : Maps → Type 0) : Type 0 where
+  pub keeps : (at : At) (slot : Option ℕ) (c : Command) (m : Maps) → Ok at slot c → IsUnused slot m → IsOfKind S slot → Q m → Q (command rules at slot c m).maps
+  pub lives : (at : At) (slot : Option ℕ) (c : Command) → Ok at slot c → Ok (made at) slot c
+  pub less : (at : At) (slot : Option ℕ) (c : Command) → Ok at slot c → Ok at None c
 
--- the same, and that slots are free and of the kind
+-- each of the commands is of the kind
+abbrev pub Oks : (At → Option ℕ → Command → Type 0) → At → List (Option ℕ × Command) → Type 0
+Oks Ok at [] = Unit {0}
+Oks Ok at (p ∷ ps) = Ok at p.0 p.1 × Oks Ok at ps
+
+-- so are those of an action, in the context that it is for
+abbrev pub OksIn : (At → Option ℕ → Command → Type 0) → List (Option ℕ × Command) → CtxRef → Option CtxNum → Type 0
+OksIn Ok ps ref.Null owned = Oks Ok Null ps
+OksIn Ok ps (ref.Num n) owned = Oks Ok (Live n) ps
+OksIn Ok ps ref.Choose None = Unit {0}
+OksIn Ok ps ref.Choose (Some n) = Oks Ok (Unmade n) ps
+OksIn Ok ps ref.All owned = (n : CtxNum) → Oks Ok (Each n) ps
+
+abbrev pub AllOks : (At → Option ℕ → Command → Type 0) → List OwnedAction → Type 0
+AllOks Ok [] = Unit {0}
+AllOks Ok (a ∷ more) = OksIn Ok a.commands a.sent.ctx a.number × AllOks Ok more
+
+-- the same of the maps, and that slots are free and of the kind
 pub record With (S : ℕ → Type 0) (Q : Maps → Type 0) (slots : List (Option ℕ)) (m : Maps) : Type 0 where
   pub kept : Q m
   pub free : AreFreeSlots m slots
@@ -41,87 +60,100 @@ one_of : {A : Type 0} (P : Maps → Type 0) (b : Bool) (x y : Outcome A) → P x
 one_of P true x y p q = p
 one_of P false x y p q = q
 
-module _ {S : ℕ → Type 0} {Q : Maps → Type 0} (rules : Rules) (k : CommandsKeep rules S Q) where
-  less : (slots : List (Option ℕ)) (cs : List Command) (m : Maps) → With S Q slots m → With S Q (slots_behind slots cs) m
-  less slots [] m w = w
-  less slots (c ∷ cs) m w = less (left (is_adding c) slots) cs m (record { kept = w.kept; free = free_left m slots (is_adding c) w.free; kind = kind_left S slots (is_adding c) w.kind })
+-- the entries behind one more
+drop_later : {X : Type 0} (k : ℕ) (l : List (Option X)) → drop k (later_owned l) ≡ drop (suc k) l
+drop_later zero [] = refl
+drop_later (suc k) [] = refl
+drop_later k (x ∷ xs) = refl
 
-  pub kept_command : (at : At) (slots : List (Option ℕ)) (c : Command) (m : Maps) → With S Q slots m → With S Q (left (is_adding c) slots) (command rules at (taken (is_adding c) slots) c m).maps
-  kept_command at slots c m w = record {
-    kept = k.keeps at (taken (is_adding c) slots) c m (free_slot m slots (is_adding c) w.free) (kind_slot S slots (is_adding c) w.kind) w.kept;
-    free = free_after m (command rules at (taken (is_adding c) slots) c m).maps slots (is_adding c) (k.makes at (taken (is_adding c) slots) c m (free_slot m slots (is_adding c) w.free)) w.free;
-    kind = kind_left S slots (is_adding c) w.kind;
+module _ {Ok : At → Option ℕ → Command → Type 0} {S : ℕ → Type 0} {Q : Maps → Type 0} (rules : Rules) (k : CommandsKeep rules Ok S Q) where
+  later : (slots : List (Option ℕ)) (m : Maps) → With S Q slots m → With S Q (later_owned slots) m
+  later slots m w = record { kept = w.kept; free = free_later m slots w.free; kind = kind_later S slots w.kind }
+
+  behind : (slots : List (Option ℕ)) (n : ℕ) (m : Maps) → With S Q slots m → With S Q (drop n slots) m
+  behind slots zero m w = w
+  behind slots (suc n) m w = subst (λ (l : List (Option ℕ)). With S Q l m) (drop_later n slots) (behind (later_owned slots) n m (later slots m w))
+
+  pub all_live : (at : At) (b : Bool) (ps : List (Option ℕ × Command)) → Oks Ok at ps → Oks Ok (if b then made at else at) ps
+  all_live at b [] o = tt
+  all_live at true (p ∷ ps) o = (k.lives at p.0 p.1 o.0, all_live at true ps o.1)
+  all_live at false (p ∷ ps) o = o
+
+  pub kept_command : (at : At) (slots : List (Option ℕ)) (c : Command) (m : Maps) → Ok at (first_owned slots) c → With S Q slots m → With S Q (later_owned slots) (command rules at (first_owned slots) c m).maps
+  kept_command at slots c m o w = record {
+    kept = k.keeps at (first_owned slots) c m o (free_slot m slots w.free) (kind_first S slots w.kind) w.kept;
+    free = free_after m (command rules at (first_owned slots) c m).maps slots (makes_none rules at (first_owned slots) c m (free_slot m slots w.free)) w.free;
+    kind = kind_later S slots w.kind;
   }
 
-  pub kept_commands : (at : At) (slots : List (Option ℕ)) (cs : List Command) (m : Maps) → With S Q slots m → With S Q (slots_behind slots cs) (commands rules at (with_slots slots cs) m).maps
+  pub kept_commands : (at : At) (slots : List (Option ℕ)) (cs : List Command) (m : Maps) → Oks Ok at (paired_commands slots cs) → With S Q slots m → With S Q (drop (length cs) slots) (commands rules at (paired_commands slots cs) m).maps
   unfolding in_order
-  kept_commands at slots [] m w = w
-  kept_commands at slots (c ∷ cs) m w =
-      let now : Outcome (Attempts At CommandReply) = attempt rules at (taken (is_adding c) slots, c) m in
-      let one : With S Q (left (is_adding c) slots) now.maps = kept_command at slots c m w in
-      one_of (λ n. With S Q (slots_behind (left (is_adding c) slots) cs) n) now.answer.stopped (none_from now.answer.next true now.maps) (in_order (attempt rules) now.answer.next (with_slots (left (is_adding c) slots) cs) now.maps)
-      (less (left (is_adding c) slots) cs now.maps one)
-      (kept_commands now.answer.next (left (is_adding c) slots) cs now.maps one)
+  kept_commands at slots [] m o w = w
+  kept_commands at slots (c ∷ cs) m o w =
+      let now : Outcome (Attempts At CommandReply) = attempt rules at (first_owned slots, c) m in
+      let one : With S Q (later_owned slots) now.maps = kept_command at slots c m o.0 w in
+      subst (λ (l : List (Option ℕ)). With S Q l (commands rules at (paired_commands slots (c ∷ cs)) m).maps) (drop_later (length cs) slots)
+      (one_of (λ n. With S Q (drop (length cs) (later_owned slots)) n) now.answer.stopped (none_from now.answer.next true now.maps) (in_order (attempt rules) now.answer.next (paired_commands (later_owned slots) cs) now.maps)
+      (behind (later_owned slots) (length cs) now.maps one)
+      (kept_commands now.answer.next (later_owned slots) cs now.maps (all_live at (command rules at (first_owned slots) c m).answer.made (paired_commands (later_owned slots) cs) o.1) one))
 
   -- in one of the contexts under *, the slots are left
-  kept_there : (n : CtxNum) (held slots : List (Option ℕ)) (c : Command) (m : Maps) → With S Q held m → With S Q held (command rules (Each n) (taken (is_adding c) slots) c m).maps
-  kept_there n held slots c m w =
-      subst (λ o. With S Q held o.maps) (sym (each_takes_none rules n slots c m))
-      (record { kept = k.keeps (Each n) None c m tt tt w.kept; free = free_on m (command rules (Each n) None c m).maps None held (λ i d h. tt) (k.makes (Each n) None c m tt) w.free; kind = w.kind })
+  kept_there : (n : CtxNum) (held : List (Option ℕ)) (slot : Option ℕ) (c : Command) (m : Maps) → Ok (Each n) slot c → With S Q held m → With S Q held (command rules (Each n) slot c m).maps
+  kept_there n held slot c m o w =
+      subst (λ x. With S Q held x.maps) (sym (each_takes_none rules n slot c m))
+      (record { kept = k.keeps (Each n) None c m (k.less (Each n) slot c o) tt tt w.kept; free = free_on m (command rules (Each n) None c m).maps None held (λ i d h. tt) (makes_none rules (Each n) None c m tt) w.free; kind = w.kind })
 
-  kept_each : (at : At) (n : CtxNum) (held slots : List (Option ℕ)) (cs : List Command) (m : Maps) → at ≡ Each n → With S Q held m → With S Q held (commands rules at (with_slots slots cs) m).maps
+  kept_each : (at : At) (n : CtxNum) (held slots : List (Option ℕ)) (cs : List Command) (m : Maps) → at ≡ Each n → Oks Ok at (paired_commands slots cs) → With S Q held m → With S Q held (commands rules at (paired_commands slots cs) m).maps
   unfolding in_order
-  kept_each at n held slots [] m e w = w
-  kept_each at n held slots (c ∷ cs) m e w =
-      let now : Outcome (Attempts At CommandReply) = attempt rules at (taken (is_adding c) slots, c) m in
-      let one : With S Q held now.maps = subst (λ (x : At). With S Q held (command rules x (taken (is_adding c) slots) c m).maps) (sym e) (kept_there n held slots c m w) in
-      let next : now.answer.next ≡ Each n = ap (λ (x : At). (attempted x c (command rules at (taken (is_adding c) slots) c m).answer).next) e ∙ stays_each n (command rules at (taken (is_adding c) slots) c m).answer.made in
-      one_of (λ x. With S Q held x) now.answer.stopped (none_from now.answer.next true now.maps) (in_order (attempt rules) now.answer.next (with_slots (left (is_adding c) slots) cs) now.maps)
+  kept_each at n held slots [] m e o w = w
+  kept_each at n held slots (c ∷ cs) m e o w =
+      let now : Outcome (Attempts At CommandReply) = attempt rules at (first_owned slots, c) m in
+      let there : Ok (Each n) (first_owned slots) c = subst (λ (x : At). Ok x (first_owned slots) c) e o.0 in
+      let one : With S Q held now.maps = subst (λ (x : At). With S Q held (command rules x (first_owned slots) c m).maps) (sym e) (kept_there n held (first_owned slots) c m there w) in
+      let next : now.answer.next ≡ Each n = ap (λ (x : At). (attempted x c (command rules at (first_owned slots) c m).answer).next) e ∙ stays_each n (command rules at (first_owned slots) c m).answer.made in
+      one_of (λ x. With S Q held x) now.answer.stopped (none_from now.answer.next true now.maps) (in_order (attempt rules) now.answer.next (paired_commands (later_owned slots) cs) now.maps)
       one
-      (kept_each now.answer.next n held (left (is_adding c) slots) cs now.maps next one)
+      (kept_each now.answer.next n held (later_owned slots) cs now.maps next (all_live at (command rules at (first_owned slots) c m).answer.made (paired_commands (later_owned slots) cs) o.1) one)
 
-  pub kept_in_each : (n : CtxNum) (slots : List (Option ℕ)) (cs : List Command) (m : Maps) → With S Q slots m → With S Q slots (commands rules (Each n) (with_slots slots cs) m).maps
-  kept_in_each n slots cs m w = kept_each (Each n) n slots slots cs m refl w
+  pub kept_in_each : (n : CtxNum) (slots : List (Option ℕ)) (cs : List Command) (m : Maps) → Oks Ok (Each n) (paired_commands slots cs) → With S Q slots m → With S Q slots (commands rules (Each n) (paired_commands slots cs) m).maps
+  kept_in_each n slots cs m o w = kept_each (Each n) n slots slots cs m refl o w
 
-  kept_in_all : (stopped : Bool) (slots : List (Option ℕ)) (cs : List Command) (ns : List CtxNum) (m : Maps) → With S Q slots m → With S Q slots (in_order (in_each rules (with_slots slots cs)) stopped ns m).maps
+  kept_in_all : (stopped : Bool) (slots : List (Option ℕ)) (cs : List Command) (ns : List CtxNum) (m : Maps) → ((n : CtxNum) → Oks Ok (Each n) (paired_commands slots cs)) → With S Q slots m → With S Q slots (in_order (in_each rules (paired_commands slots cs)) stopped ns m).maps
   unfolding in_order
-  kept_in_all stopped slots cs [] m w = w
-  kept_in_all stopped slots cs (n ∷ ns) m w =
-      let now : Outcome (Attempts Bool ActionReply) = in_each rules (with_slots slots cs) stopped n m in
-      kept_in_all now.answer.next slots cs ns now.maps (kept_in_each n slots cs m w)
+  kept_in_all stopped slots cs [] m o w = w
+  kept_in_all stopped slots cs (n ∷ ns) m o w =
+      let now : Outcome (Attempts Bool ActionReply) = in_each rules (paired_commands slots cs) stopped n m in
+      kept_in_all now.answer.next slots cs ns now.maps o (kept_in_each n slots cs m (o n) w)
 
-  kept_for_each : (slots : List (Option ℕ)) (cs : List Command) (m : Maps) (ns : List CtxNum) → With S Q slots m → With S Q (slots_behind slots cs) (action_for_each rules (with_slots slots cs) m ns).maps
-  kept_for_each slots cs m [] w = less slots cs m w
-  kept_for_each slots cs m (n ∷ ns) w = less slots cs (in_all rules (with_slots slots cs) (n ∷ ns) m).maps (kept_in_all false slots cs (n ∷ ns) m w)
+  kept_for_each : (slots : List (Option ℕ)) (cs : List Command) (m : Maps) (ns : List CtxNum) → ((n : CtxNum) → Oks Ok (Each n) (paired_commands slots cs)) → With S Q slots m → With S Q (drop (length cs) slots) (action_for_each rules (paired_commands slots cs) m ns).maps
+  kept_for_each slots cs m [] o w = behind slots (length cs) m w
+  kept_for_each slots cs m (n ∷ ns) o w = behind slots (length cs) (in_all rules (paired_commands slots cs) (n ∷ ns) m).maps (kept_in_all false slots cs (n ∷ ns) m o w)
 
-  kept_in : (n : CtxNum) (slots : List (Option ℕ)) (cs : List Command) (m : Maps) (o : Option ContextRecord) → With S Q slots m → With S Q (slots_behind slots cs) (action_in rules n (with_slots slots cs) m o).maps
-  kept_in n slots cs m None w = less slots cs m w
-  kept_in n slots cs m (Some c) w = kept_commands (Live n) slots cs m w
+  kept_in : (n : CtxNum) (slots : List (Option ℕ)) (cs : List Command) (m : Maps) (o : Option ContextRecord) → Oks Ok (Live n) (paired_commands slots cs) → With S Q slots m → With S Q (drop (length cs) slots) (action_in rules n (paired_commands slots cs) m o).maps
+  kept_in n slots cs m None o w = behind slots (length cs) m w
+  kept_in n slots cs m (Some c) o w = kept_commands (Live n) slots cs m o w
 
-  kept_for : (number : Option CtxNum) (slots : List (Option ℕ)) (cs : List Command) (m : Maps) → With S Q slots m → With S Q (slots_behind slots cs) (action_for rules number (with_slots slots cs) m).maps
-  kept_for None slots cs m w = less slots cs m w
-  kept_for (Some n) slots cs m w = kept_commands (Unmade n) slots cs m w
+  kept_for : (number : Option CtxNum) (slots : List (Option ℕ)) (cs : List Command) (m : Maps) → OksIn Ok (paired_commands slots cs) ref.Choose number → With S Q slots m → With S Q (drop (length cs) slots) (action_for rules number (paired_commands slots cs) m).maps
+  kept_for None slots cs m o w = behind slots (length cs) m w
+  kept_for (Some n) slots cs m o w = kept_commands (Unmade n) slots cs m o w
 
-  abbrev owned_one : Action → Option CtxNum → List (Option ℕ) → OwnedAction
-  owned_one a number slots = record { sent = a; number = number; commands = with_slots slots a.commands }
+  kept_on : (a : Action) (number : Option CtxNum) (slots : List (Option ℕ)) (m : Maps) (sent : CtxRef) → OksIn Ok (paired_commands slots a.commands) sent number → With S Q slots m → With S Q (drop (length a.commands) slots) (action_on rules (paired_action number slots a) m sent).maps
+  kept_on a number slots m (ref.Num n) o w = kept_in n slots a.commands m (ctx m n) o w
+  kept_on a number slots m ref.Choose o w = kept_for number slots a.commands m o w
+  kept_on a number slots m ref.Null o w = kept_commands Null slots a.commands m o w
+  kept_on a number slots m ref.All o w = kept_for_each slots a.commands m (numbers m) o w
 
-  kept_on : (a : Action) (number : Option CtxNum) (slots : List (Option ℕ)) (m : Maps) (sent : CtxRef) → With S Q slots m → With S Q (slots_behind slots a.commands) (action_on rules (owned_one a number slots) m sent).maps
-  kept_on a number slots m (ref.Num n) w = kept_in n slots a.commands m (ctx m n) w
-  kept_on a number slots m ref.Choose w = kept_for number slots a.commands m w
-  kept_on a number slots m ref.Null w = kept_commands Null slots a.commands m w
-  kept_on a number slots m ref.All w = kept_for_each slots a.commands m (numbers m) w
+  pub kept_action : (a : Action) (number : Option CtxNum) (slots : List (Option ℕ)) (m : Maps) → OksIn Ok (paired_commands slots a.commands) a.ctx number → With S Q slots m → With S Q (drop (length a.commands) slots) (action rules tt (paired_action number slots a) m).maps
+  kept_action a number slots m o w =
+      one_of (λ x. With S Q (drop (length a.commands) slots) x) a.props (refused_action a.ctx NotImplemented m) (action_on rules (paired_action number slots a) m a.ctx)
+      (behind slots (length a.commands) m w) (kept_on a number slots m a.ctx o w)
 
-  pub kept_action : (a : Action) (number : Option CtxNum) (slots : List (Option ℕ)) (m : Maps) → With S Q slots m → With S Q (slots_behind slots a.commands) (action rules tt (owned_one a number slots) m).maps
-  kept_action a number slots m w =
-      one_of (λ x. With S Q (slots_behind slots a.commands) x) a.props (refused_action a.ctx NotImplemented m) (action_on rules (owned_one a number slots) m a.ctx)
-      (less slots a.commands m w) (kept_on a number slots m a.ctx w)
-
-  pub kept_actions : (held : List (Option CtxNum)) (slots : List (Option ℕ)) (asked : List Action) (m : Maps) → With S Q slots m → Q (actions rules (with_owned held slots asked) m).maps
+  pub kept_actions : (held : List (Option CtxNum)) (slots : List (Option ℕ)) (asked : List Action) (m : Maps) → AllOks Ok (paired_actions held slots asked) → With S Q slots m → Q (actions rules (paired_actions held slots asked) m).maps
   unfolding in_order
-  kept_actions held slots [] m w = w.kept
-  kept_actions held slots (a ∷ more) m w =
-      let now : Outcome (Attempts Unit ActionReply) = action rules tt (owning held slots a) m in
-      let one : With S Q (slots_behind slots a.commands) now.maps = kept_action a (taken (is_choose a.ctx) held) slots m w in
-      one_of Q now.answer.stopped (none_from now.answer.next true now.maps) (in_order (action rules) now.answer.next (with_owned (left (is_choose a.ctx) held) (slots_behind slots a.commands) more) now.maps)
+  kept_actions held slots [] m o w = w.kept
+  kept_actions held slots (a ∷ more) m o w =
+      let now : Outcome (Attempts Unit ActionReply) = action rules tt (paired_action (first_owned held) slots a) m in
+      let one : With S Q (drop (length a.commands) slots) now.maps = kept_action a (first_owned held) slots m o.0 w in
+      one_of Q now.answer.stopped (none_from now.answer.next true now.maps) (in_order (action rules) now.answer.next (paired_actions (later_owned held) (drop (length a.commands) slots) more) now.maps)
       one.kept
-      (kept_actions (left (is_choose a.ctx) held) (slots_behind slots a.commands) more now.maps one)
+      (kept_actions (later_owned held) (drop (length a.commands) slots) more now.maps o.1 one)

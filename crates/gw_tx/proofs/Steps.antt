@@ -11,7 +11,7 @@ use Rattle.gw_table.specs.Maps.{Maps, Outcome}
 use Rattle.gw_table.proofs.Folding.{ended}
 use Rattle.gw_refusal.specs.declared.at.At.{At}
 use Rattle.gw_refusal.specs.declared.at.At.TheVariants.{Each}
-use Rattle.gw_tx.specs.Owned.{OwnedAction}
+use Rattle.gw_reserve.specs.Owned.{OwnedAction}
 use Rattle.gw_tx.specs.Transactions.{attempt, commands, action_reply, in_each, action}
 
 -- what one command gave, with what it owns

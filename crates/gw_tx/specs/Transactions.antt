@@ -22,7 +22,7 @@ use Rattle.gw_refusal.specs.declared.at.At.TheVariants.{Null, Live, Unmade, Each
 use Rattle.gw_cmd.specs.declared.outcome.CmdOutcome.{CmdOutcome}
 use Rattle.gw_refusal.specs.Places.{made}
 use Rattle.gw_cmd.specs.Commands.{command}
-use Rattle.gw_tx.specs.Owned.{OwnedAction, with_owned}
+use Rattle.gw_reserve.specs.Owned.{OwnedAction, with_ids}
 
 -- ---- the commands of an action
 
@@ -123,8 +123,12 @@ action rules u a m = if a.sent.props then refused_action a.sent.ctx NotImplement
 abbrev pub actions : Rules → List OwnedAction → Maps → Outcome (Attempts Unit ActionReply)
 actions rules owners m = in_order (action rules) tt owners m
 
--- a request, with what its places own
-unfoldable pub transaction : Rules → Request → Ids → Maps → Outcome TxReply
-transaction rules r ids m =
-    let o = actions rules (with_owned ids.contexts ids.slots r.actions) m in
+-- a request whose actions are paired with what they own
+unfoldable pub paired_transaction : Rules → Request → List OwnedAction → Maps → Outcome TxReply
+paired_transaction rules r owners m =
+    let o = actions rules owners m in
     record { maps = o.maps; answer = record { id = r.id; result = Ok o.answer.answers } }
+
+-- a request, with what its $ own
+unfoldable pub transaction : Rules → Request → Ids → Maps → Outcome TxReply
+transaction rules r ids m = paired_transaction rules r (with_ids r ids) m

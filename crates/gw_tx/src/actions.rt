@@ -1,14 +1,13 @@
 //! The actions of a transaction.
 
 ghost use Rattle.std.specs.Prelude.{◌≡◌, true, IfOk, OnOk};
-ghost use Rattle.gw_table.specs.Parts.{Every};
-ghost use Rattle.gw_table.specs.WellFormed.{IsSound};
-ghost use Rattle.gw_tx.specs.Owned.{with_slots, with_owned, slots_behind, AreFreeSlots};
+ghost use Rattle.gw_reserve.specs.Owned.{AreFreeSlots, paired_action, paired_actions};
+ghost use Rattle.gw_tx.specs.Footprints.{action_footprint, footprint_of, Covers};
 ghost use Rattle.gw_tx.specs.Transactions.{action as action_done, actions as all_actions};
 
 use crate::commands::commands;
 use crate::contexts::action_for_each;
-use crate::owned::{number_of, slots_behind};
+use crate::owned::{entries_behind, next_entry};
 use crate::replies::{action_error, replied};
 use gw_base::{Code, CtxNum, CtxRef, Items, NoMemory, Rules};
 use gw_cmd::At;
@@ -17,7 +16,7 @@ use gw_reply::ActionReply;
 use gw_table::{Attempts, Part};
 use std::alloc::Global;
 
-/// Carries one action out, with the number that it owns if it is one with `$`, and the slots that its commands own.
+/// Carries one action out, with the number that it owns, and the entries of its commands before any others.
 fn action(
     alloc: Global,
     rules: &Rules,
@@ -26,11 +25,10 @@ fn action(
     slots: &[Option<u16>],
     sent: &Action<'_>,
 ) -> Result<Attempts<(), ActionReply>, NoMemory>
-    requires every { part.old.keys ≡ Every }
-    requires sound { IsSound Every part.old.maps }
+    requires covered { Covers part.old (action_footprint (paired_action number slots.now sent.now) part.old.maps) }
     requires unused { AreFreeSlots part.old.maps slots.now }
-    ensures maps { OnOk result (part.new.maps ≡ (action_done rules.now tt (record { sent = sent.now; number = number; commands = with_slots slots.now sent.now.commands }) part.old.maps).maps) }
-    ensures answer { IfOk result (λ done. done ≡ (action_done rules.now tt (record { sent = sent.now; number = number; commands = with_slots slots.now sent.now.commands }) part.old.maps).answer) }
+    ensures maps { OnOk result (part.new.maps ≡ (action_done rules.now tt (paired_action number slots.now sent.now) part.old.maps).maps) }
+    ensures answer { IfOk result (λ done. done ≡ (action_done rules.now tt (paired_action number slots.now sent.now) part.old.maps).answer) }
     ensures keys { part.new.keys ≡ part.old.keys }
 {
     if sent.props {
@@ -55,7 +53,7 @@ fn action(
     replied(alloc, done)
 }
 
-/// Carries actions out in order, up to the first that stops, with the numbers and slots that their places own.
+/// Carries actions out in order, up to the first that stops, with what they and their commands own.
 pub(crate) fn actions(
     alloc: Global,
     rules: &Rules,
@@ -64,21 +62,20 @@ pub(crate) fn actions(
     slots: &[Option<u16>],
     asked: &[Action<'_>],
 ) -> Result<Items<ActionReply>, NoMemory>
-    requires every { part.old.keys ≡ Every }
-    requires sound { IsSound Every part.old.maps }
+    requires covered { Covers part.old (footprint_of (paired_actions numbers.now slots.now asked.now) part.old.maps) }
     requires unused { AreFreeSlots part.old.maps slots.now }
-    ensures maps { OnOk result (part.new.maps ≡ (all_actions rules.now (with_owned numbers.now slots.now asked.now) part.old.maps).maps) }
-    ensures answer { IfOk result (λ replies. replies ≡ (all_actions rules.now (with_owned numbers.now slots.now asked.now) part.old.maps).answer.answers) }
+    ensures maps { OnOk result (part.new.maps ≡ (all_actions rules.now (paired_actions numbers.now slots.now asked.now) part.old.maps).maps) }
+    ensures answer { IfOk result (λ replies. replies ≡ (all_actions rules.now (paired_actions numbers.now slots.now asked.now) part.old.maps).answer.answers) }
     ensures keys { part.new.keys ≡ part.old.keys }
 {
     let mut numbers_left = numbers;
     let mut slots_left = slots;
     let mut replies = Items::new(alloc);
     for sent in asked {
-        let (number, later) = number_of(sent, numbers_left);
+        let (number, later) = next_entry(numbers_left);
         let done = action(alloc, rules, part, number, slots_left, sent)?;
         numbers_left = later;
-        slots_left = slots_behind(slots_left, sent.commands.as_slice());
+        slots_left = entries_behind(slots_left, sent.commands.len());
         replies.append(done.answers)?;
         if done.stopped {
             return Ok(replies);

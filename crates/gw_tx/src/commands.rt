@@ -1,13 +1,13 @@
 //! The commands of an action.
 
 ghost use Rattle.std.specs.Prelude.{◌≡◌, IfOk, OnOk};
-ghost use Rattle.gw_table.specs.Parts.{Every};
-ghost use Rattle.gw_table.specs.WellFormed.{IsSound};
+ghost use Rattle.gw_cmd.specs.Keys.{command_keys};
 ghost use Rattle.gw_cmd.specs.Suits.{IsUnused};
-ghost use Rattle.gw_tx.specs.Owned.{with_slots, AreFreeSlots};
+ghost use Rattle.gw_reserve.specs.Owned.{AreFreeSlots, paired_commands};
+ghost use Rattle.gw_tx.specs.Footprints.{list_keys, Covers};
 ghost use Rattle.gw_tx.specs.Transactions.{attempt, commands as all_commands};
 
-use crate::owned::slot_of;
+use crate::owned::next_entry;
 use gw_base::{Items, NoMemory, Rules};
 use gw_cmd::{At, command};
 use gw_msg::Command;
@@ -24,8 +24,7 @@ fn attempt(
     slot: Option<u16>,
     sent: &Command<'_>,
 ) -> Result<Attempts<At, CommandReply>, NoMemory>
-    requires every { part.old.keys ≡ Every }
-    requires sound { IsSound Every part.old.maps }
+    requires covered { Covers part.old (command_keys at slot sent.now part.old.maps) }
     requires unused { IsUnused slot part.old.maps }
     ensures maps { OnOk result (part.new.maps ≡ (attempt rules.now at (slot, sent.now) part.old.maps).maps) }
     ensures answer { IfOk result (λ done. done ≡ (attempt rules.now at (slot, sent.now) part.old.maps).answer) }
@@ -48,18 +47,17 @@ pub(crate) fn commands(
     slots: &[Option<u16>],
     asked: &[Command<'_>],
 ) -> Result<Attempts<At, CommandReply>, NoMemory>
-    requires every { part.old.keys ≡ Every }
-    requires sound { IsSound Every part.old.maps }
+    requires covered { Covers part.old (list_keys at (paired_commands slots.now asked.now) part.old.maps) }
     requires unused { AreFreeSlots part.old.maps slots.now }
-    ensures maps { OnOk result (part.new.maps ≡ (all_commands rules.now at (with_slots slots.now asked.now) part.old.maps).maps) }
-    ensures answer { IfOk result (λ done. done ≡ (all_commands rules.now at (with_slots slots.now asked.now) part.old.maps).answer) }
+    ensures maps { OnOk result (part.new.maps ≡ (all_commands rules.now at (paired_commands slots.now asked.now) part.old.maps).maps) }
+    ensures answer { IfOk result (λ done. done ≡ (all_commands rules.now at (paired_commands slots.now asked.now) part.old.maps).answer) }
     ensures keys { part.new.keys ≡ part.old.keys }
 {
     let mut at = at;
     let mut left = slots;
     let mut answers = Items::new(alloc);
     for sent in asked {
-        let (slot, later) = slot_of(sent, left);
+        let (slot, later) = next_entry(left);
         left = later;
         let done = attempt(alloc, rules, part, at, slot, sent)?;
         at = done.next;

@@ -1,10 +1,11 @@
 //! An action for each context.
 
 ghost use Rattle.std.specs.Prelude.{◌≡◌, IfOk, OnOk};
+ghost use Rattle.gw_base.specs.declared.ids.CtxNum.{CtxNum};
 ghost use Rattle.gw_table.specs.Maps.{numbers};
-ghost use Rattle.gw_table.specs.Parts.{Every};
-ghost use Rattle.gw_table.specs.WellFormed.{IsSound};
-ghost use Rattle.gw_tx.specs.Owned.{with_slots, AreFreeSlots};
+ghost use Rattle.gw_refusal.specs.declared.at.At.TheVariants.{Each};
+ghost use Rattle.gw_reserve.specs.Owned.{AreFreeSlots, paired_commands};
+ghost use Rattle.gw_tx.specs.Footprints.{list_keys, Covers};
 ghost use Rattle.gw_tx.specs.Transactions.{in_all, action_for_each};
 
 use crate::commands::commands;
@@ -26,11 +27,10 @@ fn in_all(
     asked: &[Command<'_>],
     numbers: &[CtxNum],
 ) -> Result<Attempts<bool, ActionReply>, NoMemory>
-    requires every { part.old.keys ≡ Every }
-    requires sound { IsSound Every part.old.maps }
+    requires covered { (n : CtxNum) → Covers part.old (list_keys (Each n) (paired_commands slots.now asked.now) part.old.maps) }
     requires unused { AreFreeSlots part.old.maps slots.now }
-    ensures maps { OnOk result (part.new.maps ≡ (in_all rules.now (with_slots slots.now asked.now) numbers.now part.old.maps).maps) }
-    ensures answer { IfOk result (λ done. done ≡ (in_all rules.now (with_slots slots.now asked.now) numbers.now part.old.maps).answer) }
+    ensures maps { OnOk result (part.new.maps ≡ (in_all rules.now (paired_commands slots.now asked.now) numbers.now part.old.maps).maps) }
+    ensures answer { IfOk result (λ done. done ≡ (in_all rules.now (paired_commands slots.now asked.now) numbers.now part.old.maps).answer) }
     ensures keys { part.new.keys ≡ part.old.keys }
 {
     let mut stopped = false;
@@ -55,11 +55,10 @@ pub(crate) fn action_for_each(
     slots: &[Option<u16>],
     asked: &[Command<'_>],
 ) -> Result<Attempts<(), ActionReply>, NoMemory>
-    requires every { part.old.keys ≡ Every }
-    requires sound { IsSound Every part.old.maps }
+    requires covered { (n : CtxNum) → Covers part.old (list_keys (Each n) (paired_commands slots.now asked.now) part.old.maps) }
     requires unused { AreFreeSlots part.old.maps slots.now }
-    ensures maps { OnOk result (part.new.maps ≡ (action_for_each rules.now (with_slots slots.now asked.now) part.old.maps (numbers part.old.maps)).maps) }
-    ensures answer { IfOk result (λ done. done ≡ (action_for_each rules.now (with_slots slots.now asked.now) part.old.maps (numbers part.old.maps)).answer) }
+    ensures maps { OnOk result (part.new.maps ≡ (action_for_each rules.now (paired_commands slots.now asked.now) part.old.maps (numbers part.old.maps)).maps) }
+    ensures answer { IfOk result (λ done. done ≡ (action_for_each rules.now (paired_commands slots.now asked.now) part.old.maps (numbers part.old.maps)).answer) }
     ensures keys { part.new.keys ≡ part.old.keys }
 {
     let numbers = part.numbers(alloc)?;

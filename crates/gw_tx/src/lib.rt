@@ -9,5 +9,8 @@ mod owned;
 mod replies;
 mod requests;
 
-pub use laws::{answers_can_be_read, later_slots_stay_free, transactions_keep_tables_well_formed};
+pub use laws::{
+    answers_can_be_read, keys_of_requests, later_slots_stay_free,
+    transactions_keep_tables_well_formed, what_others_own_stays_free,
+};
 pub use requests::transaction;

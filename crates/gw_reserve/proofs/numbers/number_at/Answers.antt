@@ -8,5 +8,5 @@ use Rattle.gw_reserve.proofs.numbers.number_at.Goals as goal
 
 pub returns-clause-value : goal.returns-clause-value
 returns-clause-value c =
-    let l : c.args.place < length (whole_order c.args.order) = omega (arith, length-cyclic c.args.order.start c.args.order.limit c.requires.start) in
-    ap number_of_index c.at.ensures.value ∙ sym (get_or-map number_of_index (whole_order c.args.order) c.args.place 0 (number 0) l)
+    let l : c.args.rank < length (whole_order c.args.order) = omega (arith, length-cyclic c.args.order.start c.args.order.limit c.requires.start) in
+    ap number_of_index c.at.ensures.value ∙ sym (get_or-map number_of_index (whole_order c.args.order) c.args.rank 0 (number 0) l)

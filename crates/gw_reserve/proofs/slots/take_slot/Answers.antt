@@ -1,4 +1,4 @@
-use Rattle.std.proofs.Common.{◌≡◌, ℕ, ◌<◌, ◌≤◌, true, false, List, length, sym, ap, ◌∙◌, arith}
+use Rattle.std.proofs.Common.{refl, ◌≡◌, ℕ, ◌<◌, ◌≤◌, true, false, List, length, sym, ap, ◌∙◌, arith}
 use Rattle.std.specs.Prelude.{is_none}
 use Rattle.gw_table.specs.Maps.{term}
 use Rattle.gw_table.specs.Reserved.{slot_name}
@@ -11,27 +11,28 @@ use Rattle.gw_reserve.proofs.slots.take_slot.Goals as goal
 pub returns-then-is_none : goal.returns-then-is_none
 returns-then-is_none c =
     let none : is_none (term c.args.tables.now c.slot_name.result) ≡ true = seen_none c.find_term.result (term c.args.tables.now c.slot_name.result) false c.find_term.ensures c.if-is_none.ensures in
-    let here : c.loop-place.place < length (whole_order c.args.order) = omega (arith, length-whole_order c.args.order c.requires.search.start) in
-    let got = found (λ (s : ℕ). is_none (term c.args.tables.now (slot_name s))) (whole_order c.args.order) (slots_from c.args.tables.now c.args.order c.args.search.now.next) c.loop-place.place c.at-slot.result (0) here c.at-slot.ensures.value (ap (λ (n : List ℕ). is_none (term c.args.tables.now n)) (sym c.slot_name.ensures) ∙ none) c.loop-place.invariant.same in
-    record { value = got.0; rest = got.1; cursor = omega arith; search = record { start = c.requires.search.start; limit = c.requires.search.limit; next = omega arith; cursor = omega (arith, c.at-slot.ensures.small) } }
+    let here : c.loop-rank.rank < length (whole_order c.args.order) = omega (arith, length-whole_order c.args.order c.requires.search.start) in
+    let got = found (λ (s : ℕ). is_none (term c.args.tables.now (slot_name s))) (whole_order c.args.order) (slots_from c.args.tables.now c.args.order c.args.search.now.next) c.loop-rank.rank c.at-slot.result (0) here c.at-slot.ensures.value (ap (λ (n : List ℕ). is_none (term c.args.tables.now n)) (sym c.slot_name.ensures) ∙ none) c.loop-rank.invariant.same in
+    record { value = got.0; rest = got.1; none = λ e. absurd cc; cursor = omega arith; search = record { start = c.requires.search.start; limit = c.requires.search.limit; next = omega arith; cursor = omega (arith, c.at-slot.ensures.small) } }
 
-pub loop-place-preserved : goal.loop-place-preserved
-loop-place-preserved c =
+pub loop-rank-preserved : goal.loop-rank-preserved
+loop-rank-preserved c =
     let some : is_none (term c.args.tables.now c.slot_name.result) ≡ false = seen_none c.find_term.result (term c.args.tables.now c.slot_name.result) true c.find_term.ensures c.if-is_none.ensures in
-    let here : c.loop-place.place < length (whole_order c.args.order) = omega (arith, length-whole_order c.args.order c.requires.search.start) in
+    let here : c.loop-rank.rank < length (whole_order c.args.order) = omega (arith, length-whole_order c.args.order c.requires.search.start) in
     record {
-      same = passed (λ (s : ℕ). is_none (term c.args.tables.now (slot_name s))) (whole_order c.args.order) (slots_from c.args.tables.now c.args.order c.args.search.now.next) c.loop-place.place c.at-slot.result (0) here c.at-slot.ensures.value (ap (λ (n : List ℕ). is_none (term c.args.tables.now n)) (sym c.slot_name.ensures) ∙ some) c.loop-place.invariant.same;
-      search = c.loop-place.invariant.search;
+      same = passed (λ (s : ℕ). is_none (term c.args.tables.now (slot_name s))) (whole_order c.args.order) (slots_from c.args.tables.now c.args.order c.args.search.now.next) c.loop-rank.rank c.at-slot.result (0) here c.at-slot.ensures.value (ap (λ (n : List ℕ). is_none (term c.args.tables.now n)) (sym c.slot_name.ensures) ∙ some) c.loop-rank.invariant.same;
+      search = c.loop-rank.invariant.search;
     }
 
 pub returns : goal.returns
 returns c =
-    let all : length (whole_order c.args.order) ≤ c.loop-place.place = omega (arith, length-whole_order c.args.order c.requires.search.start) in
+    let all : length (whole_order c.args.order) ≤ c.loop-rank.rank = omega (arith, length-whole_order c.args.order c.requires.search.start) in
     let end : length (whole_order c.args.order) ≤ c.args.order.limit = omega (arith, length-whole_order c.args.order c.requires.search.start) in
-    let got = none_left (λ (s : ℕ). is_none (term c.args.tables.now (slot_name s))) (whole_order c.args.order) (slots_from c.args.tables.now c.args.order c.args.search.now.next) c.loop-place.place c.args.order.limit all end c.loop-place.invariant.same in
+    let got = none_left (λ (s : ℕ). is_none (term c.args.tables.now (slot_name s))) (whole_order c.args.order) (slots_from c.args.tables.now c.args.order c.args.search.now.next) c.loop-rank.rank c.args.order.limit all end c.loop-rank.invariant.same in
     record {
       value = got.0;
       rest = got.1;
-      cursor = ap (λ (s : Search). s.cursor) c.loop-place.invariant.search;
-      search = record { start = c.requires.search.start; limit = c.requires.search.limit; next = omega arith; cursor = omega (arith, ap (λ (s : Search). s.cursor) c.loop-place.invariant.search) };
+      none = λ _. refl;
+      cursor = ap (λ (s : Search). s.cursor) c.loop-rank.invariant.search;
+      search = record { start = c.requires.search.start; limit = c.requires.search.limit; next = omega arith; cursor = omega (arith, ap (λ (s : Search). s.cursor) c.loop-rank.invariant.search) };
     }

@@ -1,27 +1,47 @@
-use Rattle.std.proofs.Common.{◌≡◌, ℕ, List, [], ◌∷◌, ◌++◌, ◌+◌, drop, true, Option, refl, sym, ap, subst, ◌∙◌}
+use Rattle.std.proofs.Common.{◌≡◌, ℕ, List, [], ◌∷◌, ◌++◌, ◌+◌, drop, true, false, Option, refl, sym, ap, subst, ◌∙◌}
 use Rattle.std.proofs.Math.ListN.{drop_of_length-le}
 use Rattle.gw_msg.specs.declared.message.Command.{Command}
 use Rattle.gw_reply.specs.declared.reply.CommandReply.{CommandReply}
 use Rattle.gw_table.specs.declared.attempts.Attempts.{Attempts}
 use Rattle.gw_table.specs.Folds.{attempts_behind}
 use Rattle.gw_table.specs.Maps.{Maps, Outcome}
-use Rattle.gw_table.specs.Parts.{Every}
-use Rattle.gw_table.specs.WellFormed.{IsSound}
+use Rattle.gw_table.specs.Parts.{PartKeys}
 use Rattle.gw_table.proofs.Folding.{ended, rest_of, goes_on, stops, ends}
 use Rattle.gw_refusal.specs.declared.at.At.{At}
 use Rattle.gw_cmd.specs.Commands.{command}
+use Rattle.gw_cmd.specs.Keys.{command_keys}
 use Rattle.gw_cmd.specs.Suits.{IsUnused}
-use Rattle.gw_tx.specs.Owned.{is_adding, with_slots}
+use Rattle.gw_cmd.proofs.Parted.{StaysPart}
+use Rattle.gw_reserve.specs.Owned.{first_owned, later_owned, paired_commands}
+use Rattle.gw_tx.specs.Footprints.{list_keys, Covers}
 use Rattle.gw_tx.specs.Transactions.{attempt, commands}
-use Rattle.gw_tx.proofs.Facts.{commands_keep_sound}
-use Rattle.gw_tx.proofs.FreeSlots.{AnySlot, taken, left, free_slot}
-use Rattle.gw_tx.proofs.Kept.{With, kept_command}
+use Rattle.gw_tx.proofs.Facts.{IsHeld, commands_keep_part}
+use Rattle.gw_tx.proofs.FreeSlots.{AnySlot, free_slot}
+use Rattle.gw_tx.proofs.Kept.{With, Oks, kept_command, all_live}
+use Rattle.gw_tx.proofs.Parts.{starts, listed, covers_command}
 use Rattle.gw_tx.proofs.Steps.{attempt_is}
 use Rattle.gw_tx.proofs.commands.commands.Goals as goal
 
+pub loop-sent-init : goal.loop-sent-init
+loop-sent-init c = record {
+  told = ap (λ (l : List CommandReply). attempts_behind l (commands c.args.rules.now c.args.at (paired_commands c.args.slots.now c.args.asked.now) c.args.part.now.maps)) c.new-answers.ensures;
+  held = listed c.args.part.now.keys c.args.part.now.maps c.args.at (paired_commands c.args.slots.now c.args.asked.now) c.requires.covered.held;
+  kept = starts c.args.part.now c.args.slots.now (list_keys c.args.at (paired_commands c.args.slots.now c.args.asked.now) c.args.part.now.maps) c.requires.covered c.requires.unused;
+  keys = refl;
+}
+
 pub attempt-requires-clause-unused : goal.attempt-requires-clause-unused
 attempt-requires-clause-unused c =
-    subst (λ (o : Option ℕ). IsUnused o c.loop-sent.part.maps) (sym c.slot_of-slot.ensures.own) (free_slot c.loop-sent.part.maps c.loop-sent.left.now (is_adding c.sent-item.result) c.loop-sent.invariant.kept.free)
+    subst (λ (o : Option ℕ). IsUnused o c.loop-sent.part.maps) (sym c.next_entry-slot.ensures.own) (free_slot c.loop-sent.part.maps c.loop-sent.left.now c.loop-sent.invariant.kept.free)
+
+pub attempt-requires-clause-covered : goal.attempt-requires-clause-covered
+attempt-requires-clause-covered c =
+    let sent : Command = c.sent-item.result in
+    let i : ℕ = c.loop-sent.sent-index in
+    let split : drop i c.args.asked.now ≡ sent ∷ drop (i + 1) c.args.asked.now = rest_of c.args.asked.now i sent sent c.loop-sent-test.true c.sent-item.is in
+    let held : Oks (IsHeld c.args.part.now.keys c.args.part.now.maps) c.loop-sent.at (paired_commands c.loop-sent.left.now (sent ∷ drop (i + 1) c.args.asked.now)) = subst (λ (l : List Command). Oks (IsHeld c.args.part.now.keys c.args.part.now.maps) c.loop-sent.at (paired_commands c.loop-sent.left.now l)) split c.loop-sent.invariant.held in
+    subst (λ (o : Option ℕ). Covers c.loop-sent.part (command_keys c.loop-sent.at o sent c.loop-sent.part.maps)) (sym c.next_entry-slot.ensures.own)
+    (covers_command c.args.part.now c.loop-sent.part c.loop-sent.left.now c.loop-sent.invariant.kept c.loop-sent.invariant.keys c.loop-sent.at (first_owned c.loop-sent.left.now) sent held.0)
 
 pub returns-then-done : goal.returns-then-done
 returns-then-done c =
@@ -30,18 +50,18 @@ returns-then-done c =
     let slots : List (Option ℕ) = c.loop-sent.left.now in
     let rest : List Command = drop (i + 1) c.args.asked.now in
     let split : drop i c.args.asked.now ≡ sent ∷ rest = rest_of c.args.asked.now i sent sent c.loop-sent-test.true c.sent-item.is in
-    let pair : Option ℕ × Command = (taken (is_adding sent) slots, sent) in
-    let later : List (Option ℕ × Command) = with_slots (left (is_adding sent) slots) rest in
-    let pairs : with_slots slots (drop i c.args.asked.now) ≡ pair ∷ later = ap (λ (l : List Command). with_slots slots l) split in
+    let pair : Option ℕ × Command = (first_owned slots, sent) in
+    let later : List (Option ℕ × Command) = paired_commands (later_owned slots) rest in
+    let pairs : paired_commands slots (drop i c.args.asked.now) ≡ pair ∷ later = ap (λ (l : List Command). paired_commands slots l) split in
     let now : Outcome (Attempts At CommandReply) = ended c.attempt.new.part.maps c.in_ok-done.done.next c.in_ok-done.done.answers c.in_ok-done.done.stopped in
     let did : now ≡ attempt c.args.rules.now c.loop-sent.at pair c.loop-sent.part.maps =
-    attempt_is c.args.rules.now c.loop-sent.at c.slot_of-slot.result.0 sent c.loop-sent.part.maps c.attempt.new.part.maps c.in_ok-done.done pair c.in_ok-done.ensures.maps c.in_ok-done.ensures.answer c.slot_of-slot.ensures.own refl in
-    let whole : Outcome (Attempts At CommandReply) = commands c.args.rules.now c.args.at (with_slots c.args.slots.now c.args.asked.now) c.args.part.now.maps in
-    let all = ap (λ (l : List CommandReply). ended now.maps now.answer.next l true) c.in_ok-append.ensures.ok ∙ stops (attempt c.args.rules.now) c.loop-sent.at pair (with_slots slots (drop i c.args.asked.now)) later c.loop-sent.part.maps c.loop-sent.answers now whole pairs did c.if-done.true c.loop-sent.invariant.told in
+    attempt_is c.args.rules.now c.loop-sent.at c.next_entry-slot.result.0 sent c.loop-sent.part.maps c.attempt.new.part.maps c.in_ok-done.done pair c.in_ok-done.ensures.maps c.in_ok-done.ensures.answer c.next_entry-slot.ensures.own refl in
+    let whole : Outcome (Attempts At CommandReply) = commands c.args.rules.now c.args.at (paired_commands c.args.slots.now c.args.asked.now) c.args.part.now.maps in
+    let all = ap (λ (l : List CommandReply). ended now.maps now.answer.next l true) c.in_ok-append.ensures.ok ∙ stops (attempt c.args.rules.now) c.loop-sent.at pair (paired_commands slots (drop i c.args.asked.now)) later c.loop-sent.part.maps c.loop-sent.answers now whole pairs did c.if-done.true c.loop-sent.invariant.told in
     record {
       maps = ap (λ (o : Outcome (Attempts At CommandReply)). o.maps) all;
       answer = ap (λ (o : Outcome (Attempts At CommandReply)). o.answer) all;
-      keys = c.in_ok-done.ensures.keys ∙ c.loop-sent.invariant.every ∙ sym c.requires.every;
+      keys = c.in_ok-done.ensures.keys ∙ c.loop-sent.invariant.keys;
     }
 
 pub loop-sent-preserved : goal.loop-sent-preserved
@@ -50,26 +70,32 @@ loop-sent-preserved c =
     let i : ℕ = c.loop-sent.sent-index in
     let slots : List (Option ℕ) = c.loop-sent.left.now in
     let rest : List Command = drop (i + 1) c.args.asked.now in
+    let start : Maps = c.args.part.now.maps in
+    let keys : PartKeys = c.args.part.now.keys in
     let split : drop i c.args.asked.now ≡ sent ∷ rest = rest_of c.args.asked.now i sent sent c.loop-sent-test.true c.sent-item.is in
-    let pair : Option ℕ × Command = (taken (is_adding sent) slots, sent) in
-    let later : List (Option ℕ × Command) = with_slots (left (is_adding sent) slots) rest in
-    let pairs : with_slots slots (drop i c.args.asked.now) ≡ pair ∷ later = ap (λ (l : List Command). with_slots slots l) split in
+    let pair : Option ℕ × Command = (first_owned slots, sent) in
+    let later : List (Option ℕ × Command) = paired_commands (later_owned slots) rest in
+    let pairs : paired_commands slots (drop i c.args.asked.now) ≡ pair ∷ later = ap (λ (l : List Command). paired_commands slots l) split in
     let now : Outcome (Attempts At CommandReply) = ended c.attempt.new.part.maps c.in_ok-done.done.next c.in_ok-done.done.answers c.in_ok-done.done.stopped in
     let did : now ≡ attempt c.args.rules.now c.loop-sent.at pair c.loop-sent.part.maps =
-    attempt_is c.args.rules.now c.loop-sent.at c.slot_of-slot.result.0 sent c.loop-sent.part.maps c.attempt.new.part.maps c.in_ok-done.done pair c.in_ok-done.ensures.maps c.in_ok-done.ensures.answer c.slot_of-slot.ensures.own refl in
-    let whole : Outcome (Attempts At CommandReply) = commands c.args.rules.now c.args.at (with_slots c.args.slots.now c.args.asked.now) c.args.part.now.maps in
-    let kept : With AnySlot (IsSound Every) (left (is_adding sent) slots) (command c.args.rules.now c.loop-sent.at (taken (is_adding sent) slots) sent c.loop-sent.part.maps).maps = kept_command c.args.rules.now (commands_keep_sound c.args.rules.now) c.loop-sent.at slots sent c.loop-sent.part.maps c.loop-sent.invariant.kept in
-    let maps : (command c.args.rules.now c.loop-sent.at (taken (is_adding sent) slots) sent c.loop-sent.part.maps).maps ≡ c.attempt.new.part.maps = ap (λ (o : Outcome (Attempts At CommandReply)). o.maps) (sym did) in
+    attempt_is c.args.rules.now c.loop-sent.at c.next_entry-slot.result.0 sent c.loop-sent.part.maps c.attempt.new.part.maps c.in_ok-done.done pair c.in_ok-done.ensures.maps c.in_ok-done.ensures.answer c.next_entry-slot.ensures.own refl in
+    let whole : Outcome (Attempts At CommandReply) = commands c.args.rules.now c.args.at (paired_commands c.args.slots.now c.args.asked.now) start in
+    let held : Oks (IsHeld keys start) c.loop-sent.at (pair ∷ later) = subst (λ (l : List (Option ℕ × Command)). Oks (IsHeld keys start) c.loop-sent.at l) pairs c.loop-sent.invariant.held in
+    let lives : Oks (IsHeld keys start) (attempt c.args.rules.now c.loop-sent.at pair c.loop-sent.part.maps).answer.next later = all_live c.args.rules.now (commands_keep_part c.args.rules.now keys start) c.loop-sent.at (command c.args.rules.now c.loop-sent.at (first_owned slots) sent c.loop-sent.part.maps).answer.made later held.1 in
+    let kept : With AnySlot (StaysPart keys start) (later_owned slots) (command c.args.rules.now c.loop-sent.at (first_owned slots) sent c.loop-sent.part.maps).maps = kept_command c.args.rules.now (commands_keep_part c.args.rules.now keys start) c.loop-sent.at slots sent c.loop-sent.part.maps held.0 c.loop-sent.invariant.kept in
+    let done : attempt c.args.rules.now c.loop-sent.at pair c.loop-sent.part.maps ≡ now = sym did in
+    let left : later_owned slots ≡ c.next_entry-slot.result.1.now = sym c.next_entry-slot.ensures.later in
     record {
-      told = ap (λ (l : List CommandReply). attempts_behind l (commands c.args.rules.now now.answer.next (with_slots c.slot_of-slot.result.1.now rest) now.maps)) c.in_ok-append.ensures.ok
-          ∙ ap (λ (o : List (Option ℕ)). attempts_behind (c.loop-sent.answers ++ now.answer.answers) (commands c.args.rules.now now.answer.next (with_slots o rest) now.maps)) c.slot_of-slot.ensures.later
-          ∙ goes_on (attempt c.args.rules.now) c.loop-sent.at pair (with_slots slots (drop i c.args.asked.now)) later c.loop-sent.part.maps c.loop-sent.answers now whole pairs did c.if-done.false c.loop-sent.invariant.told;
-      kept = subst (λ (o : List (Option ℕ)). With AnySlot (IsSound Every) o c.attempt.new.part.maps) (sym c.slot_of-slot.ensures.later) (subst (λ (m : Maps). With AnySlot (IsSound Every) (left (is_adding sent) slots) m) maps kept);
-      every = c.in_ok-done.ensures.keys ∙ c.loop-sent.invariant.every;
+      told = ap (λ (l : List CommandReply). attempts_behind l (commands c.args.rules.now now.answer.next (paired_commands c.next_entry-slot.result.1.now rest) now.maps)) c.in_ok-append.ensures.ok
+          ∙ ap (λ (o : List (Option ℕ)). attempts_behind (c.loop-sent.answers ++ now.answer.answers) (commands c.args.rules.now now.answer.next (paired_commands o rest) now.maps)) c.next_entry-slot.ensures.later
+          ∙ goes_on (attempt c.args.rules.now) c.loop-sent.at pair (paired_commands slots (drop i c.args.asked.now)) later c.loop-sent.part.maps c.loop-sent.answers now whole pairs did c.if-done.false c.loop-sent.invariant.told;
+      held = subst (λ (o : List (Option ℕ)). Oks (IsHeld keys start) now.answer.next (paired_commands o rest)) left (subst (λ (o : Outcome (Attempts At CommandReply)). Oks (IsHeld keys start) o.answer.next later) done lives);
+      kept = subst (λ (o : List (Option ℕ)). With AnySlot (StaysPart keys start) o now.maps) left (subst (λ (o : Outcome (Attempts At CommandReply)). With AnySlot (StaysPart keys start) (later_owned slots) o.maps) done kept);
+      keys = c.in_ok-done.ensures.keys ∙ c.loop-sent.invariant.keys;
     }
 
 pub returns : goal.returns
 returns c =
-    let none : with_slots c.loop-sent.left.now (drop c.loop-sent.sent-index c.args.asked.now) ≡ [] = ap (λ (l : List Command). with_slots c.loop-sent.left.now l) (drop_of_length-le c.args.asked.now c.loop-sent-test.false) in
-    let all = ends (attempt c.args.rules.now) c.loop-sent.at (with_slots c.loop-sent.left.now (drop c.loop-sent.sent-index c.args.asked.now)) c.loop-sent.part.maps c.loop-sent.answers (commands c.args.rules.now c.args.at (with_slots c.args.slots.now c.args.asked.now) c.args.part.now.maps) none c.loop-sent.invariant.told in
-    record { maps = ap (λ (o : Outcome (Attempts At CommandReply)). o.maps) all; answer = ap (λ (o : Outcome (Attempts At CommandReply)). o.answer) all; keys = c.loop-sent.invariant.every ∙ sym c.requires.every }
+    let none : paired_commands c.loop-sent.left.now (drop c.loop-sent.sent-index c.args.asked.now) ≡ [] = ap (λ (l : List Command). paired_commands c.loop-sent.left.now l) (drop_of_length-le c.args.asked.now c.loop-sent-test.false) in
+    let all = ends (attempt c.args.rules.now) c.loop-sent.at (paired_commands c.loop-sent.left.now (drop c.loop-sent.sent-index c.args.asked.now)) c.loop-sent.part.maps c.loop-sent.answers (commands c.args.rules.now c.args.at (paired_commands c.args.slots.now c.args.asked.now) c.args.part.now.maps) none c.loop-sent.invariant.told in
+    record { maps = ap (λ (o : Outcome (Attempts At CommandReply)). o.maps) all; answer = ap (λ (o : Outcome (Attempts At CommandReply)). o.answer) all; keys = c.loop-sent.invariant.keys }

@@ -1,17 +1,18 @@
 use Rattle.std.proofs.Common.{◌≡◌, drop}
 use Rattle.gw_table.specs.Folds.{attempts_behind}
-use Rattle.gw_table.specs.Parts.{Every}
-use Rattle.gw_table.specs.WellFormed.{IsSound}
-use Rattle.gw_tx.specs.Owned.{with_slots}
+use Rattle.gw_reserve.specs.Owned.{paired_commands}
+use Rattle.gw_cmd.proofs.Parted.{StaysPart}
 use Rattle.gw_tx.specs.Transactions.{commands}
+use Rattle.gw_tx.proofs.Facts.{IsHeld}
 use Rattle.gw_tx.proofs.FreeSlots.{AnySlot}
-use Rattle.gw_tx.proofs.Kept.{With}
+use Rattle.gw_tx.proofs.Kept.{With, Oks}
 use Rattle.gw_tx.proofs.commands.commands.Given as goal
 
--- the answers so far, and then the rest, are those of all
+-- the answers so far, and then the rest, are those of all; the part has the keys of what is left
 abbrev pub invariant-loop-sent : goal.invariant-loop-sent
 invariant-loop-sent l = record {
-  told : attempts_behind l.answers (commands l.rules l.at (with_slots l.left (drop l.sent-index l.asked)) l.part.maps) ≡ commands l.rules l.fn.at (with_slots l.slots l.asked) l.fn.part.maps;
-  kept : With AnySlot (IsSound Every) l.left l.part.maps;
-  every : l.part.keys ≡ Every;
+  told : attempts_behind l.answers (commands l.rules l.at (paired_commands l.left (drop l.sent-index l.asked)) l.part.maps) ≡ commands l.rules l.fn.at (paired_commands l.slots l.asked) l.fn.part.maps;
+  held : Oks (IsHeld l.fn.part.keys l.fn.part.maps) l.at (paired_commands l.left (drop l.sent-index l.asked));
+  kept : With AnySlot (StaysPart l.fn.part.keys l.fn.part.maps) l.left l.part.maps;
+  keys : l.part.keys ≡ l.fn.part.keys;
 }

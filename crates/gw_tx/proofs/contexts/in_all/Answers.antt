@@ -7,25 +7,43 @@ use Rattle.gw_reply.specs.declared.reply.ActionReply.{ActionReply}
 use Rattle.gw_table.specs.declared.attempts.Attempts.{Attempts}
 use Rattle.gw_table.specs.Folds.{attempts_behind, in_order}
 use Rattle.gw_table.specs.Maps.{Maps, Outcome, number}
-use Rattle.gw_table.specs.Parts.{Every}
-use Rattle.gw_table.specs.WellFormed.{IsSound}
+use Rattle.gw_table.specs.Parts.{Parted}
 use Rattle.gw_table.proofs.Folding.{ended, rest_of, goes_on, ends}
-use Rattle.gw_tx.specs.Owned.{with_slots}
+use Rattle.gw_refusal.specs.declared.at.At.TheVariants.{Each}
+use Rattle.gw_cmd.proofs.Parted.{StaysPart}
+use Rattle.gw_reserve.specs.Owned.{paired_commands}
+use Rattle.gw_tx.specs.Footprints.{list_keys}
 use Rattle.gw_tx.specs.Transactions.{in_each, in_all}
-use Rattle.gw_tx.proofs.Facts.{commands_keep_sound}
+use Rattle.gw_tx.proofs.Facts.{commands_keep_part}
 use Rattle.gw_tx.proofs.FreeSlots.{AnySlot}
 use Rattle.gw_tx.proofs.Kept.{With, kept_in_each}
+use Rattle.gw_tx.proofs.Parts.{starts, listed, covers_list}
 use Rattle.gw_tx.proofs.Steps.{each_is}
 use Rattle.gw_tx.proofs.contexts.in_all.Goals as goal
 use Rattle.gw_tx.proofs.contexts.in_all.Goals.{then-stopped, else-stopped}
 
+pub loop-number-init : goal.loop-number-init
+loop-number-init c =
+    let asked : List (Option ℕ × Command) = paired_commands c.args.slots.now c.args.asked.now in
+    record {
+      told = ap (λ (l : List ActionReply). attempts_behind l (in_all c.args.rules.now asked c.args.numbers.now c.args.part.now.maps)) c.new-answers.ensures;
+      kept = starts c.args.part.now c.args.slots.now (list_keys (Each (number 0)) asked c.args.part.now.maps) (c.requires.covered (number 0)) c.requires.unused;
+      keys = refl;
+    }
+
+pub commands-requires-clause-covered : goal.commands-requires-clause-covered
+commands-requires-clause-covered c =
+    let n : CtxNum = get_or c.args.numbers.now c.loop-number.number-index (number 0) in
+    covers_list c.args.part.now c.loop-number.part c.args.slots.now c.loop-number.invariant.kept c.loop-number.invariant.keys (Each n) (paired_commands c.args.slots.now c.args.asked.now) (c.requires.covered n).held
+
 pub loop-number-preserved : goal.loop-number-preserved
 loop-number-preserved c =
     let i : ℕ = c.loop-number.number-index in
+    let start : Parted = c.args.part.now in
     let n : CtxNum = get_or c.args.numbers.now i (number 0) in
     let rest : List CtxNum = drop (i + 1) c.args.numbers.now in
     let split : drop i c.args.numbers.now ≡ n ∷ rest = rest_of c.args.numbers.now i (number 0) n c.loop-number-test.true refl in
-    let asked : List (Option ℕ × Command) = with_slots c.args.slots.now c.args.asked.now in
+    let asked : List (Option ℕ × Command) = paired_commands c.args.slots.now c.args.asked.now in
     let stopped : c.if-stopped.stopped ≡ (c.loop-number.stopped || c.in_ok-done.done.stopped) = elim c.if-stopped.branch [
       | then-stopped w ↦ w.stopped-is ∙ w.if-stopped.true ∙ ap (λ (b : Bool). b || c.in_ok-done.done.stopped) (sym w.if-stopped.true)
       | else-stopped w ↦ w.stopped-is ∙ ap (λ (b : Bool). b || c.in_ok-done.done.stopped) (sym w.if-stopped.false)
@@ -37,17 +55,17 @@ loop-number-preserved c =
     record {
       told = ap (λ (l : List ActionReply). attempts_behind l (in_order (in_each c.args.rules.now asked) now.answer.next rest now.maps)) c.in_ok-push.ensures.ok
           ∙ goes_on (in_each c.args.rules.now asked) c.loop-number.stopped n (drop i c.args.numbers.now) rest c.loop-number.part.maps c.loop-number.answers now whole split did refl c.loop-number.invariant.told;
-      kept = subst (λ (m : Maps). With AnySlot (IsSound Every) c.args.slots.now m) (sym c.in_ok-done.ensures.maps) (kept_in_each c.args.rules.now (commands_keep_sound c.args.rules.now) n c.args.slots.now c.args.asked.now c.loop-number.part.maps c.loop-number.invariant.kept);
-      every = c.in_ok-done.ensures.keys ∙ c.loop-number.invariant.every;
+      kept = subst (λ (m : Maps). With AnySlot (StaysPart start.keys start.maps) c.args.slots.now m) (sym c.in_ok-done.ensures.maps) (kept_in_each c.args.rules.now (commands_keep_part c.args.rules.now start.keys start.maps) n c.args.slots.now c.args.asked.now c.loop-number.part.maps (listed start.keys start.maps (Each n) asked (c.requires.covered n).held) c.loop-number.invariant.kept);
+      keys = c.in_ok-done.ensures.keys ∙ c.loop-number.invariant.keys;
     }
 
 pub returns : goal.returns
 returns c =
-    let asked : List (Option ℕ × Command) = with_slots c.args.slots.now c.args.asked.now in
+    let asked : List (Option ℕ × Command) = paired_commands c.args.slots.now c.args.asked.now in
     let none : drop c.loop-number.number-index c.args.numbers.now ≡ [] = drop_of_length-le c.args.numbers.now c.loop-number-test.false in
     let all = ends (in_each c.args.rules.now asked) c.loop-number.stopped (drop c.loop-number.number-index c.args.numbers.now) c.loop-number.part.maps c.loop-number.answers (in_all c.args.rules.now asked c.args.numbers.now c.args.part.now.maps) none c.loop-number.invariant.told in
     record {
       maps = ap (λ (o : Outcome (Attempts Bool ActionReply)). o.maps) all;
       answer = ap (λ (o : Outcome (Attempts Bool ActionReply)). o.answer) all;
-      keys = c.loop-number.invariant.every ∙ sym c.requires.every;
+      keys = c.loop-number.invariant.keys;
     }

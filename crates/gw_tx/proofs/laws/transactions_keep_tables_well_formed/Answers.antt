@@ -1,4 +1,4 @@
-use Rattle.gw_tx.proofs.Whole.{transaction_whole}
+use Rattle.gw_tx.proofs.Unowned.{transaction_whole}
 use Rattle.gw_tx.proofs.laws.transactions_keep_tables_well_formed.Goals as goal
 
 pub returns : goal.returns

@@ -2,8 +2,8 @@ use Rattle.std.proofs.Common.{sym}
 use Rattle.gw_reserve.proofs.Cyclic.{cyclic_low, cyclic_high}
 use Rattle.gw_reserve.proofs.order.Order.at.Goals as goal
 
-pub returns-then-place-behind-clause-value : goal.returns-then-place-behind-clause-value
-returns-then-place-behind-clause-value c = sym (cyclic_low c.args.self.start c.args.self.limit c.args.place 0 c.if-place-behind.true)
+pub returns-then-rank-behind-clause-value : goal.returns-then-rank-behind-clause-value
+returns-then-rank-behind-clause-value c = sym (cyclic_low c.args.self.start c.args.self.limit c.args.rank 0 c.if-rank-behind.true)
 
-pub returns-else-place-behind-clause-value : goal.returns-else-place-behind-clause-value
-returns-else-place-behind-clause-value c = sym (cyclic_high c.args.self.start c.args.self.limit c.args.place 0 c.requires.start c.if-place-behind.false c.requires.place)
+pub returns-else-rank-behind-clause-value : goal.returns-else-rank-behind-clause-value
+returns-else-rank-behind-clause-value c = sym (cyclic_high c.args.self.start c.args.self.limit c.args.rank 0 c.requires.start c.if-rank-behind.false c.requires.rank)

@@ -1,0 +1,30 @@
+use Rattle.std.proofs.Common.{refl}
+use Rattle.gw_reserve.specs.ReservationView.{value_of}
+use Rattle.gw_reserve.proofs.Owning.{if_both, own_paired, own_contexts, own_slots, own_cursors}
+use Rattle.std.proofs.lemmas.Result.{IfOk-weaker}
+use Rattle.gw_reserve.proofs.owners.Reservation.own.Goals as goal
+
+pub invariant_of-self : goal.invariant_of-self
+invariant_of-self c = record { numbers = c.own_all.ensures.number_search; slots = c.own_all.ensures.slot_search }
+
+pub returns-clause-paired : goal.returns-clause-paired
+returns-clause-paired c =
+    if_both c.own_all.result _ _ _
+    (λ o p q. own_paired c.args.tables.now c.args.request.now.actions c.as_slice.result.now c.as_slice.ensures (value_of c.self.inside) c.args.self.now c.self.view_is o.contexts o.slots p q)
+    c.own_all.ensures.contexts c.own_all.ensures.slots
+
+pub returns-clause-contexts : goal.returns-clause-contexts
+returns-clause-contexts c =
+    IfOk-weaker c.own_all.result _ _
+    (λ o p. own_contexts c.args.tables.now c.args.request.now.actions c.as_slice.result.now c.as_slice.ensures (value_of c.self.inside) c.args.self.now c.self.view_is o.contexts p) c.own_all.ensures.contexts
+
+pub returns-clause-owned_slots : goal.returns-clause-owned_slots
+returns-clause-owned_slots c =
+    IfOk-weaker c.own_all.result _ _
+    (λ o p. own_slots c.args.tables.now c.args.request.now.actions c.as_slice.result.now c.as_slice.ensures (value_of c.self.inside) c.args.self.now c.self.view_is o.slots p) c.own_all.ensures.slots
+
+pub returns-clause-cursors : goal.returns-clause-cursors
+returns-clause-cursors c =
+    if_both c.own_all.result _ _ _
+    (λ o p q. own_cursors c.args.tables.now c.args.request.now.actions c.as_slice.result.now c.as_slice.ensures (value_of c.self.inside) c.args.self.now c.self.view_is c.args.request.now refl c.own_all.new.number_search.cursor c.own_all.new.slot_search.cursor p q)
+    c.own_all.ensures.number_cursor c.own_all.ensures.slot_cursor
