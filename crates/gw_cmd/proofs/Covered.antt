@@ -18,6 +18,7 @@ use Rattle.gw_term.specs.declared.record.Termination.{Termination}
 use Rattle.gw_term.specs.Record.{ephemeral, serviced}
 use Rattle.gw_table.specs.Folds.{in_order}
 use Rattle.gw_table.specs.Maps.{Maps, Outcome, term, names}
+use Rattle.gw_table.specs.Members.{put_service}
 use Rattle.gw_table.specs.Parts.{PartKeys, holds, Holds}
 use Rattle.gw_table.specs.Reserved.{slot_name}
 use Rattle.gw_refusal.specs.declared.at.At.{At}
@@ -28,10 +29,10 @@ use Rattle.gw_refusal.specs.Targets.{targets, targets_of}
 use Rattle.gw_cmd.specs.declared.change.Change.{Change}
 use Rattle.gw_cmd.specs.declared.change.Change.TheVariants.{Stays, Becomes, Joins, Crosses, Leaves}
 use Rattle.gw_cmd.specs.declared.change.Decided.{Decided}
-use Rattle.gw_cmd.specs.Commands.{on_target, on_targets, on_names, on_new, put_service, all_serviced, serviced_if, root_maps, carried, unless_refused, command}
+use Rattle.gw_cmd.specs.Commands.{on_target, on_targets, on_names, on_new, all_serviced, serviced_if, root_maps, carried, unless_refused, command}
 use Rattle.gw_cmd.specs.Effects.{decided, done, on_record, on_found, on_name}
 use Rattle.gw_cmd.specs.Keys.{command_keys}
-use Rattle.gw_cmd.specs.Moves.{changed}
+use Rattle.gw_cmd.specs.Changes.{changed}
 use Rattle.gw_cmd.specs.Refusals.{first_code, refusal_by_tables, refusal}
 use Rattle.gw_cmd.specs.Suits.{HoldsFound, HoldsSlot, IsReady, IsUnused}
 use Rattle.gw_cmd.proofs.Kept.{IsKnown, Found, Made, MayMake, kept_name}

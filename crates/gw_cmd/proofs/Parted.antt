@@ -13,6 +13,7 @@ use Rattle.gw_msg.specs.declared.message.Command.{Command}
 use Rattle.gw_term.specs.declared.record.Termination.{Termination}
 use Rattle.gw_table.specs.Maps.{Maps, term, ctx, put_term, put_ctx, place_of, context_of, members_of}
 use Rattle.gw_table.specs.Parts.{PartKeys, IsPart, holds, Holds, HoldsPlace}
+use Rattle.gw_table.specs.Members.{with_member, without_member, unless_empty}
 use Rattle.gw_table.specs.WellFormed.{IsSound}
 use Rattle.gw_table.proofs.Growth.{Grows, grows_not, grows_on}
 use Rattle.gw_table.proofs.Lookups.{term-put_term, ctx-put_term}
@@ -23,7 +24,7 @@ use Rattle.gw_cmd.specs.declared.change.Change.{Change}
 use Rattle.gw_cmd.specs.declared.change.Change.TheVariants.{Stays, Becomes, Joins, Crosses, Leaves}
 use Rattle.gw_cmd.specs.Commands.{command}
 use Rattle.gw_cmd.specs.Keys.{command_keys}
-use Rattle.gw_cmd.specs.Moves.{with_member, without_member, unless_empty, changed}
+use Rattle.gw_cmd.specs.Changes.{changed}
 use Rattle.gw_cmd.specs.Refusals.{first_code, refusal_by_tables, refusal}
 use Rattle.gw_cmd.specs.Suits.{IsUnused}
 use Rattle.gw_cmd.proofs.Covered.{Enters, IsKeptOn, on_command}

@@ -119,7 +119,7 @@ enters_other n (Each j) slot c m o none e k i = let same : j ≡ k = cc in ap (�
 absent_context : (rules : Rules) (n : CtxNum) → IsKeptOn rules Every (λ k. nat_eq n.0 k.0 ≡ false) (λ _. Unit {0}) (λ m. ctx m n ≡ None)
 absent_context rules n = record {
   changes = λ v place t r change m none k i l e.
-      at (ctx (Rattle.gw_cmd.specs.Moves.changed t change m) n) (λ some.
+      at (ctx (Rattle.gw_cmd.specs.Changes.changed t change m) n) (λ some.
           let other : nat_eq n.0 n.0 ≡ false = ctx-there (λ c. nat_eq n.0 c.0 ≡ false) t change m e (λ c h. not_there n c m none h) n some in
           let clash : true ≡ false = sym (number_itself n n refl) ∙ other in
           cc);
