@@ -1,12 +1,9 @@
 pub mod Configured
-pub mod Turns
 pub mod Left
-pub mod Carrying
-pub mod Steps
-pub mod Adopting
 pub mod Hearing
 pub mod NewForms
-pub mod AskedForms
+pub mod InForm
 pub mod RepliesKept
 pub mod ErrorsRead
+pub mod Phases
 pub mod Answered
