@@ -28,14 +28,14 @@ use Rattle.gw_engine.proofs.Left.{named_slots}
 use Rattle.gw_engine.proofs.ErrorsRead.{fault_is_error}
 use Rattle.gw_engine.proofs.RepliesKept.{reply_read, kept_more, kept_found}
 
-abbrev IsSmall : ℕ → Type 0
+abbrev pub IsSmall : ℕ → Type 0
 IsSmall n = n < 4096
 
 -- between two items: what is kept has its forms, and so have the names of the slots that are left
-record IsSound (s : Settings) (p : Progress) : Type 0 where
-  maps : AreKept p.state.maps
-  replies : All (IsKeptReply s.mid) p.state.kept.pairs
-  slots : All IsSmall p.slots
+pub record IsSound (s : Settings) (p : Progress) : Type 0 where
+  pub maps : AreKept p.state.maps
+  pub replies : All (IsKeptReply s.mid) p.state.kept.pairs
+  pub slots : All IsSmall p.slots
 
 -- a step answers these questions, and leaves the burst so
 record IsAnswered (s : Settings) (qs : List Question) (t : Step) : Type 0 where
@@ -97,8 +97,15 @@ module _ (s : Settings) (is_mid : IsMid s.mid) (address : IsAddress s.rules.medi
   heard_answered : (h : Heard) (p : Progress) → IsInForm h → IsSound s p → IsAnswered s (questions_in h.peer h.message) (heard_step s h p)
   heard_answered h p asked sound = message_answered h.peer h.message p asked sound
 
-pub burst_answered : (g : GatewayValue) (heard : List Heard) → IsWellFormed g.settings g.state → g.settings.slots ≤ 4096 → AreInForm heard → AllZip (IsAnswerTo g.settings.mid) (questions heard) (burst_outcome g heard).answers
+all_answered : (g : GatewayValue) (heard : List Heard) → IsWellFormed g.settings g.state → g.settings.slots ≤ 4096 → AreInForm heard → IsAnswered g.settings (questions heard) (burst_outcome g heard)
 unfolding burst_outcome
-burst_answered g heard w few asked =
+all_answered g heard w few forms =
     let start : IsSound g.settings (start_of g) = record { maps = w.forms; replies = w.replies; slots = (free_unused g.state.maps g.state.slot_cursor g.settings.slots w.slot_cursor few).slots_small } in
-    (turn_answered g.settings w.mid w.address (heard_step g.settings) (λ (h : Heard). questions_in h.peer h.message) IsInForm (heard_answered g.settings w.mid w.address) heard (start_of g) asked start).answers
+    turn_answered g.settings w.mid w.address (heard_step g.settings) (λ (h : Heard). questions_in h.peer h.message) IsInForm (heard_answered g.settings w.mid w.address) heard (start_of g) forms start
+
+pub burst_answered : (g : GatewayValue) (heard : List Heard) → IsWellFormed g.settings g.state → g.settings.slots ≤ 4096 → AreInForm heard → AllZip (IsAnswerTo g.settings.mid) (questions heard) (burst_outcome g heard).answers
+burst_answered g heard w few forms = (all_answered g heard w few forms).answers
+
+-- what is kept afterwards has its forms
+pub burst_sound : (g : GatewayValue) (heard : List Heard) → IsWellFormed g.settings g.state → g.settings.slots ≤ 4096 → AreInForm heard → IsSound g.settings (burst_outcome g heard).after
+burst_sound g heard w few forms = (all_answered g heard w few forms).after

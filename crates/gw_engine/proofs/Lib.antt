@@ -5,5 +5,11 @@ pub mod NewForms
 pub mod InForm
 pub mod RepliesKept
 pub mod ErrorsRead
+pub mod Cursors
 pub mod Phases
+pub mod Zipped
+pub mod Classifying
+pub mod Reserving
+pub mod Carrying
 pub mod Answered
+pub mod Outcomes

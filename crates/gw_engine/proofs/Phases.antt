@@ -14,20 +14,17 @@ use Rattle.gw_kept.specs.declared.class.Source.{Source}
 use Rattle.gw_kept.specs.declared.class.Source.TheVariants as source
 use Rattle.gw_kept.specs.declared.entry.Entry.{Entry}
 use Rattle.gw_kept.specs.declared.entry.RequestKey.{RequestKey}
-use Rattle.gw_kept.proofs.Bursts.{from_start, then_nothing, then_new, then_other}
+use Rattle.gw_kept.proofs.Bursts.{from_start, then_new, then_other}
 use Rattle.gw_kept.proofs.Last.{one_more_after}
 use Rattle.gw_kept.proofs.Repeats.{has_reply, new_is_not_kept, over_is_not_kept, never_nothing, stays_distinct, source_stays, next_bytes}
 use Rattle.gw_msg.specs.declared.message.Item.{Item}
 use Rattle.gw_msg.specs.declared.message.Item.TheVariants as item
 use Rattle.gw_msg.specs.declared.message.Message.{Message}
-use Rattle.gw_msg.specs.declared.message.Request.{Request}
 use Rattle.gw_reply.specs.Messages.{reply_text, fault_text}
 use Rattle.gw_reply.specs.declared.reply.TxReply.{TxReply}
-use Rattle.gw_reserve.specs.Owners.{owners, owners_of, owned_numbers, owned_slots, last_number, behind_last, new_cursors}
+use Rattle.gw_reserve.specs.Owners.{owners, owners_of, new_cursors}
 use Rattle.gw_reserve.specs.declared.owners.Cursors.{Cursors}
-use Rattle.gw_reserve.proofs.Places.{numbers_move, slots_move}
-use Rattle.gw_table.specs.Maps.{Maps, Outcome}
-use Rattle.gw_table.specs.Unused.{owned}
+use Rattle.gw_table.specs.Maps.{Outcome}
 use Rattle.gw_engine.specs.declared.asked.Ask.{Ask}
 use Rattle.gw_engine.specs.declared.asked.Sent.{Sent}
 use Rattle.gw_engine.specs.declared.classify.Task.{Task}
@@ -35,11 +32,11 @@ use Rattle.gw_engine.specs.declared.classify.Work.{Work}
 use Rattle.gw_engine.specs.declared.classify.Work.TheVariants as work
 use Rattle.gw_engine.specs.declared.datagram.Datagram.{Datagram}
 use Rattle.gw_engine.specs.declared.heard.Heard.{Heard}
-use Rattle.gw_engine.specs.declared.reserve.Job.{Job}
 use Rattle.gw_engine.specs.Bursts.{Progress, Step, answer_to, unchanged, cursors_of, owned_by, reply_to, entry_for, cursors_after, key_of_request, over_reply, new_step, over_step, request_step, item_step, in_turn, message_step, heard_step, start_of, burst_outcome}
 use Rattle.gw_engine.specs.Carried.{carried}
-use Rattle.gw_engine.specs.Phases.{asks_in, asks_from, asks_of, keys_asked, told, new_in, tasks_in, task_for, requests_of, jobs_of, ids_in, request_with_ids, entries_of, text_of, answer_for, answers_of, adopted, Phased, phased}
-use Rattle.gw_engine.specs.State.{State, Settings, GatewayValue}
+use Rattle.gw_engine.specs.Phases.{asks_in, asks_from, asks_of, keys_asked, told, new_in, tasks_in, task_for, requests_of, jobs_of, request_with_ids, entries_of, text_of, answer_for, answers_of, adopted, phased}
+use Rattle.gw_engine.specs.State.{Settings, GatewayValue}
+use Rattle.gw_engine.proofs.Cursors.{cursors-cons}
 
 -- ---- one after another
 
@@ -115,12 +112,6 @@ record Agrees (s : Settings) (k : KeptList) (es : List Entry) (asks : List Ask) 
   answers : answers_of s.mid k (es ++ entries_from s p new) tasks ≡ (in_turn (ask_step s) asks p).answers
   state : adopted p.state (done_from s p new).maps (new_cursors (cursors_of p.state) (ids_from p new)) (entries_from s p new) ≡ (in_turn (ask_step s) asks p).after.state
   distinct : AreNew p.state.kept (entries_from s p new)
-
-cursors-cons : (c : Cursors) (i : Ids) (ids : List Ids) → new_cursors c (i ∷ ids) ≡ new_cursors (new_cursors c (i ∷ [])) ids
-cursors-cons c i ids =
-    let number = numbers_move.both c.context (owned i.contexts) (owned_numbers ids) ∙ ap (λ (l : List _). last_number (last_number c.context l) (owned_numbers ids)) (sym (append-nil (owned i.contexts))) in
-    let slot = slots_move.both c.slot (owned i.slots) (owned_slots ids) ∙ ap (λ (l : List ℕ). behind_last (behind_last c.slot l) (owned_slots ids)) (sym (append-nil (owned i.slots))) in
-    λ j. record { context = number j; slot = slot j }
 
 abbrev key_for : Sent → RequestKey
 key_for x = key_of_request x.mid x.request

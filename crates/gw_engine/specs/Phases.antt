@@ -1,6 +1,6 @@
 -- A burst in phases (own), each over the whole burst before the next begins: what is asked; the classes, from the keys alone; who
 -- owns which identifiers; the transactions; their texts, kept and answered.
-use Rattle.std.specs.Prelude.{◌+◌, ℕ, List, [], ◌∷◌, ◌++◌, map, length, flat_map, option_to_list, Option, None, Some, Result, Ok, Err}
+use Rattle.std.specs.Prelude.{◌+◌, ℕ, List, [], ◌∷◌, ◌++◌, map, length, flat_map, Option, None, Some, Result, Ok, Err}
 use Rattle.std.specs.List.{zip}
 use Rattle.gw_base.specs.declared.code.Code.{Code}
 use Rattle.gw_base.specs.declared.code.Code.TheVariants.{InsufficientResources}
@@ -23,6 +23,7 @@ use Rattle.gw_reply.specs.declared.reply.TxReply.{TxReply}
 use Rattle.gw_reserve.specs.Owners.{owners, new_cursors}
 use Rattle.gw_reserve.specs.declared.owners.Cursors.{Cursors}
 use Rattle.gw_table.specs.Maps.{Maps, Outcome}
+use Rattle.gw_table.specs.Unused.{owned}
 use Rattle.gw_engine.specs.declared.asked.Ask.{Ask}
 use Rattle.gw_engine.specs.declared.asked.Sent.{Sent}
 use Rattle.gw_engine.specs.declared.classify.Task.{Task}
@@ -114,14 +115,18 @@ ids_in g new = owners g.state.maps (cursors_of g.state) g.settings.contexts g.se
 abbrev pub request_with_ids : Job → Request × Ids
 request_with_ids j = (j.sent.request, j.owned)
 
+-- the slots that jobs own
+abbrev pub slots_of : List Job → List ℕ
+slots_of jobs = flat_map (λ j. owned j.owned.slots) jobs
+
 -- ---- what is kept, and what is answered
 
 -- the pair of a request and its reply
-abbrev pub entry_of : List ℕ → Job × TxReply → Entry
-entry_of mid p = entry_for p.0.sent.mid p.0.sent.request (reply_text mid p.1)
+abbrev pub entry_of : List ℕ → Job × TxReply → List Entry
+entry_of mid p = entry_for p.0.sent.mid p.0.sent.request (reply_text mid p.1) ∷ []
 
 abbrev pub entries_of : List ℕ → List Job → List TxReply → List Entry
-entries_of mid jobs replies = map (entry_of mid) (zip jobs replies)
+entries_of mid jobs replies = flat_map (entry_of mid) (zip jobs replies)
 
 -- the reply to a request that comes behind too many new ones
 abbrev pub refusal_of : TxId → TxReply

@@ -1,7 +1,7 @@
 //! What a burst asks: one entry for each request, and for each text that is no message, in order of arrival.
 
-ghost use Rattle.std.specs.Prelude.{◌≡◌, ◌++◌, OnOk, IfOk, flat_map};
-ghost use Rattle.gw_engine.specs.Phases.{asks_in, asks_of, key_asked, keys_asked};
+ghost use Rattle.std.specs.Prelude.{◌≡◌, ◌++◌, OnOk, IfOk};
+ghost use Rattle.gw_engine.specs.Phases.{asks_from, asks_of, key_asked, keys_asked};
 
 use crate::heard::Heard;
 use gw_base::{Code, Items, Mid, NoMemory};
@@ -79,15 +79,23 @@ impl Ask<'_, '_> {
     }
 }
 
-/// What the items of one message ask, behind what others do.
-fn push_asks<'h, 'a>(
-    asks: &mut Items<Ask<'h, 'a>>,
-    peer: u32,
-    mid: Mid,
-    items: &'h [Item<'a>],
-) -> Result<(), NoMemory>
-    ensures { OnOk result (asks.new ≡ asks.old ++ flat_map (asks_in peer mid) items.now) }
+/// What one datagram asks, behind what others do.
+fn push_asks<'h, 'a>(asks: &mut Items<Ask<'h, 'a>>, datagram: &'h Heard<'a>) -> Result<(), NoMemory>
+    ensures { OnOk result (asks.new ≡ asks.old ++ asks_from datagram.now.peer datagram.now.message) }
 {
+    let peer = datagram.peer;
+    let message = match &datagram.message {
+        Ok(message) => message,
+        Err(code) => {
+            asks.push(Ask {
+                peer,
+                sent: Err(*code),
+            })?;
+            return Ok(());
+        }
+    };
+    let mid = message.mid;
+    let items = message.items.as_slice();
     for item in items {
         if let Item::Request(request) = item {
             let request = Lent::new(request);
@@ -109,14 +117,7 @@ pub(crate) fn asks_of<'h, 'a>(
 {
     let mut asks = Items::new(alloc);
     for datagram in heard {
-        let peer = datagram.peer;
-        match &datagram.message {
-            Ok(message) => push_asks(&mut asks, peer, message.mid, message.items.as_slice())?,
-            Err(code) => asks.push(Ask {
-                peer,
-                sent: Err(*code),
-            })?,
-        }
+        push_asks(&mut asks, datagram)?;
     }
     Ok(asks)
 }

@@ -1,11 +1,11 @@
 //! Carrying out the new requests of a burst.
 
-ghost use Rattle.std.specs.Prelude.{◌≡◌, [], map, flat_map, OnOk, IfOk};
+ghost use Rattle.std.specs.Prelude.{◌≡◌, [], map, OnOk, IfOk};
 ghost use Rattle.gw_table.specs.Parts.{Every};
-ghost use Rattle.gw_table.specs.Unused.{owned, AreUnused};
+ghost use Rattle.gw_table.specs.Unused.{AreUnused};
 ghost use Rattle.gw_table.specs.WellFormed.{AreWellFormed};
 ghost use Rattle.gw_engine.specs.Carried.{carried};
-ghost use Rattle.gw_engine.specs.Phases.{request_with_ids};
+ghost use Rattle.gw_engine.specs.Phases.{request_with_ids, slots_of};
 
 use crate::reserve::Job;
 use gw_base::{Items, NoMemory, Rules};
@@ -28,7 +28,7 @@ pub(crate) fn carry(
 ) -> Result<Items<TxReply>, NoMemory>
     requires every { part.old.keys ≡ Every }
     requires whole { AreWellFormed rules.now.members part.old.maps }
-    requires unused { AreUnused part.old.maps [] (flat_map (λ j. owned j.owned.slots) jobs.now) }
+    requires unused { AreUnused part.old.maps [] (slots_of jobs.now) }
     ensures maps { OnOk result (part.new.maps ≡ (carried rules.now (map request_with_ids jobs.now) part.old.maps).maps) }
     ensures replies { IfOk result (λ replies. replies ≡ (carried rules.now (map request_with_ids jobs.now) part.old.maps).answer) }
     ensures whole { OnOk result (AreWellFormed rules.now.members part.new.maps) }

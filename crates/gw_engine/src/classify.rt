@@ -32,20 +32,20 @@ pub(crate) struct Classified<'h, 'a> {
     /// How each is answered, in order of arrival.
     pub(crate) tasks: Items<Task>,
     /// The requests that are carried out, in order.
-    pub(crate) new: Items<Sent<'h, 'a>>,
+    pub(crate) requests: Items<Sent<'h, 'a>>,
 }
 
 impl<'h, 'a> Classified<'h, 'a> {
     /// Notes one more, which is of this class.
     fn push(&mut self, ask: &Ask<'h, 'a>, class: Class) -> Result<(), NoMemory>
-        ensures tasks { OnOk result (self.new.tasks ≡ self.old.tasks ++ tasks_for (length self.old.new) ask.now.peer ask.now.sent class) }
-        ensures new { OnOk result (self.new.new ≡ self.old.new ++ new_for ask.now.sent class) }
+        ensures tasks { OnOk result (self.new.tasks ≡ self.old.tasks ++ tasks_for (length self.old.requests) ask.now.peer ask.now.sent class) }
+        ensures requests { OnOk result (self.new.requests ≡ self.old.requests ++ new_for ask.now.sent class) }
     {
         let work = match (&ask.sent, class) {
             (Err(code), _) => Work::Fault(*code),
             (Ok(sent), Class::New) => {
-                let place = self.new.len();
-                self.new.push(sent.again())?;
+                let place = self.requests.len();
+                self.requests.push(sent.again())?;
                 Work::Reply(Source::Place(place))
             }
             (Ok(_), Class::Repeat(source)) => Work::Reply(source),
@@ -67,13 +67,13 @@ pub(crate) fn classify<'h, 'a>(
     asks: &[Ask<'h, 'a>],
 ) -> Result<Classified<'h, 'a>, NoMemory>
     ensures tasks { IfOk result (λ c. c.tasks ≡ tasks_in 0 (told kept.now asks.now)) }
-    ensures new { IfOk result (λ c. c.new ≡ new_in (told kept.now asks.now)) }
+    ensures requests { IfOk result (λ c. c.requests ≡ new_in (told kept.now asks.now)) }
 {
     let keys = keys_of(alloc, asks)?;
     let classes = kept.classify(alloc, keys.as_slice())?;
     let mut classified = Classified {
         tasks: Items::from(Vec::with_capacity(alloc, asks.len())?),
-        new: Items::new(alloc),
+        requests: Items::new(alloc),
     };
     for (ask, class) in asks.iter().zip(classes.as_slice()) {
         classified.push(ask, *class)?;

@@ -33,7 +33,7 @@ impl Gateway {
     {
         let asks = asks_of(alloc, heard)?;
         let asked = classify(alloc, &self.kept, asks.as_slice())?;
-        let reserved = self.reserve(alloc, asked.new.as_slice())?;
+        let reserved = self.reserve(alloc, asked.requests.as_slice())?;
         let jobs = reserved.jobs.as_slice();
         let mut part = self.tables.copy()?.all();
         let replies = carry(alloc, &self.rules, &mut part, jobs)?;
