@@ -21,21 +21,21 @@ use Rattle.gw_tx.specs.KeptForms.{AreSlots, IsAskedRequest}
 use Rattle.gw_tx.proofs.FormsKept.{transaction_kept}
 use Rattle.gw_engine.specs.declared.heard.Heard.{Heard}
 use Rattle.gw_engine.specs.Bursts.{Progress, Step, owned_by, reply_to, entry_for, key_of_request, over_reply, new_step, over_step, request_step, item_step, in_turn, message_step, heard_step, start_of, burst_outcome}
-use Rattle.gw_engine.specs.OnTheWay.{IsAskedItem, IsAskedMessage, IsAskedHeard, AreAskedHeard}
+use Rattle.gw_engine.specs.Forms.{IsItemInForm, IsMessageInForm, IsInForm, AreInForm}
 use Rattle.gw_engine.specs.Readable.{Question, question_in, questions_in, questions, IsAnswerTo}
 use Rattle.gw_engine.specs.State.{Settings, GatewayValue, IsKeptReply, IsWellFormed}
-use Rattle.gw_engine.proofs.Carrying.{named_slots}
+use Rattle.gw_engine.proofs.Left.{named_slots}
 use Rattle.gw_engine.proofs.ErrorsRead.{fault_is_error}
 use Rattle.gw_engine.proofs.RepliesKept.{reply_read, kept_more, kept_found}
 
-abbrev IsSmall : ℕ → Type 0
+abbrev pub IsSmall : ℕ → Type 0
 IsSmall n = n < 4096
 
 -- between two items: what is kept has its forms, and so have the names of the slots that are left
-record IsSound (s : Settings) (p : Progress) : Type 0 where
-  maps : AreKept p.state.maps
-  replies : All (IsKeptReply s.mid) p.state.kept.pairs
-  slots : All IsSmall p.slots
+pub record IsSound (s : Settings) (p : Progress) : Type 0 where
+  pub maps : AreKept p.state.maps
+  pub replies : All (IsKeptReply s.mid) p.state.kept.pairs
+  pub slots : All IsSmall p.slots
 
 -- a step answers these questions, and leaves the burst so
 record IsAnswered (s : Settings) (qs : List Question) (t : Step) : Type 0 where
@@ -76,7 +76,7 @@ module _ (s : Settings) (is_mid : IsMid s.mid) (address : IsAddress s.rules.medi
       by true = new_answered peer from r p asked h
       by false = over_answered peer r p asked h
 
-  item_answered : (peer : ℕ) (from : List ℕ) (i : Item) (p : Progress) → IsAskedItem i → IsSound s p → IsAnswered s (question_in peer i) (item_step s peer from i p)
+  item_answered : (peer : ℕ) (from : List ℕ) (i : Item) (p : Progress) → IsItemInForm i → IsSound s p → IsAnswered s (question_in peer i) (item_step s peer from i p)
   unfolding item_step
   item_answered peer from (item.Request r) p asked h = request_answered peer from r p (bytes_for (key_of_request from r) p.state.kept.pairs) asked h refl
   item_answered peer from (item.Ack ranges) p asked h = record { answers = tt; after = h }
@@ -90,15 +90,22 @@ module _ (s : Settings) (is_mid : IsMid s.mid) (address : IsAddress s.rules.medi
       let rest = turn_answered step ask Good each xs (step x p).after (All-tail Good x xs all) now.after in
       record { answers = zip_append (IsAnswerTo s.mid) (ask x) (flat_map ask xs) (step x p).answers (in_turn step xs (step x p).after).answers now.answers rest.answers; after = rest.after }
 
-  message_answered : (peer : ℕ) (m : Result Message Code) (p : Progress) → IsAskedMessage m → IsSound s p → IsAnswered s (questions_in peer m) (message_step s peer m p)
-  message_answered peer (Ok m) p asked h = turn_answered (item_step s peer m.mid) (question_in peer) IsAskedItem (item_answered peer m.mid) m.items p asked h
+  message_answered : (peer : ℕ) (m : Result Message Code) (p : Progress) → IsMessageInForm m → IsSound s p → IsAnswered s (questions_in peer m) (message_step s peer m p)
+  message_answered peer (Ok m) p asked h = turn_answered (item_step s peer m.mid) (question_in peer) IsItemInForm (item_answered peer m.mid) m.items p asked h
   message_answered peer (Err code) p asked h = record { answers = (record { peer = refl; text = fault_is_error s.mid code is_mid }, tt); after = h }
 
-  heard_answered : (h : Heard) (p : Progress) → IsAskedHeard h → IsSound s p → IsAnswered s (questions_in h.peer h.message) (heard_step s h p)
+  heard_answered : (h : Heard) (p : Progress) → IsInForm h → IsSound s p → IsAnswered s (questions_in h.peer h.message) (heard_step s h p)
   heard_answered h p asked sound = message_answered h.peer h.message p asked sound
 
-pub burst_answered : (g : GatewayValue) (heard : List Heard) → IsWellFormed g.settings g.state → g.settings.slots ≤ 4096 → AreAskedHeard heard → AllZip (IsAnswerTo g.settings.mid) (questions heard) (burst_outcome g heard).answers
+all_answered : (g : GatewayValue) (heard : List Heard) → IsWellFormed g.settings g.state → g.settings.slots ≤ 4096 → AreInForm heard → IsAnswered g.settings (questions heard) (burst_outcome g heard)
 unfolding burst_outcome
-burst_answered g heard w few asked =
+all_answered g heard w few forms =
     let start : IsSound g.settings (start_of g) = record { maps = w.forms; replies = w.replies; slots = (free_unused g.state.maps g.state.slot_cursor g.settings.slots w.slot_cursor few).slots_small } in
-    (turn_answered g.settings w.mid w.address (heard_step g.settings) (λ (h : Heard). questions_in h.peer h.message) IsAskedHeard (heard_answered g.settings w.mid w.address) heard (start_of g) asked start).answers
+    turn_answered g.settings w.mid w.address (heard_step g.settings) (λ (h : Heard). questions_in h.peer h.message) IsInForm (heard_answered g.settings w.mid w.address) heard (start_of g) forms start
+
+pub burst_answered : (g : GatewayValue) (heard : List Heard) → IsWellFormed g.settings g.state → g.settings.slots ≤ 4096 → AreInForm heard → AllZip (IsAnswerTo g.settings.mid) (questions heard) (burst_outcome g heard).answers
+burst_answered g heard w few forms = (all_answered g heard w few forms).answers
+
+-- what is kept afterwards has its forms
+pub burst_sound : (g : GatewayValue) (heard : List Heard) → IsWellFormed g.settings g.state → g.settings.slots ≤ 4096 → AreInForm heard → IsSound g.settings (burst_outcome g heard).after
+burst_sound g heard w few forms = (all_answered g heard w few forms).after

@@ -1,16 +1,13 @@
 //! The datagrams of a burst as they are read.
 
-ghost use Rattle.std.specs.Prelude.{◌≡◌, ◌++◌, ℕ, List, Err, OnOk, IfOk, map};
+ghost use Rattle.std.specs.Prelude.{ℕ, List, Err, IfOk};
 ghost use Rattle.std.specs.List.{AllZip};
-ghost use Rattle.gw_kept.specs.Classes.{key_in};
 ghost use Rattle.gw_msg.specs.Grammar.{IsReadingOf};
 ghost use Rattle.gw_engine.specs.Bursts.{IsHeard, IsMessageOf};
-ghost use Rattle.gw_engine.specs.OnTheWay.{all_asked};
 
 use crate::datagram::Datagram;
-use gw_base::{Code, Items, Mid, NoMemory};
-use gw_kept::RequestKey;
-use gw_msg::{Item, Message, ReadFault, read_message};
+use gw_base::{Code, Items, NoMemory};
+use gw_msg::{Message, ReadFault, read_message};
 use std::alloc::Global;
 
 /// A datagram that was read: who sent it, and its message, or the error that it is answered with.
@@ -57,34 +54,4 @@ pub(crate) fn hear<'a>(alloc: Global, burst: &'a [Datagram]) -> Result<Items<Hea
         heard.push(heard_of(alloc, datagram)?)?;
     }
     Ok(heard)
-}
-
-/// What the items of one message ask, behind what others do.
-fn push_keys(
-    keys: &mut Items<Option<RequestKey>>,
-    mid: Mid,
-    items: &[Item<'_>],
-) -> Result<(), NoMemory>
-    ensures { OnOk result (keys.new ≡ keys.old ++ map (key_in mid) items.now) }
-{
-    for item in items {
-        keys.push(RequestKey::of(mid, item))?;
-    }
-    Ok(())
-}
-
-/// What the items of all messages ask, in order of arrival.
-pub(crate) fn asked_by(
-    alloc: Global,
-    heard: &[Heard<'_>],
-) -> Result<Items<Option<RequestKey>>, NoMemory>
-    ensures { IfOk result (λ keys. keys ≡ all_asked heard.now) }
-{
-    let mut keys = Items::new(alloc);
-    for datagram in heard {
-        if let Ok(message) = &datagram.message {
-            push_keys(&mut keys, message.mid, message.items.as_slice())?;
-        }
-    }
-    Ok(keys)
 }

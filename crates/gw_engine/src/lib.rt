@@ -1,13 +1,18 @@
 //! The gateway: its state, and what it answers.
 #![tactic(auto)]
 
+mod adopt;
+mod answer;
+mod asked;
 mod audit;
-mod burst;
+mod carry;
+mod classify;
 mod datagram;
 mod fault;
 mod gateway;
 mod heard;
 mod laws;
+mod reserve;
 mod run;
 
 pub use datagram::Datagram;

@@ -2,52 +2,49 @@
 
 ghost use Rattle.std.specs.Prelude.{◌≡◌, IfOk, OnErr};
 ghost use Rattle.std.specs.List.{AllZip};
+ghost use Rattle.gw_kept.specs.Pairs.{AreNew};
 ghost use Rattle.gw_engine.specs.Bursts.{burst_outcome, AnswersBurst};
-ghost use Rattle.gw_engine.specs.OnTheWay.{AreAskedHeard, IsOnItsWay, progress_of};
+ghost use Rattle.gw_engine.specs.Forms.{AreInForm};
+ghost use Rattle.gw_engine.specs.Phases.{adopted};
 ghost use Rattle.gw_engine.specs.Readable.{IsAnswerTo, CanBeRead, questions};
 ghost use Rattle.gw_engine.specs.State.{IsWellFormed};
 
-use crate::burst::Burst;
+use crate::adopt::Done;
+use crate::answer::entries_of;
+use crate::asked::asks_of;
+use crate::carry::carry;
+use crate::classify::classify;
 use crate::datagram::Datagram;
 use crate::gateway::Gateway;
-use crate::heard::{Heard, asked_by, hear};
+use crate::heard::{Heard, hear};
 use gw_base::{Items, NoMemory};
 use std::alloc::Global;
 
 impl Gateway {
-    /// Carries out what was heard, on a copy of the tables. All classes are told before anything is carried out.
-    fn carry_out(&self, alloc: Global, heard: &[Heard<'_>]) -> Result<Burst, NoMemory>
-        requires asked { AreAskedHeard heard.now }
-        ensures way { IfOk result (IsOnItsWay self.now) }
-        ensures answers { IfOk result (λ burst. burst.answers ≡ (burst_outcome self.now heard.now).answers) }
-        ensures readable { IfOk result (λ burst. AllZip (IsAnswerTo self.now.settings.mid) (questions heard.now) burst.answers) }
-        ensures after { IfOk result (λ burst. progress_of self.now burst ≡ (burst_outcome self.now heard.now).after) }
+    /// What comes of a burst, in phases: each is over for the whole burst before the next begins. The transactions are carried out on
+    /// a copy of the tables.
+    fn carry_out(&self, alloc: Global, heard: &[Heard<'_>]) -> Result<Done, NoMemory>
+        requires forms { AreInForm heard.now }
+        ensures answers { IfOk result (λ done. done.answers ≡ (burst_outcome self.now heard.now).answers) }
+        ensures readable { IfOk result (λ done. AllZip (IsAnswerTo self.now.settings.mid) (questions heard.now) done.answers) }
+        ensures state { IfOk result (λ done. adopted self.now.state done.tables done.cursors done.entries.items ≡ (burst_outcome self.now heard.now).after.state) }
+        ensures new { IfOk result (λ done. AreNew self.now.state.kept done.entries.items) }
+        ensures fits { IfOk result (λ done. IsWellFormed self.now.settings (adopted self.now.state done.tables done.cursors done.entries.items)) }
     {
-        let asked = asked_by(alloc, heard)?;
-        let classes = self.kept.classify(alloc, asked.as_slice())?;
-        let mut burst = Burst::new(alloc, self, classes.len())?;
-        burst.take_all(alloc, self, heard, classes.as_slice())?;
-        Ok(burst)
-    }
-
-    /// Makes the outcome of a burst the gateway's state, and hands its answers out. It takes no memory.
-    fn adopt(&mut self, burst: Burst) -> Items<Datagram>
-        requires way { IsOnItsWay self.old burst }
-        ensures answers { result ≡ burst.answers }
-        ensures settings { self.new.settings ≡ self.old.settings }
-        ensures state { self.new.state ≡ (progress_of self.old burst).state }
-        ensures fits { IsWellFormed self.new.settings self.new.state }
-    {
-        let Burst {
-            part,
-            reservation,
+        let asks = asks_of(alloc, heard)?;
+        let asked = classify(alloc, &self.kept, asks.as_slice())?;
+        let reserved = self.reserve(alloc, asked.requests.as_slice())?;
+        let jobs = reserved.jobs.as_slice();
+        let mut part = self.tables.copy()?.all();
+        let replies = carry(alloc, &self.rules, &mut part, jobs)?;
+        let entries = entries_of(alloc, &self.mid, jobs, replies.as_slice())?;
+        let answers = self.answers(alloc, entries.as_slice(), asked.tasks.as_slice())?;
+        Ok(Done {
+            tables: part.tables(),
+            cursors: reserved.cursors,
             entries,
             answers,
-        } = burst;
-        self.tables = part.tables();
-        self.cursors = reservation.cursors();
-        self.kept.push_all(entries);
-        answers
+        })
     }
 
     /// Answers a burst: its items in order of arrival, one after another. A text that is no message is answered with error 406 or

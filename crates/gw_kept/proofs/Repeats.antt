@@ -11,7 +11,7 @@ use Rattle.gw_kept.specs.declared.class.Class.{Class}
 use Rattle.gw_kept.specs.declared.class.Class.TheVariants.{New, Repeat, Over, Nothing}
 use Rattle.gw_kept.specs.declared.class.Source.{Source}
 use Rattle.gw_kept.specs.declared.class.Source.TheVariants as source
-use Rattle.gw_kept.specs.Pairs.{KeptList, key_of, is_same, bytes_for, kept_after, AreDistinct}
+use Rattle.gw_kept.specs.Pairs.{KeptList, key_of, is_same, bytes_for, bytes_at, with_pair, kept_after, AreDistinct, AreNew}
 use Rattle.gw_kept.specs.Classes.{or_here, last_place, source_at, class_of, most_new}
 use Rattle.gw_kept.specs.Repeats.{keys_after, class_after, bytes_of}
 use Rattle.gw_kept.proofs.Places.{same_key, same_back}
@@ -185,8 +185,31 @@ distinct_drop zero xs d = d
 distinct_drop (suc n) [] d = tt
 distinct_drop (suc n) (x ∷ xs) d = distinct_drop n xs d.1
 
+-- one more pair, whose key none has
+distinct_with : (k : KeptList) (e : Entry) → AreDistinct k.pairs → bytes_for (key_of e) k.pairs ≡ None → AreDistinct (with_pair k e).pairs
+distinct_with k e d none = distinct_drop (length (k.pairs ++ e ∷ []) - k.most) (k.pairs ++ e ∷ []) (distinct_more k.pairs e d none)
+
 pub stays_distinct : (k : KeptList) (es : List Entry) (e : Entry) → length k.pairs ≤ k.most → class_after k es (key_of e) ≡ New → AreDistinct (kept_after k es).pairs → AreDistinct (kept_after k (es ++ e ∷ [])).pairs
 stays_distinct k es e few new d =
-    let now = kept_after k es in
-    let more : AreDistinct (now.pairs ++ e ∷ []) = distinct_more now.pairs e d (new_is_not_kept k es (key_of e) few new).0 in
-    subst (λ (l : KeptList). AreDistinct l.pairs) (sym (one_more_after k es e)) (distinct_drop (length (now.pairs ++ e ∷ []) - now.most) (now.pairs ++ e ∷ []) more)
+    subst (λ (l : KeptList). AreDistinct l.pairs) (sym (one_more_after k es e)) (distinct_with (kept_after k es) e d (new_is_not_kept k es (key_of e) few new).0)
+
+-- and several, one after another
+pub distinct_after : (k : KeptList) (es : List Entry) → AreDistinct k.pairs → AreNew k es → AreDistinct (kept_after k es).pairs
+distinct_after k [] d new = d
+distinct_after k (e ∷ es) d new = distinct_after (with_pair k e) es (distinct_with k e d new.0) new.1
+
+-- ---- what a source names stays, whatever comes behind
+
+bytes_stay : (place : ℕ) (es more : List Entry) (bytes : List ℕ) → bytes_at place es ≡ Some bytes → bytes_at place (es ++ more) ≡ Some bytes
+bytes_stay place [] more bytes e = absurd cc
+bytes_stay zero (x ∷ xs) more bytes e = e
+bytes_stay (suc place) (x ∷ xs) more bytes e = bytes_stay place xs more bytes e
+
+pub source_stays : (source : Source) (k : KeptList) (es more : List Entry) (bytes : List ℕ) → bytes_of source k es ≡ Some bytes → bytes_of source k (es ++ more) ≡ Some bytes
+source_stays (source.Kept place) k es more bytes e = e
+source_stays (source.Place place) k es more bytes e = bytes_stay place es more bytes e
+
+-- the reply of the next new request
+pub next_bytes : (es more : List Entry) (e : Entry) → bytes_at (length es) (es ++ e ∷ more) ≡ Some e.bytes
+next_bytes [] more e = refl
+next_bytes (x ∷ xs) more e = next_bytes xs more e

@@ -1,8 +1,8 @@
 //! The kept replies: the last so many, in a ring.
 
-ghost use Rattle.std.specs.Prelude.{◌≡◌, ◌≤◌, length, IfOk, option_copied};
+ghost use Rattle.std.specs.Prelude.{◌≡◌, ◌≤◌, None, length, IfOk, option_copied};
 ghost use Rattle.gw_kept.specs.Classes.{classes_of};
-ghost use Rattle.gw_kept.specs.Pairs.{bytes_for, bytes_at, none_kept, with_pair, kept_after, dropped_by, IsBounded};
+ghost use Rattle.gw_kept.specs.Pairs.{key_of, bytes_for, bytes_at, none_kept, with_pair, kept_after, dropped_by, AreNew, IsBounded};
 
 use crate::class::Class;
 use crate::entry::{Entry, RequestKey};
@@ -57,14 +57,17 @@ impl Kept {
     /// Keeps a pair, whose key no kept pair has: the caller knows that. A full list hands back its oldest pair. It takes no
     /// memory.
     pub fn push(&mut self, entry: Entry) -> Option<Entry>
+        requires { bytes_for (key_of entry) self.old.pairs ≡ None }
         ensures pairs { self.new ≡ with_pair self.old entry }
         ensures dropped { result ≡ dropped_by self.old entry }
     {
         self.ring.push_back(entry)
     }
 
-    /// Keeps the pairs of a burst's new requests, one after another; what falls out is let go. It takes no memory.
+    /// Keeps the pairs of a burst's new requests, one after another; what falls out is let go. The caller knows that at its turn
+    /// each has a key that no kept pair has. It takes no memory.
     pub fn push_all(&mut self, entries: Vec<Entry>)
+        requires { AreNew self.old entries.items }
         ensures { self.new ≡ kept_after self.old entries.items }
     {
         for entry in entries {

@@ -1,0 +1,11 @@
+use Rattle.std.proofs.Common.{◌≡◌, ◌++◌, length}
+use Rattle.gw_engine.specs.Phases.{told, new_in, tasks_in}
+use Rattle.gw_engine.proofs.Zipped.{left_of}
+use Rattle.gw_engine.proofs.classify.classify.Given as goal
+
+-- with those that are left, they are all
+abbrev pub invariant-loop-ask : goal.invariant-loop-ask
+invariant-loop-ask l = record {
+  tasks : l.classified.tasks ++ tasks_in (length l.classified.requests) (left_of l.ask-iterator) ≡ tasks_in 0 (told l.kept l.asks);
+  requests : l.classified.requests ++ new_in (left_of l.ask-iterator) ≡ new_in (told l.kept l.asks);
+}

@@ -1,0 +1,26 @@
+-- The forms of what requests ask: their TerminationIDs and descriptors (own).
+use Rattle.std.specs.Prelude.{List, Result, Ok, Err}
+use Rattle.std.specs.List.{All}
+use Rattle.gw_base.specs.declared.code.Code.{Code}
+use Rattle.gw_msg.specs.declared.message.Item.{Item}
+use Rattle.gw_msg.specs.declared.message.Item.TheVariants as item
+use Rattle.gw_msg.specs.declared.message.Message.{Message}
+use Rattle.gw_tx.specs.KeptForms.{IsAskedRequest}
+use Rattle.gw_engine.specs.declared.heard.Heard.{Heard}
+
+-- what a request names and describes has its forms
+abbrev pub IsItemInForm : Item → Type 0
+IsItemInForm (item.Request r) = IsAskedRequest r
+IsItemInForm (item.Ack ranges) = Unit {0}
+IsItemInForm item.Ignored = Unit {0}
+
+abbrev pub IsMessageInForm : Result Message Code → Type 0
+IsMessageInForm (Ok m) = All IsItemInForm m.items
+IsMessageInForm (Err code) = Unit {0}
+
+abbrev pub IsInForm : Heard → Type 0
+IsInForm h = IsMessageInForm h.message
+
+-- so it has in all messages
+abbrev pub AreInForm : List Heard → Type 0
+AreInForm heard = All IsInForm heard

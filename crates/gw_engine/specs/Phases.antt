@@ -1,0 +1,180 @@
+-- A burst in phases (own), each over the whole burst before the next begins: what is asked; the classes, from the keys alone; who
+-- owns which identifiers; the transactions; their texts, kept and answered.
+use Rattle.std.specs.Prelude.{◌+◌, ℕ, List, [], ◌∷◌, ◌++◌, map, length, flat_map, Option, None, Some, Result, Ok, Err}
+use Rattle.std.specs.List.{zip}
+use Rattle.gw_base.specs.declared.code.Code.{Code}
+use Rattle.gw_base.specs.declared.code.Code.TheVariants.{InsufficientResources}
+use Rattle.gw_base.specs.declared.ids.Ids.{Ids}
+use Rattle.gw_base.specs.declared.ids.TxId.{TxId}
+use Rattle.gw_kept.specs.Classes.{classes_of}
+use Rattle.gw_kept.specs.Pairs.{KeptList, kept_after}
+use Rattle.gw_kept.specs.Repeats.{bytes_of}
+use Rattle.gw_kept.specs.declared.class.Class.{Class}
+use Rattle.gw_kept.specs.declared.class.Class.TheVariants.{New, Repeat, Over, Nothing}
+use Rattle.gw_kept.specs.declared.class.Source.TheVariants as source
+use Rattle.gw_kept.specs.declared.entry.Entry.{Entry}
+use Rattle.gw_kept.specs.declared.entry.RequestKey.{RequestKey}
+use Rattle.gw_msg.specs.declared.message.Item.{Item}
+use Rattle.gw_msg.specs.declared.message.Item.TheVariants as item
+use Rattle.gw_msg.specs.declared.message.Message.{Message}
+use Rattle.gw_msg.specs.declared.message.Request.{Request}
+use Rattle.gw_reply.specs.Messages.{reply_text, fault_text}
+use Rattle.gw_reply.specs.declared.reply.TxReply.{TxReply}
+use Rattle.gw_reserve.specs.Owners.{owners, new_cursors}
+use Rattle.gw_reserve.specs.declared.owners.Cursors.{Cursors}
+use Rattle.gw_table.specs.Maps.{Maps, Outcome}
+use Rattle.gw_table.specs.Unused.{owned}
+use Rattle.gw_engine.specs.declared.asked.Ask.{Ask}
+use Rattle.gw_engine.specs.declared.asked.Sent.{Sent}
+use Rattle.gw_engine.specs.declared.classify.Task.{Task}
+use Rattle.gw_engine.specs.declared.classify.Work.{Work}
+use Rattle.gw_engine.specs.declared.classify.Work.TheVariants as work
+use Rattle.gw_engine.specs.declared.datagram.Datagram.{Datagram}
+use Rattle.gw_engine.specs.declared.heard.Heard.{Heard}
+use Rattle.gw_engine.specs.declared.reserve.Job.{Job}
+use Rattle.gw_engine.specs.Bursts.{cursors_of, entry_for, key_of_request}
+use Rattle.gw_engine.specs.Carried.{carried}
+use Rattle.gw_engine.specs.State.{State, GatewayValue}
+
+-- ---- what is asked
+
+-- a request is to be answered, and no other item
+abbrev pub asks_in : (peer : ℕ) → (mid : List ℕ) → Item → List Ask
+asks_in peer mid (item.Request r) = record { peer = peer; sent = Ok (record { mid = mid; request = r }) } ∷ []
+asks_in peer mid (item.Ack ranges) = []
+asks_in peer mid item.Ignored = []
+
+-- so is a text that is no message
+abbrev pub asks_from : (peer : ℕ) → Result Message Code → List Ask
+asks_from peer (Ok m) = flat_map (asks_in peer m.mid) m.items
+asks_from peer (Err code) = record { peer = peer; sent = Err code } ∷ []
+
+-- what a burst asks, in order of arrival
+abbrev pub asks_of : List Heard → List Ask
+asks_of heard = flat_map (λ h. asks_from h.peer h.message) heard
+
+-- ---- classes
+
+abbrev pub key_asked : Result Sent Code → Option RequestKey
+key_asked (Ok s) = Some (key_of_request s.mid s.request)
+key_asked (Err code) = None
+
+abbrev pub keys_asked : List Ask → List (Option RequestKey)
+keys_asked asks = map (λ a. key_asked a.sent) asks
+
+-- each with its class, told from the keys alone
+abbrev pub told : KeptList → List Ask → List (Ask × Class)
+told k asks = zip asks (classes_of k (keys_asked asks))
+
+-- the request, if it is carried out
+abbrev pub new_for : Result Sent Code → Class → List Sent
+new_for (Ok s) New = s ∷ []
+new_for (Ok s) (Repeat from) = []
+new_for (Ok s) Over = []
+new_for (Ok s) Nothing = []
+new_for (Err code) class = []
+
+-- the requests that are carried out, in order
+abbrev pub new_in : List (Ask × Class) → List Sent
+new_in asked = flat_map (λ a. new_for a.0.sent a.1) asked
+
+abbrev pub task_for : (peer : ℕ) → Work → List Task
+task_for peer w = record { peer = peer; work = w } ∷ []
+
+-- How one is answered that has so many new requests before it: with an error, or with a reply, a new request with its own.
+abbrev pub tasks_for : (before : ℕ) → (peer : ℕ) → Result Sent Code → Class → List Task
+tasks_for before peer (Ok s) New = task_for peer (work.Reply (source.Place before))
+tasks_for before peer (Ok s) (Repeat from) = task_for peer (work.Reply from)
+tasks_for before peer (Ok s) Over = task_for peer (work.Over s.request.id)
+tasks_for before peer (Ok s) Nothing = []
+tasks_for before peer (Err code) class = task_for peer (work.Fault code)
+
+-- how all are answered
+abbrev pub tasks_in : (before : ℕ) → List (Ask × Class) → List Task
+tasks_in before [] = []
+tasks_in before (a ∷ rest) = tasks_for before a.0.peer a.0.sent a.1 ++ tasks_in (before + length (new_for a.0.sent a.1)) rest
+
+-- ---- who owns what
+
+abbrev pub requests_of : List Sent → List Request
+requests_of new = map (λ s. s.request) new
+
+abbrev pub job_of : Sent × Ids → Job
+job_of p = record { sent = p.0; owned = p.1 }
+
+-- each request with what it owns
+abbrev pub jobs_of : List Sent → List Ids → List Job
+jobs_of new ids = map job_of (zip new ids)
+
+-- what the new requests own of what is free at the burst's start
+abbrev pub ids_in : GatewayValue → List Sent → List Ids
+ids_in g new = owners g.state.maps (cursors_of g.state) g.settings.contexts g.settings.slots (requests_of new)
+
+-- ---- the transactions
+
+abbrev pub request_with_ids : Job → Request × Ids
+request_with_ids j = (j.sent.request, j.owned)
+
+-- the slots that jobs own
+abbrev pub slots_of : List Job → List ℕ
+slots_of jobs = flat_map (λ j. owned j.owned.slots) jobs
+
+-- ---- what is kept, and what is answered
+
+-- the pair of a request and its reply
+abbrev pub entry_of : List ℕ → Job × TxReply → List Entry
+entry_of mid p = entry_for p.0.sent.mid p.0.sent.request (reply_text mid p.1) ∷ []
+
+abbrev pub entries_of : List ℕ → List Job → List TxReply → List Entry
+entries_of mid jobs replies = flat_map (entry_of mid) (zip jobs replies)
+
+-- the reply to a request that comes behind too many new ones
+abbrev pub refusal_of : TxId → TxReply
+refusal_of id = record { id = id; result = Err InsufficientResources }
+
+-- the text of an error, of a reply, or of a refusal
+abbrev pub text_of : List ℕ → KeptList → List Entry → Work → Option (List ℕ)
+text_of mid k entries (work.Fault code) = Some (fault_text mid code)
+text_of mid k entries (work.Reply from) = bytes_of from k entries
+text_of mid k entries (work.Over id) = Some (reply_text mid (refusal_of id))
+
+abbrev pub answer_for : (peer : ℕ) → Option (List ℕ) → List Datagram
+answer_for peer None = []
+answer_for peer (Some bytes) = record { peer = peer; bytes = bytes } ∷ []
+
+abbrev pub answers_of : List ℕ → KeptList → List Entry → List Task → List Datagram
+answers_of mid k entries tasks = flat_map (λ t. answer_for t.peer (text_of mid k entries t.work)) tasks
+
+-- ---- a burst
+
+-- the state with other tables and cursors, and more pairs kept
+abbrev pub adopted : State → Maps → Cursors → List Entry → State
+adopted s m cursors entries = record { maps = m; context_cursor = cursors.context; slot_cursor = cursors.slot; kept = kept_after s.kept entries }
+
+-- what comes of the phases
+pub record Phased : Type 0 where
+  pub answers : List Datagram
+  pub entries : List Entry
+  pub state : State
+
+-- of jobs and tasks: the transactions, one after another on the tables at the burst's start
+abbrev pub phased_jobs : GatewayValue → List Ids → List Job → List Task → Outcome (List TxReply) → Phased
+phased_jobs g ids jobs tasks done =
+    let entries = entries_of g.settings.mid jobs done.answer in
+    record {
+      answers = answers_of g.settings.mid g.state.kept entries tasks;
+      entries = entries;
+      state = adopted g.state done.maps (new_cursors (cursors_of g.state) ids) entries;
+    }
+
+-- of what is asked, each with its class
+abbrev pub phased_asks : GatewayValue → List (Ask × Class) → Phased
+phased_asks g asked =
+    let new = new_in asked in
+    let ids = ids_in g new in
+    let jobs = jobs_of new ids in
+    phased_jobs g ids jobs (tasks_in 0 asked) (carried g.settings.rules (map request_with_ids jobs) g.state.maps)
+
+-- of a burst
+unfoldable pub phased : GatewayValue → List Heard → Phased
+phased g heard = phased_asks g (told g.state.kept (asks_of heard))

@@ -1,0 +1,82 @@
+//! Which requests of a burst are carried out, and how each is answered.
+
+ghost use Rattle.std.specs.Prelude.{◌≡◌, ◌++◌, [], length, OnOk, IfOk};
+ghost use Rattle.gw_engine.specs.Phases.{told, new_for, new_in, tasks_for, tasks_in};
+
+use crate::asked::{Ask, Sent, keys_of};
+use gw_base::{Code, Items, NoMemory, TxId};
+use gw_kept::{Class, Kept, Source};
+use std::alloc::Global;
+
+/// How one is answered.
+#[derive(Clone, Copy)]
+pub(crate) enum Work {
+    /// With an error.
+    Fault(Code),
+    /// With a reply: a new request with its own, a repeat with that of an earlier one.
+    Reply(Source),
+    /// With error 510: it came behind 1,024 new requests.
+    Over(TxId),
+}
+
+/// How one is answered, and for whom.
+#[derive(Clone, Copy)]
+pub(crate) struct Task {
+    pub(crate) peer: u32,
+    pub(crate) work: Work,
+}
+
+/// What a burst asks, told apart.
+#[derive(Drop)]
+pub(crate) struct Classified<'h, 'a> {
+    /// How each is answered, in order of arrival.
+    pub(crate) tasks: Items<Task>,
+    /// The requests that are carried out, in order.
+    pub(crate) requests: Items<Sent<'h, 'a>>,
+}
+
+impl<'h, 'a> Classified<'h, 'a> {
+    /// Notes one more, which is of this class.
+    fn push(&mut self, ask: &Ask<'h, 'a>, class: Class) -> Result<(), NoMemory>
+        ensures tasks { OnOk result (self.new.tasks ≡ self.old.tasks ++ tasks_for (length self.old.requests) ask.now.peer ask.now.sent class) }
+        ensures requests { OnOk result (self.new.requests ≡ self.old.requests ++ new_for ask.now.sent class) }
+    {
+        let work = match (&ask.sent, class) {
+            (Err(code), _) => Work::Fault(*code),
+            (Ok(sent), Class::New) => {
+                let place = self.requests.len();
+                self.requests.push(sent.again())?;
+                Work::Reply(Source::Place(place))
+            }
+            (Ok(_), Class::Repeat(source)) => Work::Reply(source),
+            (Ok(sent), Class::Over) => Work::Over(sent.request.get().id),
+            (Ok(_), Class::Nothing) => return Ok(()),
+        };
+        self.tasks.push(Task {
+            peer: ask.peer,
+            work,
+        })?;
+        Ok(())
+    }
+}
+
+/// Tells of all that a burst asks how it is answered, and which requests are carried out. It is told from the keys alone.
+pub(crate) fn classify<'h, 'a>(
+    alloc: Global,
+    kept: &Kept,
+    asks: &[Ask<'h, 'a>],
+) -> Result<Classified<'h, 'a>, NoMemory>
+    ensures tasks { IfOk result (λ c. c.tasks ≡ tasks_in 0 (told kept.now asks.now)) }
+    ensures requests { IfOk result (λ c. c.requests ≡ new_in (told kept.now asks.now)) }
+{
+    let keys = keys_of(alloc, asks)?;
+    let classes = kept.classify(alloc, keys.as_slice())?;
+    let mut classified = Classified {
+        tasks: Items::from(Vec::with_capacity(alloc, asks.len())?),
+        requests: Items::new(alloc),
+    };
+    for (ask, class) in asks.iter().zip(classes.as_slice()) {
+        classified.push(ask, *class)?;
+    }
+    Ok(classified)
+}
