@@ -9,7 +9,7 @@ use Rattle.gw_kept.specs.Pairs.{kept_after, AreNew}
 use Rattle.gw_kept.specs.declared.entry.Entry.{Entry}
 use Rattle.gw_reply.specs.declared.reply.TxReply.{TxReply}
 use Rattle.gw_reserve.proofs.Fresh.{are_fresh, free_unused}
-use Rattle.gw_reserve.specs.Owners.{free_numbers, free_slots, number_places, slot_places, ids_of, owners, owners_of, owned_slots, new_cursors, AreWithin}
+use Rattle.gw_reserve.specs.Owners.{owners, owned_slots, new_cursors, AreWithin}
 use Rattle.gw_reserve.specs.declared.owners.Cursors.{Cursors}
 use Rattle.gw_table.specs.Maps.{Maps}
 use Rattle.gw_table.specs.Unused.{owned, AreUnused}
@@ -23,25 +23,20 @@ use Rattle.gw_engine.specs.declared.reserve.Job.{Job}
 use Rattle.gw_engine.specs.Bursts.{cursors_of, burst_outcome}
 use Rattle.gw_engine.specs.Carried.{carried}
 use Rattle.gw_engine.specs.Forms.{AreInForm}
-use Rattle.gw_engine.specs.Phases.{asks_of, told, new_in, tasks_in, requests_of, jobs_of, ids_in, request_with_ids, slots_of, entries_of, answers_of, adopted, phased}
+use Rattle.gw_engine.specs.Phases.{asks_of, told, new_in, tasks_in, requests_of, ids_in, paired_job, paired_requests, sent_of, entries_of, answers_of, adopted, phased}
 use Rattle.gw_engine.specs.State.{State, GatewayValue, IsKeptReply, IsWellFormed}
 use Rattle.gw_engine.proofs.Answered.{burst_sound}
 use Rattle.gw_engine.proofs.Phases.{phased_answers, phased_state, phased_new}
 
 -- ---- what jobs own is unused at the burst's start
 
-slots-jobs_of : (new : List Sent) (numbers : List CtxNum) (slots : List ℕ) → slots_of (jobs_of new (owners_of (requests_of new) numbers slots)) ≡ owned_slots (owners_of (requests_of new) numbers slots)
-slots-jobs_of [] numbers slots = refl
-slots-jobs_of (x ∷ new) numbers slots =
-    ap (λ (l : List ℕ). owned (ids_of x.request numbers slots).slots ++ l) (slots-jobs_of new (drop (number_places x.request) numbers) (drop (slot_places x.request) slots))
-
-pub jobs_unused : (g : GatewayValue) (new : List Sent) → IsWellFormed g.settings g.state → g.settings.slots ≤ 4096 → AreUnused g.state.maps [] (slots_of (jobs_of new (ids_in g new)))
+pub jobs_unused : (g : GatewayValue) (new : List Sent) (slots : List ℕ) → slots ≡ owned_slots (ids_in g new) → IsWellFormed g.settings g.state → g.settings.slots ≤ 4096 → AreUnused g.state.maps [] slots
 unfolding owners
-jobs_unused g new w small =
+jobs_unused g new slots is w small =
     let m = g.state.maps in
     let fresh = (are_fresh m (cursors_of g.state) g.settings.contexts g.settings.slots (requests_of new) (record { context = w.context_cursor; slot = w.slot_cursor }) small).unused in
     let free = free_unused m g.state.slot_cursor g.settings.slots w.slot_cursor small in
-    subst (λ (l : List ℕ). AreUnused m [] l) (sym (slots-jobs_of new (free_numbers m g.state.context_cursor g.settings.contexts) (free_slots m g.state.slot_cursor g.settings.slots)))
+    subst (λ (l : List ℕ). AreUnused m [] l) (sym is)
     (record { numbers_apart = free.numbers_apart; no_contexts = free.no_contexts; slots_apart = fresh.slots_apart; no_terminations = fresh.no_terminations; slots_small = fresh.slots_small })
 
 -- ---- phase by phase
@@ -50,11 +45,12 @@ pub record ComesOf (g : GatewayValue) (heard : List Heard) (asks : List Ask) (ta
   pub asks_are : asks ≡ asks_of heard
   pub tasks_are : tasks ≡ tasks_in 0 (told g.state.kept asks)
   pub new_are : new ≡ new_in (told g.state.kept asks)
-  pub jobs_are : jobs ≡ jobs_of new (ids_in g new)
+  pub sent_are : map sent_of jobs ≡ new
+  pub jobs_are : map paired_job jobs ≡ paired_requests new (ids_in g new)
   pub cursors_are : cursors ≡ new_cursors (cursors_of g.state) (ids_in g new)
-  pub maps_are : m ≡ (carried g.settings.rules (map request_with_ids jobs) g.state.maps).maps
-  pub replies_are : replies ≡ (carried g.settings.rules (map request_with_ids jobs) g.state.maps).answer
-  pub entries_are : entries ≡ entries_of g.settings.mid jobs replies
+  pub maps_are : m ≡ (carried g.settings.rules (map paired_job jobs) g.state.maps).maps
+  pub replies_are : replies ≡ (carried g.settings.rules (map paired_job jobs) g.state.maps).answer
+  pub entries_are : entries ≡ entries_of g.settings.mid (map sent_of jobs) replies
   pub answers_are : answers ≡ answers_of g.settings.mid g.state.kept entries tasks
   pub whole : AreWellFormed g.settings.rules.members m
   pub within : AreWithin g.settings.contexts g.settings.slots cursors
@@ -66,12 +62,13 @@ module _ (g : GatewayValue) (heard : List Heard) (asks : List Ask) (tasks : List
   new_p : new ≡ new_in (told g.state.kept (asks_of heard))
   new_p = c.new_are ∙ ap (λ (l : List Ask). new_in (told g.state.kept l)) c.asks_are
 
-  jobs_p : jobs ≡ jobs_of (new_in (told g.state.kept (asks_of heard))) (ids_in g (new_in (told g.state.kept (asks_of heard))))
-  jobs_p = c.jobs_are ∙ ap (λ (l : List Sent). jobs_of l (ids_in g l)) new_p
+  jobs_p : map paired_job jobs ≡ paired_requests (new_in (told g.state.kept (asks_of heard))) (ids_in g (new_in (told g.state.kept (asks_of heard))))
+  jobs_p = c.jobs_are ∙ ap (λ (l : List Sent). paired_requests l (ids_in g l)) new_p
 
   entries_p : entries ≡ (phased g heard).entries
   unfolding phased
-  entries_p = c.entries_are ∙ ap (λ (l : List TxReply). entries_of g.settings.mid jobs l) c.replies_are ∙ ap (λ (l : List Job). entries_of g.settings.mid l (carried g.settings.rules (map request_with_ids l) g.state.maps).answer) jobs_p
+  entries_p = c.entries_are ∙ ap (λ (l : List TxReply). entries_of g.settings.mid (map sent_of jobs) l) c.replies_are
+      ∙ (λ i. entries_of g.settings.mid ((c.sent_are ∙ new_p) i) (carried g.settings.rules (jobs_p i) g.state.maps).answer)
 
   pub answers_come : answers ≡ (burst_outcome g heard).answers
   unfolding phased
@@ -83,7 +80,7 @@ module _ (g : GatewayValue) (heard : List Heard) (asks : List Ask) (tasks : List
   pub state_comes : adopted g.state m cursors entries ≡ (burst_outcome g heard).after.state
   unfolding phased
   state_comes =
-      (let maps = c.maps_are ∙ ap (λ (l : List Job). (carried g.settings.rules (map request_with_ids l) g.state.maps).maps) jobs_p in
+      (let maps = c.maps_are ∙ (λ i. (carried g.settings.rules (jobs_p i) g.state.maps).maps) in
       let places = c.cursors_are ∙ ap (λ (l : List Sent). new_cursors (cursors_of g.state) (ids_in g l)) new_p in
       λ i. adopted g.state (maps i) (places i) (entries_p i))
       ∙ phased_state g heard bounded w.distinct

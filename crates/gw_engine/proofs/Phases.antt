@@ -33,8 +33,9 @@ use Rattle.gw_engine.specs.declared.classify.Work.TheVariants as work
 use Rattle.gw_engine.specs.declared.datagram.Datagram.{Datagram}
 use Rattle.gw_engine.specs.declared.heard.Heard.{Heard}
 use Rattle.gw_engine.specs.Bursts.{Progress, Step, answer_to, unchanged, cursors_of, owned_by, reply_to, entry_for, cursors_after, key_of_request, over_reply, new_step, over_step, request_step, item_step, in_turn, message_step, heard_step, start_of, burst_outcome}
+use Rattle.gw_tx.specs.Transactions.{transaction}
 use Rattle.gw_engine.specs.Carried.{carried}
-use Rattle.gw_engine.specs.Phases.{asks_in, asks_from, asks_of, keys_asked, told, new_in, tasks_in, task_for, requests_of, jobs_of, request_with_ids, entries_of, text_of, answer_for, answers_of, adopted, phased}
+use Rattle.gw_engine.specs.Phases.{asks_in, asks_from, asks_of, keys_asked, told, new_in, tasks_in, task_for, requests_of, paired_requests, entries_of, text_of, answer_for, answers_of, adopted, phased}
 use Rattle.gw_engine.specs.State.{Settings, GatewayValue}
 use Rattle.gw_engine.proofs.Cursors.{cursors-cons}
 
@@ -102,10 +103,10 @@ abbrev ids_from : Progress → List Sent → List Ids
 ids_from p new = owners_of (requests_of new) p.numbers p.slots
 
 abbrev done_from : Settings → Progress → List Sent → Outcome (List TxReply)
-done_from s p new = carried s.rules (map request_with_ids (jobs_of new (ids_from p new))) p.state.maps
+done_from s p new = carried s.rules (paired_requests new (ids_from p new)) p.state.maps
 
 abbrev entries_from : Settings → Progress → List Sent → List Entry
-entries_from s p new = entries_of s.mid (jobs_of new (ids_from p new)) (done_from s p new).answer
+entries_from s p new = entries_of s.mid new (done_from s p new).answer
 
 -- what is asked gives what the phases give of these new requests and tasks
 record Agrees (s : Settings) (k : KeptList) (es : List Entry) (asks : List Ask) (p : Progress) (new : List Sent) (tasks : List Task) : Type 0 where
@@ -184,7 +185,7 @@ module _ (s : Settings) (k : KeptList) (bounded : length k.pairs ≤ k.most) whe
 
   carries : (es : List Entry) (p : Progress) (peer : ℕ) (x : Sent) (rest : List Ask) (new : List Sent) (tasks : List Task) → IsAt k es p → class_after k es (key_for x) ≡ New
       → Agrees s k (es ++ entry_with s p x ∷ []) rest (new_step s peer x.mid x.request p).after new tasks → Agrees s k es (ask_for peer x ∷ rest) p (x ∷ new) (task_for peer (work.Reply (source.Place (length es))) ++ tasks)
-  unfolding in_turn carried cursors_after
+  unfolding in_turn carried cursors_after transaction
   carries es p peer x rest new tasks at is so =
       let e = entry_with s p x in
       let next : Progress = (new_step s peer x.mid x.request p).after in

@@ -1,69 +1,99 @@
 -- What new requests own, one after another.
-use Rattle.std.proofs.Common.{◌≡◌, List, [], ◌∷◌, ◌++◌, drop, sym, ap, ◌∙◌, append_assoc, append-nil}
+use Rattle.std.proofs.Common.{◌≡◌, ℕ, List, [], ◌∷◌, ◌++◌, map, drop, take, refl, sym, ap, ◌∙◌, append_assoc, append-nil}
 use Rattle.gw_base.specs.declared.ids.Ids.{Ids}
 use Rattle.gw_msg.specs.declared.message.Request.{Request}
+use Rattle.gw_reserve.specs.declared.owned.Owned.{Owned}
 use Rattle.gw_reserve.specs.declared.owners.Cursors.{Cursors}
-use Rattle.gw_reserve.specs.declared.owners.Reservation.{Reservation}
-use Rattle.gw_reserve.specs.Owners.{free_numbers, free_slots, ids_of, number_places, slot_places, owners_of, owners, new_cursors}
-use Rattle.gw_reserve.specs.Searches.{numbers_left, slots_left, search_cursors, IsReservation}
+use Rattle.gw_reserve.specs.Owned.{OwnedAction, paired, with_ids}
+use Rattle.gw_reserve.specs.Owners.{ids_of, number_places, slot_places, owners_of, owners, owned_slots, new_cursors}
+use Rattle.gw_reserve.specs.Reservations.{Reserving, begun, numbers_left, slots_left}
+use Rattle.gw_reserve.proofs.Places.{owned_places}
 use Rattle.gw_table.specs.Maps.{Maps}
+use Rattle.gw_table.specs.Unused.{owned}
 use Rattle.gw_engine.specs.declared.asked.Sent.{Sent}
 use Rattle.gw_engine.specs.declared.reserve.Job.{Job}
 use Rattle.gw_engine.specs.Bursts.{cursors_of}
-use Rattle.gw_engine.specs.Phases.{requests_of, job_of, jobs_of, ids_in}
+use Rattle.gw_engine.specs.Phases.{requests_of, ids_in, paired_job, paired_requests, sent_of, slots_of}
 use Rattle.gw_engine.specs.State.{GatewayValue}
 use Rattle.gw_engine.proofs.Cursors.{cursors-cons}
 
 -- what these requests own of what is left
-abbrev pub left_for : Maps → Reservation → List Sent → List Ids
+abbrev pub left_for : Maps → Reserving → List Sent → List Ids
 left_for m v new = owners_of (requests_of new) (numbers_left m v) (slots_left m v)
 
 -- with those of the requests that are left, the jobs and the cursors are those of all
-pub record IsReserving (g : GatewayValue) (all left : List Sent) (v : Reservation) (jobs : List Job) : Type 0 where
-  pub reservation : IsReservation v
-  pub jobs_are : jobs ++ jobs_of left (left_for g.state.maps v left) ≡ jobs_of all (ids_in g all)
-  pub cursors_are : new_cursors (search_cursors v) (left_for g.state.maps v left) ≡ new_cursors (cursors_of g.state) (ids_in g all)
+pub record IsReserving (g : GatewayValue) (all left : List Sent) (v : Reserving) (jobs : List Job) : Type 0 where
+  pub sent_are : map sent_of jobs ++ left ≡ all
+  pub jobs_are : map paired_job jobs ++ paired_requests left (left_for g.state.maps v left) ≡ paired_requests all (ids_in g all)
+  pub slots_are : slots_of jobs ++ owned_slots (left_for g.state.maps v left) ≡ owned_slots (ids_in g all)
+  pub cursors_are : new_cursors v.cursors (left_for g.state.maps v left) ≡ new_cursors (cursors_of g.state) (ids_in g all)
 
 -- before the first
-pub begins : (g : GatewayValue) (v : Reservation) (all : List Sent) (jobs : List Job) → IsReservation v → numbers_left g.state.maps v ≡ free_numbers g.state.maps g.state.context_cursor g.settings.contexts → slots_left g.state.maps v ≡ free_slots g.state.maps g.state.slot_cursor g.settings.slots → search_cursors v ≡ cursors_of g.state → jobs ≡ []
-    → IsReserving g all all v jobs
+pub begins : (g : GatewayValue) (v : Reserving) (all : List Sent) (jobs : List Job) → v ≡ begun g.settings.contexts g.settings.slots (cursors_of g.state) → jobs ≡ [] → IsReserving g all all v jobs
 unfolding owners
-begins g v all jobs r numbers slots cursors none =
-    let ids : left_for g.state.maps v all ≡ ids_in g all = λ i. owners_of (requests_of all) (numbers i) (slots i) in
-    record {
-      reservation = r;
-      jobs_are = λ i. none i ++ jobs_of all (ids i);
-      cursors_are = λ i. new_cursors (cursors i) (ids i);
-    }
+begins g v all jobs is none = record {
+  sent_are = ap (λ (l : List Job). map sent_of l ++ all) none;
+  jobs_are = λ i. map paired_job (none i) ++ paired_requests all (left_for g.state.maps (is i) all);
+  slots_are = λ i. slots_of (none i) ++ owned_slots (left_for g.state.maps (is i) all);
+  cursors_are = λ i. new_cursors (is i).cursors (left_for g.state.maps (is i) all);
+}
 
 -- what was given to one, and what is left then
-pub record IsOwned (m : Maps) (r : Request) (v w : Reservation) (ids : Ids) : Type 0 where
-  pub ids_are : ids ≡ ids_of r (numbers_left m v) (slots_left m v)
+pub record IsOwned (m : Maps) (r : Request) (v w : Reserving) (o : Owned) : Type 0 where
+  pub pairs : paired r o ≡ with_ids r (ids_of r (numbers_left m v) (slots_left m v))
+  pub slots_are : owned o.slots ≡ take (slot_places r) (slots_left m v)
   pub numbers : numbers_left m w ≡ drop (number_places r) (numbers_left m v)
   pub slots : slots_left m w ≡ drop (slot_places r) (slots_left m v)
-  pub cursors : search_cursors w ≡ new_cursors (search_cursors v) (ids ∷ [])
-  pub reservation : IsReservation w
+  pub cursors : w.cursors ≡ new_cursors v.cursors (ids_of r (numbers_left m v) (slots_left m v) ∷ [])
 
-pub goes_on : (g : GatewayValue) (all left rest : List Sent) (x : Sent) (v w : Reservation) (ids : Ids) (jobs more : List Job) → left ≡ x ∷ rest → IsReserving g all left v jobs → IsOwned g.state.maps x.request v w ids → more ≡ jobs ++ job_of (x, ids) ∷ [] → IsReserving g all rest w more
-goes_on g all left rest x v w ids jobs more split c o pushed =
+map-push : {A B : Type 0} (f : A → B) (xs : List A) (x : A) (rest : List B) → map f (xs ++ x ∷ []) ++ rest ≡ map f xs ++ f x ∷ rest
+map-push f [] x rest = refl
+map-push f (y ∷ ys) x rest = ap (λ l. f y ∷ l) (map-push f ys x rest)
+
+slots-push : (jobs : List Job) (j : Job) (rest : List ℕ) → slots_of (jobs ++ j ∷ []) ++ rest ≡ slots_of jobs ++ (owned j.owned.slots ++ rest)
+slots-push [] j rest = ap (λ (l : List ℕ). l ++ rest) (append-nil (owned j.owned.slots))
+slots-push (i ∷ jobs) j rest =
+    append_assoc (owned i.owned.slots) (slots_of (jobs ++ j ∷ [])) rest
+    ∙ ap (λ (l : List ℕ). owned i.owned.slots ++ l) (slots-push jobs j rest)
+    ∙ sym (append_assoc (owned i.owned.slots) (slots_of jobs) (owned j.owned.slots ++ rest))
+
+pub goes_on : (g : GatewayValue) (all left rest : List Sent) (x : Sent) (v w : Reserving) (o : Owned) (jobs more : List Job) (j : Job) → left ≡ x ∷ rest → IsReserving g all left v jobs → IsOwned g.state.maps x.request v w o → j ≡ record { sent = x; owned = o } → more ≡ jobs ++ j ∷ [] → IsReserving g all rest w more
+goes_on g all left rest x v w o jobs more j split c own is pushed =
     let m = g.state.maps in
-    let first : left_for m v (x ∷ rest) ≡ ids ∷ left_for m w rest = λ i. sym o.ids_are i ∷ owners_of (requests_of rest) (sym o.numbers i) (sym o.slots i) in
+    let ids : Ids = ids_of x.request (numbers_left m v) (slots_left m v) in
+    let behind : left_for m w rest ≡ owners_of (requests_of rest) (drop (number_places x.request) (numbers_left m v)) (drop (slot_places x.request) (slots_left m v)) = λ i. owners_of (requests_of rest) (own.numbers i) (own.slots i) in
+    let first : ids ∷ left_for m w rest ≡ left_for m v (x ∷ rest) = ap (λ (l : List Ids). ids ∷ l) behind in
+    let job : Job = record { sent = x; owned = o } in
+    let all_jobs : more ≡ jobs ++ job ∷ [] = pushed ∙ ap (λ (y : Job). jobs ++ y ∷ []) is in
+    let theirs : List OwnedAction → List (Request × List OwnedAction) → List (Request × List OwnedAction) = λ p l. map paired_job jobs ++ (x.request, p) ∷ l in
     record {
-      reservation = o.reservation;
-      jobs_are = ap (λ (l : List Job). l ++ jobs_of rest (left_for m w rest)) pushed
-          ∙ append_assoc jobs (job_of (x, ids) ∷ []) (jobs_of rest (left_for m w rest))
-          ∙ ap (λ (l : List Ids). jobs ++ jobs_of (x ∷ rest) l) (sym first)
-          ∙ ap (λ (l : List Sent). jobs ++ jobs_of l (left_for m v l)) (sym split) ∙ c.jobs_are;
-      cursors_are = ap (λ (k : Cursors). new_cursors k (left_for m w rest)) o.cursors
-          ∙ sym (cursors-cons (search_cursors v) ids (left_for m w rest))
-          ∙ ap (λ (l : List Ids). new_cursors (search_cursors v) l) (sym first)
-          ∙ ap (λ (l : List Sent). new_cursors (search_cursors v) (left_for m v l)) (sym split) ∙ c.cursors_are;
+      sent_are = ap (λ (l : List Job). map sent_of l ++ rest) all_jobs ∙ map-push sent_of jobs job rest ∙ ap (λ (l : List Sent). map sent_of jobs ++ l) (sym split) ∙ c.sent_are;
+      jobs_are = ap (λ (l : List Job). map paired_job l ++ paired_requests rest (left_for m w rest)) all_jobs
+          ∙ map-push paired_job jobs job (paired_requests rest (left_for m w rest))
+          ∙ ap (λ (p : List OwnedAction). theirs p (paired_requests rest (left_for m w rest))) own.pairs
+          ∙ ap (λ (l : List Ids). theirs (with_ids x.request ids) (paired_requests rest l)) behind
+          ∙ ap (λ (l : List Sent). map paired_job jobs ++ paired_requests l (left_for m v l)) (sym split) ∙ c.jobs_are;
+      slots_are = ap (λ (l : List Job). slots_of l ++ owned_slots (left_for m w rest)) all_jobs
+          ∙ slots-push jobs job (owned_slots (left_for m w rest))
+          ∙ ap (λ (s : List ℕ). slots_of jobs ++ (s ++ owned_slots (left_for m w rest))) (own.slots_are ∙ sym (owned_places (slot_places x.request) (slots_left m v)))
+          ∙ ap (λ (l : List Ids). slots_of jobs ++ owned_slots l) first
+          ∙ ap (λ (l : List Sent). slots_of jobs ++ owned_slots (left_for m v l)) (sym split) ∙ c.slots_are;
+      cursors_are = ap (λ (k : Cursors). new_cursors k (left_for m w rest)) own.cursors
+          ∙ sym (cursors-cons v.cursors ids (left_for m w rest))
+          ∙ ap (λ (l : List Ids). new_cursors v.cursors l) first
+          ∙ ap (λ (l : List Sent). new_cursors v.cursors (left_for m v l)) (sym split) ∙ c.cursors_are;
     }
 
 -- none is left
-module _ (g : GatewayValue) (all left : List Sent) (v : Reservation) (jobs : List Job) (none : left ≡ []) (c : IsReserving g all left v jobs) where
-  pub jobs_end : jobs ≡ jobs_of all (ids_in g all)
-  jobs_end = sym (append-nil jobs) ∙ ap (λ (l : List Sent). jobs ++ jobs_of l (left_for g.state.maps v l)) (sym none) ∙ c.jobs_are
+module _ (g : GatewayValue) (all left : List Sent) (v : Reserving) (jobs : List Job) (none : left ≡ []) (c : IsReserving g all left v jobs) where
+  pub sent_end : map sent_of jobs ≡ all
+  sent_end = sym (append-nil (map sent_of jobs)) ∙ ap (λ (l : List Sent). map sent_of jobs ++ l) (sym none) ∙ c.sent_are
 
-  pub cursors_end : search_cursors v ≡ new_cursors (cursors_of g.state) (ids_in g all)
-  cursors_end = ap (λ (l : List Sent). new_cursors (search_cursors v) (left_for g.state.maps v l)) (sym none) ∙ c.cursors_are
+  pub jobs_end : map paired_job jobs ≡ paired_requests all (ids_in g all)
+  jobs_end = sym (append-nil (map paired_job jobs)) ∙ ap (λ (l : List Sent). map paired_job jobs ++ paired_requests l (left_for g.state.maps v l)) (sym none) ∙ c.jobs_are
+
+  pub slots_end : slots_of jobs ≡ owned_slots (ids_in g all)
+  slots_end = sym (append-nil (slots_of jobs)) ∙ ap (λ (l : List Sent). slots_of jobs ++ owned_slots (left_for g.state.maps v l)) (sym none) ∙ c.slots_are
+
+  pub cursors_end : v.cursors ≡ new_cursors (cursors_of g.state) (ids_in g all)
+  cursors_end = ap (λ (l : List Sent). new_cursors v.cursors (left_for g.state.maps v l)) (sym none) ∙ c.cursors_are

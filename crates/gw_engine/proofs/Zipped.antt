@@ -1,5 +1,5 @@
 -- The pairs that a zip of two slices has left.
-use Rattle.std.proofs.Common.{◌≡◌, List, [], ◌∷◌, ◌++◌, Option, None, Some, refl, sym, ap, ◌∙◌, inl, inr, Bor, append_assoc, append-nil}
+use Rattle.std.proofs.Common.{◌≡◌, List, [], ◌∷◌, ◌++◌, map, Option, None, Some, refl, sym, ap, ◌∙◌, inl, inr, Bor, append_assoc, append-nil}
 use Rattle.std.proofs.iter.Yields.{fronts}
 use Rattle.std.proofs.lemmas.Iterator.{zips}
 use Rattle.std.proofs.lemmas.Slice.Zip.{Zip-more, either_empty_from_Zip}
@@ -42,3 +42,9 @@ module _ {P C : Type 0} (f : P → List C) (out : List C) (left rest : List P) (
 
   pub ends : left ≡ [] → out ≡ total
   ends none = sym (append-nil out) ∙ ap (λ (l : List P). out ++ flat_map f l) (sym none) ∙ so_far
+
+-- of pairs whose first is looked at through another value
+pub through : {A B Y C : Type 0} (f : A → B) (g : B × Y → List C) (xs : List A) (ys : List Y) → flat_map (λ p. g (f p.0, p.1)) (zip xs ys) ≡ flat_map g (zip (map f xs) ys)
+through f g [] ys = refl
+through f g (x ∷ xs) [] = refl
+through f g (x ∷ xs) (y ∷ ys) = ap (λ l. g (f x, y) ++ l) (through f g xs ys)

@@ -20,6 +20,7 @@ use Rattle.gw_msg.specs.declared.message.Message.{Message}
 use Rattle.gw_msg.specs.declared.message.Request.{Request}
 use Rattle.gw_reply.specs.Messages.{reply_text, fault_text}
 use Rattle.gw_reply.specs.declared.reply.TxReply.{TxReply}
+use Rattle.gw_reserve.specs.Owned.{OwnedAction, with_ids, paired}
 use Rattle.gw_reserve.specs.Owners.{owners, new_cursors}
 use Rattle.gw_reserve.specs.declared.owners.Cursors.{Cursors}
 use Rattle.gw_table.specs.Maps.{Maps, Outcome}
@@ -99,21 +100,26 @@ tasks_in before (a ∷ rest) = tasks_for before a.0.peer a.0.sent a.1 ++ tasks_i
 abbrev pub requests_of : List Sent → List Request
 requests_of new = map (λ s. s.request) new
 
-abbrev pub job_of : Sent × Ids → Job
-job_of p = record { sent = p.0; owned = p.1 }
-
--- each request with what it owns
-abbrev pub jobs_of : List Sent → List Ids → List Job
-jobs_of new ids = map job_of (zip new ids)
-
 -- what the new requests own of what is free at the burst's start
 abbrev pub ids_in : GatewayValue → List Sent → List Ids
 ids_in g new = owners g.state.maps (cursors_of g.state) g.settings.contexts g.settings.slots (requests_of new)
 
 -- ---- the transactions
 
-abbrev pub request_with_ids : Job → Request × Ids
-request_with_ids j = (j.sent.request, j.owned)
+-- a request, paired with what its $ own
+abbrev pub paired_request : Sent × Ids → Request × List OwnedAction
+paired_request p = (p.0.request, with_ids p.0.request p.1)
+
+-- each request, paired with what it owns
+abbrev pub paired_requests : List Sent → List Ids → List (Request × List OwnedAction)
+paired_requests new ids = map paired_request (zip new ids)
+
+-- a job, whose entries pair its request
+abbrev pub paired_job : Job → Request × List OwnedAction
+paired_job j = (j.sent.request, paired j.sent.request j.owned)
+
+abbrev pub sent_of : Job → Sent
+sent_of j = j.sent
 
 -- the slots that jobs own
 abbrev pub slots_of : List Job → List ℕ
@@ -122,11 +128,11 @@ slots_of jobs = flat_map (λ j. owned j.owned.slots) jobs
 -- ---- what is kept, and what is answered
 
 -- the pair of a request and its reply
-abbrev pub entry_of : List ℕ → Job × TxReply → List Entry
-entry_of mid p = entry_for p.0.sent.mid p.0.sent.request (reply_text mid p.1) ∷ []
+abbrev pub entry_of : List ℕ → Sent × TxReply → List Entry
+entry_of mid p = entry_for p.0.mid p.0.request (reply_text mid p.1) ∷ []
 
-abbrev pub entries_of : List ℕ → List Job → List TxReply → List Entry
-entries_of mid jobs replies = flat_map (entry_of mid) (zip jobs replies)
+abbrev pub entries_of : List ℕ → List Sent → List TxReply → List Entry
+entries_of mid new replies = flat_map (entry_of mid) (zip new replies)
 
 -- the reply to a request that comes behind too many new ones
 abbrev pub refusal_of : TxId → TxReply
@@ -157,10 +163,10 @@ pub record Phased : Type 0 where
   pub entries : List Entry
   pub state : State
 
--- of jobs and tasks: the transactions, one after another on the tables at the burst's start
-abbrev pub phased_jobs : GatewayValue → List Ids → List Job → List Task → Outcome (List TxReply) → Phased
-phased_jobs g ids jobs tasks done =
-    let entries = entries_of g.settings.mid jobs done.answer in
+-- of new requests and tasks: what came of the transactions, one after another on the tables at the burst's start
+abbrev pub phased_new : GatewayValue → List Ids → List Sent → List Task → Outcome (List TxReply) → Phased
+phased_new g ids new tasks done =
+    let entries = entries_of g.settings.mid new done.answer in
     record {
       answers = answers_of g.settings.mid g.state.kept entries tasks;
       entries = entries;
@@ -172,8 +178,7 @@ abbrev pub phased_asks : GatewayValue → List (Ask × Class) → Phased
 phased_asks g asked =
     let new = new_in asked in
     let ids = ids_in g new in
-    let jobs = jobs_of new ids in
-    phased_jobs g ids jobs (tasks_in 0 asked) (carried g.settings.rules (map request_with_ids jobs) g.state.maps)
+    phased_new g ids new (tasks_in 0 asked) (carried g.settings.rules (paired_requests new ids) g.state.maps)
 
 -- of a burst
 unfoldable pub phased : GatewayValue → List Heard → Phased

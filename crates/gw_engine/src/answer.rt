@@ -1,10 +1,10 @@
 //! The texts of a burst: what is kept of its new requests, and what is answered.
 
-ghost use Rattle.std.specs.Prelude.{◌≡◌, IfOk, Some, option_copied};
+ghost use Rattle.std.specs.Prelude.{◌≡◌, map, IfOk, Some, option_copied};
 ghost use Rattle.std.specs.Option.{option_map};
 ghost use Rattle.gw_kept.specs.Repeats.{bytes_of};
 ghost use Rattle.gw_reply.specs.Messages.{reply_text};
-ghost use Rattle.gw_engine.specs.Phases.{entries_of, text_of as text_due, answers_of};
+ghost use Rattle.gw_engine.specs.Phases.{sent_of, entries_of, text_of as text_due, answers_of};
 
 use crate::classify::{Task, Work};
 use crate::datagram::Datagram;
@@ -29,7 +29,7 @@ pub(crate) fn entries_of(
     jobs: &[Job<'_, '_>],
     replies: &[TxReply],
 ) -> Result<Vec<Entry>, NoMemory>
-    ensures { IfOk result (λ entries. entries.items ≡ entries_of mid.now jobs.now replies.now) }
+    ensures { IfOk result (λ entries. entries.items ≡ entries_of mid.now (map sent_of jobs.now) replies.now) }
 {
     let mut entries = Vec::with_capacity(alloc, jobs.len())?;
     for (job, reply) in jobs.iter().zip(replies) {

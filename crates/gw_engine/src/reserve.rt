@@ -1,21 +1,21 @@
 //! What the new requests of a burst own.
 
-ghost use Rattle.std.specs.Prelude.{◌≡◌, IfOk};
-ghost use Rattle.gw_reserve.specs.Owners.{new_cursors, AreWithin};
+ghost use Rattle.std.specs.Prelude.{◌≡◌, map, IfOk};
+ghost use Rattle.gw_reserve.specs.Owners.{owned_slots, new_cursors, AreWithin};
 ghost use Rattle.gw_engine.specs.Bursts.{cursors_of};
-ghost use Rattle.gw_engine.specs.Phases.{ids_in, jobs_of};
+ghost use Rattle.gw_engine.specs.Phases.{ids_in, paired_job, paired_requests, sent_of, slots_of};
 
 use crate::asked::Sent;
 use crate::gateway::Gateway;
-use gw_base::{Ids, Items, NoMemory};
-use gw_reserve::{Cursors, Reservation};
+use gw_base::{Items, NoMemory};
+use gw_reserve::{Cursors, Owned, Reservation};
 use std::alloc::Global;
 
-/// A request that is carried out, with what its `$` places own.
+/// A request that is carried out, with what it owns.
 #[derive(Drop)]
 pub(crate) struct Job<'h, 'a> {
     pub(crate) sent: Sent<'h, 'a>,
-    pub(crate) owned: Ids,
+    pub(crate) owned: Owned,
 }
 
 /// The jobs of a burst, and where the next burst's search for identifiers begins.
@@ -32,7 +32,9 @@ impl Gateway {
         alloc: Global,
         new: &[Sent<'h, 'a>],
     ) -> Result<Reserved<'h, 'a>, NoMemory>
-        ensures jobs { IfOk result (λ r. r.jobs ≡ jobs_of new.now (ids_in self.now new.now)) }
+        ensures sent { IfOk result (λ r. map sent_of r.jobs ≡ new.now) }
+        ensures jobs { IfOk result (λ r. map paired_job r.jobs ≡ paired_requests new.now (ids_in self.now new.now)) }
+        ensures slots { IfOk result (λ r. slots_of r.jobs ≡ owned_slots (ids_in self.now new.now)) }
         ensures cursors { IfOk result (λ r. r.cursors ≡ new_cursors (cursors_of self.now.state) (ids_in self.now new.now)) }
         ensures within { IfOk result (λ r. AreWithin self.now.settings.contexts self.now.settings.slots r.cursors) }
     {

@@ -44,7 +44,7 @@ by_form n c e true f = (UnknownCommand, ap (λ b. if b then Some UnknownCommand 
 by_form n c e false f = (
   NotImplemented,
   ap (λ b. if b then Some UnknownCommand else if is_left_out (Each n) c then Some NotImplemented else if is_misplaced (Each n) c then Some IllegalCombination else None) f
-  ∙ ap (λ b. if b then Some NotImplemented else if is_misplaced (Each n) c then Some IllegalCombination else None) (left_out n c e),
+      ∙ ap (λ b. if b then Some NotImplemented else if is_misplaced (Each n) c then Some IllegalCombination else None) (left_out n c e),
 )
 
 pub each_takes_none : (rules : Rules) (n : CtxNum) (slot : Option ℕ) (c : Command) (m : Maps) → command rules (Each n) slot c m ≡ command rules (Each n) None c m

@@ -120,9 +120,9 @@ absent_context : (rules : Rules) (n : CtxNum) → IsKeptOn rules Every (λ k. na
 absent_context rules n = record {
   changes = λ v place t r change m none k i l e.
       at (ctx (Rattle.gw_cmd.specs.Changes.changed t change m) n) (λ some.
-          let other : nat_eq n.0 n.0 ≡ false = ctx-there (λ c. nat_eq n.0 c.0 ≡ false) t change m e (λ c h. not_there n c m none h) n some in
-          let clash : true ≡ false = sym (number_itself n n refl) ∙ other in
-          cc);
+      let other : nat_eq n.0 n.0 ≡ false = ctx-there (λ c. nat_eq n.0 c.0 ≡ false) t change m e (λ c h. not_there n c m none h) n some in
+      let clash : true ≡ false = sym (number_itself n n refl) ∙ other in
+      cc);
 }
   where
     at : (o : Option ContextRecord) → (is_some o ≡ true → ⊥) → o ≡ None

@@ -20,7 +20,8 @@ use Rattle.gw_table.specs.WellFormed.{AreWellFormed}
 use Rattle.gw_table.proofs.SlotNames.{slots_apart}
 use Rattle.gw_refusal.specs.declared.at.At.{At}
 use Rattle.gw_refusal.specs.declared.at.At.TheVariants.{Null, Live, Unmade, Each}
-use Rattle.gw_reserve.specs.Owned.{OwnedAction, first_owned, later_owned, slots_behind, with_slots, with_owned, with_ids, paired_actions, AreFreeSlots}
+use Rattle.gw_reserve.specs.declared.owned.Owned.{Owned}
+use Rattle.gw_reserve.specs.Owned.{OwnedAction, first_owned, later_owned, slots_behind, with_slots, with_owned, with_ids, paired_actions, paired, AreFreeSlots}
 use Rattle.gw_tx.specs.Transactions.{actions, paired_transaction, transaction}
 use Rattle.gw_tx.proofs.Entries.{number_entries, all_entries, all_behind, paired_all, front_of_all}
 use Rattle.gw_tx.proofs.Facts.{Any, IsNamedOtherThan, MakesOther, commands_keep_whole, commands_keep_free, commands_keep_number}
@@ -80,6 +81,11 @@ kept_request {Ok} {S} {Q} rules k r ids m o free kind q =
       kind = all_front S (owned (all_entries ids.slots r.actions)) (owned (all_behind ids.slots r.actions)) (subst (All S) front kind);
     }))
 
+-- the same of one that is paired by entries
+kept_paired : {Ok : At → Option ℕ → Command → Type 0} {S : ℕ → Type 0} {Q : Maps → Type 0} (rules : Rules) → CommandsKeep rules Ok S Q → (r : Request) (o : Owned) (m : Maps) → AllOks Ok (paired r o) → AreFreeSlots m o.slots → All S (owned o.slots) → Q m → Q (paired_transaction rules r (paired r o) m).maps
+unfolding paired_transaction
+kept_paired rules k r o m ok free kind q = kept_actions rules k o.contexts o.slots r.actions m ok (record { kept = q; free = free; kind = kind })
+
 any_in : (ps : List (Option ℕ × Command)) (at : At) → Oks Any at ps
 any_in [] at = tt
 any_in (p ∷ ps) at = (tt, any_in ps at)
@@ -98,6 +104,9 @@ any_of (a ∷ more) = (by a.sent.ctx a.number, any_of more)
 pub transaction_whole : (rules : Rules) (r : Request) (ids : Ids) (m : Maps) → AreFreeSlots m ids.slots → AreWellFormed rules.members m → AreWellFormed rules.members (transaction rules r ids m).maps
 transaction_whole rules r ids m u w = kept_request rules (commands_keep_whole rules) r ids m (any_of (with_ids r ids)) u (λ k d h. tt) w
 
+pub paired_whole : (rules : Rules) (r : Request) (o : Owned) (m : Maps) → AreFreeSlots m o.slots → AreWellFormed rules.members m → AreWellFormed rules.members (paired_transaction rules r (paired r o) m).maps
+paired_whole rules r o m u w = kept_paired rules (commands_keep_whole rules) r o m (any_of (paired r o)) u (λ k d h. tt) w
+
 -- ---- slots
 
 -- a slot that has another name than each that is owned
@@ -107,10 +116,9 @@ named_free rules r ids m s u other none = kept_request rules (commands_keep_free
 pub slot_free : (rules : Rules) (r : Request) (ids : Ids) (m : Maps) (s : ℕ) → AreFreeSlots m ids.slots → s < 4096 → All (λ t. t ≢ s) (owned ids.slots) → term m (slot_name s) ≡ None → term (transaction rules r ids m).maps (slot_name s) ≡ None
 slot_free rules r ids m s u h other none = named_free rules r ids m s u (λ k d i e. other k d i (slots_apart (get_or (owned ids.slots) k d) s (omega (arith, u.slots_small k d i)) (omega arith) e)) none
 
--- the slots of later requests are free when a transaction was carried out
-pub later_free : (rules : Rules) (r : Request) (ids : Ids) (m : Maps) (later : List ℕ) → AreUnused m [] (owned ids.slots ++ later) → AreUnused (transaction rules r ids m).maps [] later
-later_free rules r ids m later u =
-    let front : List ℕ = owned ids.slots in
+-- the slots behind a front, of which only those of the front were used
+later_unused : (m after : Maps) (front later : List ℕ) → ((s : ℕ) → All (IsNamedOtherThan s) front → term m (slot_name s) ≡ None → term after (slot_name s) ≡ None) → AreUnused m [] (front ++ later) → AreUnused after [] later
+later_unused m after front later keeps u =
     let len : length (front ++ later) ≡ length front + length later = length-append front later in
     record {
       numbers_apart = u.numbers_apart;
@@ -122,11 +130,20 @@ later_free rules r ids m later u =
       no_terminations = λ k d h.
           let y : length front + k < length (front ++ later) = omega (arith, len, h) in
           let absent : term m (slot_name (get_or later k d)) ≡ None = rw (sym (at_end m front later u k d)) (u.no_terminations (length front + k) d y) in
-          named_free rules r ids m (get_or later k d) (front_unused m front later u) (others m front later u k d h) absent;
+          keeps (get_or later k d) (others m front later u k d h) absent;
       slots_small = λ k d h.
           let y : length front + k < length (front ++ later) = omega (arith, len, h) in
           rw (sym (at_end m front later u k d)) (u.slots_small (length front + k) d y);
     }
+
+-- the slots of later requests are free when a transaction was carried out
+pub later_free : (rules : Rules) (r : Request) (ids : Ids) (m : Maps) (later : List ℕ) → AreUnused m [] (owned ids.slots ++ later) → AreUnused (transaction rules r ids m).maps [] later
+later_free rules r ids m later u = later_unused m (transaction rules r ids m).maps (owned ids.slots) later (λ s other none. named_free rules r ids m s (front_unused m (owned ids.slots) later u) other none) u
+
+pub paired_later_free : (rules : Rules) (r : Request) (o : Owned) (m : Maps) (later : List ℕ) → AreUnused m [] (owned o.slots ++ later) → AreUnused (paired_transaction rules r (paired r o) m).maps [] later
+paired_later_free rules r o m later u =
+    later_unused m (paired_transaction rules r (paired r o) m).maps (owned o.slots) later
+    (λ s other none. kept_paired rules (commands_keep_free rules s) r o m (any_of (paired r o)) (front_unused m (owned o.slots) later u) other none) u
 
 -- ---- numbers
 

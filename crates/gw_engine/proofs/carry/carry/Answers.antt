@@ -3,9 +3,11 @@ use Rattle.std.proofs.Math.ListN.{drop_of_length-le}
 use Rattle.gw_msg.specs.declared.message.Request.{Request}
 use Rattle.gw_reply.specs.declared.reply.TxReply.{TxReply}
 use Rattle.gw_table.proofs.Folding.{rest_of}
-use Rattle.gw_tx.specs.Transactions.{transaction}
+use Rattle.gw_reserve.specs.Owned.{paired}
+use Rattle.gw_tx.specs.Footprints.{footprint_of}
+use Rattle.gw_tx.specs.Transactions.{paired_transaction}
 use Rattle.gw_engine.specs.declared.reserve.Job.{Job}
-use Rattle.gw_engine.proofs.Carrying.{done_of, next_unused, carries_on, maps_end, replies_end}
+use Rattle.gw_engine.proofs.Carrying.{done_of, covers_all, next_unused, carries_on, maps_end, replies_end}
 use Rattle.gw_engine.proofs.carry.carry.Goals as goal
 
 pub transaction-requires-clause-unused : goal.transaction-requires-clause-unused
@@ -14,6 +16,10 @@ transaction-requires-clause-unused c =
     let i : ℕ = c.loop-job.job-index in
     let j : Job = c.job-item.result in
     next_unused c.args.rules.now c.args.part.now.maps jobs (drop i jobs) (drop (i + 1) jobs) j c.loop-job.part.maps c.loop-job.replies (rest_of jobs i j j c.loop-job-test.true c.job-item.is) c.loop-job.invariant.carries
+
+pub transaction-requires-clause-covered : goal.transaction-requires-clause-covered
+transaction-requires-clause-covered c =
+    covers_all c.args.rules.now.members c.loop-job.part (footprint_of (paired c.get-request.result.now c.job-item.result.owned) c.loop-job.part.maps) c.loop-job.invariant.every c.loop-job.invariant.carries.whole
 
 pub loop-job-init : goal.loop-job-init
 loop-job-init c = record {
@@ -37,8 +43,8 @@ loop-job-preserved c =
       every = c.in_ok-transaction.ensures.keys ∙ c.loop-job.invariant.every;
       carries = carries_on rules c.args.part.now.maps jobs (drop i jobs) (drop (i + 1) jobs) j m c.loop-job.replies (rest_of jobs i j j c.loop-job-test.true c.job-item.is) c.loop-job.invariant.carries
           c.transaction.new.part.maps c.in_ok-transaction.field-0 c.push.new.self
-          (c.in_ok-transaction.ensures.maps ∙ ap (λ (r : Request). (transaction rules r j.owned m).maps) c.get-request.ensures)
-          (c.in_ok-transaction.ensures.answer ∙ ap (λ (r : Request). (transaction rules r j.owned m).answer) c.get-request.ensures)
+          (c.in_ok-transaction.ensures.maps ∙ ap (λ (r : Request). (paired_transaction rules r (paired r j.owned) m).maps) c.get-request.ensures)
+          (c.in_ok-transaction.ensures.answer ∙ ap (λ (r : Request). (paired_transaction rules r (paired r j.owned) m).answer) c.get-request.ensures)
           c.in_ok-push.ensures.ok;
     }
 

@@ -2,7 +2,7 @@ use Rattle.std.proofs.Common.{◌≡◌, ℕ, ◌≤◌, true, List, [], map, ap
 use Rattle.std.specs.List.{AllZip}
 use Rattle.gw_kept.specs.Pairs.{AreNew}
 use Rattle.gw_kept.specs.declared.entry.Entry.{Entry}
-use Rattle.gw_reserve.specs.Owners.{new_cursors, AreWithin}
+use Rattle.gw_reserve.specs.Owners.{owned_slots, new_cursors, AreWithin}
 use Rattle.gw_table.specs.Maps.{Maps}
 use Rattle.gw_table.specs.Parts.{Parted}
 use Rattle.gw_table.specs.Unused.{AreUnused}
@@ -16,7 +16,7 @@ use Rattle.gw_engine.specs.Bursts.{cursors_of, burst_outcome}
 use Rattle.gw_engine.specs.Carried.{carried}
 use Rattle.gw_engine.specs.Configuration.{is_within, most_slots}
 use Rattle.gw_engine.specs.GatewayView.{value_of}
-use Rattle.gw_engine.specs.Phases.{told, new_in, tasks_in, jobs_of, ids_in, request_with_ids, slots_of, entries_of, answers_of, adopted}
+use Rattle.gw_engine.specs.Phases.{told, new_in, tasks_in, ids_in, paired_job, paired_requests, sent_of, slots_of, entries_of, answers_of, adopted}
 use Rattle.gw_engine.specs.Readable.{IsAnswerTo, questions}
 use Rattle.gw_engine.specs.State.{GatewayValue, IsWellFormed}
 use Rattle.gw_engine.proofs.Answered.{burst_answered}
@@ -35,10 +35,10 @@ carry-requires-clause-unused c =
     let g : GatewayValue = value_of c.self.inside in
     let new : List Sent = c.in_ok-asked.asked.requests in
     let start : c.all-part.result.maps ≡ g.state.maps = ap (λ (p : Parted). p.maps) c.all-part.ensures ∙ c.in_ok-copy.ensures in
-    let jobs : c.as_slice-jobs.result.now ≡ jobs_of new (ids_in g new) = c.as_slice-jobs.ensures ∙ inside_of (λ (v : GatewayValue). c.in_ok-reserved.reserved.jobs ≡ jobs_of new (ids_in v new)) g c.args.self.now c.self.view_is
-    (c.in_ok-reserved.ensures.jobs ∙ ap (λ (l : List Sent). jobs_of l (ids_in c.args.self.now l)) c.as_slice-2.ensures) in
+    let slots : slots_of c.as_slice-jobs.result.now ≡ owned_slots (ids_in g new) = ap (λ (l : List Job). slots_of l) c.as_slice-jobs.ensures ∙ inside_of (λ (v : GatewayValue). slots_of c.in_ok-reserved.reserved.jobs ≡ owned_slots (ids_in v new)) g c.args.self.now c.self.view_is
+    (c.in_ok-reserved.ensures.slots ∙ ap (λ (l : List Sent). owned_slots (ids_in c.args.self.now l)) c.as_slice-2.ensures) in
     subst (λ (m : Maps). AreUnused m [] (slots_of c.as_slice-jobs.result.now)) (sym start)
-    (subst (λ (l : List Job). AreUnused g.state.maps [] (slots_of l)) (sym jobs) (jobs_unused g new c.self.invariant.well_formed (few_slots g.settings.slots c.self.invariant.slots)))
+    (jobs_unused g new (slots_of c.as_slice-jobs.result.now) slots c.self.invariant.well_formed (few_slots g.settings.slots c.self.invariant.slots))
 
 comes : (c : goal.After-drop-asks-inside-2) → ComesOf (value_of c.self.inside) c.args.heard.now c.in_ok-asks.asks c.in_ok-asked.asked.tasks c.in_ok-asked.asked.requests c.in_ok-reserved.reserved.jobs c.in_ok-reserved.reserved.cursors c.tables.result c.in_ok-replies.replies c.in_ok-entries.entries.items c.in_ok-answers.answers
 comes c =
@@ -53,11 +53,12 @@ comes c =
       asks_are = c.in_ok-asks.ensures;
       tasks_are = c.in_ok-asked.ensures.tasks ∙ ap (λ (l : List Ask). tasks_in 0 (told g.state.kept l)) c.as_slice.ensures;
       new_are = c.in_ok-asked.ensures.requests ∙ ap (λ (l : List Ask). new_in (told g.state.kept l)) c.as_slice.ensures;
-      jobs_are = inside_of (λ (v : GatewayValue). jobs ≡ jobs_of new (ids_in v new)) g h c.self.view_is (c.in_ok-reserved.ensures.jobs ∙ ap (λ (l : List Sent). jobs_of l (ids_in h l)) c.as_slice-2.ensures);
+      sent_are = c.in_ok-reserved.ensures.sent ∙ c.as_slice-2.ensures;
+      jobs_are = inside_of (λ (v : GatewayValue). map paired_job jobs ≡ paired_requests new (ids_in v new)) g h c.self.view_is (c.in_ok-reserved.ensures.jobs ∙ ap (λ (l : List Sent). paired_requests l (ids_in h l)) c.as_slice-2.ensures);
       cursors_are = inside_of (λ (v : GatewayValue). c.in_ok-reserved.reserved.cursors ≡ new_cursors (cursors_of v.state) (ids_in v new)) g h c.self.view_is (c.in_ok-reserved.ensures.cursors ∙ ap (λ (l : List Sent). new_cursors (cursors_of h.state) (ids_in h l)) c.as_slice-2.ensures);
-      maps_are = c.tables.ensures ∙ c.in_ok-replies.ensures.maps ∙ (λ i. (carried g.settings.rules (map request_with_ids (c.as_slice-jobs.ensures i)) (start i)).maps);
-      replies_are = c.in_ok-replies.ensures.replies ∙ (λ i. (carried g.settings.rules (map request_with_ids (c.as_slice-jobs.ensures i)) (start i)).answer);
-      entries_are = c.in_ok-entries.ensures ∙ (λ i. entries_of g.settings.mid (c.as_slice-jobs.ensures i) (c.as_slice-3.ensures i));
+      maps_are = c.tables.ensures ∙ c.in_ok-replies.ensures.maps ∙ (λ i. (carried g.settings.rules (map paired_job (c.as_slice-jobs.ensures i)) (start i)).maps);
+      replies_are = c.in_ok-replies.ensures.replies ∙ (λ i. (carried g.settings.rules (map paired_job (c.as_slice-jobs.ensures i)) (start i)).answer);
+      entries_are = c.in_ok-entries.ensures ∙ (λ i. entries_of g.settings.mid (map sent_of (c.as_slice-jobs.ensures i)) (c.as_slice-3.ensures i));
       answers_are = inside_of (λ (v : GatewayValue). c.in_ok-answers.answers ≡ answers_of v.settings.mid v.state.kept entries tasks) g h c.self.view_is
           (c.in_ok-answers.ensures ∙ (λ i. answers_of h.settings.mid h.state.kept (c.as_slice-4.ensures.value i) (c.as_slice-5.ensures i)));
       whole = subst (λ (m : Maps). AreWellFormed g.settings.rules.members m) (sym c.tables.ensures) c.in_ok-replies.ensures.whole;
