@@ -12,7 +12,6 @@ fill, and a Subtract of both.
 `--records` measures what carrying out costs where the copy of the tables is left out, and the memory of bare terminations; it
 fails where one is above its limit.
 """
-import os
 import pathlib
 import re
 import subprocess
@@ -144,9 +143,15 @@ def of_all(folder, terms, fill, body):
 
 
 def memory(folder, terms):
-    """The bytes that the process has at most where it is given nothing to answer."""
-    run = subprocess.Popen([PROGRAM, "replay", config(folder, terms, slots=0)], stdin=subprocess.DEVNULL, stdout=subprocess.DEVNULL)
-    return os.wait4(run.pid, 0)[2].ru_maxrss * 1_024
+    """The bytes that the process has at most before it is given anything to answer: what it has once it sleeps at its input."""
+    run = subprocess.Popen([PROGRAM, "replay", config(folder, terms, slots=0)], stdin=subprocess.PIPE, stdout=subprocess.DEVNULL)
+    asleep = 0
+    while asleep < 5:
+        time.sleep(0.05)
+        status = pathlib.Path(f"/proc/{run.pid}/status").read_text()
+        asleep = asleep + 1 if re.search(r"State:\s+S", status) else 0
+    run.communicate(b"")
+    return int(re.search(r"VmHWM:\s+(\d+) kB", status).group(1)) * 1_024
 
 
 MEDIA = b"Transaction=%d{Context=-{Modify=T/%d{Media{Stream=1{LocalControl{Mode=SendReceive}}}}}}"
@@ -171,7 +176,7 @@ def records(folder):
     lines = [
         ("a typical transaction, 4 terminations, bursts of 16", typical_work, 24_000),
         ("two Adds with Media and a Local to fill, beyond reading", two_adds(folder), 22_000),
-        ("AuditValue=* under - with Media, a termination", of_all(folder, 200, MEDIA, AUDIT_ALL), 2_500),
+        ("AuditValue=* under - with Media, a termination", of_all(folder, 200, MEDIA, AUDIT_ALL), 4_200),
         ("ServiceChange of ROOT, a termination", of_all(folder, 200, None, RESTART), 1_300),
         ("bytes for 65,535 bare terminations", memory(folder, 65_535) - memory(folder, 1), 30_000_000),
     ]
