@@ -3,7 +3,7 @@
 use cases_text::{Page, code_of, split_word};
 use gw_base::{MediaAddr, Mid, NameFault, NoMemory, TermName, TermRef};
 use gw_msg::ReadFault;
-use gw_text::PartFault;
+use gw_text::ParseFault;
 use std::cmp::Ordering;
 use std::fmt::Display;
 
@@ -66,7 +66,7 @@ fn write_code(out: &mut Page, number: &[u8]) {
 fn write_no_memory(out: &mut Page) {
     out.shown(&NoMemory);
     out.put(b"\n");
-    out.shown(&PartFault::NoMemory);
+    out.shown(&ParseFault::NoMemory);
     out.put(b"\n");
     out.shown(&ReadFault::NoMemory);
 }

@@ -25,7 +25,7 @@ pub use command_words::{CtxRef, Rules, Service, Verb};
 pub use config::Config;
 pub use fault::{NameFault, NoMemory};
 pub use held::Held;
-pub use ids::{CtxNum, Ids, TxId};
+pub use ids::{CtxNum, TxId};
 pub use items::Items;
 pub use key::Key;
 pub use media::MediaAddr;

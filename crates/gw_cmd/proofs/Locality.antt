@@ -152,13 +152,7 @@ module _ (rules : Rules) (at : At) (slot : Option ℕ) (c : Command) (m : Maps) 
   do_services : is_for_all at c ≡ true → (o : Option Service) → Within keys (of_serviced_if o) m
   unfolding keys
   do_services e None = tt
-  do_services e (Some s) = (whole e, within-services rules keys s (names m) m w (λ q i. every q i) every_context)
-    where
-      every : (q : List ℕ) → is_in q (names m) ≡ true → has keys (Term q) ≡ true
-      every q i = among_all at slot c m (Term q) e (every_term m q i)
-
-      every_context : (n : CtxNum) → is_some (ctx m n) ≡ true → has keys (Ctx n) ≡ true
-      every_context n i = among_all at slot c m (Ctx n) e (every_ctx m n i)
+  do_services e (Some s) = (whole e, within-services keys s (names m) m (λ q i. among_all at slot c m (Term q) e (every_term m q i)))
 
   do_root : c.term ≡ Root → (v : Verb) → c.verb ≡ v → Within keys (of_root v c.descriptors) m
   do_root e ServiceChange f =

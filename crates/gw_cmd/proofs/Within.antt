@@ -17,7 +17,7 @@ use Rattle.gw_msg.specs.declared.message.Command.{Command}
 use Rattle.gw_reply.specs.declared.parts.ReplyPart.{ReplyPart}
 use Rattle.gw_term.specs.declared.record.Termination.{Termination}
 use Rattle.gw_term.specs.Record.{ephemeral, serviced}
-use Rattle.gw_table.specs.Accesses.{Done, effect, and_then, NewIn, Within}
+use Rattle.gw_table.specs.Accesses.{Done, effect, and_then, NewIn, NewPlace, Within}
 use Rattle.gw_table.specs.Maps.{Maps, Outcome, term, ctx, put_term, place_of, context_of, members_of}
 use Rattle.gw_table.specs.Parts.{Only, HoldsPlace}
 use Rattle.gw_table.specs.Reserved.{slot_name}
@@ -50,21 +50,25 @@ new_in_left keys t c q h = inl (in_without t q c.members (ap (is_in q) (sym (mem
 place_is : (keys : List Key) (place : Option CtxNum) (n : CtxNum) → place ≡ Some n → HoldsPlace (Only keys) place → has keys (Ctx n) ≡ true
 place_is keys place n e h = subst (HoldsPlace (Only keys)) e h
 
+-- a place that is a key, whichever was before
+to_key : (keys : List Key) (old new : Option CtxNum) → HoldsPlace (Only keys) new → NewPlace keys old new
+to_key keys old new h c e = inr (place_is keys new c e h)
+
 module _ (keys : List Key) (t : List ℕ) (ht : has keys (Term t) ≡ true) where
   within-make : (rules : Rules) (v : Verb) (place : Option CtxNum) (r : Termination) (change : Change) (a m : Maps) → HoldsPlace (Only keys) place → (is_move v ≡ true → HoldsPlace (Only keys) r.place) → Lawful rules v place r change a → Within keys (make t change) m
   unfolding make
   within-make rules v place r Stays a m hp hm l = tt
-  within-make rules v place r (Becomes new) a m hp hm l = (ht, subst (HoldsPlace (Only keys)) (sym l.1) hp, tt)
+  within-make rules v place r (Becomes new) a m hp hm l = (ht, to_key keys (place_of (term m t)) new.place (subst (HoldsPlace (Only keys)) (sym l.1) hp), tt)
   within-make rules v place r (Joins n new) a m hp hm l =
       let hn = place_is keys place n l.0 hp in
-      (ht, subst (HoldsPlace (Only keys)) (sym l.2) hn, (hn, (hn, new_in_joined keys t (members_of (ctx (put_term m t (Some new)) n)) ht, tt)))
+      (ht, to_key keys (place_of (term m t)) new.place (subst (HoldsPlace (Only keys)) (sym l.2) hn), (hn, (hn, new_in_joined keys t (members_of (ctx (put_term m t (Some new)) n)) ht, tt)))
   within-make rules v place r (Crosses p n new) a m hp hm l =
       let hn = place_is keys place n l.0 hp in
       let ho = place_is keys r.place p l.1 (hm l.6) in
-      (ht, subst (HoldsPlace (Only keys)) (sym l.3) hn, (ho, (ho, new_in_left keys t (context_of (ctx (put_term m t (Some new)) p)), (hn, (hn, new_in_joined keys t _ ht, tt)))))
+      (ht, to_key keys (place_of (term m t)) new.place (subst (HoldsPlace (Only keys)) (sym l.3) hn), (ho, (ho, new_in_left keys t (context_of (ctx (put_term m t (Some new)) p)), (hn, (hn, new_in_joined keys t _ ht, tt)))))
   within-make rules v place r (Leaves n o) a m hp hm l =
       let hn = place_is keys place n l.0 hp in
-      (ht, subst (HoldsPlace (Only keys)) (sym (nowhere_after r o l.2)) tt, (hn, (hn, new_in_left keys t (context_of (ctx (put_term m t o) n)), tt)))
+      (ht, to_key keys (place_of (term m t)) (place_of o) (subst (HoldsPlace (Only keys)) (sym (nowhere_after r o l.2)) tt), (hn, (hn, new_in_left keys t (context_of (ctx (put_term m t o) n)), tt)))
 
   within-finish : (rules : Rules) (v : Verb) (place : Option CtxNum) (r : Termination) (x : Result Decided Code) (a m : Maps) → HoldsPlace (Only keys) place → (is_move v ≡ true → HoldsPlace (Only keys) r.place) → ((d : Decided) → x ≡ Ok d → Lawful rules v place r d.change a) → Within keys (finish t x) m
   within-finish rules v place r (Err code) a m hp hm l = tt
@@ -106,30 +110,10 @@ within-one keys rules at c t m hp ht hm =
 
 -- ---- all of them: a record that gets another service state stays where it is
 
-pub within-services : (rules : Rules) (keys : List Key) (s : Service) (ts : List (List ℕ)) (m : Maps) → AreWellFormed rules.members m → ((q : List ℕ) → is_in q ts ≡ true → has keys (Term q) ≡ true) → ((n : CtxNum) → is_some (ctx m n) ≡ true → has keys (Ctx n) ≡ true)
-    → Within keys (of_services s ts) m
-within-services rules keys s [] m w h k = tt
-within-services rules keys s (t ∷ ts) m w h k =
-    (each_in keys t ts h, by (term m t) refl (λ n v l. within-services rules keys s ts n v (λ q i. h q (or_right (bytes_eq q t) (is_in q ts) i)) l))
+pub within-services : (keys : List Key) (s : Service) (ts : List (List ℕ)) (m : Maps) → ((q : List ℕ) → is_in q ts ≡ true → has keys (Term q) ≡ true) → Within keys (of_services s ts) m
+within-services keys s [] m h = tt
+within-services keys s (t ∷ ts) m h = (each_in keys t ts h, by (term m t) refl (λ n. within-services keys s ts n (λ q i. h q (or_right (bytes_eq q t) (is_in q ts) i))))
   where
-    -- a context that someone is in is there
-    there : (n : CtxNum) → place_of (term m t) ≡ Some n → is_some (ctx m n) ≡ true
-    there n e = at (ctx m n) (w.listed t n e)
-      where
-        at : (o : Option ContextRecord) → is_in t (members_of o) ≡ true → is_some o ≡ true
-        at None i = absurd cc
-        at (Some c) i = refl
-
-    place : (o : Option CtxNum) → place_of (term m t) ≡ o → HoldsPlace (Only keys) o
-    place None e = tt
-    place (Some n) e = k n (there n e)
-
-    by : (o : Option Termination) → term m t ≡ o → ((n : Maps) → AreWellFormed rules.members n → ((c : CtxNum) → is_some (ctx n c) ≡ true → has keys (Ctx c) ≡ true) → Within keys (of_services s ts) n) → Within keys (of_service s t o (of_services s ts)) m
-    by None e later = later m w k
-    by (Some r) e later = (
-      each_in keys t ts h,
-      place r.place (ap (λ o. place_of o) e),
-      later (put_term m t (Some (serviced r s)))
-          (kept_service rules (λ _. true) (λ _. Unit {0}) (whole_is_kept rules (λ _. Unit {0})) s t m (Some r) e refl w)
-          k,
-    )
+    by : (o : Option Termination) → term m t ≡ o → ((n : Maps) → Within keys (of_services s ts) n) → Within keys (of_service s t o (of_services s ts)) m
+    by None e later = later m
+    by (Some r) e later = (each_in keys t ts h, λ c i. inl (ap (λ o. place_of o) e ∙ i), later (put_term m t (Some (serviced r s))))

@@ -6,13 +6,13 @@ ghost use Rattle.gw_text.specs.Parts.{Finds};
 use crate::descriptor::{Descriptor, KeptKind, Tail};
 use crate::tails::tail;
 use gw_base::Span;
-use gw_text::parts::{Part, braced, braced_or_empty};
-use gw_text::{Cursor, PartFault, Token, token_of};
+use gw_text::parts::{Parse, braced, braced_or_empty};
+use gw_text::{Cursor, ParseFault, Token, token_of};
 use std::alloc::Global;
 
 /// What follows another word, which is dropped: a bracket perhaps, and the tail that is answered.
 #[tactic(auto, unfolding(crate::specs::Reading::dropped_at, gw_text::specs::SpaceScan::skip))]
-fn dropped<'a>(cursor: &mut Cursor<'a>) -> Result<Tail<Span<'a>>, PartFault>
+fn dropped<'a>(cursor: &mut Cursor<'a>) -> Result<Tail<Span<'a>>, ParseFault>
     ensures { Finds result cursor.new (dropped_at cursor.old) }
 {
     if cursor.is_ahead(b'[') {
@@ -23,17 +23,17 @@ fn dropped<'a>(cursor: &mut Cursor<'a>) -> Result<Tail<Span<'a>>, PartFault>
 }
 
 /// A descriptor that is kept, behind its word.
-fn keep<'a>(cursor: &mut Cursor<'a>, kind: KeptKind) -> Result<Descriptor<'a>, PartFault>
+fn keep<'a>(cursor: &mut Cursor<'a>, kind: KeptKind) -> Result<Descriptor<'a>, ParseFault>
     ensures { Finds result cursor.new (keep_at kind cursor.old) }
 {
     Ok(Descriptor::Keep(kind, tail(cursor)?))
 }
 
-impl<'a> Part<'a> for Descriptor<'a> {
+impl<'a> Parse<'a> for Descriptor<'a> {
     ghost read_at = { descriptor_at };
 
     #[tactic(auto, unfolding(crate::specs::Reading::descriptor_at))]
-    fn read(alloc: Global, cursor: &mut Cursor<'a>) -> Result<Descriptor<'a>, PartFault> {
+    fn read(alloc: Global, cursor: &mut Cursor<'a>) -> Result<Descriptor<'a>, ParseFault> {
         let word = cursor.word()?;
         match token_of(word) {
             Some(Token::Media) => Ok(Descriptor::Media(braced(alloc, cursor)?)),

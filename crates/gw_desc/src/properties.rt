@@ -6,13 +6,13 @@ ghost use Rattle.gw_text.specs.Parts.{Finds};
 use crate::descriptor::{Property, Sign};
 use crate::spans::group;
 use gw_base::Span;
-use gw_text::parts::{Part, sign, word};
-use gw_text::{Cursor, PartFault};
+use gw_text::parts::{Parse, sign, word};
+use gw_text::{Cursor, ParseFault};
 use std::alloc::Global;
 
 /// The value of a property, as sent.
 #[tactic(auto, unfolding(crate::specs::Reading::value_at))]
-fn value<'a>(cursor: &mut Cursor<'a>) -> Result<Span<'a>, PartFault>
+fn value<'a>(cursor: &mut Cursor<'a>) -> Result<Span<'a>, ParseFault>
     ensures { Finds result cursor.new (value_at cursor.old) }
 {
     if cursor.is_at(b'"') {
@@ -29,7 +29,7 @@ fn value<'a>(cursor: &mut Cursor<'a>) -> Result<Span<'a>, PartFault>
 
 /// The sign between a property's name and its value.
 #[tactic(auto, unfolding(crate::specs::Reading::relation_at))]
-fn relation(cursor: &mut Cursor<'_>) -> Result<Sign, PartFault>
+fn relation(cursor: &mut Cursor<'_>) -> Result<Sign, ParseFault>
     ensures { Finds result cursor.new (relation_at cursor.old) }
 {
     if cursor.sign(b'=') {
@@ -45,11 +45,11 @@ fn relation(cursor: &mut Cursor<'_>) -> Result<Sign, PartFault>
     Ok(Sign::Greater)
 }
 
-impl<'a> Part<'a> for Property<Span<'a>> {
+impl<'a> Parse<'a> for Property<Span<'a>> {
     ghost read_at = { property_at };
 
     #[tactic(auto, unfolding(crate::specs::Reading::property_at))]
-    fn read(_alloc: Global, cursor: &mut Cursor<'a>) -> Result<Property<Span<'a>>, PartFault> {
+    fn read(_alloc: Global, cursor: &mut Cursor<'a>) -> Result<Property<Span<'a>>, ParseFault> {
         let name = word(cursor)?;
         let sign = relation(cursor)?;
         let value = value(cursor)?;

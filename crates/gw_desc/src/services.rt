@@ -5,13 +5,13 @@ ghost use Rattle.gw_text.specs.Parts.{Finds};
 
 use crate::descriptor::{ServiceParm, ServiceValue};
 use gw_base::Span;
-use gw_text::parts::{Part, word};
-use gw_text::{Cursor, PartFault};
+use gw_text::parts::{Parse, word};
+use gw_text::{Cursor, ParseFault};
 use std::alloc::Global;
 
 /// What stands behind `=`.
 #[tactic(auto, unfolding(crate::specs::Reading::service_value_at))]
-fn value<'a>(cursor: &mut Cursor<'a>) -> Result<ServiceValue<'a>, PartFault>
+fn value<'a>(cursor: &mut Cursor<'a>) -> Result<ServiceValue<'a>, ParseFault>
     ensures { Finds result cursor.new (service_value_at cursor.old) }
 {
     if cursor.is_at(b'"') {
@@ -20,11 +20,11 @@ fn value<'a>(cursor: &mut Cursor<'a>) -> Result<ServiceValue<'a>, PartFault>
     Ok(ServiceValue::Run(Span::new(cursor.run()?)))
 }
 
-impl<'a> Part<'a> for ServiceParm<'a> {
+impl<'a> Parse<'a> for ServiceParm<'a> {
     ghost read_at = { service_parm_at };
 
     #[tactic(auto, unfolding(crate::specs::Reading::service_parm_at))]
-    fn read(_alloc: Global, cursor: &mut Cursor<'a>) -> Result<ServiceParm<'a>, PartFault> {
+    fn read(_alloc: Global, cursor: &mut Cursor<'a>) -> Result<ServiceParm<'a>, ParseFault> {
         let name = word(cursor)?;
         if !cursor.sign(b'=') {
             return Ok(ServiceParm { name, value: None });

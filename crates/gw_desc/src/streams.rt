@@ -5,8 +5,8 @@ ghost use Rattle.gw_text.specs.Parts.{Gives, Finds};
 
 use crate::descriptor::{MediaPart, StreamPart};
 use gw_base::Span;
-use gw_text::parts::{Part, braced, sign, token};
-use gw_text::{Cursor, PartFault, Token};
+use gw_text::parts::{Parse, braced, sign, token};
+use gw_text::{Cursor, ParseFault, Token};
 use std::alloc::Global;
 
 /// The most digits of a stream's number (RFC 3525, section 7.1.6).
@@ -17,16 +17,16 @@ const STREAM_MAX: u32 = 65_535;
 
 /// Octets in braces, with the white space round them.
 #[tactic(auto, unfolding(crate::specs::Reading::octets_text_at, gw_text::specs::SpaceScan::skip))]
-fn octets<'a>(cursor: &mut Cursor<'a>) -> Result<Span<'a>, PartFault>
+fn octets<'a>(cursor: &mut Cursor<'a>) -> Result<Span<'a>, ParseFault>
     ensures { Finds result cursor.new (octets_text_at cursor.old) }
 {
     cursor.lwsp();
     if !cursor.byte(b'{') {
-        return Err(PartFault::Syntax);
+        return Err(ParseFault::Syntax);
     }
     let octets = Span::new(cursor.octets()?);
     if !cursor.byte(b'}') {
-        return Err(PartFault::Syntax);
+        return Err(ParseFault::Syntax);
     }
     cursor.lwsp();
     Ok(octets)
@@ -37,22 +37,22 @@ fn stream_part<'a>(
     alloc: Global,
     cursor: &mut Cursor<'a>,
     word: Token,
-) -> Result<StreamPart<'a>, PartFault>
+) -> Result<StreamPart<'a>, ParseFault>
     ensures { Gives result cursor.new (stream_rest word cursor.old) }
 {
     match word {
         Token::Local => Ok(StreamPart::Local(octets(cursor)?)),
         Token::Remote => Ok(StreamPart::Remote(octets(cursor)?)),
         Token::LocalControl => Ok(StreamPart::LocalControl(braced(alloc, cursor)?)),
-        _ => Err(PartFault::Syntax),
+        _ => Err(ParseFault::Syntax),
     }
 }
 
-impl<'a> Part<'a> for StreamPart<'a> {
+impl<'a> Parse<'a> for StreamPart<'a> {
     ghost read_at = { stream_part_at };
 
     #[tactic(auto, unfolding(crate::specs::Reading::stream_part_at))]
-    fn read(alloc: Global, cursor: &mut Cursor<'a>) -> Result<StreamPart<'a>, PartFault> {
+    fn read(alloc: Global, cursor: &mut Cursor<'a>) -> Result<StreamPart<'a>, ParseFault> {
         let word = token(cursor)?;
         stream_part(alloc, cursor, word)
     }
@@ -60,7 +60,7 @@ impl<'a> Part<'a> for StreamPart<'a> {
 
 /// What follows the word `Stream`: its number and its parts.
 #[tactic(auto, unfolding(crate::specs::Reading::stream_at))]
-fn stream<'a>(alloc: Global, cursor: &mut Cursor<'a>) -> Result<MediaPart<'a>, PartFault>
+fn stream<'a>(alloc: Global, cursor: &mut Cursor<'a>) -> Result<MediaPart<'a>, ParseFault>
     ensures { Gives result cursor.new (stream_at cursor.old) }
 {
     sign(cursor, b'=')?;
@@ -69,11 +69,11 @@ fn stream<'a>(alloc: Global, cursor: &mut Cursor<'a>) -> Result<MediaPart<'a>, P
     Ok(MediaPart::Stream(id.value as u16, parts))
 }
 
-impl<'a> Part<'a> for MediaPart<'a> {
+impl<'a> Parse<'a> for MediaPart<'a> {
     ghost read_at = { media_part_at };
 
     #[tactic(auto, unfolding(crate::specs::Reading::media_part_at))]
-    fn read(alloc: Global, cursor: &mut Cursor<'a>) -> Result<MediaPart<'a>, PartFault> {
+    fn read(alloc: Global, cursor: &mut Cursor<'a>) -> Result<MediaPart<'a>, ParseFault> {
         match token(cursor)? {
             Token::Stream => stream(alloc, cursor),
             Token::TerminationState => Ok(MediaPart::TerminationState(braced(alloc, cursor)?)),

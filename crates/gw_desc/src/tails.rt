@@ -7,7 +7,7 @@ use crate::descriptor::Tail;
 use crate::spans::group;
 use gw_base::Span;
 use gw_text::parts::word;
-use gw_text::{Cursor, PartFault};
+use gw_text::{Cursor, ParseFault};
 
 /// Takes the group behind the white space, if a brace comes next there; else nothing. Braces may lie 8 deep (own to
 /// this profile).
@@ -16,7 +16,7 @@ use gw_text::{Cursor, PartFault};
 ///
 /// `Syntax` where a brace comes next there and no group stands there. After it nothing is said of the cursor.
 #[tactic(auto, unfolding(crate::specs::Reading::optional_group_at, gw_text::specs::SpaceScan::skip))]
-pub fn optional_group<'a>(cursor: &mut Cursor<'a>) -> Result<Option<Span<'a>>, PartFault>
+pub fn optional_group<'a>(cursor: &mut Cursor<'a>) -> Result<Option<Span<'a>>, ParseFault>
     ensures { Finds result cursor.new (optional_group_at cursor.old) }
 {
     if !cursor.is_ahead(b'{') {
@@ -27,7 +27,7 @@ pub fn optional_group<'a>(cursor: &mut Cursor<'a>) -> Result<Option<Span<'a>>, P
 }
 
 /// The word behind `=`, and the group behind it, if there is one.
-fn word_tail<'a>(cursor: &mut Cursor<'a>) -> Result<Tail<Span<'a>>, PartFault>
+fn word_tail<'a>(cursor: &mut Cursor<'a>) -> Result<Tail<Span<'a>>, ParseFault>
     ensures { Finds result cursor.new (word_tail_at cursor.old) }
 {
     let word = word(cursor)?;
@@ -46,7 +46,7 @@ fn word_tail<'a>(cursor: &mut Cursor<'a>) -> Result<Tail<Span<'a>>, PartFault>
 ///
 /// `Syntax` where `=` or a brace comes next and no tail stands there. After it nothing is said of the cursor.
 #[tactic(auto, unfolding(crate::specs::Reading::tail_at))]
-pub fn tail<'a>(cursor: &mut Cursor<'a>) -> Result<Tail<Span<'a>>, PartFault>
+pub fn tail<'a>(cursor: &mut Cursor<'a>) -> Result<Tail<Span<'a>>, ParseFault>
     ensures { Finds result cursor.new (tail_at cursor.old) }
 {
     if !cursor.sign(b'=') {

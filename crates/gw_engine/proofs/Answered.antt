@@ -14,9 +14,9 @@ use Rattle.gw_msg.specs.declared.message.Message.{Message}
 use Rattle.gw_msg.specs.declared.message.Request.{Request}
 use Rattle.gw_reply_law.specs.Spellings.{IsReplyMessage}
 use Rattle.gw_reply_law.proofs.PartFits.{reply_is}
-use Rattle.gw_reserve.specs.Owners.{slot_places}
+use Rattle.gw_reserve.specs.Owners.{slot_choices}
 use Rattle.gw_reserve.proofs.Fresh.{free_unused}
-use Rattle.gw_reserve.proofs.Places.{owned_places}
+use Rattle.gw_reserve.proofs.Choices.{owned_choices}
 use Rattle.gw_tx.specs.KeptForms.{AreSlots, IsAskedRequest}
 use Rattle.gw_tx.proofs.FormsKept.{transaction_kept}
 use Rattle.gw_engine.specs.declared.heard.Heard.{Heard}
@@ -49,7 +49,7 @@ zip_append R (x ∷ xs) ys [] vs h k = absurd h
 zip_append R (x ∷ xs) ys (u ∷ us) vs h k = (h.0, zip_append R xs ys us vs h.1 k)
 
 own_slots : (r : Request) (p : Progress) → All IsSmall p.slots → AreSlots (owned_by r p)
-own_slots r p all = named_slots (owned_by r p).slots (subst (λ (l : List ℕ). All IsSmall l) (sym (owned_places (slot_places r) p.slots)) (All-take IsSmall (slot_places r) p.slots all))
+own_slots r p all = named_slots (owned_by r p).slots (subst (λ (l : List ℕ). All IsSmall l) (sym (owned_choices (slot_choices r) p.slots)) (All-take IsSmall (slot_choices r) p.slots all))
 
 module _ (s : Settings) (is_mid : IsMid s.mid) (address : IsAddress s.rules.media) where
   new_read : (r : Request) (p : Progress) → IsAskedRequest r → IsSound s p → IsReplyMessage s.mid r.id.0 (reply_to s r p)
@@ -61,7 +61,7 @@ module _ (s : Settings) (is_mid : IsMid s.mid) (address : IsAddress s.rules.medi
     after = record {
       maps = (transaction_kept s.rules address r (owned_by r p) p.state.maps (own_slots r p h.slots) asked h.maps).0;
       replies = kept_more s.mid p.state.kept (entry_for from r (reply_to s r p)) h.replies (new_read r p asked h);
-      slots = All-drop IsSmall (slot_places r) p.slots h.slots;
+      slots = All-drop IsSmall (slot_choices r) p.slots h.slots;
     };
   }
 

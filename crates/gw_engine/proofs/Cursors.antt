@@ -1,8 +1,8 @@
 -- Cursors move over what one request owns, and then over what the others own.
 use Rattle.std.proofs.Common.{◌≡◌, ℕ, List, [], ◌∷◌, sym, ap, ◌∙◌, append-nil}
 use Rattle.gw_base.specs.declared.ids.CtxNum.{CtxNum}
-use Rattle.gw_base.specs.declared.ids.Ids.{Ids}
-use Rattle.gw_reserve.proofs.Places.{numbers_move, slots_move}
+use Rattle.gw_reserve.specs.Ids.{Ids}
+use Rattle.gw_reserve.proofs.Choices.{numbers_move, slots_move}
 use Rattle.gw_reserve.specs.declared.owners.Cursors.{Cursors}
 use Rattle.gw_reserve.specs.Owners.{owned_numbers, owned_slots, last_number, behind_last, new_cursors}
 use Rattle.gw_table.specs.Unused.{owned}

@@ -7,13 +7,13 @@ use Rattle.gw_cmd.specs.KeptForms.{IsSlot}
 use Rattle.gw_msg.specs.declared.message.Request.{Request}
 use Rattle.gw_table.specs.Maps.{Maps}
 use Rattle.gw_table.specs.Unused.{owned, AreUnused}
-use Rattle.gw_reserve.specs.Owners.{ids_of, slot_places}
-use Rattle.gw_reserve.proofs.Places.{owned_places}
+use Rattle.gw_reserve.specs.Owners.{ids_of, slot_choices}
+use Rattle.gw_reserve.proofs.Choices.{owned_choices}
 
 -- what is unused is what the request owns, and what it leaves
-pub owned_and_left : (m : Maps) (r : Request) (numbers : List CtxNum) (slots : List ℕ) → AreUnused m [] slots → AreUnused m [] (owned (ids_of r numbers slots).slots ++ drop (slot_places r) slots)
+pub owned_and_left : (m : Maps) (r : Request) (numbers : List CtxNum) (slots : List ℕ) → AreUnused m [] slots → AreUnused m [] (owned (ids_of r numbers slots).slots ++ drop (slot_choices r) slots)
 owned_and_left m r numbers slots u =
-    let parts : owned (ids_of r numbers slots).slots ++ drop (slot_places r) slots ≡ slots = ap (λ (l : List ℕ). l ++ drop (slot_places r) slots) (owned_places (slot_places r) slots) ∙ take-append-drop (slot_places r) slots in
+    let parts : owned (ids_of r numbers slots).slots ++ drop (slot_choices r) slots ≡ slots = ap (λ (l : List ℕ). l ++ drop (slot_choices r) slots) (owned_choices (slot_choices r) slots) ∙ take-append-drop (slot_choices r) slots in
     subst (λ (l : List ℕ). AreUnused m [] l) (sym parts) u
 
 -- their names are names

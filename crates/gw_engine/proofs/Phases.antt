@@ -4,7 +4,7 @@ use Rattle.std.specs.Prelude.{if◌then◌else◌}
 use Rattle.std.specs.List.{flat_map, zip}
 use Rattle.std.proofs.lemmas.Bool.Decides.{nat_tests}
 use Rattle.gw_base.specs.declared.code.Code.{Code}
-use Rattle.gw_base.specs.declared.ids.Ids.{Ids}
+use Rattle.gw_reserve.specs.Ids.{Ids}
 use Rattle.gw_kept.specs.Classes.{most_new}
 use Rattle.gw_kept.specs.Pairs.{KeptList, bytes_for, with_pair, kept_after, AreDistinct, AreNew}
 use Rattle.gw_kept.specs.Repeats.{class_after, classes_after}

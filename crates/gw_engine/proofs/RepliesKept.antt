@@ -4,7 +4,7 @@ use Rattle.std.specs.List.{All}
 use Rattle.std.proofs.lemmas.List.Elements.{All-head, All-tail, All-drop, All-push}
 use Rattle.gw_base.specs.Addresses.{IsAddress}
 use Rattle.gw_base.specs.Mids.{IsMid}
-use Rattle.gw_base.specs.declared.ids.Ids.{Ids}
+use Rattle.gw_reserve.specs.Ids.{Ids}
 use Rattle.gw_base.specs.declared.command_words.Rules.{Rules}
 use Rattle.gw_cmd.specs.KeptForms.{AreKept}
 use Rattle.gw_kept.specs.Pairs.{KeptList, key_of, is_same, bytes_for, with_pair}

@@ -1,13 +1,13 @@
 -- What new requests own, one after another.
 use Rattle.std.proofs.Common.{◌≡◌, ℕ, List, [], ◌∷◌, ◌++◌, map, drop, take, refl, sym, ap, ◌∙◌, append_assoc, append-nil}
-use Rattle.gw_base.specs.declared.ids.Ids.{Ids}
+use Rattle.gw_reserve.specs.Ids.{Ids}
 use Rattle.gw_msg.specs.declared.message.Request.{Request}
 use Rattle.gw_reserve.specs.declared.owned.Owned.{Owned}
 use Rattle.gw_reserve.specs.declared.owners.Cursors.{Cursors}
 use Rattle.gw_reserve.specs.Owned.{OwnedAction, paired, with_ids}
-use Rattle.gw_reserve.specs.Owners.{ids_of, number_places, slot_places, owners_of, owners, owned_slots, new_cursors}
+use Rattle.gw_reserve.specs.Owners.{ids_of, number_choices, slot_choices, owners_of, owners, owned_slots, new_cursors}
 use Rattle.gw_reserve.specs.Reservations.{Reserving, begun, numbers_left, slots_left}
-use Rattle.gw_reserve.proofs.Places.{owned_places}
+use Rattle.gw_reserve.proofs.Choices.{owned_choices}
 use Rattle.gw_table.specs.Maps.{Maps}
 use Rattle.gw_table.specs.Unused.{owned}
 use Rattle.gw_engine.specs.declared.asked.Sent.{Sent}
@@ -41,9 +41,9 @@ begins g v all jobs is none = record {
 -- what was given to one, and what is left then
 pub record IsOwned (m : Maps) (r : Request) (v w : Reserving) (o : Owned) : Type 0 where
   pub pairs : paired r o ≡ with_ids r (ids_of r (numbers_left m v) (slots_left m v))
-  pub slots_are : owned o.slots ≡ take (slot_places r) (slots_left m v)
-  pub numbers : numbers_left m w ≡ drop (number_places r) (numbers_left m v)
-  pub slots : slots_left m w ≡ drop (slot_places r) (slots_left m v)
+  pub slots_are : owned o.slots ≡ take (slot_choices r) (slots_left m v)
+  pub numbers : numbers_left m w ≡ drop (number_choices r) (numbers_left m v)
+  pub slots : slots_left m w ≡ drop (slot_choices r) (slots_left m v)
   pub cursors : w.cursors ≡ new_cursors v.cursors (ids_of r (numbers_left m v) (slots_left m v) ∷ [])
 
 map-push : {A B : Type 0} (f : A → B) (xs : List A) (x : A) (rest : List B) → map f (xs ++ x ∷ []) ++ rest ≡ map f xs ++ f x ∷ rest
@@ -61,7 +61,7 @@ pub goes_on : (g : GatewayValue) (all left rest : List Sent) (x : Sent) (v w : R
 goes_on g all left rest x v w o jobs more j split c own is pushed =
     let m = g.state.maps in
     let ids : Ids = ids_of x.request (numbers_left m v) (slots_left m v) in
-    let behind : left_for m w rest ≡ owners_of (requests_of rest) (drop (number_places x.request) (numbers_left m v)) (drop (slot_places x.request) (slots_left m v)) = λ i. owners_of (requests_of rest) (own.numbers i) (own.slots i) in
+    let behind : left_for m w rest ≡ owners_of (requests_of rest) (drop (number_choices x.request) (numbers_left m v)) (drop (slot_choices x.request) (slots_left m v)) = λ i. owners_of (requests_of rest) (own.numbers i) (own.slots i) in
     let first : ids ∷ left_for m w rest ≡ left_for m v (x ∷ rest) = ap (λ (l : List Ids). ids ∷ l) behind in
     let job : Job = record { sent = x; owned = o } in
     let all_jobs : more ≡ jobs ++ job ∷ [] = pushed ∙ ap (λ (y : Job). jobs ++ y ∷ []) is in
@@ -75,7 +75,7 @@ goes_on g all left rest x v w o jobs more j split c own is pushed =
           ∙ ap (λ (l : List Sent). map paired_job jobs ++ paired_requests l (left_for m v l)) (sym split) ∙ c.jobs_are;
       slots_are = ap (λ (l : List Job). slots_of l ++ owned_slots (left_for m w rest)) all_jobs
           ∙ slots-push jobs job (owned_slots (left_for m w rest))
-          ∙ ap (λ (s : List ℕ). slots_of jobs ++ (s ++ owned_slots (left_for m w rest))) (own.slots_are ∙ sym (owned_places (slot_places x.request) (slots_left m v)))
+          ∙ ap (λ (s : List ℕ). slots_of jobs ++ (s ++ owned_slots (left_for m w rest))) (own.slots_are ∙ sym (owned_choices (slot_choices x.request) (slots_left m v)))
           ∙ ap (λ (l : List Ids). slots_of jobs ++ owned_slots l) first
           ∙ ap (λ (l : List Sent). slots_of jobs ++ owned_slots (left_for m v l)) (sym split) ∙ c.slots_are;
       cursors_are = ap (λ (k : Cursors). new_cursors k (left_for m w rest)) own.cursors

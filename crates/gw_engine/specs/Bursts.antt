@@ -5,7 +5,7 @@ use Rattle.std.specs.List.{AllZip}
 use Rattle.gw_base.specs.declared.code.Code.{Code}
 use Rattle.gw_base.specs.declared.code.Code.TheVariants.{SyntaxError, VersionNotSupported, InsufficientResources}
 use Rattle.gw_base.specs.declared.ids.CtxNum.{CtxNum}
-use Rattle.gw_base.specs.declared.ids.Ids.{Ids}
+use Rattle.gw_reserve.specs.Ids.{Ids}
 use Rattle.gw_msg.specs.declared.message.Request.{Request}
 use Rattle.gw_msg.specs.declared.message.Item.{Item}
 use Rattle.gw_msg.specs.declared.message.Item.TheVariants as item
@@ -21,7 +21,7 @@ use Rattle.gw_kept.specs.declared.entry.RequestKey.{RequestKey}
 use Rattle.gw_table.specs.Maps.{Outcome}
 use Rattle.gw_tx.specs.Transactions.{transaction}
 use Rattle.gw_reserve.specs.declared.owners.Cursors.{Cursors}
-use Rattle.gw_reserve.specs.Owners.{free_numbers, free_slots, ids_of, new_cursors, number_places, slot_places}
+use Rattle.gw_reserve.specs.Owners.{free_numbers, free_slots, ids_of, new_cursors, number_choices, slot_choices}
 use Rattle.gw_engine.specs.declared.datagram.Datagram.{Datagram}
 use Rattle.gw_engine.specs.declared.heard.Heard.{Heard}
 use Rattle.gw_engine.specs.State.{State, Settings, GatewayValue}
@@ -100,7 +100,7 @@ state_after s mid r p = record {
 abbrev pub new_step : Settings → (peer : ℕ) → (mid : List ℕ) → Request → Progress → Step
 new_step s peer mid r p = record {
   answers = answer_to peer (reply_to s r p);
-  after = record { state = state_after s mid r p; numbers = drop (number_places r) p.numbers; slots = drop (slot_places r) p.slots; count = p.count + 1 };
+  after = record { state = state_after s mid r p; numbers = drop (number_choices r) p.numbers; slots = drop (slot_choices r) p.slots; count = p.count + 1 };
 }
 
 -- ---- one item after another

@@ -4,7 +4,7 @@ use Rattle.std.specs.Prelude.{◌+◌, ℕ, List, [], ◌∷◌, ◌++◌, map, 
 use Rattle.std.specs.List.{zip}
 use Rattle.gw_base.specs.declared.code.Code.{Code}
 use Rattle.gw_base.specs.declared.code.Code.TheVariants.{InsufficientResources}
-use Rattle.gw_base.specs.declared.ids.Ids.{Ids}
+use Rattle.gw_reserve.specs.Ids.{Ids}
 use Rattle.gw_base.specs.declared.ids.TxId.{TxId}
 use Rattle.gw_kept.specs.Classes.{classes_of}
 use Rattle.gw_kept.specs.Pairs.{KeptList, kept_after}

@@ -183,12 +183,12 @@ ack_reads = up_from (up_last (braced_at range_at) (λ ranges. item.Ack ranges) (
 
 -- ---- items
 
-abbrev Part : Token → Item → List ℕ → Type 0
-Part token.Transaction i text = Numbered RequestActions i text
-Part token.Reply i text = Numbered ReplyGroup i text
-Part token.Pending i text = Numbered PendingBraces i text
-Part token.TransactionResponseAck i text = AckRanges i text
-Part _ i text = ⊥
+abbrev Parse : Token → Item → List ℕ → Type 0
+Parse token.Transaction i text = Numbered RequestActions i text
+Parse token.Reply i text = Numbered ReplyGroup i text
+Parse token.Pending i text = Numbered PendingBraces i text
+Parse token.TransactionResponseAck i text = AckRanges i text
+Parse _ i text = ⊥
 
 nothing_reads : ReadsUp {V = Item} (λ text. None) (λ i text. ⊥) Any Same UpTo
 nothing_reads = record {
@@ -196,7 +196,7 @@ nothing_reads = record {
   complete = λ v front rest start q n e. absurd q;
 }
 
-part_reads : (t : Token) → ReadsUp (item_behind t) (Part t) Any Same UpTo
+part_reads : (t : Token) → ReadsUp (item_behind t) (Parse t) Any Same UpTo
 part_reads token.Transaction = up_to request_reads skipped_up
 part_reads token.Reply = up_to reply_reads same_up
 part_reads token.Pending = up_to pending_reads skipped_up
@@ -206,14 +206,14 @@ part_reads _ = nothing_reads
 numbered_ends : {W : Type 0} (Q : ℕ → W → List ℕ → Type 0) (w : W) (front rest : List ℕ) → Numbered Q w front → NoMore is_safe (front ++ rest)
 numbered_ends Q w front rest b = both_ends is_safe equals_sign (λ text. (n : ℕ) × Both (IsUint32 n) (Q n w) text) front rest safe_apart refl b
 
-part_ends : (t : Token) (i : Item) (front rest : List ℕ) → Part t i front → NoMore is_safe (front ++ rest)
+part_ends : (t : Token) (i : Item) (front rest : List ℕ) → Parse t i front → NoMore is_safe (front ++ rest)
 part_ends token.Transaction i front rest b = numbered_ends RequestActions i front rest b
 part_ends token.Reply i front rest b = numbered_ends ReplyGroup i front rest b
 part_ends token.Pending i front rest b = numbered_ends PendingBraces i front rest b
 part_ends token.TransactionResponseAck i front rest b = both_ends is_safe left_brace _ front rest safe_apart refl b.2
 part_ends _ i front rest b = absurd b
 
-item_to : (i : Item) (text : List ℕ) (t : Token) → Both (IsToken t) (Part t i) text → SpellsItem i text
+item_to : (i : Item) (text : List ℕ) (t : Token) → Both (IsToken t) (Parse t i) text → SpellsItem i text
 item_to i text token.Transaction b =
     let n = b.second.second in let q = n.1.second in
     subst (λ (j : Item). SpellsItem j text) q.1 (with_second b (with_second b.second (with_second n.1 q.2)))
@@ -232,7 +232,7 @@ item_to i text token.Pending b =
 item_to i text token.TransactionResponseAck b = subst (λ (j : Item). SpellsItem j text) b.second.1 (with_second b b.second.2)
 item_to i text _ b = absurd (b.second)
 
-item_from : (i : Item) (text : List ℕ) → SpellsItem i text → (t : Token) × Both (IsToken t) (Part t i) text
+item_from : (i : Item) (text : List ℕ) → SpellsItem i text → (t : Token) × Both (IsToken t) (Parse t i) text
 item_from (item.Request r) text b =
     let n = b.second.second in
     (token.Transaction, with_second b (with_second b.second (r.id.0, with_second n (r.actions, refl, n.second))))
@@ -250,7 +250,7 @@ item_from item.Ignored text h =
 pub item_reads : ReadsUp item_at SpellsItem Any Same UpTo
 unfolding item_at
 item_reads =
-    up_as (up_then (word_as token_of) item_behind (λ t. IsToken t) Part (NoMore is_safe) Any Same Same UpTo any_token_reads part_reads (λ t i front rest q n. part_ends t i front rest q))
+    up_as (up_then (word_as token_of) item_behind (λ t. IsToken t) Parse (NoMore is_safe) Any Same Same UpTo any_token_reads part_reads (λ t i front rest q n. part_ends t i front rest q))
     (λ i text h. item_to i text h.0 h.1) item_from
 
 -- an item begins as its token

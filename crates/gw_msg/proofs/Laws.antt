@@ -18,8 +18,8 @@ use Rattle.gw_text.proofs.FormLaws.{some_is, sign_ends, sign_other, sign_shrinks
 use Rattle.gw_text.proofs.ReaderLaws.{ReadsUp, Same, Skipped, UpTo, Any, up_as, up_from, up_next, up_to, up_skipped, up_then, up_last, up_done, up_sign, up_close, up_if_sign, up_if_begins, up_shrinks, same_up, NoSign, ListsUp, BracesUp, up_list, up_optional}
 use Rattle.gw_desc.specs.declared.descriptor.Descriptor.{Descriptor}
 use Rattle.gw_desc.specs.declared.descriptor.Tail.{Tail}
-use Rattle.gw_text.specs.declared.fault.PartFault.{PartFault}
-use Rattle.gw_text.specs.declared.fault.PartFault.TheVariants.{Syntax, NoMemory}
+use Rattle.gw_text.specs.declared.fault.ParseFault.{ParseFault}
+use Rattle.gw_text.specs.declared.fault.ParseFault.TheVariants.{Syntax, NoMemory}
 use Rattle.gw_text.specs.Parts.{Gives, Finds, Shrinks}
 use Rattle.gw_desc.specs.Grammar.{SpellsOptionalGroup, SpellsTail, SpellsDescriptor}
 use Rattle.gw_desc.specs.Reading.{optional_group_at, tail_at, AfterTail, descriptor_at, AfterDescriptor}
@@ -481,7 +481,7 @@ property_ends text rest u total is e c so_far =
     sym so_far ∙ property_step text is ∙ ap (on_property (length text)) e ∙ ap (λ (o : Option (List ℕ)). or_else o (commands_from (length text)) (Some ([], rest))) c
 
 -- no property was read
-pub property_fails : (fault : PartFault) (text after end : List ℕ) (total : Option (List Command × List ℕ)) → begins is_context_property_start text ≡ true → Finds {V = Unit {0}} (Err fault) after (context_property_at text) → commands_at text ≡ total → Gives {V = List Command} (Err fault) end total
+pub property_fails : (fault : ParseFault) (text after end : List ℕ) (total : Option (List Command × List ℕ)) → begins is_context_property_start text ≡ true → Finds {V = Unit {0}} (Err fault) after (context_property_at text) → commands_at text ≡ total → Gives {V = List Command} (Err fault) end total
 property_fails Syntax text after end total is e so_far = sym so_far ∙ property_step text is ∙ ap (on_property (length text)) e
 property_fails NoMemory text after end total is e so_far = absurd e
 
@@ -490,7 +490,7 @@ pub no_property : (text : List ℕ) (total : Option (List Command × List ℕ)) 
 unfolding commands_from
 no_property text total is so_far = sym so_far ∙ ap (λ (t : Bool). cond t (on_property (length text) (context_property_at text)) (list_at command_at text)) is
 
-pub commands_are : (result : Result (List Command) PartFault) (text after : List ℕ) (total : Option (List Command × List ℕ)) → begins is_context_property_start text ≡ false → Gives result after (list_at command_at text) → commands_at text ≡ total → Gives result after total
+pub commands_are : (result : Result (List Command) ParseFault) (text after : List ℕ) (total : Option (List Command × List ℕ)) → begins is_context_property_start text ≡ false → Gives result after (list_at command_at text) → commands_at text ≡ total → Gives result after total
 commands_are result text after total is e so_far = subst (Gives result after) (sym (no_property text total is so_far)) e
 
 pub property_read : (text rest more : List ℕ) (u : Unit {0}) → context_property_at text ≡ Some (u, rest) → sign_at comma rest ≡ Some more → length more < length text

@@ -23,8 +23,8 @@ use Rattle.gw_msg.specs.declared.fault.ReadFault.{ReadFault}
 use Rattle.gw_msg.specs.declared.fault.ReadFault.TheVariants.{Version, Syntax, NoMemory}
 use Rattle.gw_desc.specs.Reading.{optional_group_at, tail_at, descriptor_at}
 use Rattle.gw_desc.specs.declared.descriptor.Descriptor.{Descriptor}
-use Rattle.gw_text.specs.declared.fault.PartFault.{PartFault}
-use Rattle.gw_text.specs.declared.fault.PartFault.TheVariants as part
+use Rattle.gw_text.specs.declared.fault.ParseFault.{ParseFault}
+use Rattle.gw_text.specs.declared.fault.ParseFault.TheVariants as part
 use Rattle.gw_msg.specs.Grammar.{may_be_wild, has_group, reply_depth, code_digits, code_max, spoken_version, version_digits, version_max}
 use Rattle.gw_msg.specs.Words.{verb_of, is_context, is_context_property, is_context_property_start, is_error, is_error_start}
 use Rattle.gw_msg.specs.NameWords.{term_of, mid_of}
@@ -259,7 +259,7 @@ unfoldable pub message_of : List ℕ → Result Message ReadFault
 message_of text = judged (header_at text)
 
 -- a part that was not read
-abbrev pub fault_of : PartFault → ReadFault
+abbrev pub fault_of : ParseFault → ReadFault
 fault_of part.Syntax = Syntax
 fault_of part.NoMemory = NoMemory
 

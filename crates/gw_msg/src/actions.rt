@@ -10,8 +10,8 @@ use crate::words::{
 };
 use gw_base::Items;
 use gw_desc::{Descriptor, optional_group, tail};
-use gw_text::parts::{Part, list, optional_braced, sign, token};
-use gw_text::{Cursor, PartFault, Token};
+use gw_text::parts::{Parse, list, optional_braced, sign, token};
+use gw_text::{Cursor, ParseFault, Token};
 use std::alloc::Global;
 
 /// What stands behind a TerminationID: the command's descriptors, or a group, which is read and dropped.
@@ -20,7 +20,7 @@ fn details<'a>(
     alloc: Global,
     cursor: &mut Cursor<'a>,
     has_group: bool,
-) -> Result<Items<Descriptor<'a>>, PartFault>
+) -> Result<Items<Descriptor<'a>>, ParseFault>
     ensures { Gives result cursor.new (details_of has_group cursor.old) }
 {
     if !has_group {
@@ -30,16 +30,16 @@ fn details<'a>(
     Ok(Items::new(alloc))
 }
 
-impl<'a> Part<'a> for Command<'a> {
+impl<'a> Parse<'a> for Command<'a> {
     ghost read_at = { command_at };
 
     #[tactic(auto, unfolding(crate::specs::Reading::command_at))]
-    fn read(alloc: Global, cursor: &mut Cursor<'a>) -> Result<Command<'a>, PartFault> {
+    fn read(alloc: Global, cursor: &mut Cursor<'a>) -> Result<Command<'a>, ParseFault> {
         let optional = mark(cursor, b"O-");
         let wild = mark(cursor, b"W-");
         let verb = verb(cursor)?;
         if wild && !may_be_wild(verb) {
-            return Err(PartFault::Syntax);
+            return Err(ParseFault::Syntax);
         }
         sign(cursor, b'=')?;
         let term = term(cursor)?;
@@ -56,18 +56,18 @@ impl<'a> Part<'a> for Command<'a> {
 
 /// A context property, or that they are audited; it is read and dropped.
 #[tactic(auto, unfolding(crate::specs::Reading::context_property_at))]
-fn context_property(cursor: &mut Cursor<'_>) -> Result<(), PartFault>
+fn context_property(cursor: &mut Cursor<'_>) -> Result<(), ParseFault>
     ensures { Finds result cursor.new (context_property_at cursor.old) }
 {
     if !is_context_property(token(cursor)?) {
-        return Err(PartFault::Syntax);
+        return Err(ParseFault::Syntax);
     }
     tail(cursor)?;
     Ok(())
 }
 
 /// The commands behind the properties, if there are any.
-fn commands<'a>(alloc: Global, cursor: &mut Cursor<'a>) -> Result<Items<Command<'a>>, PartFault>
+fn commands<'a>(alloc: Global, cursor: &mut Cursor<'a>) -> Result<Items<Command<'a>>, ParseFault>
     ensures { Gives result cursor.new (commands_at cursor.old) }
 {
     while is_context_property_next(cursor) {
@@ -79,13 +79,13 @@ fn commands<'a>(alloc: Global, cursor: &mut Cursor<'a>) -> Result<Items<Command<
     list(alloc, cursor)
 }
 
-impl<'a> Part<'a> for Action<'a> {
+impl<'a> Parse<'a> for Action<'a> {
     ghost read_at = { action_at };
 
     #[tactic(auto, unfolding(crate::specs::Reading::action_at))]
-    fn read(alloc: Global, cursor: &mut Cursor<'a>) -> Result<Action<'a>, PartFault> {
+    fn read(alloc: Global, cursor: &mut Cursor<'a>) -> Result<Action<'a>, ParseFault> {
         let Token::Context = token(cursor)? else {
-            return Err(PartFault::Syntax);
+            return Err(ParseFault::Syntax);
         };
         sign(cursor, b'=')?;
         let ctx = context_id(cursor)?;

@@ -3,7 +3,7 @@
 ghost use Rattle.std.specs.Prelude.{◌≡◌};
 ghost use Rattle.gw_msg.specs.Reading.{fault_of};
 
-use gw_text::PartFault;
+use gw_text::ParseFault;
 use thiserror::Error;
 
 /// Why a text gives no message.
@@ -20,13 +20,13 @@ pub enum ReadFault {
     NoMemory,
 }
 
-impl From<PartFault> for ReadFault {
+impl From<ParseFault> for ReadFault {
     ghost from_gives = { λ part e. e ≡ fault_of part };
 
-    fn from(part: PartFault) -> ReadFault {
+    fn from(part: ParseFault) -> ReadFault {
         match part {
-            PartFault::Syntax => ReadFault::Syntax,
-            PartFault::NoMemory => ReadFault::NoMemory,
+            ParseFault::Syntax => ReadFault::Syntax,
+            ParseFault::NoMemory => ReadFault::NoMemory,
         }
     }
 }

@@ -6,8 +6,8 @@ ghost use Rattle.gw_msg.specs.Reading.{request_at, reply_at, pending_at, last_at
 use crate::message::{AckRange, Item, Message, Request};
 use crate::words::{is_error_next, mid};
 use gw_base::{Items, TxId};
-use gw_text::parts::{Part, braced, items, sign, token};
-use gw_text::{Cursor, PartFault, Token};
+use gw_text::parts::{Parse, braced, items, sign, token};
+use gw_text::{Cursor, ParseFault, Token};
 use std::alloc::Global;
 
 /// How deep groups may lie in a reply.
@@ -21,7 +21,7 @@ const CODE_MAX: u32 = 9999;
 
 /// A transaction, behind its token: its number and its actions.
 #[tactic(auto, using(crate::proofs::Laws::action_shrinks), unfolding(crate::specs::Reading::request_at))]
-fn request<'a>(alloc: Global, cursor: &mut Cursor<'a>) -> Result<Item<'a>, PartFault>
+fn request<'a>(alloc: Global, cursor: &mut Cursor<'a>) -> Result<Item<'a>, ParseFault>
     ensures { Gives result cursor.new (request_at cursor.old) }
 {
     sign(cursor, b'=')?;
@@ -35,7 +35,7 @@ fn request<'a>(alloc: Global, cursor: &mut Cursor<'a>) -> Result<Item<'a>, PartF
 
 /// A reply, behind its token.
 #[tactic(auto, unfolding(crate::specs::Reading::reply_at, gw_text::specs::SpaceScan::skip))]
-fn reply<'a>(cursor: &mut Cursor<'a>) -> Result<Item<'a>, PartFault>
+fn reply<'a>(cursor: &mut Cursor<'a>) -> Result<Item<'a>, ParseFault>
     ensures { Finds result cursor.new (reply_at cursor.old) }
 {
     sign(cursor, b'=')?;
@@ -47,7 +47,7 @@ fn reply<'a>(cursor: &mut Cursor<'a>) -> Result<Item<'a>, PartFault>
 
 /// A pending transaction, behind its token.
 #[tactic(auto, unfolding(crate::specs::Reading::pending_at))]
-fn pending<'a>(cursor: &mut Cursor<'a>) -> Result<Item<'a>, PartFault>
+fn pending<'a>(cursor: &mut Cursor<'a>) -> Result<Item<'a>, ParseFault>
     ensures { Finds result cursor.new (pending_at cursor.old) }
 {
     sign(cursor, b'=')?;
@@ -58,7 +58,7 @@ fn pending<'a>(cursor: &mut Cursor<'a>) -> Result<Item<'a>, PartFault>
 }
 
 /// What follows the first number of a range.
-fn last(cursor: &mut Cursor<'_>, first: u32) -> Result<AckRange, PartFault>
+fn last(cursor: &mut Cursor<'_>, first: u32) -> Result<AckRange, ParseFault>
     ensures { Finds result cursor.new (last_at first cursor.old) }
 {
     if !cursor.byte(b'-') {
@@ -71,11 +71,11 @@ fn last(cursor: &mut Cursor<'_>, first: u32) -> Result<AckRange, PartFault>
     })
 }
 
-impl<'a> Part<'a> for AckRange {
+impl<'a> Parse<'a> for AckRange {
     ghost read_at = { range_at };
 
     #[tactic(auto, unfolding(crate::specs::Reading::range_at))]
-    fn read(_alloc: Global, cursor: &mut Cursor<'a>) -> Result<AckRange, PartFault> {
+    fn read(_alloc: Global, cursor: &mut Cursor<'a>) -> Result<AckRange, ParseFault> {
         let first = cursor.uint32()?;
         last(cursor, first.value)
     }
@@ -83,30 +83,30 @@ impl<'a> Part<'a> for AckRange {
 
 /// Acknowledged replies, behind their token.
 #[tactic(auto, using(crate::proofs::ItemLaws::range_shrinks), unfolding(crate::specs::Reading::ack_at))]
-fn ack<'a>(alloc: Global, cursor: &mut Cursor<'a>) -> Result<Item<'a>, PartFault>
+fn ack<'a>(alloc: Global, cursor: &mut Cursor<'a>) -> Result<Item<'a>, ParseFault>
     ensures { Gives result cursor.new (ack_at cursor.old) }
 {
     Ok(Item::Ack(braced(alloc, cursor)?))
 }
 
-impl<'a> Part<'a> for Item<'a> {
+impl<'a> Parse<'a> for Item<'a> {
     ghost read_at = { item_at };
 
     #[tactic(auto, unfolding(crate::specs::Reading::item_at))]
-    fn read(alloc: Global, cursor: &mut Cursor<'a>) -> Result<Item<'a>, PartFault> {
+    fn read(alloc: Global, cursor: &mut Cursor<'a>) -> Result<Item<'a>, ParseFault> {
         match token(cursor)? {
             Token::Transaction => request(alloc, cursor),
             Token::Reply => reply(cursor),
             Token::Pending => pending(cursor),
             Token::TransactionResponseAck => ack(alloc, cursor),
-            _ => Err(PartFault::Syntax),
+            _ => Err(ParseFault::Syntax),
         }
     }
 }
 
 /// The text of an error, which may be missing.
 #[tactic(auto, unfolding(crate::specs::Reading::quoted_or_nothing))]
-fn error_text(cursor: &mut Cursor<'_>) -> Result<(), PartFault>
+fn error_text(cursor: &mut Cursor<'_>) -> Result<(), ParseFault>
     ensures { Finds result cursor.new (quoted_or_nothing cursor.old) }
 {
     if cursor.is_at(b'"') {
@@ -117,11 +117,11 @@ fn error_text(cursor: &mut Cursor<'_>) -> Result<(), PartFault>
 
 /// An error, which stands in place of the parts.
 #[tactic(auto, unfolding(crate::specs::Reading::error_at))]
-fn error(cursor: &mut Cursor<'_>) -> Result<(), PartFault>
+fn error(cursor: &mut Cursor<'_>) -> Result<(), ParseFault>
     ensures { Finds result cursor.new (error_at cursor.old) }
 {
     let Token::Error = token(cursor)? else {
-        return Err(PartFault::Syntax);
+        return Err(ParseFault::Syntax);
     };
     sign(cursor, b'=')?;
     cursor.number(CODE_DIGITS, CODE_MAX)?;
@@ -132,20 +132,20 @@ fn error(cursor: &mut Cursor<'_>) -> Result<(), PartFault>
 
 /// An error, to the end of the text. It gives no items.
 #[tactic(auto, unfolding(crate::specs::Reading::error_body_at, gw_text::specs::SpaceScan::skip))]
-fn error_body<'a>(alloc: Global, cursor: &mut Cursor<'a>) -> Result<Items<Item<'a>>, PartFault>
+fn error_body<'a>(alloc: Global, cursor: &mut Cursor<'a>) -> Result<Items<Item<'a>>, ParseFault>
     ensures { Gives result cursor.new (error_body_at cursor.old) }
 {
     error(cursor)?;
     cursor.lwsp();
     if !cursor.is_empty() {
-        return Err(PartFault::Syntax);
+        return Err(ParseFault::Syntax);
     }
     Ok(Items::new(alloc))
 }
 
 /// The body, to the end of the text.
 #[tactic(auto, using(crate::proofs::ItemLaws::item_shrinks), unfolding(crate::specs::Reading::body_at))]
-fn body<'a>(alloc: Global, cursor: &mut Cursor<'a>) -> Result<Items<Item<'a>>, PartFault>
+fn body<'a>(alloc: Global, cursor: &mut Cursor<'a>) -> Result<Items<Item<'a>>, ParseFault>
     ensures { Gives result cursor.new (body_at cursor.old) }
 {
     if is_error_next(cursor) {
@@ -156,7 +156,7 @@ fn body<'a>(alloc: Global, cursor: &mut Cursor<'a>) -> Result<Items<Item<'a>>, P
 
 /// What stands behind the header: the sender and the body, to the end of the text.
 #[tactic(auto, unfolding(crate::specs::Reading::content_at))]
-pub fn content<'a>(alloc: Global, cursor: &mut Cursor<'a>) -> Result<Message<'a>, PartFault>
+pub fn content<'a>(alloc: Global, cursor: &mut Cursor<'a>) -> Result<Message<'a>, ParseFault>
     ensures { Gives result cursor.new (content_at cursor.old) }
 {
     let mid = mid(cursor)?;

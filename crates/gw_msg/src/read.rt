@@ -11,7 +11,7 @@ ghost use Rattle.gw_msg.specs.declared.fault.ReadFault.TheVariants.{Version, NoM
 use crate::fault::ReadFault;
 use crate::items::content;
 use crate::message::Message;
-use gw_text::{Cursor, PartFault};
+use gw_text::{Cursor, ParseFault};
 use std::alloc::Global;
 
 /// The version that this gateway speaks.
@@ -25,11 +25,11 @@ const VERSION_MAX: u32 = 99;
 
 /// What follows the first token of a header: the version, which is answered.
 #[tactic(auto, unfolding(crate::specs::Reading::version_at))]
-fn header_end(cursor: &mut Cursor<'_>) -> Result<u32, PartFault>
+fn header_end(cursor: &mut Cursor<'_>) -> Result<u32, ParseFault>
     ensures { Finds result cursor.new (version_at cursor.old) }
 {
     if !cursor.byte(b'/') {
-        return Err(PartFault::Syntax);
+        return Err(ParseFault::Syntax);
     }
     let version = cursor.number(VERSION_DIGITS, VERSION_MAX)?;
     cursor.sep()?;
@@ -38,12 +38,12 @@ fn header_end(cursor: &mut Cursor<'_>) -> Result<u32, PartFault>
 
 /// The header: its version.
 #[tactic(auto, unfolding(crate::specs::Reading::header_at, gw_text::specs::SpaceScan::skip))]
-fn header(cursor: &mut Cursor<'_>) -> Result<u32, PartFault>
+fn header(cursor: &mut Cursor<'_>) -> Result<u32, ParseFault>
     ensures { Finds result cursor.new (header_at cursor.old) }
 {
     cursor.lwsp();
     if !cursor.prefix(b"MEGACO") && !cursor.byte(b'!') {
-        return Err(PartFault::Syntax);
+        return Err(ParseFault::Syntax);
     }
     header_end(cursor)
 }

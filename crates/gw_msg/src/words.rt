@@ -10,7 +10,7 @@ ghost use Rattle.gw_msg.specs.NameWords.{term_of, mid_of};
 ghost use Rattle.gw_msg.specs.Reading.{mark_at, context_id_at};
 
 use gw_base::{CtxNum, CtxRef, Mid, TermRef, Verb};
-use gw_text::{Cursor, PartFault, Token, token_of};
+use gw_text::{Cursor, ParseFault, Token, token_of};
 
 /// Whether the bytes come next, in any case; they are taken.
 #[tactic(auto, unfolding(crate::specs::Reading::mark_at))]
@@ -44,7 +44,7 @@ pub fn is_error_next(cursor: &Cursor<'_>) -> bool
 }
 
 /// The command that a token names.
-pub fn verb(cursor: &mut Cursor<'_>) -> Result<Verb, PartFault>
+pub fn verb(cursor: &mut Cursor<'_>) -> Result<Verb, ParseFault>
     ensures { Finds result cursor.new (word_as verb_of cursor.old) }
 {
     match token_of(cursor.word()?) {
@@ -56,7 +56,7 @@ pub fn verb(cursor: &mut Cursor<'_>) -> Result<Verb, PartFault>
         Some(Token::AuditCapability) => Ok(Verb::AuditCapability),
         Some(Token::Notify) => Ok(Verb::Notify),
         Some(Token::ServiceChange) => Ok(Verb::ServiceChange),
-        _ => Err(PartFault::Syntax),
+        _ => Err(ParseFault::Syntax),
     }
 }
 
@@ -89,7 +89,7 @@ pub fn is_context_property(token: Token) -> bool
 
 /// The ContextID of an action.
 #[tactic(auto, unfolding(crate::specs::Reading::context_id_at))]
-pub fn context_id(cursor: &mut Cursor<'_>) -> Result<CtxRef, PartFault>
+pub fn context_id(cursor: &mut Cursor<'_>) -> Result<CtxRef, ParseFault>
     ensures { Finds result cursor.new (context_id_at cursor.old) }
 {
     if cursor.byte(b'$') {
@@ -107,7 +107,7 @@ pub fn context_id(cursor: &mut Cursor<'_>) -> Result<CtxRef, PartFault>
 
 /// The TerminationID of a command.
 #[tactic(auto, using(crate::proofs::WordLemmas::term_read, crate::proofs::WordLemmas::term_not_read))]
-pub fn term(cursor: &mut Cursor<'_>) -> Result<TermRef, PartFault>
+pub fn term(cursor: &mut Cursor<'_>) -> Result<TermRef, ParseFault>
     ensures { Finds result cursor.new (word_as term_of cursor.old) }
 {
     Ok(TermRef::read(cursor.word()?)?)
@@ -115,7 +115,7 @@ pub fn term(cursor: &mut Cursor<'_>) -> Result<TermRef, PartFault>
 
 /// The sender's mId.
 #[tactic(auto, using(crate::proofs::WordLemmas::mid_read, crate::proofs::WordLemmas::mid_not_read))]
-pub fn mid(cursor: &mut Cursor<'_>) -> Result<Mid, PartFault>
+pub fn mid(cursor: &mut Cursor<'_>) -> Result<Mid, ParseFault>
     ensures { Finds result cursor.new (solid_as mid_of cursor.old) }
 {
     Ok(Mid::read(cursor.solid()?)?)

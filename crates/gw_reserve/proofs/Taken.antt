@@ -8,8 +8,8 @@ use Rattle.gw_msg.specs.declared.message.Action.{Action}
 use Rattle.gw_msg.specs.declared.message.Command.{Command}
 use Rattle.gw_table.specs.Unused.{owned}
 use Rattle.gw_reserve.specs.Owned.{OwnedAction, first_owned, later_owned, is_adding, with_slots, slots_behind, with_owned, paired_commands, paired_actions}
-use Rattle.gw_reserve.specs.Owners.{places, chosen, adding, all_commands, all_adding, taken_by}
-use Rattle.gw_reserve.proofs.Places.{places_suc, take_none, count-append, Moves}
+use Rattle.gw_reserve.specs.Owners.{choices, chosen, adding, all_commands, all_adding, taken_by}
+use Rattle.gw_reserve.proofs.Choices.{choices_suc, take_none, count-append, Moves}
 
 pub take-plus : {X : Type 0} (k t : ℕ) (l : List X) → take k l ++ take t (drop k l) ≡ take (k + t) l
 take-plus zero t l = let e : t ≡ 0 + t = omega arith in ap (λ (n : ℕ). take n l) e
@@ -53,65 +53,65 @@ module _ {X Y : Type 0} (wants : X → Bool) where
 
 -- ---- so each is paired with what its $ owns
 
--- the first of some places, and then the rest
-abbrev first_place : {X : Type 0} → ℕ → List X → List (Option X)
-first_place k free = slice_get free 0 ∷ places k (drop 1 free)
+-- the first of some choices, and then the rest
+abbrev first_choice : {X : Type 0} → ℕ → List X → List (Option X)
+first_choice k free = slice_get free 0 ∷ choices k (drop 1 free)
 
-one_place_more : {X : Type 0} (k j : ℕ) (free : List X) → places (suc k + j) free ≡ first_place (k + j) free
-one_place_more k j free = let e : suc k + j ≡ suc (k + j) = omega arith in ap (λ (n : ℕ). places n free) e ∙ places_suc (k + j) free
+one_choice_more : {X : Type 0} (k j : ℕ) (free : List X) → choices (suc k + j) free ≡ first_choice (k + j) free
+one_choice_more k j free = let e : suc k + j ≡ suc (k + j) = omega arith in ap (λ (n : ℕ). choices n free) e ∙ choices_suc (k + j) free
 
-pairs_slots : (cs : List Command) (free : List ℕ) (more : List (Option ℕ)) (j : ℕ) → paired_commands (taken_by is_adding cs free ++ more) cs ≡ with_slots (places (adding cs + j) free) cs
+pairs_slots : (cs : List Command) (free : List ℕ) (more : List (Option ℕ)) (j : ℕ) → paired_commands (taken_by is_adding cs free ++ more) cs ≡ with_slots (choices (adding cs + j) free) cs
 pairs_slots [] free more j = refl
 pairs_slots (c ∷ cs) free more j = by (is_adding c) (pairs_slots cs free more j) (pairs_slots cs (drop 1 free) more j)
   where
-    by : (b : Bool) → paired_commands (taken_by is_adding cs free ++ more) cs ≡ with_slots (places (adding cs + j) free) cs → paired_commands (taken_by is_adding cs (drop 1 free) ++ more) cs ≡ with_slots (places (adding cs + j) (drop 1 free)) cs
+    by : (b : Bool) → paired_commands (taken_by is_adding cs free ++ more) cs ≡ with_slots (choices (adding cs + j) free) cs → paired_commands (taken_by is_adding cs (drop 1 free) ++ more) cs ≡ with_slots (choices (adding cs + j) (drop 1 free)) cs
         → paired_commands ((if b then slice_get free 0 else None) ∷ taken_by is_adding cs (if b then drop 1 free else free) ++ more) (c ∷ cs)
-        ≡ (if b then first_owned (places (length (cond b (c ∷ filter is_adding cs) (filter is_adding cs)) + j) free) else None, c) ∷ with_slots (if b then later_owned (places (length (cond b (c ∷ filter is_adding cs) (filter is_adding cs)) + j) free) else places (length (cond b (c ∷ filter is_adding cs) (filter is_adding cs)) + j) free) cs
+        ≡ (if b then first_owned (choices (length (cond b (c ∷ filter is_adding cs) (filter is_adding cs)) + j) free) else None, c) ∷ with_slots (if b then later_owned (choices (length (cond b (c ∷ filter is_adding cs) (filter is_adding cs)) + j) free) else choices (length (cond b (c ∷ filter is_adding cs) (filter is_adding cs)) + j) free) cs
     by false e f = ap (λ l. (None, c) ∷ l) e
     by true e f =
         ap (λ l. (slice_get free 0, c) ∷ l) f
-        ∙ ap (λ (p : List (Option ℕ)). (first_owned p, c) ∷ with_slots (later_owned p) cs) (sym (one_place_more (adding cs) j free))
+        ∙ ap (λ (p : List (Option ℕ)). (first_owned p, c) ∷ with_slots (later_owned p) cs) (sym (one_choice_more (adding cs) j free))
 
-behind_slots : (cs : List Command) (free : List ℕ) (j : ℕ) → slots_behind (places (adding cs + j) free) cs ≡ places j (drop (adding cs) free)
-behind_slots [] free j = let e : 0 + j ≡ j = omega arith in ap (λ (n : ℕ). places n free) e
+behind_slots : (cs : List Command) (free : List ℕ) (j : ℕ) → slots_behind (choices (adding cs + j) free) cs ≡ choices j (drop (adding cs) free)
+behind_slots [] free j = let e : 0 + j ≡ j = omega arith in ap (λ (n : ℕ). choices n free) e
 behind_slots (c ∷ cs) free j = by (is_adding c) (behind_slots cs free j) (behind_slots cs (drop 1 free) j)
   where
-    by : (b : Bool) → slots_behind (places (adding cs + j) free) cs ≡ places j (drop (adding cs) free) → slots_behind (places (adding cs + j) (drop 1 free)) cs ≡ places j (drop (adding cs) (drop 1 free))
-        → slots_behind (if b then later_owned (places (length (cond b (c ∷ filter is_adding cs) (filter is_adding cs)) + j) free) else places (length (cond b (c ∷ filter is_adding cs) (filter is_adding cs)) + j) free) cs
-        ≡ places j (drop (length (cond b (c ∷ filter is_adding cs) (filter is_adding cs))) free)
+    by : (b : Bool) → slots_behind (choices (adding cs + j) free) cs ≡ choices j (drop (adding cs) free) → slots_behind (choices (adding cs + j) (drop 1 free)) cs ≡ choices j (drop (adding cs) (drop 1 free))
+        → slots_behind (if b then later_owned (choices (length (cond b (c ∷ filter is_adding cs) (filter is_adding cs)) + j) free) else choices (length (cond b (c ∷ filter is_adding cs) (filter is_adding cs)) + j) free) cs
+        ≡ choices j (drop (length (cond b (c ∷ filter is_adding cs) (filter is_adding cs))) free)
     by false e f = e
     by true e f =
-        ap (λ (p : List (Option ℕ)). slots_behind (later_owned p) cs) (one_place_more (adding cs) j free)
-        ∙ f ∙ ap (λ (l : List ℕ). places j l) (drop_more (adding cs) free)
+        ap (λ (p : List (Option ℕ)). slots_behind (later_owned p) cs) (one_choice_more (adding cs) j free)
+        ∙ f ∙ ap (λ (l : List ℕ). choices j l) (drop_more (adding cs) free)
 
 -- what requests take, an entry for each action and for each command, is what their $ own
-pub pairs_owned : (asked : List Action) (numbers : List CtxNum) (free : List ℕ) → paired_actions (taken_by (λ a. is_choose a.ctx) asked numbers) (taken_by is_adding (all_commands asked) free) asked ≡ with_owned (places (chosen asked) numbers) (places (all_adding asked) free) asked
+pub pairs_owned : (asked : List Action) (numbers : List CtxNum) (free : List ℕ) → paired_actions (taken_by (λ a. is_choose a.ctx) asked numbers) (taken_by is_adding (all_commands asked) free) asked ≡ with_owned (choices (chosen asked) numbers) (choices (all_adding asked) free) asked
 pairs_owned [] numbers free = refl
 pairs_owned (a ∷ asked) numbers free =
     let cs : List Command = a.commands in
     let more : List (Option ℕ) = taken_by is_adding (all_commands asked) (drop (adding cs) free) in
     let entries : List (Option ℕ) = taken_by is_adding cs free ++ more in
-    let own : List (Option ℕ) = places (adding cs + all_adding asked) free in
+    let own : List (Option ℕ) = choices (adding cs + all_adding asked) free in
     let taken : List (Option CtxNum) = taken_by (λ x. is_choose x.ctx) (a ∷ asked) numbers in
-    let wanted : List (Option CtxNum) = places (chosen (a ∷ asked)) numbers in
+    let wanted : List (Option CtxNum) = choices (chosen (a ∷ asked)) numbers in
     let head : Option CtxNum → List (Option ℕ × Command) → List OwnedAction → List OwnedAction = λ n p l. record { sent = a; number = n; commands = p } ∷ l in
     ap (λ (s : List (Option ℕ)). paired_actions taken s (a ∷ asked)) (taken-append is_adding cs (all_commands asked) free)
     ∙ ap (λ (p : List (Option ℕ × Command)). head (first_owned taken) p (paired_actions (later_owned taken) (drop (length cs) entries) asked)) (pairs_slots cs free more (all_adding asked))
     ∙ ap (λ (s : List (Option ℕ)). head (first_owned taken) (with_slots own cs) (paired_actions (later_owned taken) s asked)) (behind_taken is_adding cs free more)
     ∙ by (is_choose a.ctx) (pairs_owned asked numbers (drop (adding cs) free)) (pairs_owned asked (drop 1 numbers) (drop (adding cs) free))
     ∙ ap (λ (s : List (Option ℕ)). head (if is_choose a.ctx then first_owned wanted else None) (with_slots own cs) (with_owned (if is_choose a.ctx then later_owned wanted else wanted) s asked)) (sym (behind_slots cs free (all_adding asked)))
-    ∙ ap (λ (n : ℕ). with_owned wanted (places n free) (a ∷ asked)) (sym (count-append is_adding cs (all_commands asked)))
+    ∙ ap (λ (n : ℕ). with_owned wanted (choices n free) (a ∷ asked)) (sym (count-append is_adding cs (all_commands asked)))
   where
     by : (b : Bool)
-        → paired_actions (taken_by (λ x. is_choose x.ctx) asked numbers) (taken_by is_adding (all_commands asked) (drop (adding a.commands) free)) asked ≡ with_owned (places (chosen asked) numbers) (places (all_adding asked) (drop (adding a.commands) free)) asked
-        → paired_actions (taken_by (λ x. is_choose x.ctx) asked (drop 1 numbers)) (taken_by is_adding (all_commands asked) (drop (adding a.commands) free)) asked ≡ with_owned (places (chosen asked) (drop 1 numbers)) (places (all_adding asked) (drop (adding a.commands) free)) asked
-        → record { sent = a; number = if b then slice_get numbers 0 else None; commands = with_slots (places (adding a.commands + all_adding asked) free) a.commands } ∷ paired_actions (taken_by (λ x. is_choose x.ctx) asked (if b then drop 1 numbers else numbers)) (taken_by is_adding (all_commands asked) (drop (adding a.commands) free)) asked
-        ≡ record { sent = a; number = if b then first_owned (places (length (cond b (a ∷ filter (λ x. is_choose x.ctx) asked) (filter (λ x. is_choose x.ctx) asked))) numbers) else None; commands = with_slots (places (adding a.commands + all_adding asked) free) a.commands }
-        ∷ with_owned (if b then later_owned (places (length (cond b (a ∷ filter (λ x. is_choose x.ctx) asked) (filter (λ x. is_choose x.ctx) asked))) numbers) else places (length (cond b (a ∷ filter (λ x. is_choose x.ctx) asked) (filter (λ x. is_choose x.ctx) asked))) numbers) (places (all_adding asked) (drop (adding a.commands) free)) asked
-    by false e f = ap (λ (l : List OwnedAction). record { sent = a; number = None; commands = with_slots (places (adding a.commands + all_adding asked) free) a.commands } ∷ l) e
+        → paired_actions (taken_by (λ x. is_choose x.ctx) asked numbers) (taken_by is_adding (all_commands asked) (drop (adding a.commands) free)) asked ≡ with_owned (choices (chosen asked) numbers) (choices (all_adding asked) (drop (adding a.commands) free)) asked
+        → paired_actions (taken_by (λ x. is_choose x.ctx) asked (drop 1 numbers)) (taken_by is_adding (all_commands asked) (drop (adding a.commands) free)) asked ≡ with_owned (choices (chosen asked) (drop 1 numbers)) (choices (all_adding asked) (drop (adding a.commands) free)) asked
+        → record { sent = a; number = if b then slice_get numbers 0 else None; commands = with_slots (choices (adding a.commands + all_adding asked) free) a.commands } ∷ paired_actions (taken_by (λ x. is_choose x.ctx) asked (if b then drop 1 numbers else numbers)) (taken_by is_adding (all_commands asked) (drop (adding a.commands) free)) asked
+        ≡ record { sent = a; number = if b then first_owned (choices (length (cond b (a ∷ filter (λ x. is_choose x.ctx) asked) (filter (λ x. is_choose x.ctx) asked))) numbers) else None; commands = with_slots (choices (adding a.commands + all_adding asked) free) a.commands }
+        ∷ with_owned (if b then later_owned (choices (length (cond b (a ∷ filter (λ x. is_choose x.ctx) asked) (filter (λ x. is_choose x.ctx) asked))) numbers) else choices (length (cond b (a ∷ filter (λ x. is_choose x.ctx) asked) (filter (λ x. is_choose x.ctx) asked))) numbers) (choices (all_adding asked) (drop (adding a.commands) free)) asked
+    by false e f = ap (λ (l : List OwnedAction). record { sent = a; number = None; commands = with_slots (choices (adding a.commands + all_adding asked) free) a.commands } ∷ l) e
     by true e f =
-        ap (λ (l : List OwnedAction). record { sent = a; number = slice_get numbers 0; commands = with_slots (places (adding a.commands + all_adding asked) free) a.commands } ∷ l) f
-        ∙ ap (λ (p : List (Option CtxNum)). record { sent = a; number = first_owned p; commands = with_slots (places (adding a.commands + all_adding asked) free) a.commands } ∷ with_owned (later_owned p) (places (all_adding asked) (drop (adding a.commands) free)) asked) (sym (places_suc (chosen asked) numbers))
+        ap (λ (l : List OwnedAction). record { sent = a; number = slice_get numbers 0; commands = with_slots (choices (adding a.commands + all_adding asked) free) a.commands } ∷ l) f
+        ∙ ap (λ (p : List (Option CtxNum)). record { sent = a; number = first_owned p; commands = with_slots (choices (adding a.commands + all_adding asked) free) a.commands } ∷ with_owned (later_owned p) (choices (all_adding asked) (drop (adding a.commands) free)) asked) (sym (choices_suc (chosen asked) numbers))
 
 -- ---- what was taken so far, and what the items that are left take, is all
 

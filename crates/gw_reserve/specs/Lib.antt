@@ -1,3 +1,4 @@
+pub mod Ids
 pub mod Owned
 pub mod Owners
 pub mod Reservations

@@ -1,9 +1,9 @@
 -- Who owns which identifier (own): at the start of a burst the free numbers and the free slots are listed in cyclic order from
--- the cursors, and the j-th place that needs one owns the j-th of them, whether it is reached or not.
+-- the cursors, and the j-th $ that needs one owns the j-th of them, whether it is reached or not.
 use Rattle.std.specs.Prelude.{ℕ, ◌+◌, ◌-◌, ◌<◌, ◌≤◌, Bool, if◌then◌else◌, List, [], ◌∷◌, ◌++◌, map, length, drop, slice_get, Option, None, is_none, All, filter, flat_map}
 use Rattle.std.specs.List.{range_with_len}
 use Rattle.gw_base.specs.declared.ids.CtxNum.{CtxNum}
-use Rattle.gw_base.specs.declared.ids.Ids.{Ids}
+use Rattle.gw_reserve.specs.Ids.{Ids}
 use Rattle.gw_base.specs.Choose.{is_choose}
 use Rattle.gw_msg.specs.declared.message.Action.{Action}
 use Rattle.gw_msg.specs.declared.message.Command.{Command}
@@ -29,9 +29,9 @@ free_numbers m c n = filter (λ k. is_none (ctx m k)) (map number_of_index (cycl
 abbrev pub free_slots : Maps → ℕ → ℕ → List ℕ
 free_slots m d n = filter (λ s. is_none (term m (slot_name s))) (cyclic d n)
 
--- the j-th of so many places owns the j-th, and nothing past the end
-abbrev pub places : {X : Type 0} → ℕ → List X → List (Option X)
-places count free = map (slice_get free) (range_with_len 0 count)
+-- the j-th of so many choices (a $ is a CHOOSE) owns the j-th, and nothing past the end
+abbrev pub choices : {X : Type 0} → ℕ → List X → List (Option X)
+choices count free = map (slice_get free) (range_with_len 0 count)
 
 -- how many of the actions have $
 abbrev pub chosen : List Action → ℕ
@@ -47,12 +47,12 @@ all_commands actions = flat_map (λ a. a.commands) actions
 abbrev pub all_adding : List Action → ℕ
 all_adding actions = adding (all_commands actions)
 
--- how many places of each kind a request has
-abbrev pub number_places : Request → ℕ
-number_places r = chosen r.actions
+-- how many choices of each kind a request has
+abbrev pub number_choices : Request → ℕ
+number_choices r = chosen r.actions
 
-abbrev pub slot_places : Request → ℕ
-slot_places r = all_adding r.actions
+abbrev pub slot_choices : Request → ℕ
+slot_choices r = all_adding r.actions
 
 -- each item that wants one takes the first of what those before it left
 abbrev pub taken_by : {X Y : Type 0} → (X → Bool) → List X → List Y → List (Option Y)
@@ -61,18 +61,18 @@ taken_by wants (x ∷ xs) free = (if wants x then slice_get free 0 else None) �
 
 -- what a request owns of what is left
 abbrev pub ids_of : Request → List CtxNum → List ℕ → Ids
-ids_of r numbers slots = record { contexts = places (number_places r) numbers; slots = places (slot_places r) slots }
+ids_of r numbers slots = record { contexts = choices (number_choices r) numbers; slots = choices (slot_choices r) slots }
 
--- the places of all requests, in their order: each request has the first of what those before it left
+-- the choices of all requests, in their order: each request has the first of what those before it left
 abbrev pub owners_of : List Request → List CtxNum → List ℕ → List Ids
 owners_of [] numbers slots = []
-owners_of (r ∷ rs) numbers slots = ids_of r numbers slots ∷ owners_of rs (drop (number_places r) numbers) (drop (slot_places r) slots)
+owners_of (r ∷ rs) numbers slots = ids_of r numbers slots ∷ owners_of rs (drop (number_choices r) numbers) (drop (slot_choices r) slots)
 
--- what the places of the requests own
+-- what the choices of the requests own
 unfoldable pub owners : Maps → Cursors → ℕ → ℕ → List Request → List Ids
 owners m cursors contexts slots rs = owners_of rs (free_numbers m cursors.context contexts) (free_slots m cursors.slot slots)
 
--- the numbers and the slots that are owned, in the order of the places
+-- the numbers and the slots that are owned, in the order of the choices
 abbrev pub owned_numbers : List Ids → List CtxNum
 owned_numbers ids = flat_map (λ i. owned i.contexts) ids
 

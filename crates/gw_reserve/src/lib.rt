@@ -1,4 +1,4 @@
-//! Who owns which identifier: the context numbers and the slots that a burst's `$` places get.
+//! Who owns which identifier: the context numbers and the slots that a burst's `$` get.
 #![tactic(auto)]
 
 mod laws;

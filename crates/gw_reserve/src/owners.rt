@@ -4,7 +4,7 @@ ghost use Rattle.std.specs.Prelude.{◌≡◌, ℕ, ◌≤◌, ◌∷◌, [], If
 ghost use Rattle.gw_base.specs.Choose.{is_choose};
 ghost use Rattle.gw_table.specs.Unused.{owned};
 ghost use Rattle.gw_reserve.specs.Owned.{is_adding, paired, with_ids};
-ghost use Rattle.gw_reserve.specs.Owners.{number_places, slot_places, chosen, all_adding, all_commands, taken_by, last_number, behind_last, new_cursors, ids_of, AreWithin};
+ghost use Rattle.gw_reserve.specs.Owners.{number_choices, slot_choices, chosen, all_adding, all_commands, taken_by, last_number, behind_last, new_cursors, ids_of, AreWithin};
 ghost use Rattle.gw_reserve.specs.Reservations.{begun, numbers_left, slots_left};
 ghost use Rattle.gw_reserve.specs.Searches.{numbers_from, slots_from, IsSearch};
 
@@ -138,10 +138,10 @@ impl Reservation {
         request: &Request<'_>,
     ) -> Result<Owned, NoMemory>
         ensures paired { IfOk result (λ o. paired request.now o ≡ with_ids request.now (ids_of request.now (numbers_left tables.now self.old) (slots_left tables.now self.old))) }
-        ensures contexts { IfOk result (λ o. owned o.contexts ≡ take (number_places request.now) (numbers_left tables.now self.old)) }
-        ensures owned_slots { IfOk result (λ o. owned o.slots ≡ take (slot_places request.now) (slots_left tables.now self.old)) }
-        ensures numbers { OnOk result (numbers_left tables.now self.new ≡ drop (number_places request.now) (numbers_left tables.now self.old)) }
-        ensures slots { OnOk result (slots_left tables.now self.new ≡ drop (slot_places request.now) (slots_left tables.now self.old)) }
+        ensures contexts { IfOk result (λ o. owned o.contexts ≡ take (number_choices request.now) (numbers_left tables.now self.old)) }
+        ensures owned_slots { IfOk result (λ o. owned o.slots ≡ take (slot_choices request.now) (slots_left tables.now self.old)) }
+        ensures numbers { OnOk result (numbers_left tables.now self.new ≡ drop (number_choices request.now) (numbers_left tables.now self.old)) }
+        ensures slots { OnOk result (slots_left tables.now self.new ≡ drop (slot_choices request.now) (slots_left tables.now self.old)) }
         ensures cursors { OnOk result (self.new.cursors ≡ new_cursors self.old.cursors (ids_of request.now (numbers_left tables.now self.old) (slots_left tables.now self.old) ∷ [])) }
         ensures contexts_stay { OnOk result (self.new.most_contexts ≡ self.old.most_contexts) }
         ensures slots_stay { OnOk result (self.new.most_slots ≡ self.old.most_slots) }

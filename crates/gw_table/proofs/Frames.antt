@@ -10,8 +10,8 @@ use Rattle.gw_base.proofs.KeyTests.{apart_turned}
 use Rattle.gw_term.specs.declared.record.Termination.{Termination}
 use Rattle.gw_ctx.specs.Contexts.{ContextRecord}
 use Rattle.gw_table.specs.Maps.{Maps, Outcome, term, ctx, put_term, put_ctx, place_of, members_of}
-use Rattle.gw_table.specs.Parts.{restricted, overlaid, Only, HoldsPlace}
-use Rattle.gw_table.specs.Accesses.{Accesses, Done, ReadTerm, ReadCtx, ReadAll, PutTerm, PutCtx, effect, and_then, Within, NewIn}
+use Rattle.gw_table.specs.Parts.{restricted, overlaid}
+use Rattle.gw_table.specs.Accesses.{Accesses, Done, ReadTerm, ReadCtx, ReadAll, PutTerm, PutCtx, effect, and_then, Within, NewIn, NewPlace}
 use Rattle.gw_table.proofs.Lookups.{term-put_term, ctx-put_term, term-put_ctx, ctx-put_ctx, same_maps}
 use Rattle.gw_table.proofs.PartLookups.{term-restricted, ctx-restricted, term-overlaid, ctx-overlaid}
 
@@ -50,19 +50,15 @@ within_alike keys (Done a) m n w g = tt
 within_alike keys (ReadTerm t f) m n w g = (w.0, subst (λ o. Within keys (f o) n) (g.terms t w.0) (within_alike keys (f (term m t)) m n w.1 g))
 within_alike keys (ReadCtx c f) m n w g = (w.0, subst (λ o. Within keys (f o) n) (g.contexts c w.0) (within_alike keys (f (ctx m c)) m n w.1 g))
 within_alike keys (ReadAll f) m n w g = (w.0, subst (λ o. Within keys (f o) n) (g.whole w.0) (within_alike keys (f m) m n w.1 g))
-within_alike keys (PutTerm t o p) m n w g = (w.0, w.1, within_alike keys p (put_term m t o) (put_term n t o) w.2 (agree-put_term keys m n t o g))
+within_alike keys (PutTerm t o p) m n w g = (w.0, subst (λ x. NewPlace keys (place_of x) (place_of o)) (g.terms t w.0) w.1, within_alike keys p (put_term m t o) (put_term n t o) w.2 (agree-put_term keys m n t o g))
 within_alike keys (PutCtx c o p) m n w g = (w.0, subst (λ l. NewIn keys (members_of l) (members_of o)) (g.contexts c w.0) w.1, within_alike keys p (put_ctx m c o) (put_ctx n c o) w.2 (agree-put_ctx keys m n c o g))
-
-place_more : (a b : List Key) (o : Option CtxNum) → Among a b → HoldsPlace (Only a) o → HoldsPlace (Only b) o
-place_more a b None s w = tt
-place_more a b (Some n) s w = s (Ctx n) w
 
 pub within_more : {A : Type 0} (a b : List Key) (p : Accesses A) (m : Maps) → Among a b → Within a p m → Within b p m
 within_more a b (Done x) m s w = tt
 within_more a b (ReadTerm t f) m s w = (s (Term t) w.0, within_more a b (f (term m t)) m s w.1)
 within_more a b (ReadCtx c f) m s w = (s (Ctx c) w.0, within_more a b (f (ctx m c)) m s w.1)
 within_more a b (ReadAll f) m s w = (s Whole w.0, within_more a b (f m) m s w.1)
-within_more a b (PutTerm t o p) m s w = (s (Term t) w.0, place_more a b (place_of o) s w.1, within_more a b p (put_term m t o) s w.2)
+within_more a b (PutTerm t o p) m s w = (s (Term t) w.0, λ c e. either (w.1 c e) (λ x. inl x) (λ x. inr (s (Ctx c) x)), within_more a b p (put_term m t o) s w.2)
 within_more a b (PutCtx c o p) m s w = (s (Ctx c) w.0, λ q h. either (w.1 q h) (λ x. inl x) (λ x. inr (s (Term q) x)), within_more a b p (put_ctx m c o) s w.2)
 
 -- ---- one after another

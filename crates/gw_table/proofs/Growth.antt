@@ -5,13 +5,13 @@ use Rattle.gw_base.specs.declared.key.Key.{Key}
 use Rattle.gw_base.specs.declared.key.Key.TheVariants.{Term, Ctx}
 use Rattle.gw_base.specs.Keys.{has}
 use Rattle.gw_base.specs.NameLists.{is_in}
-use Rattle.gw_base.proofs.NameTests.{same_number}
+use Rattle.gw_base.proofs.NameTests.{same_name, same_number}
 use Rattle.gw_base.proofs.NamesInLists.{either}
 use Rattle.gw_term.specs.declared.record.Termination.{Termination}
 use Rattle.gw_ctx.specs.Contexts.{ContextRecord}
 use Rattle.gw_table.specs.Maps.{Maps, term, ctx, put_term, put_ctx, place_of, members_of}
-use Rattle.gw_table.specs.Parts.{PartKeys, Only, holds, HoldsPlace}
-use Rattle.gw_table.specs.Accesses.{Accesses, Done, ReadTerm, ReadCtx, ReadAll, PutTerm, PutCtx, effect, Within, NewIn}
+use Rattle.gw_table.specs.Parts.{PartKeys, Only, holds}
+use Rattle.gw_table.specs.Accesses.{Accesses, Done, ReadTerm, ReadCtx, ReadAll, PutTerm, PutCtx, effect, Within, NewIn, NewPlace}
 use Rattle.gw_table.proofs.Lookups.{term-put_term, ctx-put_term, term-put_ctx, ctx-put_ctx}
 
 pub record Grows (keys : PartKeys) (m n : Maps) : Type 0 where
@@ -27,13 +27,9 @@ grows_on keys l m n g h = record {
   members = λ c t e. either (h.members c t e) (λ x. g.members c t x) (λ x. inr x);
 }
 
-place_in_is : (keys : List Key) (o : Option CtxNum) (c : CtxNum) → HoldsPlace (Only keys) o → o ≡ Some c → has keys (Ctx c) ≡ true
-place_in_is keys None c h e = absurd cc
-place_in_is keys (Some p) c h e = let s : p ≡ c = cc in subst (λ (y : CtxNum). has keys (Ctx y) ≡ true) s h
-
-written_place : (keys : List Key) (b : Bool) (o old : Option Termination) (c : CtxNum) → HoldsPlace (Only keys) (place_of o) → place_of (cond b o old) ≡ Some c → (place_of old ≡ Some c) ⊎ (has keys (Ctx c) ≡ true)
-written_place keys true o old c h e = inr (place_in_is keys (place_of o) c h e)
-written_place keys false o old c h e = inl e
+written_place : (keys : List Key) (q t : List ℕ) (b : Bool) (o : Option Termination) (f : List ℕ → Option Termination) (c : CtxNum) → (b ≡ true → q ≡ t) → NewPlace keys (place_of (f t)) (place_of o) → place_of (cond b o (f q)) ≡ Some c → (place_of (f q) ≡ Some c) ⊎ (has keys (Ctx c) ≡ true)
+written_place keys q t true o f c is h e = either (h c e) (λ x. inl (ap (λ y. place_of (f y)) (is refl) ∙ x)) (λ x. inr x)
+written_place keys q t false o f c is h e = inl e
 
 written_members : (keys : List Key) (q n : CtxNum) (b : Bool) (o : Option ContextRecord) (f : CtxNum → Option ContextRecord) → (b ≡ true → q ≡ n) → NewIn keys (members_of (f n)) (members_of o) → NewIn keys (members_of (f q)) (members_of (cond b o (f q)))
 written_members keys q n true o f is h = subst (λ (y : CtxNum). NewIn keys (members_of (f y)) (members_of o)) (sym (is refl)) h
@@ -49,7 +45,7 @@ effect_grows keys (ReadCtx c f) m w = effect_grows keys (f (ctx m c)) m w.1
 effect_grows keys (ReadAll f) m w = effect_grows keys (f m) m w.1
 effect_grows keys (PutTerm t o p) m w = grows_on (Only keys) m (put_term m t o) (effect p (put_term m t o)).maps
     (record {
-      places = λ q c e. written_place keys (bytes_eq q t) o (term m q) c w.1 (ap (λ x. place_of x) (sym (term-put_term m t o q)) ∙ e);
+      places = λ q c e. written_place keys q t (bytes_eq q t) o (term m) c (same_name q t) w.1 (ap (λ x. place_of x) (sym (term-put_term m t o q)) ∙ e);
       members = λ c. same_new keys (members_of (ctx m c)) (members_of (ctx (put_term m t o) c)) (ap (λ x. members_of x) (ctx-put_term m t o c));
     })
     (effect_grows keys p (put_term m t o) w.2)

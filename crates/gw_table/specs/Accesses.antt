@@ -9,7 +9,6 @@ use Rattle.gw_base.specs.NameLists.{is_in}
 use Rattle.gw_term.specs.declared.record.Termination.{Termination}
 use Rattle.gw_ctx.specs.Contexts.{ContextRecord}
 use Rattle.gw_table.specs.Maps.{Maps, Outcome, term, ctx, put_term, put_ctx, members_of, place_of}
-use Rattle.gw_table.specs.Parts.{Only, HoldsPlace}
 
 pub data Accesses (A : Type 0) : Type 0 where
   Done : A → Accesses A
@@ -41,6 +40,10 @@ and_then (PutCtx n o p) g = PutCtx n o (and_then p g)
 abbrev pub NewIn : List Key → List (List ℕ) → List (List ℕ) → Type 0
 NewIn keys old new = (t : List ℕ) → is_in t new ≡ true → (is_in t old ≡ true) ⊎ (has keys (Term t) ≡ true)
 
+-- a place that is not the one before is one of the keys
+abbrev pub NewPlace : List Key → Option CtxNum → Option CtxNum → Type 0
+NewPlace keys old new = (c : CtxNum) → new ≡ Some c → (old ≡ Some c) ⊎ (has keys (Ctx c) ≡ true)
+
 -- On these maps they read and write at these keys alone, and what they write names no place and no member beyond the keys and
 -- who was there.
 abbrev pub Within : {A : Type 0} → List Key → Accesses A → Maps → Type 0
@@ -48,5 +51,5 @@ Within keys (Done a) m = Unit {0}
 Within keys (ReadTerm t f) m = (has keys (Term t) ≡ true) × Within keys (f (term m t)) m
 Within keys (ReadCtx n f) m = (has keys (Ctx n) ≡ true) × Within keys (f (ctx m n)) m
 Within keys (ReadAll f) m = (has keys Whole ≡ true) × Within keys (f m) m
-Within keys (PutTerm t o p) m = (has keys (Term t) ≡ true) × HoldsPlace (Only keys) (place_of o) × Within keys p (put_term m t o)
+Within keys (PutTerm t o p) m = (has keys (Term t) ≡ true) × NewPlace keys (place_of (term m t)) (place_of o) × Within keys p (put_term m t o)
 Within keys (PutCtx n o p) m = (has keys (Ctx n) ≡ true) × NewIn keys (members_of (ctx m n)) (members_of o) × Within keys p (put_ctx m n o)

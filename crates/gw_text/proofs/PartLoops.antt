@@ -4,16 +4,16 @@ use Rattle.gw_text.specs.SpaceScan.{skip}
 use Rattle.gw_text.specs.Scans.{lwsp_at}
 use Rattle.gw_text.specs.Reader.{Reader, list_at, items_at}
 use Rattle.gw_text.proofs.Loops.{with_front, list_fails, items_fail, items_end, items_go_on}
-use Rattle.gw_text.specs.declared.fault.PartFault.{PartFault}
-use Rattle.gw_text.specs.declared.fault.PartFault.TheVariants.{Syntax, NoMemory}
+use Rattle.gw_text.specs.declared.fault.ParseFault.{ParseFault}
+use Rattle.gw_text.specs.declared.fault.ParseFault.TheVariants.{Syntax, NoMemory}
 use Rattle.gw_text.specs.Parts.{Gives, ShrinksMore}
 
-pub loop_fails : {V : Type 0} (r : Reader V) (fault : PartFault) (front : List V) (text after end : List ℕ) (total : Option (List V × List ℕ)) → Gives {V = V} (Err fault) after (r text) → with_front front (list_at r text) ≡ total → Gives {V = List V} (Err fault) end total
+pub loop_fails : {V : Type 0} (r : Reader V) (fault : ParseFault) (front : List V) (text after end : List ℕ) (total : Option (List V × List ℕ)) → Gives {V = V} (Err fault) after (r text) → with_front front (list_at r text) ≡ total → Gives {V = List V} (Err fault) end total
 loop_fails r Syntax front text after end total h so_far = list_fails r front text total h so_far
 loop_fails r NoMemory front text after end total h so_far = tt
 
 -- the same over items to the end of the text
-pub items_loop_fails : {V : Type 0} (r : Reader V) (fault : PartFault) (front : List V) (text after end : List ℕ) (total : Option (List V × List ℕ)) → Gives {V = V} (Err fault) after (r text) → with_front front (items_at r text) ≡ total → Gives {V = List V} (Err fault) end total
+pub items_loop_fails : {V : Type 0} (r : Reader V) (fault : ParseFault) (front : List V) (text after end : List ℕ) (total : Option (List V × List ℕ)) → Gives {V = V} (Err fault) after (r text) → with_front front (items_at r text) ≡ total → Gives {V = List V} (Err fault) end total
 items_loop_fails r Syntax front text after end total h so_far = items_fail r front text total h so_far
 items_loop_fails r NoMemory front text after end total h so_far = tt
 

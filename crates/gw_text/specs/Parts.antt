@@ -2,17 +2,17 @@
 use Rattle.std.specs.Prelude.{◌≡◌, ◌≤◌, ◌<◌, ◌++◌, length, ℕ, List, Option, Some, None, Result, Ok, Err}
 use Rattle.gw_text.specs.SpaceScan.{skip}
 use Rattle.gw_text.specs.Reader.{Reader}
-use Rattle.gw_text.specs.declared.fault.PartFault.{PartFault}
-use Rattle.gw_text.specs.declared.fault.PartFault.TheVariants.{Syntax, NoMemory}
+use Rattle.gw_text.specs.declared.fault.ParseFault.{ParseFault}
+use Rattle.gw_text.specs.declared.fault.ParseFault.TheVariants.{Syntax, NoMemory}
 
 -- What a function returned, and where it left its cursor, is what reading gives, unless memory ran out.
-abbrev pub Gives : {V : Type 0} → Result V PartFault → List ℕ → Option (V × List ℕ) → Type 0
+abbrev pub Gives : {V : Type 0} → Result V ParseFault → List ℕ → Option (V × List ℕ) → Type 0
 Gives (Ok x) new at = at ≡ Some (x, new)
 Gives (Err Syntax) new at = at ≡ None
 Gives (Err NoMemory) new at = Unit {0}
 
 -- The same of a function that takes no memory.
-abbrev pub Finds : {V : Type 0} → Result V PartFault → List ℕ → Option (V × List ℕ) → Type 0
+abbrev pub Finds : {V : Type 0} → Result V ParseFault → List ℕ → Option (V × List ℕ) → Type 0
 Finds (Ok x) new at = at ≡ Some (x, new)
 Finds (Err Syntax) new at = at ≡ None
 Finds (Err NoMemory) new at = ⊥

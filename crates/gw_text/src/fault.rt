@@ -1,7 +1,7 @@
 //! Why a scan takes nothing, and why a part of a message is not read.
 
 ghost use Rattle.std.specs.Prelude.{◌≡◌};
-ghost use Rattle.gw_text.specs.declared.fault.PartFault.TheVariants.{NoMemory, Syntax};
+ghost use Rattle.gw_text.specs.declared.fault.ParseFault.TheVariants.{NoMemory, Syntax};
 
 use gw_base::NameFault;
 use std::alloc::AllocError;
@@ -24,7 +24,7 @@ pub enum ScanFault {
 
 /// Why a part of a message is not read.
 #[derive(Clone, Copy, Debug, PartialEq, Eq, Error)]
-pub enum PartFault {
+pub enum ParseFault {
     /// No such part stands there.
     #[error("syntax error in a part of a message")]
     Syntax,
@@ -33,26 +33,26 @@ pub enum PartFault {
     NoMemory,
 }
 
-impl From<AllocError> for PartFault {
+impl From<AllocError> for ParseFault {
     ghost from_gives = { λ _ e. e ≡ NoMemory };
 
-    fn from(_e: AllocError) -> PartFault {
-        PartFault::NoMemory
+    fn from(_e: AllocError) -> ParseFault {
+        ParseFault::NoMemory
     }
 }
 
-impl From<ScanFault> for PartFault {
+impl From<ScanFault> for ParseFault {
     ghost from_gives = { λ _ e. e ≡ Syntax };
 
-    fn from(_e: ScanFault) -> PartFault {
-        PartFault::Syntax
+    fn from(_e: ScanFault) -> ParseFault {
+        ParseFault::Syntax
     }
 }
 
-impl From<NameFault> for PartFault {
+impl From<NameFault> for ParseFault {
     ghost from_gives = { λ _ e. e ≡ Syntax };
 
-    fn from(_e: NameFault) -> PartFault {
-        PartFault::Syntax
+    fn from(_e: NameFault) -> ParseFault {
+        ParseFault::Syntax
     }
 }

@@ -15,6 +15,6 @@ mod space;
 mod token;
 
 pub use cursor::{Cursor, Uint32};
-pub use fault::{PartFault, ScanFault};
+pub use fault::{ParseFault, ScanFault};
 pub use laws::{spans_are_one, tokens_read_back};
 pub use token::{Token, token_of};

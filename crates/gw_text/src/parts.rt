@@ -7,13 +7,13 @@ ghost use Rattle.gw_text.specs.Tokens.{token_of};
 ghost use Rattle.gw_text.specs.Parts.{Gives, Finds, Shrinks, ShrinksMore};
 
 use crate::cursor::Cursor;
-use crate::fault::PartFault;
+use crate::fault::ParseFault;
 use crate::token::{Token, token_of};
 use gw_base::{Items, Span};
 use std::alloc::Global;
 
 /// A part of a message.
-pub trait Part<'a>: Drop {
+pub trait Parse<'a>: Drop {
     // what reading gives at the front of a text
     ghost read_at: { List ℕ → Option (Self × List ℕ) };
 
@@ -22,7 +22,7 @@ pub trait Part<'a>: Drop {
     /// # Errors
     ///
     /// `Syntax` where there is none; `NoMemory` where a growth was refused.
-    fn read(alloc: Global, cursor: &mut Cursor<'a>) -> Result<Self, PartFault>
+    fn read(alloc: Global, cursor: &mut Cursor<'a>) -> Result<Self, ParseFault>
         ensures { Gives result cursor.new (read_at cursor.old) };
 }
 
@@ -31,13 +31,13 @@ pub trait Part<'a>: Drop {
 /// # Errors
 ///
 /// `Syntax` where it does not come next.
-pub fn sign(cursor: &mut Cursor<'_>, b: u8) -> Result<(), PartFault>
-    ensures { MatchResult result (λ _. sign_at b cursor.old ≡ Some cursor.new) (λ e. (e ≡ PartFault.Syntax) × (sign_at b cursor.old ≡ None)) }
+pub fn sign(cursor: &mut Cursor<'_>, b: u8) -> Result<(), ParseFault>
+    ensures { MatchResult result (λ _. sign_at b cursor.old ≡ Some cursor.new) (λ e. (e ≡ ParseFault.Syntax) × (sign_at b cursor.old ≡ None)) }
 {
     if cursor.sign(b) {
         Ok(())
     } else {
-        Err(PartFault::Syntax)
+        Err(ParseFault::Syntax)
     }
 }
 
@@ -46,12 +46,12 @@ pub fn sign(cursor: &mut Cursor<'_>, b: u8) -> Result<(), PartFault>
 /// # Errors
 ///
 /// `Syntax` where no word comes next, or one that is no token.
-pub fn token(cursor: &mut Cursor<'_>) -> Result<Token, PartFault>
+pub fn token(cursor: &mut Cursor<'_>) -> Result<Token, ParseFault>
     ensures { Finds result cursor.new (word_as token_of cursor.old) }
 {
     match token_of(cursor.word()?) {
         Some(token) => Ok(token),
-        None => Err(PartFault::Syntax),
+        None => Err(ParseFault::Syntax),
     }
 }
 
@@ -60,17 +60,17 @@ pub fn token(cursor: &mut Cursor<'_>) -> Result<Token, PartFault>
 /// # Errors
 ///
 /// `Syntax` where no word comes next.
-pub fn word<'a>(cursor: &mut Cursor<'a>) -> Result<Span<'a>, PartFault>
+pub fn word<'a>(cursor: &mut Cursor<'a>) -> Result<Span<'a>, ParseFault>
     ensures { Finds result cursor.new (word_read cursor.old) }
 {
     Ok(Span::new(cursor.word()?))
 }
 
 // A word, as sent.
-impl<'a> Part<'a> for Span<'a> {
+impl<'a> Parse<'a> for Span<'a> {
     ghost read_at = { word_read };
 
-    fn read(_alloc: Global, cursor: &mut Cursor<'a>) -> Result<Span<'a>, PartFault> {
+    fn read(_alloc: Global, cursor: &mut Cursor<'a>) -> Result<Span<'a>, ParseFault> {
         word(cursor)
     }
 }
@@ -80,7 +80,7 @@ impl<'a> Part<'a> for Span<'a> {
 /// # Errors
 ///
 /// `Syntax` where there are none; `NoMemory` where a growth was refused.
-pub fn list<'a, T: Part<'a>>(alloc: Global, cursor: &mut Cursor<'a>) -> Result<Items<T>, PartFault>
+pub fn list<'a, T: Parse<'a>>(alloc: Global, cursor: &mut Cursor<'a>) -> Result<Items<T>, ParseFault>
     requires { Shrinks T.read_at }
     ensures { Gives result cursor.new (list_at T.read_at cursor.old) }
 {
@@ -99,7 +99,7 @@ pub fn list<'a, T: Part<'a>>(alloc: Global, cursor: &mut Cursor<'a>) -> Result<I
 /// # Errors
 ///
 /// `Syntax` where there are none; `NoMemory` where a growth was refused.
-fn closed<'a, T: Part<'a>>(alloc: Global, cursor: &mut Cursor<'a>) -> Result<Items<T>, PartFault>
+fn closed<'a, T: Parse<'a>>(alloc: Global, cursor: &mut Cursor<'a>) -> Result<Items<T>, ParseFault>
     requires { Shrinks T.read_at }
     ensures { Gives result cursor.new (closed_list_at T.read_at cursor.old) }
 {
@@ -113,10 +113,10 @@ fn closed<'a, T: Part<'a>>(alloc: Global, cursor: &mut Cursor<'a>) -> Result<Ite
 /// # Errors
 ///
 /// `Syntax` where there are none; `NoMemory` where a growth was refused.
-pub fn braced<'a, T: Part<'a>>(
+pub fn braced<'a, T: Parse<'a>>(
     alloc: Global,
     cursor: &mut Cursor<'a>,
-) -> Result<Items<T>, PartFault>
+) -> Result<Items<T>, ParseFault>
     requires { Shrinks T.read_at }
     ensures { Gives result cursor.new (braced_at T.read_at cursor.old) }
 {
@@ -130,10 +130,10 @@ pub fn braced<'a, T: Part<'a>>(
 ///
 /// `Syntax` where a brace comes next and no such list stands there; `NoMemory` where a growth was refused.
 #[tactic(auto, unfolding(crate::specs::Reader::optional_at))]
-pub fn optional_braced<'a, T: Part<'a>>(
+pub fn optional_braced<'a, T: Parse<'a>>(
     alloc: Global,
     cursor: &mut Cursor<'a>,
-) -> Result<Items<T>, PartFault>
+) -> Result<Items<T>, ParseFault>
     requires { Shrinks T.read_at }
     ensures { Gives result cursor.new (optional_at T.read_at cursor.old) }
 {
@@ -149,10 +149,10 @@ pub fn optional_braced<'a, T: Part<'a>>(
 ///
 /// `Syntax` where there is no such list; `NoMemory` where a growth was refused.
 #[tactic(auto, unfolding(crate::specs::Reader::braced_or_empty_at))]
-pub fn braced_or_empty<'a, T: Part<'a>>(
+pub fn braced_or_empty<'a, T: Parse<'a>>(
     alloc: Global,
     cursor: &mut Cursor<'a>,
-) -> Result<Items<T>, PartFault>
+) -> Result<Items<T>, ParseFault>
     requires { Shrinks T.read_at }
     ensures { Gives result cursor.new (braced_or_empty_at T.read_at cursor.old) }
 {
@@ -169,7 +169,7 @@ pub fn braced_or_empty<'a, T: Part<'a>>(
 /// # Errors
 ///
 /// `Syntax` where anything else stands there; `NoMemory` where a growth was refused.
-pub fn items<'a, T: Part<'a>>(alloc: Global, cursor: &mut Cursor<'a>) -> Result<Items<T>, PartFault>
+pub fn items<'a, T: Parse<'a>>(alloc: Global, cursor: &mut Cursor<'a>) -> Result<Items<T>, ParseFault>
     requires { ShrinksMore T.read_at }
     ensures { Gives result cursor.new (items_at T.read_at cursor.old) }
 {

@@ -4,7 +4,7 @@ use Rattle.std.specs.Prelude.{◌≢◌, if◌then◌else◌, All}
 use Rattle.std.proofs.lemmas.List.{length-append, get_or_append_left, get_or_default}
 use Rattle.gw_base.specs.Choose.{is_choose}
 use Rattle.gw_base.specs.declared.ids.CtxNum.{CtxNum}
-use Rattle.gw_base.specs.declared.ids.Ids.{Ids}
+use Rattle.gw_reserve.specs.Ids.{Ids}
 use Rattle.gw_base.specs.declared.command_words.CtxRef.{CtxRef}
 use Rattle.gw_base.specs.declared.command_words.CtxRef.TheVariants as ref
 use Rattle.gw_base.specs.declared.command_words.Rules.{Rules}

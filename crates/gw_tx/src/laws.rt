@@ -7,7 +7,7 @@ ghost use Rattle.gw_base.specs.Mids.{IsMid};
 ghost use Rattle.gw_base.specs.declared.command_words.Rules.{Rules};
 ghost use Rattle.gw_base.specs.Keys.{has};
 ghost use Rattle.gw_base.specs.declared.ids.CtxNum.{CtxNum};
-ghost use Rattle.gw_base.specs.declared.ids.Ids.{Ids};
+ghost use Rattle.gw_reserve.specs.Ids.{Ids};
 ghost use Rattle.gw_base.specs.declared.key.Key.{Key};
 ghost use Rattle.gw_base.specs.declared.key.Key.TheVariants.{Whole};
 ghost use Rattle.gw_msg.specs.Grammar.{SpellsRequest};

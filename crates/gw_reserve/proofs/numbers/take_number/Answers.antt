@@ -5,7 +5,7 @@ use Rattle.gw_table.specs.Maps.{number, ctx}
 use Rattle.gw_reserve.specs.declared.order.Search.{Search}
 use Rattle.gw_reserve.specs.Searches.{numbers_in_order, numbers_from}
 use Rattle.gw_reserve.proofs.Orders.{length-numbers_in_order}
-use Rattle.gw_reserve.proofs.Places.{found, passed, none_left, seen_none}
+use Rattle.gw_reserve.proofs.Choices.{found, passed, none_left, seen_none}
 use Rattle.gw_reserve.proofs.numbers.take_number.Goals as goal
 
 pub returns-then-is_none : goal.returns-then-is_none

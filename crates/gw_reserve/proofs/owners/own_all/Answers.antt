@@ -5,7 +5,7 @@ use Rattle.gw_msg.specs.declared.message.Command.{Command}
 use Rattle.gw_table.proofs.Folding.{rest_of}
 use Rattle.gw_reserve.specs.Owned.{is_adding}
 use Rattle.gw_reserve.specs.Owners.{all_commands, last_number, behind_last}
-use Rattle.gw_reserve.proofs.Places.{numbers_move, slots_move}
+use Rattle.gw_reserve.proofs.Choices.{numbers_move, slots_move}
 use Rattle.gw_reserve.proofs.Taken.{take_one, take_some}
 use Rattle.gw_reserve.proofs.owners.own_all.Goals as goal
 

@@ -3,7 +3,7 @@ use Rattle.gw_msg.specs.declared.message.Command.{Command}
 use Rattle.gw_table.proofs.Folding.{rest_of}
 use Rattle.gw_reserve.specs.Owned.{is_adding}
 use Rattle.gw_reserve.specs.Owners.{behind_last}
-use Rattle.gw_reserve.proofs.Places.{slots_move}
+use Rattle.gw_reserve.proofs.Choices.{slots_move}
 use Rattle.gw_reserve.proofs.Taken.{take_one}
 use Rattle.gw_reserve.proofs.slots.own_slots.Goals as goal
 

@@ -5,7 +5,7 @@ use Rattle.gw_table.specs.Reserved.{slot_name}
 use Rattle.gw_reserve.specs.declared.order.Search.{Search}
 use Rattle.gw_reserve.specs.Searches.{whole_order, slots_from}
 use Rattle.gw_reserve.proofs.Orders.{length-whole_order}
-use Rattle.gw_reserve.proofs.Places.{found, passed, none_left, seen_none}
+use Rattle.gw_reserve.proofs.Choices.{found, passed, none_left, seen_none}
 use Rattle.gw_reserve.proofs.slots.take_slot.Goals as goal
 
 pub returns-then-is_none : goal.returns-then-is_none

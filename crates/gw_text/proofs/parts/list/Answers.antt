@@ -7,14 +7,14 @@ use Rattle.gw_text.proofs.parts.list.Goals as goal
 pub returns-in_err-part : goal.returns-in_err-part
 returns-in_err-part g c =
     let p = err_from_is_err_and c.from_residual.result c.from_residual.ensures.1 in
-    rw (p.1, p.2) (loop_fails g.T.Part.read_at c.in_err-part.field-0.0 c.loop-parts.parts c.loop-parts.cursor c.read.new.cursor c.read.new.cursor (list_at g.T.Part.read_at c.args.cursor.now) c.in_err-part.ensures c.loop-parts.invariant)
+    rw (p.1, p.2) (loop_fails g.T.Parse.read_at c.in_err-part.field-0.0 c.loop-parts.parts c.loop-parts.cursor c.read.new.cursor c.read.new.cursor (list_at g.T.Parse.read_at c.args.cursor.now) c.in_err-part.ensures c.loop-parts.invariant)
 
 pub returns-then-not-sign : goal.returns-then-not-sign
 returns-then-not-sign g c =
     rw (c.in_ok-push.ensures.ok, c.if-not-sign.ensures.exact.1)
-    (list_ends g.T.Part.read_at c.loop-parts.parts c.loop-parts.cursor c.in_ok-part.part c.read.new.cursor (list_at g.T.Part.read_at c.args.cursor.now) c.in_ok-part.ensures c.if-not-sign.ensures.exact.0 c.loop-parts.invariant)
+    (list_ends g.T.Parse.read_at c.loop-parts.parts c.loop-parts.cursor c.in_ok-part.part c.read.new.cursor (list_at g.T.Parse.read_at c.args.cursor.now) c.in_ok-part.ensures c.if-not-sign.ensures.exact.0 c.loop-parts.invariant)
 
 pub loop-parts-preserved : goal.loop-parts-preserved
 loop-parts-preserved g c =
     rw c.in_ok-push.ensures.ok
-    (list_goes_on g.T.Part.read_at c.requires c.loop-parts.parts c.loop-parts.cursor c.in_ok-part.part c.read.new.cursor c.sign.new.self (list_at g.T.Part.read_at c.args.cursor.now) c.in_ok-part.ensures c.if-not-sign.ensures.exact c.loop-parts.invariant)
+    (list_goes_on g.T.Parse.read_at c.requires c.loop-parts.parts c.loop-parts.cursor c.in_ok-part.part c.read.new.cursor c.sign.new.self (list_at g.T.Parse.read_at c.args.cursor.now) c.in_ok-part.ensures c.if-not-sign.ensures.exact c.loop-parts.invariant)

@@ -3,7 +3,7 @@ use Rattle.std.proofs.Common.{arith}
 use Rattle.gw_desc.proofs.MediaLaws.{media_part_shrinks}
 use Rattle.gw_desc.proofs.ServiceLaws.{service_parm_shrinks}
 use Rattle.gw_desc.proofs.Texts.{word_shrinks}
-use Rattle.gw_desc.proofs.descriptors.DescriptorPart.read.Goals as goal
+use Rattle.gw_desc.proofs.descriptors.DescriptorParse.read.Goals as goal
 
 pub braced-requires : goal.braced-requires
 braced-requires c κs = grind (arith, media_part_shrinks)

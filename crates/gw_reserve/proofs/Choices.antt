@@ -1,4 +1,4 @@
--- Places and what they own.
+-- Choices and what they own.
 use Rattle.std.proofs.Common.{◌≡◌, ℕ, zero, suc, ◌+◌, ◌<◌, ◌≤◌, Bool, true, false, cond, List, [], ◌∷◌, ◌++◌, map, length, get_or, take, drop, slice_get, Option, None, Some, refl, sym, ap, ◌∙◌, arith, add-one, append_assoc, append-nil, option_copied, is_some, not, Bor}
 use Rattle.std.specs.Prelude.{option_to_list, filter, is_none}
 use Rattle.std.specs.List.{range_with_len}
@@ -8,7 +8,7 @@ use Rattle.std.proofs.lemmas.List.{drop-drop}
 use Rattle.std.proofs.lemmas.List.Elements.{filter_map-append}
 use Rattle.gw_base.specs.declared.ids.CtxNum.{CtxNum}
 use Rattle.gw_table.specs.Unused.{owned}
-use Rattle.gw_reserve.specs.Owners.{places, last_number, behind_last}
+use Rattle.gw_reserve.specs.Owners.{choices, last_number, behind_last}
 
 module _ {X : Type 0} where
   behind_first : (F : List X) (a : ℕ) → slice_get F (a + 1) ≡ slice_get (drop 1 F) a
@@ -19,9 +19,9 @@ module _ {X : Type 0} where
   shifted F a zero = refl
   shifted F a (suc k) = ap (λ o. o ∷ map (slice_get F) (range_with_len (a + 1 + 1) k)) (behind_first F a) ∙ ap (λ l. slice_get (drop 1 F) a ∷ l) (shifted F (a + 1) k)
 
-  -- the first place has the first
-  pub places_suc : (k : ℕ) (F : List X) → places (suc k) F ≡ slice_get F 0 ∷ places k (drop 1 F)
-  places_suc k F = ap (λ l. slice_get F 0 ∷ l) (shifted F 0 k)
+  -- the first choice has the first
+  pub choices_suc : (k : ℕ) (F : List X) → choices (suc k) F ≡ slice_get F 0 ∷ choices k (drop 1 F)
+  choices_suc k F = ap (λ l. slice_get F 0 ∷ l) (shifted F 0 k)
 
   abbrev pub nothing : List X
   nothing = []
@@ -31,10 +31,10 @@ module _ {X : Type 0} where
   take_none (suc k) = refl
 
   -- they own the first ones
-  pub owned_places : (k : ℕ) (F : List X) → owned (places k F) ≡ take k F
-  owned_places zero F = refl
-  owned_places (suc k) [] = ap (λ (l : List (Option X)). owned l) (places_suc k []) ∙ owned_places k [] ∙ take_none k
-  owned_places (suc k) (x ∷ xs) = ap (λ (l : List (Option X)). owned l) (places_suc k (x ∷ xs)) ∙ ap (λ l. x ∷ l) (owned_places k xs)
+  pub owned_choices : (k : ℕ) (F : List X) → owned (choices k F) ≡ take k F
+  owned_choices zero F = refl
+  owned_choices (suc k) [] = ap (λ (l : List (Option X)). owned l) (choices_suc k []) ∙ owned_choices k [] ∙ take_none k
+  owned_choices (suc k) (x ∷ xs) = ap (λ (l : List (Option X)). owned l) (choices_suc k (x ∷ xs)) ∙ ap (λ l. x ∷ l) (owned_choices k xs)
 
   -- ---- how many there are
 
