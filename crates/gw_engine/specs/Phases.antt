@@ -1,13 +1,14 @@
 -- A burst in phases (own), each over the whole burst before the next begins: what is asked; the classes, from the keys alone; who
 -- owns which identifiers; the transactions; their texts, kept and answered.
-use Rattle.std.specs.Prelude.{◌+◌, ℕ, List, [], ◌∷◌, ◌++◌, map, length, flat_map, Option, None, Some, Result, Ok, Err}
-use Rattle.std.specs.List.{zip}
+use Rattle.std.specs.Prelude.{◌≡◌, ◌+◌, ℕ, List, [], ◌∷◌, ◌++◌, map, length, flat_map, Option, None, Some, Result, Ok, Err}
+use Rattle.std.specs.List.{zip, AllZip}
 use Rattle.gw_base.specs.declared.code.Code.{Code}
 use Rattle.gw_base.specs.declared.code.Code.TheVariants.{InsufficientResources}
+use Rattle.gw_base.specs.declared.command_words.Rules.{Rules}
 use Rattle.gw_base.specs.declared.ids.Ids.{Ids}
 use Rattle.gw_base.specs.declared.ids.TxId.{TxId}
 use Rattle.gw_kept.specs.Classes.{classes_of}
-use Rattle.gw_kept.specs.Pairs.{KeptList, kept_after}
+use Rattle.gw_kept.specs.Pairs.{KeptList, kept_after, AreNew}
 use Rattle.gw_kept.specs.Repeats.{bytes_of}
 use Rattle.gw_kept.specs.declared.class.Class.{Class}
 use Rattle.gw_kept.specs.declared.class.Class.TheVariants.{New, Repeat, Over, Nothing}
@@ -32,9 +33,10 @@ use Rattle.gw_engine.specs.declared.classify.Work.TheVariants as work
 use Rattle.gw_engine.specs.declared.datagram.Datagram.{Datagram}
 use Rattle.gw_engine.specs.declared.heard.Heard.{Heard}
 use Rattle.gw_engine.specs.declared.reserve.Job.{Job}
-use Rattle.gw_engine.specs.Bursts.{cursors_of, entry_for, key_of_request}
+use Rattle.gw_engine.specs.Bursts.{cursors_of, entry_for, key_of_request, burst_outcome}
 use Rattle.gw_engine.specs.Carried.{carried}
-use Rattle.gw_engine.specs.State.{State, GatewayValue}
+use Rattle.gw_engine.specs.Readable.{IsAnswerTo, questions}
+use Rattle.gw_engine.specs.State.{State, GatewayValue, IsWellFormed}
 
 -- ---- what is asked
 
@@ -151,30 +153,46 @@ answers_of mid k entries tasks = flat_map (λ t. answer_for t.peer (text_of mid 
 abbrev pub adopted : State → Maps → Cursors → List Entry → State
 adopted s m cursors entries = record { maps = m; context_cursor = cursors.context; slot_cursor = cursors.slot; kept = kept_after s.kept entries }
 
+-- the new requests of a burst
+abbrev pub new_of : GatewayValue → List Heard → List Sent
+new_of g heard = new_in (told g.state.kept (asks_of heard))
+
+-- each with what it owns
+abbrev pub jobs_in : GatewayValue → List Heard → List Job
+jobs_in g heard = jobs_of (new_of g heard) (ids_in g (new_of g heard))
+
+-- where the next burst's search for identifiers begins
+abbrev pub cursors_behind : GatewayValue → List Heard → Cursors
+cursors_behind g heard = new_cursors (cursors_of g.state) (ids_in g (new_of g heard))
+
+-- the transactions of jobs, one after another
+abbrev pub done_by : Rules → List Job → Maps → Outcome (List TxReply)
+done_by rules jobs m = carried rules (map request_with_ids jobs) m
+
+-- what is kept of jobs that are carried out on the tables of the gateway
+abbrev pub kept_of : GatewayValue → List Job → List Entry
+kept_of g jobs = entries_of g.settings.mid jobs (done_by g.settings.rules jobs g.state.maps).answer
+
 -- what comes of the phases
 pub record Phased : Type 0 where
   pub answers : List Datagram
   pub entries : List Entry
   pub state : State
 
--- of jobs and tasks: the transactions, one after another on the tables at the burst's start
-abbrev pub phased_jobs : GatewayValue → List Ids → List Job → List Task → Outcome (List TxReply) → Phased
-phased_jobs g ids jobs tasks done =
-    let entries = entries_of g.settings.mid jobs done.answer in
+unfoldable pub phased : GatewayValue → List Heard → Phased
+phased g heard =
+    let jobs = jobs_in g heard in
+    let entries = kept_of g jobs in
     record {
-      answers = answers_of g.settings.mid g.state.kept entries tasks;
+      answers = answers_of g.settings.mid g.state.kept entries (tasks_in 0 (told g.state.kept (asks_of heard)));
       entries = entries;
-      state = adopted g.state done.maps (new_cursors (cursors_of g.state) ids) entries;
+      state = adopted g.state (done_by g.settings.rules jobs g.state.maps).maps (cursors_behind g heard) entries;
     }
 
--- of what is asked, each with its class
-abbrev pub phased_asks : GatewayValue → List (Ask × Class) → Phased
-phased_asks g asked =
-    let new = new_in asked in
-    let ids = ids_in g new in
-    let jobs = jobs_of new ids in
-    phased_jobs g ids jobs (tasks_in 0 asked) (carried g.settings.rules (map request_with_ids jobs) g.state.maps)
-
--- of a burst
-unfoldable pub phased : GatewayValue → List Heard → Phased
-phased g heard = phased_asks g (told g.state.kept (asks_of heard))
+-- What came of a burst is what comes of its items one after another: it can be read, and may be adopted.
+pub record IsOutcome (g : GatewayValue) (heard : List Heard) (answers : List Datagram) (m : Maps) (cursors : Cursors) (entries : List Entry) : Type 0 where
+  pub answers_are : answers ≡ (burst_outcome g heard).answers
+  pub readable : AllZip (IsAnswerTo g.settings.mid) (questions heard) answers
+  pub state : adopted g.state m cursors entries ≡ (burst_outcome g heard).after.state
+  pub new : AreNew g.state.kept entries
+  pub fits : IsWellFormed g.settings (adopted g.state m cursors entries)

@@ -1,11 +1,10 @@
 //! Carrying out the new requests of a burst.
 
-ghost use Rattle.std.specs.Prelude.{◌≡◌, [], map, OnOk, IfOk};
+ghost use Rattle.std.specs.Prelude.{◌≡◌, [], OnOk, IfOk};
 ghost use Rattle.gw_table.specs.Parts.{Every};
 ghost use Rattle.gw_table.specs.Unused.{AreUnused};
 ghost use Rattle.gw_table.specs.WellFormed.{AreWellFormed};
-ghost use Rattle.gw_engine.specs.Carried.{carried};
-ghost use Rattle.gw_engine.specs.Phases.{request_with_ids, slots_of};
+ghost use Rattle.gw_engine.specs.Phases.{done_by, slots_of};
 
 use crate::reserve::Job;
 use gw_base::{Items, NoMemory, Rules};
@@ -29,8 +28,8 @@ pub(crate) fn carry(
     requires every { part.old.keys ≡ Every }
     requires whole { AreWellFormed rules.now.members part.old.maps }
     requires unused { AreUnused part.old.maps [] (slots_of jobs.now) }
-    ensures maps { OnOk result (part.new.maps ≡ (carried rules.now (map request_with_ids jobs.now) part.old.maps).maps) }
-    ensures replies { IfOk result (λ replies. replies ≡ (carried rules.now (map request_with_ids jobs.now) part.old.maps).answer) }
+    ensures maps { OnOk result (part.new.maps ≡ (done_by rules.now jobs.now part.old.maps).maps) }
+    ensures replies { IfOk result (λ replies. replies ≡ (done_by rules.now jobs.now part.old.maps).answer) }
     ensures whole { OnOk result (AreWellFormed rules.now.members part.new.maps) }
 {
     let mut replies = Items::from(Vec::with_capacity(alloc, jobs.len())?);

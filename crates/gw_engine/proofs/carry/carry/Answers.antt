@@ -5,7 +5,8 @@ use Rattle.gw_reply.specs.declared.reply.TxReply.{TxReply}
 use Rattle.gw_table.proofs.Folding.{rest_of}
 use Rattle.gw_tx.specs.Transactions.{transaction}
 use Rattle.gw_engine.specs.declared.reserve.Job.{Job}
-use Rattle.gw_engine.proofs.Carrying.{done_of, next_unused, carries_on, maps_end, replies_end}
+use Rattle.gw_engine.specs.Phases.{done_by}
+use Rattle.gw_engine.proofs.Carrying.{next_unused, carries_on, maps_end, replies_end}
 use Rattle.gw_engine.proofs.carry.carry.Goals as goal
 
 pub transaction-requires-clause-unused : goal.transaction-requires-clause-unused
@@ -22,7 +23,7 @@ loop-job-init c = record {
     whole = c.requires.whole;
     unused = c.requires.unused;
     maps_are = refl;
-    replies_are = ap (λ (l : List TxReply). l ++ (done_of c.args.rules.now c.args.jobs.now c.args.part.now.maps).answer) (c.from-replies.ensures ∙ c.in_ok-with_capacity.ensures.items);
+    replies_are = ap (λ (l : List TxReply). l ++ (done_by c.args.rules.now c.args.jobs.now c.args.part.now.maps).answer) (c.from-replies.ensures ∙ c.in_ok-with_capacity.ensures.items);
   };
 }
 
