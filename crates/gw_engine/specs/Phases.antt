@@ -124,11 +124,11 @@ slots_of jobs = flat_map (λ j. owned j.owned.slots) jobs
 -- ---- what is kept, and what is answered
 
 -- the pair of a request and its reply
-abbrev pub entry_of : List ℕ → Job × TxReply → List Entry
-entry_of mid p = entry_for p.0.sent.mid p.0.sent.request (reply_text mid p.1) ∷ []
+abbrev pub entry_of : List ℕ → Job × TxReply → Entry
+entry_of mid p = entry_for p.0.sent.mid p.0.sent.request (reply_text mid p.1)
 
 abbrev pub entries_of : List ℕ → List Job → List TxReply → List Entry
-entries_of mid jobs replies = flat_map (entry_of mid) (zip jobs replies)
+entries_of mid jobs replies = map (entry_of mid) (zip jobs replies)
 
 -- the reply to a request that comes behind too many new ones
 abbrev pub refusal_of : TxId → TxReply

@@ -11,7 +11,6 @@ ghost use Rattle.gw_engine.specs.Readable.{CanBeRead};
 ghost use Rattle.gw_engine.specs.State.{IsWellFormed};
 
 use crate::adopt::Done;
-use crate::answer::entries_of;
 use crate::asked::asks_of;
 use crate::carry::carry;
 use crate::classify::{Task, classify};
@@ -59,8 +58,7 @@ impl Gateway {
         ensures whole { IfOk result (λ done. AreWellFormed self.now.settings.rules.members done.0) }
     {
         let mut part = self.tables.copy()?.all();
-        let replies = carry(alloc, &self.rules, &mut part, jobs)?;
-        let entries = entries_of(alloc, &self.mid, jobs, replies.as_slice())?;
+        let entries = carry(alloc, &self.mid, &self.rules, &mut part, jobs)?;
         Ok((part.tables(), entries))
     }
 

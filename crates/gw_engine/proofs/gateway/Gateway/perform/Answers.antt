@@ -1,5 +1,4 @@
 use Rattle.std.proofs.Common.{◌≡◌, List, [], ap, sym, subst, ◌∙◌}
-use Rattle.gw_reply.specs.declared.reply.TxReply.{TxReply}
 use Rattle.gw_table.specs.Maps.{Maps}
 use Rattle.gw_table.specs.Parts.{Parted}
 use Rattle.gw_table.specs.Unused.{AreUnused}
@@ -16,11 +15,10 @@ pub returns-clause-tables : goal.returns-clause-tables
 returns-clause-tables c =
     let copied : c.all-part.result.maps ≡ c.self.inside.tables = ap (λ (p : Parted). p.maps) c.all-part.ensures ∙ c.in_ok-copy.ensures in
     subst (λ (g : GatewayValue). c.tables.result ≡ (done_by g.settings.rules c.args.jobs.now g.state.maps).maps) c.self.view_is
-    (c.tables.ensures ∙ c.in_ok-replies.ensures.maps ∙ ap (λ (m : Maps). (done_by c.self.inside.rules c.args.jobs.now m).maps) copied)
+    (c.tables.ensures ∙ c.in_ok-entries.ensures.maps ∙ ap (λ (m : Maps). (done_by c.self.inside.rules c.args.jobs.now m).maps) copied)
 
 pub returns-clause-entries : goal.returns-clause-entries
 returns-clause-entries c =
     let copied : c.all-part.result.maps ≡ c.self.inside.tables = ap (λ (p : Parted). p.maps) c.all-part.ensures ∙ c.in_ok-copy.ensures in
     subst (λ (g : GatewayValue). c.in_ok-entries.entries.items ≡ kept_of g c.args.jobs.now) c.self.view_is
-    (c.in_ok-entries.ensures ∙ ap (λ (l : List TxReply). entries_of c.self.inside.mid c.args.jobs.now l)
-    (c.as_slice.ensures ∙ c.in_ok-replies.ensures.replies ∙ ap (λ (m : Maps). (done_by c.self.inside.rules c.args.jobs.now m).answer) copied))
+    (c.in_ok-entries.ensures.entries ∙ ap (λ (m : Maps). entries_of c.self.inside.mid c.args.jobs.now (done_by c.self.inside.rules c.args.jobs.now m).answer) copied)
