@@ -80,7 +80,7 @@ def inclusive(out, word):
 
 
 # Functions that stay whole in the built program. The rest of `run` is reading, telling repeats, keeping replies and the copy.
-PARTS = {"carrying commands out": "gw_tx::commands::commands", "writing replies": "gw_engine::burst::text_of",
+PARTS = {"carrying commands out": "gw_tx::commands::commands", "writing replies": "gw_engine::answer::text_of",
          "all of `run`": "gw_engine::gateway::Gateway::run"}
 
 

@@ -1,11 +1,11 @@
 -- Each request of a burst is answered with a message with its reply, and each text that is no message with its error.
-use Rattle.std.proofs.Common.{◌≡◌, ℕ, ◌<◌, ◌≤◌, nat_lt, Bool, true, false, cond, List, [], ◌∷◌, ◌++◌, Option, None, Some, Result, Ok, Err, refl, sym, subst}
+use Rattle.std.proofs.Common.{◌≡◌, ℕ, ◌<◌, ◌≤◌, nat_lt, Bool, true, false, cond, List, [], ◌∷◌, ◌++◌, Option, None, Some, Result, Ok, Err, refl, sym, subst, arith}
 use Rattle.std.specs.List.{All, AllZip, flat_map}
-use Rattle.std.proofs.lemmas.List.Elements.{All-head, All-tail, All-take, All-drop}
+use Rattle.std.proofs.lemmas.List.Elements.{All-nil, All-cons, All-head, All-tail, All-take, All-drop}
 use Rattle.gw_base.specs.Addresses.{IsAddress}
 use Rattle.gw_base.specs.Mids.{IsMid}
 use Rattle.gw_base.specs.declared.code.Code.{Code}
-use Rattle.gw_cmd.specs.KeptForms.{AreKept}
+use Rattle.gw_cmd.specs.KeptForms.{AreKept, IsSlot}
 use Rattle.gw_kept.specs.Classes.{most_new}
 use Rattle.gw_kept.specs.Pairs.{bytes_for}
 use Rattle.gw_msg.specs.declared.message.Item.{Item}
@@ -15,6 +15,7 @@ use Rattle.gw_msg.specs.declared.message.Request.{Request}
 use Rattle.gw_reply_law.specs.Spellings.{IsReplyMessage}
 use Rattle.gw_reply_law.proofs.PartFits.{reply_is}
 use Rattle.gw_reserve.specs.Owners.{slot_choices}
+use Rattle.gw_table.specs.Unused.{owned}
 use Rattle.gw_reserve.proofs.Fresh.{free_unused}
 use Rattle.gw_reserve.proofs.Choices.{owned_choices}
 use Rattle.gw_tx.specs.KeptForms.{AreSlots, IsAskedRequest}
@@ -24,7 +25,6 @@ use Rattle.gw_engine.specs.Bursts.{Progress, Step, owned_by, reply_to, entry_for
 use Rattle.gw_engine.specs.Forms.{IsItemInForm, IsMessageInForm, IsInForm, AreInForm}
 use Rattle.gw_engine.specs.Readable.{Question, question_in, questions_in, questions, IsAnswerTo}
 use Rattle.gw_engine.specs.State.{Settings, GatewayValue, IsKeptReply, IsWellFormed}
-use Rattle.gw_engine.proofs.Left.{named_slots}
 use Rattle.gw_engine.proofs.ErrorsRead.{fault_is_error}
 use Rattle.gw_engine.proofs.RepliesKept.{reply_read, kept_more, kept_found}
 
@@ -38,15 +38,23 @@ pub record IsSound (s : Settings) (p : Progress) : Type 0 where
   pub slots : All IsSmall p.slots
 
 -- a step answers these questions, and leaves the burst so
-record IsAnswered (s : Settings) (qs : List Question) (t : Step) : Type 0 where
-  answers : AllZip (IsAnswerTo s.mid) qs t.answers
-  after : IsSound s t.after
+pub record IsAnswered (s : Settings) (qs : List Question) (t : Step) : Type 0 where
+  pub answers : AllZip (IsAnswerTo s.mid) qs t.answers
+  pub after : IsSound s t.after
 
 zip_append : {A B : Type 0} (R : A → B → Type 0) (xs ys : List A) (us vs : List B) → AllZip R xs us → AllZip R ys vs → AllZip R (xs ++ ys) (us ++ vs)
 zip_append R [] ys [] vs h k = k
 zip_append R [] ys (u ∷ us) vs h k = absurd h
 zip_append R (x ∷ xs) ys [] vs h k = absurd h
 zip_append R (x ∷ xs) ys (u ∷ us) vs h k = (h.0, zip_append R xs ys us vs h.1 k)
+
+-- the names of small slots are names
+named_slots : (slots : List (Option ℕ)) → All (λ (s : ℕ). s < 4096) (owned slots) → All IsSlot slots
+named_slots [] all = All-nil IsSlot
+named_slots (None ∷ os) all = All-cons IsSlot None os tt (named_slots os all)
+named_slots (Some s ∷ os) all =
+    let small : s < 4096 = All-head (λ (n : ℕ). n < 4096) s (owned os) all in
+    All-cons IsSlot (Some s) os (omega (arith, small)) (named_slots os (All-tail (λ (n : ℕ). n < 4096) s (owned os) all))
 
 own_slots : (r : Request) (p : Progress) → All IsSmall p.slots → AreSlots (owned_by r p)
 own_slots r p all = named_slots (owned_by r p).slots (subst (λ (l : List ℕ). All IsSmall l) (sym (owned_choices (slot_choices r) p.slots)) (All-take IsSmall (slot_choices r) p.slots all))
@@ -97,15 +105,8 @@ module _ (s : Settings) (is_mid : IsMid s.mid) (address : IsAddress s.rules.medi
   heard_answered : (h : Heard) (p : Progress) → IsInForm h → IsSound s p → IsAnswered s (questions_in h.peer h.message) (heard_step s h p)
   heard_answered h p asked sound = message_answered h.peer h.message p asked sound
 
-all_answered : (g : GatewayValue) (heard : List Heard) → IsWellFormed g.settings g.state → g.settings.slots ≤ 4096 → AreInForm heard → IsAnswered g.settings (questions heard) (burst_outcome g heard)
+pub all_answered : (g : GatewayValue) (heard : List Heard) → IsWellFormed g.settings g.state → g.settings.slots ≤ 4096 → AreInForm heard → IsAnswered g.settings (questions heard) (burst_outcome g heard)
 unfolding burst_outcome
 all_answered g heard w few forms =
     let start : IsSound g.settings (start_of g) = record { maps = w.forms; replies = w.replies; slots = (free_unused g.state.maps g.state.slot_cursor g.settings.slots w.slot_cursor few).slots_small } in
     turn_answered g.settings w.mid w.address (heard_step g.settings) (λ (h : Heard). questions_in h.peer h.message) IsInForm (heard_answered g.settings w.mid w.address) heard (start_of g) forms start
-
-pub burst_answered : (g : GatewayValue) (heard : List Heard) → IsWellFormed g.settings g.state → g.settings.slots ≤ 4096 → AreInForm heard → AllZip (IsAnswerTo g.settings.mid) (questions heard) (burst_outcome g heard).answers
-burst_answered g heard w few forms = (all_answered g heard w few forms).answers
-
--- what is kept afterwards has its forms
-pub burst_sound : (g : GatewayValue) (heard : List Heard) → IsWellFormed g.settings g.state → g.settings.slots ≤ 4096 → AreInForm heard → IsSound g.settings (burst_outcome g heard).after
-burst_sound g heard w few forms = (all_answered g heard w few forms).after

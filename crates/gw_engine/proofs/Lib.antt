@@ -1,5 +1,4 @@
 pub mod Configured
-pub mod Left
 pub mod Hearing
 pub mod NewForms
 pub mod InForm

@@ -68,7 +68,7 @@ unchanged p answers = record { answers = answers; after = p }
 abbrev pub cursors_of : State → Cursors
 cursors_of s = record { context = s.context_cursor; slot = s.slot_cursor }
 
--- what the places of a request own: the first of what those before it left
+-- what the choices of a request own: the first of what those before it left
 abbrev pub owned_by : Request → Progress → Ids
 owned_by r p = ids_of r p.numbers p.slots
 

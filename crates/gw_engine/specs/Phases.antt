@@ -1,13 +1,13 @@
 -- A burst in phases (own), each over the whole burst before the next begins: what is asked; the classes, from the keys alone; who
 -- owns which identifiers; the transactions; their texts, kept and answered.
-use Rattle.std.specs.Prelude.{◌+◌, ℕ, List, [], ◌∷◌, ◌++◌, map, length, flat_map, Option, None, Some, Result, Ok, Err}
-use Rattle.std.specs.List.{zip}
+use Rattle.std.specs.Prelude.{◌≡◌, ◌+◌, ℕ, List, [], ◌∷◌, ◌++◌, map, length, flat_map, Option, None, Some, Result, Ok, Err}
+use Rattle.std.specs.List.{zip, AllZip}
 use Rattle.gw_base.specs.declared.code.Code.{Code}
 use Rattle.gw_base.specs.declared.code.Code.TheVariants.{InsufficientResources}
-use Rattle.gw_reserve.specs.Ids.{Ids}
+use Rattle.gw_base.specs.declared.command_words.Rules.{Rules}
 use Rattle.gw_base.specs.declared.ids.TxId.{TxId}
 use Rattle.gw_kept.specs.Classes.{classes_of}
-use Rattle.gw_kept.specs.Pairs.{KeptList, kept_after}
+use Rattle.gw_kept.specs.Pairs.{KeptList, kept_after, AreNew}
 use Rattle.gw_kept.specs.Repeats.{bytes_of}
 use Rattle.gw_kept.specs.declared.class.Class.{Class}
 use Rattle.gw_kept.specs.declared.class.Class.TheVariants.{New, Repeat, Over, Nothing}
@@ -20,8 +20,9 @@ use Rattle.gw_msg.specs.declared.message.Message.{Message}
 use Rattle.gw_msg.specs.declared.message.Request.{Request}
 use Rattle.gw_reply.specs.Messages.{reply_text, fault_text}
 use Rattle.gw_reply.specs.declared.reply.TxReply.{TxReply}
+use Rattle.gw_reserve.specs.Ids.{Ids}
 use Rattle.gw_reserve.specs.Owned.{OwnedAction, with_ids, paired}
-use Rattle.gw_reserve.specs.Owners.{owners, new_cursors}
+use Rattle.gw_reserve.specs.Owners.{owners, owned_slots, new_cursors}
 use Rattle.gw_reserve.specs.declared.owners.Cursors.{Cursors}
 use Rattle.gw_table.specs.Maps.{Maps, Outcome}
 use Rattle.gw_table.specs.Unused.{owned}
@@ -33,9 +34,10 @@ use Rattle.gw_engine.specs.declared.classify.Work.TheVariants as work
 use Rattle.gw_engine.specs.declared.datagram.Datagram.{Datagram}
 use Rattle.gw_engine.specs.declared.heard.Heard.{Heard}
 use Rattle.gw_engine.specs.declared.reserve.Job.{Job}
-use Rattle.gw_engine.specs.Bursts.{cursors_of, entry_for, key_of_request}
+use Rattle.gw_engine.specs.Bursts.{cursors_of, entry_for, key_of_request, burst_outcome}
 use Rattle.gw_engine.specs.Carried.{carried}
-use Rattle.gw_engine.specs.State.{State, GatewayValue}
+use Rattle.gw_engine.specs.Readable.{IsAnswerTo, questions}
+use Rattle.gw_engine.specs.State.{State, GatewayValue, IsWellFormed}
 
 -- ---- what is asked
 
@@ -104,8 +106,6 @@ requests_of new = map (λ s. s.request) new
 abbrev pub ids_in : GatewayValue → List Sent → List Ids
 ids_in g new = owners g.state.maps (cursors_of g.state) g.settings.contexts g.settings.slots (requests_of new)
 
--- ---- the transactions
-
 -- a request, paired with what its $ own
 abbrev pub paired_request : Sent × Ids → Request × List OwnedAction
 paired_request p = (p.0.request, with_ids p.0.request p.1)
@@ -114,25 +114,37 @@ paired_request p = (p.0.request, with_ids p.0.request p.1)
 abbrev pub paired_requests : List Sent → List Ids → List (Request × List OwnedAction)
 paired_requests new ids = map paired_request (zip new ids)
 
--- a job, whose entries pair its request
-abbrev pub paired_job : Job → Request × List OwnedAction
-paired_job j = (j.sent.request, paired j.sent.request j.owned)
+-- ---- jobs
 
 abbrev pub sent_of : Job → Sent
 sent_of j = j.sent
+
+-- a job, whose entries pair its request
+abbrev pub paired_job : Job → Request × List OwnedAction
+paired_job j = (j.sent.request, paired j.sent.request j.owned)
 
 -- the slots that jobs own
 abbrev pub slots_of : List Job → List ℕ
 slots_of jobs = flat_map (λ j. owned j.owned.slots) jobs
 
+-- Jobs for these requests, each paired with what it owns, and with its slots and no others.
+pub record AreJobs (new : List Sent) (ids : List Ids) (jobs : List Job) : Type 0 where
+  pub sent : map sent_of jobs ≡ new
+  pub pairs : map paired_job jobs ≡ paired_requests new ids
+  pub slots : slots_of jobs ≡ owned_slots ids
+
+-- their transactions, one after another
+abbrev pub done_by : Rules → List Job → Maps → Outcome (List TxReply)
+done_by rules jobs m = carried rules (map paired_job jobs) m
+
 -- ---- what is kept, and what is answered
 
 -- the pair of a request and its reply
-abbrev pub entry_of : List ℕ → Sent × TxReply → List Entry
-entry_of mid p = entry_for p.0.mid p.0.request (reply_text mid p.1) ∷ []
+abbrev pub entry_of : List ℕ → Sent × TxReply → Entry
+entry_of mid p = entry_for p.0.mid p.0.request (reply_text mid p.1)
 
 abbrev pub entries_of : List ℕ → List Sent → List TxReply → List Entry
-entries_of mid new replies = flat_map (entry_of mid) (zip new replies)
+entries_of mid new replies = map (entry_of mid) (zip new replies)
 
 -- the reply to a request that comes behind too many new ones
 abbrev pub refusal_of : TxId → TxReply
@@ -157,29 +169,39 @@ answers_of mid k entries tasks = flat_map (λ t. answer_for t.peer (text_of mid 
 abbrev pub adopted : State → Maps → Cursors → List Entry → State
 adopted s m cursors entries = record { maps = m; context_cursor = cursors.context; slot_cursor = cursors.slot; kept = kept_after s.kept entries }
 
+-- the new requests of a burst
+abbrev pub new_of : GatewayValue → List Heard → List Sent
+new_of g heard = new_in (told g.state.kept (asks_of heard))
+
+-- where the next burst's search for identifiers begins
+abbrev pub cursors_behind : GatewayValue → List Heard → Cursors
+cursors_behind g heard = new_cursors (cursors_of g.state) (ids_in g (new_of g heard))
+
+-- what is kept of jobs that are carried out on the tables of the gateway
+abbrev pub kept_of : GatewayValue → List Job → List Entry
+kept_of g jobs = entries_of g.settings.mid (map sent_of jobs) (done_by g.settings.rules jobs g.state.maps).answer
+
 -- what comes of the phases
 pub record Phased : Type 0 where
   pub answers : List Datagram
   pub entries : List Entry
   pub state : State
 
--- of new requests and tasks: what came of the transactions, one after another on the tables at the burst's start
-abbrev pub phased_new : GatewayValue → List Ids → List Sent → List Task → Outcome (List TxReply) → Phased
-phased_new g ids new tasks done =
+unfoldable pub phased : GatewayValue → List Heard → Phased
+phased g heard =
+    let new = new_of g heard in
+    let done = carried g.settings.rules (paired_requests new (ids_in g new)) g.state.maps in
     let entries = entries_of g.settings.mid new done.answer in
     record {
-      answers = answers_of g.settings.mid g.state.kept entries tasks;
+      answers = answers_of g.settings.mid g.state.kept entries (tasks_in 0 (told g.state.kept (asks_of heard)));
       entries = entries;
-      state = adopted g.state done.maps (new_cursors (cursors_of g.state) ids) entries;
+      state = adopted g.state done.maps (cursors_behind g heard) entries;
     }
 
--- of what is asked, each with its class
-abbrev pub phased_asks : GatewayValue → List (Ask × Class) → Phased
-phased_asks g asked =
-    let new = new_in asked in
-    let ids = ids_in g new in
-    phased_new g ids new (tasks_in 0 asked) (carried g.settings.rules (paired_requests new ids) g.state.maps)
-
--- of a burst
-unfoldable pub phased : GatewayValue → List Heard → Phased
-phased g heard = phased_asks g (told g.state.kept (asks_of heard))
+-- What came of a burst is what comes of its items one after another: it can be read, and may be adopted.
+pub record IsOutcome (g : GatewayValue) (heard : List Heard) (answers : List Datagram) (m : Maps) (cursors : Cursors) (entries : List Entry) : Type 0 where
+  pub answers_are : answers ≡ (burst_outcome g heard).answers
+  pub readable : AllZip (IsAnswerTo g.settings.mid) (questions heard) answers
+  pub state : adopted g.state m cursors entries ≡ (burst_outcome g heard).after.state
+  pub new : AreNew g.state.kept entries
+  pub fits : IsWellFormed g.settings (adopted g.state m cursors entries)

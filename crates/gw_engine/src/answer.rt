@@ -1,46 +1,24 @@
-//! The texts of a burst: what is kept of its new requests, and what is answered.
+//! The answers of a burst.
 
-ghost use Rattle.std.specs.Prelude.{◌≡◌, map, IfOk, Some, option_copied};
+ghost use Rattle.std.specs.Prelude.{◌≡◌, IfOk, Some, option_copied};
 ghost use Rattle.std.specs.Option.{option_map};
 ghost use Rattle.gw_kept.specs.Repeats.{bytes_of};
 ghost use Rattle.gw_reply.specs.Messages.{reply_text};
-ghost use Rattle.gw_engine.specs.Phases.{sent_of, entries_of, text_of as text_due, answers_of};
+ghost use Rattle.gw_engine.specs.Phases.{text_of as text_due, answers_of};
 
 use crate::classify::{Task, Work};
 use crate::datagram::Datagram;
 use crate::gateway::Gateway;
-use crate::reserve::Job;
 use gw_base::{Code, Items, Mid, NoMemory};
 use gw_kept::{Entry, Kept, Source};
 use gw_reply::{TxReply, write_fault, write_reply};
 use std::alloc::Global;
 
 /// The text of a reply.
-fn text_of(alloc: Global, reply: &TxReply, mid: &Mid) -> Result<Items<u8>, NoMemory>
+pub(crate) fn text_of(alloc: Global, reply: &TxReply, mid: &Mid) -> Result<Items<u8>, NoMemory>
     ensures { IfOk result (λ text. text ≡ reply_text mid.now reply.now) }
 {
     Ok(Items::from(write_reply(alloc, reply, mid)?))
-}
-
-/// What is kept of jobs that got these replies.
-pub(crate) fn entries_of(
-    alloc: Global,
-    mid: &Mid,
-    jobs: &[Job<'_, '_>],
-    replies: &[TxReply],
-) -> Result<Vec<Entry>, NoMemory>
-    ensures { IfOk result (λ entries. entries.items ≡ entries_of mid.now (map sent_of jobs.now) replies.now) }
-{
-    let mut entries = Vec::with_capacity(alloc, jobs.len())?;
-    for (job, reply) in jobs.iter().zip(replies) {
-        let bytes = text_of(alloc, reply, mid)?;
-        entries.push(Entry {
-            mid: job.sent.mid,
-            id: job.sent.request.get().id,
-            bytes,
-        })?;
-    }
-    Ok(entries)
 }
 
 /// A reply by where it is: one that was kept before the burst, or that of one of its new requests.

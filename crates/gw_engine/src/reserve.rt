@@ -1,9 +1,9 @@
 //! What the new requests of a burst own.
 
-ghost use Rattle.std.specs.Prelude.{◌≡◌, map, IfOk};
-ghost use Rattle.gw_reserve.specs.Owners.{owned_slots, new_cursors, AreWithin};
+ghost use Rattle.std.specs.Prelude.{◌≡◌, IfOk};
+ghost use Rattle.gw_reserve.specs.Owners.{new_cursors, AreWithin};
 ghost use Rattle.gw_engine.specs.Bursts.{cursors_of};
-ghost use Rattle.gw_engine.specs.Phases.{ids_in, paired_job, paired_requests, sent_of, slots_of};
+ghost use Rattle.gw_engine.specs.Phases.{ids_in, AreJobs};
 
 use crate::asked::Sent;
 use crate::gateway::Gateway;
@@ -32,9 +32,7 @@ impl Gateway {
         alloc: Global,
         new: &[Sent<'h, 'a>],
     ) -> Result<Reserved<'h, 'a>, NoMemory>
-        ensures sent { IfOk result (λ r. map sent_of r.jobs ≡ new.now) }
-        ensures jobs { IfOk result (λ r. map paired_job r.jobs ≡ paired_requests new.now (ids_in self.now new.now)) }
-        ensures slots { IfOk result (λ r. slots_of r.jobs ≡ owned_slots (ids_in self.now new.now)) }
+        ensures jobs { IfOk result (λ r. AreJobs new.now (ids_in self.now new.now) r.jobs) }
         ensures cursors { IfOk result (λ r. r.cursors ≡ new_cursors (cursors_of self.now.state) (ids_in self.now new.now)) }
         ensures within { IfOk result (λ r. AreWithin self.now.settings.contexts self.now.settings.slots r.cursors) }
     {

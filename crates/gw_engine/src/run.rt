@@ -1,47 +1,80 @@
 //! Answering bursts of datagrams.
 
-ghost use Rattle.std.specs.Prelude.{◌≡◌, IfOk, OnErr};
-ghost use Rattle.std.specs.List.{AllZip};
-ghost use Rattle.gw_kept.specs.Pairs.{AreNew};
-ghost use Rattle.gw_engine.specs.Bursts.{burst_outcome, AnswersBurst};
+ghost use Rattle.std.specs.Prelude.{◌≡◌, [], IfOk, OnErr};
+ghost use Rattle.gw_reserve.specs.Owners.{AreWithin};
+ghost use Rattle.gw_table.specs.Unused.{AreUnused};
+ghost use Rattle.gw_table.specs.WellFormed.{AreWellFormed};
+ghost use Rattle.gw_engine.specs.Bursts.{AnswersBurst};
 ghost use Rattle.gw_engine.specs.Forms.{AreInForm};
-ghost use Rattle.gw_engine.specs.Phases.{adopted};
-ghost use Rattle.gw_engine.specs.Readable.{IsAnswerTo, CanBeRead, questions};
+ghost use Rattle.gw_engine.specs.Phases.{asks_of, told, new_of, ids_in, tasks_in, AreJobs, slots_of, cursors_behind, done_by, kept_of, IsOutcome};
+ghost use Rattle.gw_engine.specs.Readable.{CanBeRead};
 ghost use Rattle.gw_engine.specs.State.{IsWellFormed};
 
 use crate::adopt::Done;
-use crate::answer::entries_of;
 use crate::asked::asks_of;
 use crate::carry::carry;
-use crate::classify::classify;
+use crate::classify::{Task, classify};
 use crate::datagram::Datagram;
 use crate::gateway::Gateway;
 use crate::heard::{Heard, hear};
+use crate::reserve::Job;
 use gw_base::{Items, NoMemory};
+use gw_kept::Entry;
+use gw_reserve::Cursors;
+use gw_table::Tables;
 use std::alloc::Global;
 
+/// What is to be carried out of a burst, and how all is answered.
+#[derive(Drop)]
+struct Plan<'h, 'a> {
+    tasks: Items<Task>,
+    jobs: Items<Job<'h, 'a>>,
+    cursors: Cursors,
+}
+
 impl Gateway {
-    /// What comes of a burst, in phases: each is over for the whole burst before the next begins. The transactions are carried out on
-    /// a copy of the tables.
-    fn carry_out(&self, alloc: Global, heard: &[Heard<'_>]) -> Result<Done, NoMemory>
-        requires forms { AreInForm heard.now }
-        ensures answers { IfOk result (λ done. done.answers ≡ (burst_outcome self.now heard.now).answers) }
-        ensures readable { IfOk result (λ done. AllZip (IsAnswerTo self.now.settings.mid) (questions heard.now) done.answers) }
-        ensures state { IfOk result (λ done. adopted self.now.state done.tables done.cursors done.entries.items ≡ (burst_outcome self.now heard.now).after.state) }
-        ensures new { IfOk result (λ done. AreNew self.now.state.kept done.entries.items) }
-        ensures fits { IfOk result (λ done. IsWellFormed self.now.settings (adopted self.now.state done.tables done.cursors done.entries.items)) }
+    /// Tells what is to be carried out, and how all is answered: the phases before the first transaction.
+    fn plan<'h, 'a>(&self, alloc: Global, heard: &'h [Heard<'a>]) -> Result<Plan<'h, 'a>, NoMemory>
+        ensures tasks { IfOk result (λ plan. plan.tasks ≡ tasks_in 0 (told self.now.state.kept (asks_of heard.now))) }
+        ensures jobs { IfOk result (λ plan. AreJobs (new_of self.now heard.now) (ids_in self.now (new_of self.now heard.now)) plan.jobs) }
+        ensures cursors { IfOk result (λ plan. plan.cursors ≡ cursors_behind self.now heard.now) }
+        ensures within { IfOk result (λ plan. AreWithin self.now.settings.contexts self.now.settings.slots plan.cursors) }
     {
         let asks = asks_of(alloc, heard)?;
         let asked = classify(alloc, &self.kept, asks.as_slice())?;
         let reserved = self.reserve(alloc, asked.requests.as_slice())?;
-        let jobs = reserved.jobs.as_slice();
-        let mut part = self.tables.copy()?.all();
-        let replies = carry(alloc, &self.rules, &mut part, jobs)?;
-        let entries = entries_of(alloc, &self.mid, jobs, replies.as_slice())?;
-        let answers = self.answers(alloc, entries.as_slice(), asked.tasks.as_slice())?;
-        Ok(Done {
-            tables: part.tables(),
+        Ok(Plan {
+            tasks: asked.tasks,
+            jobs: reserved.jobs,
             cursors: reserved.cursors,
+        })
+    }
+
+    /// Carries jobs out on a copy of the tables; answers the copy, and what is to be kept.
+    fn perform(&self, alloc: Global, jobs: &[Job<'_, '_>]) -> Result<(Tables, Vec<Entry>), NoMemory>
+        requires { AreUnused self.now.state.maps [] (slots_of jobs.now) }
+        ensures tables { IfOk result (λ done. done.0 ≡ (done_by self.now.settings.rules jobs.now self.now.state.maps).maps) }
+        ensures entries { IfOk result (λ done. done.1.items ≡ kept_of self.now jobs.now) }
+        ensures whole { IfOk result (λ done. AreWellFormed self.now.settings.rules.members done.0) }
+    {
+        let mut part = self.tables.copy()?.all();
+        let entries = carry(alloc, &self.mid, &self.rules, &mut part, jobs)?;
+        Ok((part.tables(), entries))
+    }
+
+    /// What comes of a burst, in phases: each is over for the whole burst before the next begins.
+    fn carry_out(&self, alloc: Global, heard: &[Heard<'_>]) -> Result<Done, NoMemory>
+        requires { AreInForm heard.now }
+        ensures { IfOk result (λ done. IsOutcome self.now heard.now done.answers done.tables done.cursors done.entries.items) }
+    {
+        // No effect at run time. The proof reads here that the state is well-formed.
+        let _ = &self.tables;
+        let plan = self.plan(alloc, heard)?;
+        let (tables, entries) = self.perform(alloc, plan.jobs.as_slice())?;
+        let answers = self.answers(alloc, entries.as_slice(), plan.tasks.as_slice())?;
+        Ok(Done {
+            tables,
+            cursors: plan.cursors,
             entries,
             answers,
         })

@@ -7,5 +7,5 @@ use Rattle.gw_engine.proofs.carry.carry.Given as goal
 abbrev pub invariant-loop-job : goal.invariant-loop-job
 invariant-loop-job l = record {
   every : l.part.keys ≡ Every;
-  carries : IsCarrying l.rules l.fn.part.maps l.jobs (drop l.job-index l.jobs) l.part.maps l.replies;
+  carries : IsCarrying l.mid l.rules l.fn.part.maps l.jobs (drop l.job-index l.jobs) l.part.maps l.entries.items;
 }

@@ -45,17 +45,14 @@ loop-sent-preserved c =
           (λ k. record { sent = c.again.ensures k; owned = o }) c.in_ok-push.ensures.ok;
     }
 
-pub returns-clause-sent : goal.returns-clause-sent
-returns-clause-sent c =
-    sent_end c.args.self.now c.args.new.now (drop c.loop-sent.sent-index c.args.new.now) c.loop-sent.reservation c.loop-sent.jobs (drop_of_length-le c.args.new.now c.loop-sent-test.false) c.loop-sent.invariant.owns
-
 pub returns-clause-jobs : goal.returns-clause-jobs
 returns-clause-jobs c =
-    jobs_end c.args.self.now c.args.new.now (drop c.loop-sent.sent-index c.args.new.now) c.loop-sent.reservation c.loop-sent.jobs (drop_of_length-le c.args.new.now c.loop-sent-test.false) c.loop-sent.invariant.owns
-
-pub returns-clause-slots : goal.returns-clause-slots
-returns-clause-slots c =
-    slots_end c.args.self.now c.args.new.now (drop c.loop-sent.sent-index c.args.new.now) c.loop-sent.reservation c.loop-sent.jobs (drop_of_length-le c.args.new.now c.loop-sent-test.false) c.loop-sent.invariant.owns
+    let none = drop_of_length-le c.args.new.now c.loop-sent-test.false in
+    record {
+      sent = sent_end c.args.self.now c.args.new.now (drop c.loop-sent.sent-index c.args.new.now) c.loop-sent.reservation c.loop-sent.jobs none c.loop-sent.invariant.owns;
+      pairs = jobs_end c.args.self.now c.args.new.now (drop c.loop-sent.sent-index c.args.new.now) c.loop-sent.reservation c.loop-sent.jobs none c.loop-sent.invariant.owns;
+      slots = slots_end c.args.self.now c.args.new.now (drop c.loop-sent.sent-index c.args.new.now) c.loop-sent.reservation c.loop-sent.jobs none c.loop-sent.invariant.owns;
+    }
 
 pub returns-clause-cursors : goal.returns-clause-cursors
 returns-clause-cursors c =

@@ -8,7 +8,7 @@ use Rattle.gw_engine.proofs.InForm.{heard_asked}
 use Rattle.gw_engine.proofs.gateway.Gateway.run.Goals as goal
 
 pub carry_out-requires : goal.carry_out-requires
-carry_out-requires c = record { forms = subst AreInForm (sym c.as_slice.ensures) (heard_asked c.args.burst.now c.in_ok-heard.heard c.in_ok-heard.ensures) }
+carry_out-requires c = subst AreInForm (sym c.as_slice.ensures) (heard_asked c.args.burst.now c.in_ok-heard.heard c.in_ok-heard.ensures)
 
 pub returns-clause-readable : goal.returns-clause-readable
 returns-clause-readable c = record {
