@@ -13,7 +13,7 @@ use Rattle.gw_table.specs.Unused.{owned}
 use Rattle.gw_engine.specs.declared.asked.Sent.{Sent}
 use Rattle.gw_engine.specs.declared.reserve.Job.{Job}
 use Rattle.gw_engine.specs.Bursts.{cursors_of}
-use Rattle.gw_engine.specs.Phases.{requests_of, ids_in, paired_job, paired_requests, sent_of, slots_of}
+use Rattle.gw_engine.specs.Phases.{requests_of, ids_in, paired_job, paired_requests, sent_of, slots_of, AreJobs}
 use Rattle.gw_engine.specs.State.{GatewayValue}
 use Rattle.gw_engine.proofs.Cursors.{cursors-cons}
 
@@ -86,14 +86,12 @@ goes_on g all left rest x v w o jobs more j split c own is pushed =
 
 -- none is left
 module _ (g : GatewayValue) (all left : List Sent) (v : Reserving) (jobs : List Job) (none : left ≡ []) (c : IsReserving g all left v jobs) where
-  pub sent_end : map sent_of jobs ≡ all
-  sent_end = sym (append-nil (map sent_of jobs)) ∙ ap (λ (l : List Sent). map sent_of jobs ++ l) (sym none) ∙ c.sent_are
-
-  pub jobs_end : map paired_job jobs ≡ paired_requests all (ids_in g all)
-  jobs_end = sym (append-nil (map paired_job jobs)) ∙ ap (λ (l : List Sent). map paired_job jobs ++ paired_requests l (left_for g.state.maps v l)) (sym none) ∙ c.jobs_are
-
-  pub slots_end : slots_of jobs ≡ owned_slots (ids_in g all)
-  slots_end = sym (append-nil (slots_of jobs)) ∙ ap (λ (l : List Sent). slots_of jobs ++ owned_slots (left_for g.state.maps v l)) (sym none) ∙ c.slots_are
+  pub are_jobs : AreJobs all (ids_in g all) jobs
+  are_jobs = record {
+    sent = sym (append-nil (map sent_of jobs)) ∙ ap (λ (l : List Sent). map sent_of jobs ++ l) (sym none) ∙ c.sent_are;
+    pairs = sym (append-nil (map paired_job jobs)) ∙ ap (λ (l : List Sent). map paired_job jobs ++ paired_requests l (left_for g.state.maps v l)) (sym none) ∙ c.jobs_are;
+    slots = sym (append-nil (slots_of jobs)) ∙ ap (λ (l : List Sent). slots_of jobs ++ owned_slots (left_for g.state.maps v l)) (sym none) ∙ c.slots_are;
+  }
 
   pub cursors_end : v.cursors ≡ new_cursors (cursors_of g.state) (ids_in g all)
   cursors_end = ap (λ (l : List Sent). new_cursors v.cursors (left_for g.state.maps v l)) (sym none) ∙ c.cursors_are

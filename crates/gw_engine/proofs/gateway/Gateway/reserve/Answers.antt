@@ -10,7 +10,7 @@ use Rattle.gw_engine.specs.declared.reserve.Job.{Job}
 use Rattle.gw_engine.specs.Bursts.{cursors_of}
 use Rattle.gw_engine.specs.GatewayView.{value_of}
 use Rattle.gw_engine.specs.State.{GatewayValue}
-use Rattle.gw_engine.proofs.Reserving.{IsReserving, IsOwned, begins, goes_on, sent_end, jobs_end, slots_end, cursors_end}
+use Rattle.gw_engine.proofs.Reserving.{IsReserving, IsOwned, begins, goes_on, are_jobs, cursors_end}
 use Rattle.gw_engine.proofs.gateway.Gateway.reserve.Goals as goal
 
 pub loop-sent-init : goal.loop-sent-init
@@ -47,12 +47,7 @@ loop-sent-preserved c =
 
 pub returns-clause-jobs : goal.returns-clause-jobs
 returns-clause-jobs c =
-    let none = drop_of_length-le c.args.new.now c.loop-sent-test.false in
-    record {
-      sent = sent_end c.args.self.now c.args.new.now (drop c.loop-sent.sent-index c.args.new.now) c.loop-sent.reservation c.loop-sent.jobs none c.loop-sent.invariant.owns;
-      pairs = jobs_end c.args.self.now c.args.new.now (drop c.loop-sent.sent-index c.args.new.now) c.loop-sent.reservation c.loop-sent.jobs none c.loop-sent.invariant.owns;
-      slots = slots_end c.args.self.now c.args.new.now (drop c.loop-sent.sent-index c.args.new.now) c.loop-sent.reservation c.loop-sent.jobs none c.loop-sent.invariant.owns;
-    }
+    are_jobs c.args.self.now c.args.new.now (drop c.loop-sent.sent-index c.args.new.now) c.loop-sent.reservation c.loop-sent.jobs (drop_of_length-le c.args.new.now c.loop-sent-test.false) c.loop-sent.invariant.owns
 
 pub returns-clause-cursors : goal.returns-clause-cursors
 returns-clause-cursors c =
