@@ -8,7 +8,7 @@ ghost use Rattle.gw_term.specs.Applies.{Yields};
 use crate::fault::ApplyFault;
 use crate::properties::{merged_properties, merged_service};
 use crate::record::{Stream, Termination};
-use crate::streams::{Merging, merge_stream};
+use crate::streams::{Merging, Sent, merge_stream};
 use crate::tails::merge_tail;
 use gw_base::{CtxNum, Held, Items, NoMemory, Rules, Service};
 use gw_desc::{Descriptor, KeptKind};
@@ -57,42 +57,15 @@ fn merged_media(
         third: None,
         fourth: None,
     };
-    merge_stream(
-        alloc,
-        rules,
-        old.slot,
-        1,
+    let sent = Sent {
+        rules: *rules,
+        slot: old.slot,
         descriptors,
-        &old.first,
-        &mut media.first,
-    )?;
-    merge_stream(
-        alloc,
-        rules,
-        old.slot,
-        2,
-        descriptors,
-        &old.second,
-        &mut media.second,
-    )?;
-    merge_stream(
-        alloc,
-        rules,
-        old.slot,
-        3,
-        descriptors,
-        &old.third,
-        &mut media.third,
-    )?;
-    merge_stream(
-        alloc,
-        rules,
-        old.slot,
-        4,
-        descriptors,
-        &old.fourth,
-        &mut media.fourth,
-    )?;
+    };
+    merge_stream(alloc, &sent, 1, &old.first, &mut media.first)?;
+    merge_stream(alloc, &sent, 2, &old.second, &mut media.second)?;
+    merge_stream(alloc, &sent, 3, &old.third, &mut media.third)?;
+    merge_stream(alloc, &sent, 4, &old.fourth, &mut media.fourth)?;
     Ok(media)
 }
 

@@ -239,22 +239,28 @@ fn begun(alloc: Global, old: &Option<Held<Stream>>) -> Result<Merging, NoMemory>
     })
 }
 
+/// What is merged into each stream: descriptors, under the gateway's rules, where the termination has this slot.
+#[derive(Clone, Copy)]
+pub(crate) struct Sent<'a, 'b> {
+    pub rules: Rules,
+    pub slot: Option<u16>,
+    pub descriptors: &'a [Descriptor<'b>],
+}
+
 /// The stream of this number after the descriptors is put in a place: a copy of one that is not named, if it is there.
 #[tactic(auto, unfolding(crate::specs::Merge::merged_stream))]
 pub(crate) fn merge_stream(
     alloc: Global,
-    rules: &Rules,
-    slot: Option<u16>,
+    sent: &Sent<'_, '_>,
     number: u8,
-    descriptors: &[Descriptor<'_>],
     old: &Option<Held<Stream>>,
     new: &mut Option<Merging>,
 ) -> Result<(), ApplyFault>
     requires first { 1 ≤ number }
     requires last { number ≤ 4 }
-    ensures { Becomes result new.new (merged_stream rules.now slot number descriptors.now old.now) }
+    ensures { Becomes result new.new (merged_stream sent.now.rules sent.now.slot number sent.now.descriptors.now old.now) }
 {
-    let named = is_named(number, descriptors);
+    let named = is_named(number, sent.descriptors);
     if !named && old.is_none() {
         put(new, None);
         return Ok(());
@@ -262,11 +268,11 @@ pub(crate) fn merge_stream(
     let merging = new.insert(begun(alloc, old)?);
     if named {
         let target = Target {
-            rules: *rules,
-            slot,
+            rules: sent.rules,
+            slot: sent.slot,
             number,
         };
-        put_all(alloc, &target, descriptors, merging)?;
+        put_all(alloc, &target, sent.descriptors, merging)?;
     }
     Ok(())
 }
