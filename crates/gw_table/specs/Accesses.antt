@@ -1,6 +1,6 @@
 -- What is done to the maps as single reads and writes of entries, one after another (own): what carries out transactions side
 -- by side may rely on.
-use Rattle.std.specs.Prelude.{◌≡◌, ℕ, true, List, Option, ◌⊎◌}
+use Rattle.std.specs.Prelude.{◌≡◌, ℕ, true, List, Option, Some, ◌⊎◌}
 use Rattle.gw_base.specs.declared.ids.CtxNum.{CtxNum}
 use Rattle.gw_base.specs.declared.key.Key.{Key}
 use Rattle.gw_base.specs.declared.key.Key.TheVariants.{Term, Ctx, Whole}
