@@ -1,10 +1,11 @@
 //! Serving over the loopback.
 
+use crate::places::{OwnFile, free_address};
 use crate::runs::{CONFIGURATION, Run};
 use std::net::{Ipv4Addr, Net, SocketAddr, UdpSocket};
 use std::test::Fail;
+use std::thread;
 use std::time::Duration;
-use std::{fs, thread};
 use tests_wanted::is_so;
 
 /// A transaction, and its answer.
@@ -16,7 +17,7 @@ const ANSWERED: &[u8] = b"MEGACO/1 [10.0.0.1]:2944\nReply=1{Context=1{Add=T/1,Ad
 const SERVING: &[u8] = b"listening\n";
 
 /// How often it is asked.
-const MOST_TURNS: u32 = 1_000_000;
+const MOST_TURNS: u32 = 1_000;
 
 /// Whether the server answers the transaction as it should.
 fn is_answered(client: &UdpSocket, server: SocketAddr) -> bool {
@@ -32,15 +33,16 @@ fn is_answered(client: &UdpSocket, server: SocketAddr) -> bool {
 
 #[test]
 fn a_datagram_over_the_loopback(rt: HostRuntime) -> Result<(), Fail> {
-    let file = "/tmp/h248gw-loopback.conf";
-    fs::write(&rt, file, CONFIGURATION)?;
-    let server = SocketAddr::from((Ipv4Addr::LOCALHOST, 29_440));
+    let file = OwnFile::of(&rt, rt.alloc(), CONFIGURATION)?;
+    let server = free_address(&rt)?;
+    let listen = format!(in rt.alloc(); "{server}")?;
     let client = rt.bind_udp(SocketAddr::from((Ipv4Addr::LOCALHOST, 0)))?;
     client.set_read_timeout(Some(Duration::from_millis(20)))?;
     let is_right = thread::scope(thread::scope_env(), &rt, |scope| {
         let serving = scope.spawn(move || {
-            let listen = "127.0.0.1:29440";
-            Run::of(&rt, &["serve", file, "--listen", listen, "--bursts", "1"]).is_done(SERVING)
+            let listen = listen.as_str();
+            let words = ["serve", file.path(), "--listen", listen, "--bursts", "1"];
+            Run::of(&rt, &words).is_done(SERVING)
         });
         let is_answered = is_answered(&client, server);
         match serving {
@@ -48,21 +50,20 @@ fn a_datagram_over_the_loopback(rt: HostRuntime) -> Result<(), Fail> {
             Err(_) => false,
         }
     });
-    is_so(is_right, "the answer, and a run that is done")?;
-    Ok(fs::remove_file(&rt, file)?)
+    is_so(is_right, "the answer, and a run that is done")
 }
 
 #[test]
 fn an_address_that_cannot_be_bound(rt: HostRuntime) -> Result<(), Fail> {
-    let file = "/tmp/h248gw-bound.conf";
-    fs::write(&rt, file, CONFIGURATION)?;
-    let taken = rt.bind_udp(SocketAddr::from((Ipv4Addr::LOCALHOST, 29_441)))?;
-    let own = "127.0.0.1:29441";
+    let file = OwnFile::of(&rt, rt.alloc(), CONFIGURATION)?;
+    let file = file.path();
+    let taken = rt.bind_udp(SocketAddr::from((Ipv4Addr::LOCALHOST, 0)))?;
+    let own = format!(in rt.alloc(); "{}", taken.local_addr()?)?;
+    let own = own.as_str();
     for listen in [own, "127.0.0.1", "localhost:2944", "10.0.0.1:2944 ", ""] {
         Run::of(&rt, &["serve", file, "--listen", listen]).fails(b"h248gw: serve bind\n")?;
     }
     drop(taken);
     let run = Run::of(&rt, &["serve", file, "--listen", own, "--bursts", "0"]);
-    is_so(run.is_done(SERVING), "the address alone")?;
-    Ok(fs::remove_file(&rt, file)?)
+    is_so(run.is_done(SERVING), "the address alone")
 }
