@@ -3,7 +3,7 @@
 use std::alloc::Global;
 use std::fs::{self, File};
 use std::io::{self, ErrorKind, Write};
-use std::net::{Ipv4Addr, Net, SocketAddr};
+use std::net::{IpAddr, Net, SocketAddr};
 use std::rt::Files;
 use std::test::Fail;
 
@@ -57,8 +57,8 @@ impl<'a, R: Files> OwnFile<'a, R> {
     }
 }
 
-/// An address of the loopback at a port that nobody has.
-pub(crate) fn free_address(rt: &impl Net) -> Result<SocketAddr, Fail> {
-    let socket = rt.bind_udp(SocketAddr::from((Ipv4Addr::LOCALHOST, 0)))?;
+/// An address of the host at a port that nobody has.
+pub(crate) fn free_address(rt: &impl Net, host: IpAddr) -> Result<SocketAddr, Fail> {
+    let socket = rt.bind_udp(SocketAddr::from((host, 0)))?;
     Ok(socket.local_addr()?)
 }
