@@ -1,64 +1,127 @@
-//! Files and addresses of a run's own: no other run has them, whoever started it.
+//! Files and addresses of a run's own: the first of a table that nobody has, whoever has the others.
 
-use std::alloc::Global;
-use std::fs::{self, File};
-use std::io::{self, ErrorKind, Write};
-use std::net::{IpAddr, Net, SocketAddr};
+use std::fs::File;
+use std::io::{ErrorKind, Write};
+use std::net::{Net, SocketAddr};
 use std::rt::Files;
 use std::test::Fail;
 
-/// How many names are tried.
-const MOST_NAMES: u32 = 1_000_000;
+/// Names of files.
+const NAMES: [&str; 24] = [
+    "/tmp/h248gw-test-00.conf",
+    "/tmp/h248gw-test-01.conf",
+    "/tmp/h248gw-test-02.conf",
+    "/tmp/h248gw-test-03.conf",
+    "/tmp/h248gw-test-04.conf",
+    "/tmp/h248gw-test-05.conf",
+    "/tmp/h248gw-test-06.conf",
+    "/tmp/h248gw-test-07.conf",
+    "/tmp/h248gw-test-08.conf",
+    "/tmp/h248gw-test-09.conf",
+    "/tmp/h248gw-test-10.conf",
+    "/tmp/h248gw-test-11.conf",
+    "/tmp/h248gw-test-12.conf",
+    "/tmp/h248gw-test-13.conf",
+    "/tmp/h248gw-test-14.conf",
+    "/tmp/h248gw-test-15.conf",
+    "/tmp/h248gw-test-16.conf",
+    "/tmp/h248gw-test-17.conf",
+    "/tmp/h248gw-test-18.conf",
+    "/tmp/h248gw-test-19.conf",
+    "/tmp/h248gw-test-20.conf",
+    "/tmp/h248gw-test-21.conf",
+    "/tmp/h248gw-test-22.conf",
+    "/tmp/h248gw-test-23.conf",
+];
 
-/// A file that this run made. It is taken away where it is let go.
-pub(crate) struct OwnFile<'a, R: Files> {
-    rt: &'a R,
-    path: String,
-}
+/// Addresses of the loopback.
+const IPV4: [&str; 24] = [
+    "127.0.0.1:29440",
+    "127.0.0.1:29441",
+    "127.0.0.1:29442",
+    "127.0.0.1:29443",
+    "127.0.0.1:29444",
+    "127.0.0.1:29445",
+    "127.0.0.1:29446",
+    "127.0.0.1:29447",
+    "127.0.0.1:29448",
+    "127.0.0.1:29449",
+    "127.0.0.1:29450",
+    "127.0.0.1:29451",
+    "127.0.0.1:29452",
+    "127.0.0.1:29453",
+    "127.0.0.1:29454",
+    "127.0.0.1:29455",
+    "127.0.0.1:29456",
+    "127.0.0.1:29457",
+    "127.0.0.1:29458",
+    "127.0.0.1:29459",
+    "127.0.0.1:29460",
+    "127.0.0.1:29461",
+    "127.0.0.1:29462",
+    "127.0.0.1:29463",
+];
 
-impl<R: Files> Drop for OwnFile<'_, R> {
-    fn drop(self) {
-        let OwnFile { rt, path } = self;
-        let _ = fs::remove_file(rt, path.as_str());
-    }
-}
+const IPV6: [&str; 24] = [
+    "[::1]:29440",
+    "[::1]:29441",
+    "[::1]:29442",
+    "[::1]:29443",
+    "[::1]:29444",
+    "[::1]:29445",
+    "[::1]:29446",
+    "[::1]:29447",
+    "[::1]:29448",
+    "[::1]:29449",
+    "[::1]:29450",
+    "[::1]:29451",
+    "[::1]:29452",
+    "[::1]:29453",
+    "[::1]:29454",
+    "[::1]:29455",
+    "[::1]:29456",
+    "[::1]:29457",
+    "[::1]:29458",
+    "[::1]:29459",
+    "[::1]:29460",
+    "[::1]:29461",
+    "[::1]:29462",
+    "[::1]:29463",
+];
 
-/// A file of that name, which nobody had before; none where somebody has it.
-fn new_file<R: Files>(rt: &R, path: &str) -> io::Result<Option<R::File>> {
-    match File::create_new(rt, path) {
-        Ok(file) => Ok(Some(file)),
-        Err(e) if e.kind() == ErrorKind::AlreadyExists => Ok(None),
-        Err(e) => Err(e),
-    }
-}
-
-impl<'a, R: Files> OwnFile<'a, R> {
-    /// A new file, and its handle.
-    pub(crate) fn open(rt: &'a R, alloc: Global) -> Result<(OwnFile<'a, R>, R::File), Fail> {
-        for number in 0..MOST_NAMES {
-            let path = format!(in alloc; "/tmp/h248gw-test-{number}")?;
-            if let Some(file) = new_file(rt, path.as_str())? {
-                return Ok((OwnFile { rt, path }, file));
-            }
+/// A new file, which nobody had before, and its name. Whoever asks takes it away.
+pub(crate) fn new_file<R: Files>(rt: &R) -> Result<(&'static str, R::File), Fail> {
+    for name in NAMES {
+        match File::create_new(rt, name) {
+            Ok(file) => return Ok((name, file)),
+            Err(e) if e.kind() == ErrorKind::AlreadyExists => {}
+            Err(e) if e.kind() == ErrorKind::PermissionDenied => {}
+            Err(_) => return Err(Fail::new("a new file")),
         }
-        Err(Fail::new("a name that nobody has"))
     }
-
-    /// A new file with that text.
-    pub(crate) fn of(rt: &'a R, alloc: Global, text: &str) -> Result<OwnFile<'a, R>, Fail> {
-        let (own, mut file) = OwnFile::open(rt, alloc)?;
-        file.write_all(text.as_bytes())?;
-        Ok(own)
-    }
-
-    /// Its name.
-    pub(crate) fn path(&self) -> &str {
-        self.path.as_str()
-    }
+    Err(Fail::new("a name that nobody has"))
 }
 
-/// An address of the host at a port that nobody has.
-pub(crate) fn free_address(rt: &impl Net, host: IpAddr) -> Result<SocketAddr, Fail> {
-    let socket = rt.bind_udp(SocketAddr::from((host, 0)))?;
-    Ok(socket.local_addr()?)
+/// A new file with that text.
+pub(crate) fn file_of<R: Files>(rt: &R, text: &str) -> Result<&'static str, Fail> {
+    let (name, mut file) = new_file(rt)?;
+    file.write_all(text.as_bytes())?;
+    Ok(name)
+}
+
+/// An address of the loopback that nobody has, of IPv6 or IPv4, and how it is written.
+pub(crate) fn free_address(
+    rt: &impl Net,
+    is_ipv6: bool,
+) -> Result<(&'static str, SocketAddr), Fail> {
+    let addresses = if is_ipv6 { IPV6 } else { IPV4 };
+    for text in addresses {
+        let Ok(address) = text.parse::<SocketAddr>() else {
+            return Err(Fail::new("an address"));
+        };
+        if rt.bind_udp(address).is_ok() {
+            return Ok((text, address));
+        }
+    }
+    Err(Fail::new("an address that nobody has"))
 }

@@ -1,9 +1,9 @@
 //! The program by its words: what each command writes and which status it ends with.
 
-use crate::places::OwnFile;
+use crate::places::{file_of, new_file};
 use crate::runs::{CONFIGURATION, Run};
 use gw_program::program;
-use std::fs::OpenFile;
+use std::fs::{self, OpenFile};
 use std::io::{self, Error, ErrorKind, Write};
 use std::net::Net;
 use std::rt::Files;
@@ -38,28 +38,40 @@ fn fails_on<R: Files + Net + Wait + AllocGlobal>(
     line: &[u8],
 ) -> Result<(), Fail> {
     let text = format!(in rt.alloc(); "mid [10.0.0.1]:2944\nmedia 10.0.0.1\n{rest}")?;
-    let file = OwnFile::of(rt, rt.alloc(), text.as_str())?;
-    Run::of(rt, &["check", file.path()]).fails(line)?;
-    Run::of(rt, &["serve", file.path(), "--listen", "x"]).fails(line)
+    let file = file_of(rt, text.as_str())?;
+    Run::of(rt, &["check", file]).fails(line)?;
+    Run::of(rt, &["serve", file, "--listen", "x"]).fails(line)?;
+    Ok(fs::remove_file(rt, file)?)
 }
 
-/// What the program ends with on a file of so many bytes, and the file's name.
-fn end_at<R: Files + Net + Wait + AllocGlobal>(rt: &R, length: u64) -> Result<(Run, String), Fail> {
-    let (own, file) = OwnFile::open(rt, rt.alloc())?;
+/// The program fails so on a file of so many bytes: the line, and the file's name behind it where that is told.
+fn fails_at<R: Files + Net + Wait + AllocGlobal>(
+    rt: &R,
+    length: u64,
+    line: &str,
+    is_named: bool,
+) -> Result<(), Fail> {
+    let (name, file) = new_file(rt)?;
     file.set_len(length)?;
-    let name = format!(in rt.alloc(); "{}", own.path())?;
-    Ok((Run::of(rt, &["check", own.path()]), name))
+    let told = if is_named { name } else { "" };
+    let line = format!(in rt.alloc(); "{line}{told}\n")?;
+    Run::of(rt, &["check", name]).fails(line.as_bytes())?;
+    Ok(fs::remove_file(rt, name)?)
 }
 
 #[test]
 fn a_configuration_is_checked(rt: HostRuntime) -> Result<(), Fail> {
-    let file = OwnFile::of(&rt, rt.alloc(), CONFIGURATION)?;
-    let words: [&str; 2] = ["check", file.path()];
-    is_so(Run::of(&rt, &words).is_done(CHECKED), "the numbers")?;
+    let file = file_of(&rt, CONFIGURATION)?;
+    is_so(
+        Run::of(&rt, &["check", file]).is_done(CHECKED),
+        "the numbers",
+    )?;
+    let words: [&str; 2] = ["check", file];
     let (mut input, mut err) = (b"".as_slice(), Vec::new(rt.alloc()));
     let status = program(&rt, words.as_slice(), &mut input, &mut Broken, &mut err);
     is_so(status == 1, "a fault")?;
-    is_text(err.as_slice(), b"h248gw: replay write\n")
+    is_text(err.as_slice(), b"h248gw: replay write\n")?;
+    Ok(fs::remove_file(&rt, file)?)
 }
 
 #[test]
@@ -106,10 +118,7 @@ fn a_configuration_with_a_fault(rt: HostRuntime) -> Result<(), Fail> {
 
 #[test]
 fn a_file_that_is_too_long_or_no_file(rt: HostRuntime) -> Result<(), Fail> {
-    let (longest, _) = end_at(&rt, 16_777_216)?;
-    longest.fails(b"h248gw: config line 1\n")?;
-    let (longer, name) = end_at(&rt, 16_777_217)?;
-    let line = format!(in rt.alloc(); "h248gw: cannot read {name}\n")?;
-    longer.fails(line.as_bytes())?;
+    fails_at(&rt, 16_777_216, "h248gw: config line 1", false)?;
+    fails_at(&rt, 16_777_217, "h248gw: cannot read ", true)?;
     Run::of(&rt, &["check", "/tmp"]).fails(b"h248gw: cannot read /tmp\n")
 }

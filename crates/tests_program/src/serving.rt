@@ -1,10 +1,11 @@
 //! Serving over the loopback. What is to wait when the gateway first looks is sent from within the line `listening`, which it writes
 //! once it is bound: so each burst is what a test says, without a thread.
 
-use crate::places::{OwnFile, free_address};
+use crate::places::{file_of, free_address};
 use crate::runs::{CONFIGURATION, Run};
 use gw_program::program;
 use std::alloc::Global;
+use std::fs;
 use std::io::{self, Write};
 use std::net::{IpAddr, Ipv4Addr, Ipv6Addr, Net, SocketAddr, UdpSocket};
 use std::rt::Files;
@@ -63,21 +64,13 @@ impl Write for Starter<'_> {
 /// Serves one burst of datagrams, which wait when it begins, and says this.
 fn serves<R: Files + Net + Wait + AllocGlobal>(
     rt: &R,
-    host: IpAddr,
+    is_ipv6: bool,
     sent: &[Sent<'_>],
     said: &[u8],
 ) -> Result<(), Fail> {
-    let file = OwnFile::of(rt, rt.alloc(), CONFIGURATION)?;
-    let server = free_address(rt, host)?;
-    let listen = format!(in rt.alloc(); "{server}")?;
-    let words: [&str; 6] = [
-        "serve",
-        file.path(),
-        "--listen",
-        listen.as_str(),
-        "--bursts",
-        "1",
-    ];
+    let file = file_of(rt, CONFIGURATION)?;
+    let (listen, server) = free_address(rt, is_ipv6)?;
+    let words: [&str; 6] = ["serve", file, "--listen", listen, "--bursts", "1"];
     let mut out = Starter {
         server,
         sent,
@@ -86,7 +79,8 @@ fn serves<R: Files + Net + Wait + AllocGlobal>(
     let (mut input, mut err) = (b"".as_slice(), Vec::new(rt.alloc()));
     let status = program(rt, words.as_slice(), &mut input, &mut out, &mut err);
     is_so(status == 0 && err.is_empty(), "a run that is done")?;
-    is_text(out.told.as_slice(), said)
+    is_text(out.told.as_slice(), said)?;
+    Ok(fs::remove_file(rt, file)?)
 }
 
 /// A socket of the loopback.
@@ -131,7 +125,7 @@ fn two_senders_in_one_burst(rt: HostRuntime) -> Result<(), Fail> {
             bytes: OTHER,
         },
     ];
-    serves(&rt, IPV4, &sent, SERVING)?;
+    serves(&rt, false, &sent, SERVING)?;
     has_answers(&one, 1, ANSWERED)?;
     has_answers(&other, 1, OTHER_ANSWERED)
 }
@@ -155,7 +149,7 @@ fn datagrams_of_every_length(rt: HostRuntime) -> Result<(), Fail> {
             bytes: longest.as_slice(),
         },
     ];
-    serves(&rt, IPV4, &sent, SERVING)?;
+    serves(&rt, false, &sent, SERVING)?;
     has_answers(&none, 1, NO_MESSAGE)?;
     has_answers(&some, 1, ANSWERED)?;
     has_answers(&all, 1, OTHER_ANSWERED)
@@ -176,22 +170,21 @@ fn a_datagram_that_is_too_long(rt: HostRuntime) -> Result<(), Fail> {
         },
     ];
     let said = b"listening\ndropped 1 datagrams: too long\n";
-    serves(&rt, IPV6, &sent, said)?;
+    serves(&rt, true, &sent, said)?;
     has_answers(&long, 0, b"")?;
     has_answers(&good, 1, ANSWERED)
 }
 
 #[test]
 fn an_address_that_cannot_be_bound(rt: HostRuntime) -> Result<(), Fail> {
-    let file = OwnFile::of(&rt, rt.alloc(), CONFIGURATION)?;
-    let file = file.path();
-    let taken = rt.bind_udp(SocketAddr::from((IPV4, 0)))?;
-    let own = format!(in rt.alloc(); "{}", taken.local_addr()?)?;
-    let own = own.as_str();
+    let file = file_of(&rt, CONFIGURATION)?;
+    let (own, address) = free_address(&rt, false)?;
+    let taken = rt.bind_udp(address)?;
     for listen in [own, "127.0.0.1", "localhost:2944", "10.0.0.1:2944 ", ""] {
         Run::of(&rt, &["serve", file, "--listen", listen]).fails(b"h248gw: serve bind\n")?;
     }
     drop(taken);
     let run = Run::of(&rt, &["serve", file, "--listen", own, "--bursts", "0"]);
-    is_so(run.is_done(SERVING), "the address alone")
+    is_so(run.is_done(SERVING), "the address alone")?;
+    Ok(fs::remove_file(&rt, file)?)
 }
