@@ -7,4 +7,8 @@ pub mod Courses
 pub mod OneReading
 pub mod Served
 pub mod OneFault
-pub mod Outcomes
+pub mod Happening
+pub mod Gathering
+pub mod Sending
+pub mod BarePieces
+pub mod WholeInput

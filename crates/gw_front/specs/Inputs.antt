@@ -7,7 +7,7 @@ use Rattle.gw_front.specs.declared.burst_reading.Piece.{Piece}
 use Rattle.gw_front.specs.declared.burst_reading.Piece.TheVariants as piece
 use Rattle.gw_front.specs.declared.burst_reading.Next.{Next}
 use Rattle.gw_front.specs.declared.burst_reading.Next.TheVariants as next
-use Rattle.gw_front.specs.Records.{IsRecord, IsBurst, IsLastBurst, most_datagrams}
+use Rattle.gw_front.specs.Records.{IsRecord, IsBurst, IsLastBurst, longest_datagram, most_datagrams}
 use Rattle.gw_text.specs.Lexical.{line_feed}
 use Rattle.gw_front.specs.RecordFaults.{IsLongLine, IsCutLine, HasFault, IsFirstFault}
 
@@ -77,3 +77,13 @@ IsNext old new (Ok (next.Burst burst)) = TakesFrom (IsBurst burst) old new
 IsNext old new (Ok (next.Last burst)) = TakesFrom (IsLastBurst burst) old new × IsAtEnd new
 IsNext old new (Ok next.End) = Ends old new
 IsNext old new (Err fault) = IsFaultAt IsFirstFault old fault
+
+-- all of the input was read, as one datagram that is not too long
+abbrev pub IsWholeInput : Option (List ℕ) → Result (List ℕ) ReplayFault → Type 0
+IsWholeInput input (Ok bytes) = IfSome input (λ text. bytes ≡ text) × (length bytes ≤ longest_datagram)
+IsWholeInput input (Err TooLong) = IfSome input (λ text. longest_datagram < length text)
+IsWholeInput input (Err Read) = Unit {0}
+IsWholeInput input (Err NoMemory) = Unit {0}
+IsWholeInput input (Err BadHeader) = ⊥
+IsWholeInput input (Err Truncated) = ⊥
+IsWholeInput input (Err Write) = ⊥

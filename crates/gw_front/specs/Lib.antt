@@ -1,3 +1,6 @@
+pub mod Answering
+pub mod Events
+pub mod Inboxes
 pub mod Serving
 pub mod Records
 pub mod RecordFaults

@@ -1,6 +1,8 @@
 //! A reader that is read so many times and no more.
 
-ghost use Rattle.std.specs.Prelude.{◌≡◌};
+ghost use Rattle.std.specs.Prelude.{◌≡◌, ◌-◌, IsErr};
+ghost use Rattle.std.specs.Io.{ReadsAtMost};
+ghost use Rattle.std.specs.Io.KnownBytes.{ReadConsumes};
 
 use std::io::{self, Error, ErrorKind, Read};
 
@@ -15,7 +17,8 @@ pub(crate) struct Counted<'a, R> {
 impl<'a, R: Read> Counted<'a, R> {
     /// The reader, which may be read 4,294,967,295 times.
     pub(crate) fn new(reader: &'a mut R) -> Counted<'a, R>
-        ensures { result.reader.now ≡ reader.old }
+        ensures same { result.reader.now ≡ reader.old }
+        ensures reads { result.left ≡ 4294967295 }
     {
         Counted {
             reader,
@@ -27,7 +30,15 @@ impl<'a, R: Read> Counted<'a, R> {
 impl<R: Read> Read for Counted<'_, R> {
     ghost remaining = { λ s. R.remaining s.reader.now };
 
-    fn read(&mut self, buf: &mut [u8]) -> io::Result<usize> {
+    fn read(&mut self, buf: &mut [u8]) -> io::Result<usize>
+        ensures bound { ReadsAtMost result buf.new }
+        ensures bytes { ReadConsumes (R.remaining self.old.reader.now) (R.remaining self.new.reader.now) result buf.new }
+
+        // A read takes one of those that are left; where none is left it fails, and the reader is not read.
+        ensures counted { self.new.left ≡ self.old.left - 1 }
+        ensures none { self.old.left ≡ 0 → IsErr result }
+        ensures unread { self.old.left ≡ 0 → self.new.reader.now ≡ self.old.reader.now }
+    {
         if self.left == 0 {
             return Err(Error::from(ErrorKind::Other));
         }

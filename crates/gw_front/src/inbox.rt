@@ -1,15 +1,22 @@
 //! The burst in hand: its datagrams, and who sent them.
 
-ghost use Rattle.std.specs.Prelude.{◌≡◌, ◌≤◌, ◌++◌, ◌∷◌, [], length, slice_get, OnOk, IfOk};
-ghost use Rattle.gw_front.specs.Serving.{IsWithinLimits, ServesOne};
+ghost use Rattle.std.specs.Prelude.{◌≡◌, ◌==◌, ◌+◌, ◌<◌, ◌≤◌, ◌++◌, ◌∷◌, [], false, List, length, slice_get, IfOk, OnOk, OnErr, IsTrue};
+ghost use Rattle.gw_engine.specs.Bursts.{AnswersBurst};
+ghost use Rattle.gw_front.specs.Events.{Letter};
+ghost use Rattle.gw_front.specs.Serving.{IsWithinLimits, burst_of};
 
+use crate::exchange::Exchange;
 use gw_base::{Items, NoMemory};
 use gw_engine::{Datagram, Gateway};
 use std::alloc::{AllocError, Global};
+use std::io;
 use std::net::SocketAddr;
 
 /// The most datagrams of a burst.
 pub(crate) const LARGEST_BURST: u32 = 256;
+
+/// How many bytes a datagram may have: what fits a UDP datagram over IPv4.
+pub(crate) const LONGEST_DATAGRAM: usize = 65_507;
 
 /// The burst in hand. A datagram's peer is the place of its sender.
 #[derive(Drop)]
@@ -23,9 +30,12 @@ pub(crate) struct Inbox {
 }
 
 impl Inbox {
+    ghost use Rattle.gw_front.specs.Inboxes.{Holds, Gathers};
+
     /// No datagram, and room for those of a burst.
     pub(crate) fn new(alloc: Global) -> Result<Inbox, AllocError>
-        ensures { IfOk result (λ inbox. (inbox.datagrams.items ≡ []) × (inbox.senders.items ≡ [])) }
+        ensures holds { IfOk result (λ inbox. Holds inbox []) }
+        ensures senders { IfOk result (λ inbox. inbox.senders.items ≡ []) }
     {
         let room = LARGEST_BURST as usize;
         Ok(Inbox {
@@ -36,13 +46,16 @@ impl Inbox {
     }
 
     /// Whether nothing came.
-    pub(crate) fn is_empty(&self) -> bool {
-        self.senders.is_empty()
+    pub(crate) fn is_empty(&self) -> bool
+        ensures none { (letters : List Letter) → Holds self.now letters → result ≡ (length letters == 0) }
+        ensures senders { IsTrue result → self.now.senders.items ≡ [] }
+    {
+        !self.is_refused && self.senders.is_empty()
     }
 
     /// Nothing came yet. The room stays.
     pub(crate) fn clear(&mut self)
-        ensures datagrams { self.new.datagrams.items ≡ [] }
+        ensures holds { Holds self.new [] }
         ensures senders { self.new.senders.items ≡ [] }
     {
         self.datagrams.clear();
@@ -50,36 +63,58 @@ impl Inbox {
         self.is_refused = false;
     }
 
-    /// The sender goes last.
-    fn add_sender(&mut self, sender: SocketAddr) -> Result<u32, AllocError>
-        ensures place { IfOk result (λ place. place ≡ length self.old.senders.items) }
-        ensures senders { OnOk result (self.new.senders.items ≡ self.old.senders.items ++ sender ∷ []) }
-        ensures datagrams { self.new.datagrams.items ≡ self.old.datagrams.items }
-    {
-        let Ok(place) = u8::try_from(self.senders.len()) else {
-            return Err(AllocError);
-        };
-        self.senders.push(sender)?;
-        Ok(u32::from(place))
-    }
-
     /// The datagram goes last, from the sender who goes last.
     fn push(&mut self, alloc: Global, bytes: &[u8], sender: SocketAddr) -> Result<(), AllocError>
-        requires { length bytes.now ≤ 65507 }
-        ensures { OnOk result (self.new.datagrams.items ≡ self.old.datagrams.items ++ record { peer = length self.old.senders.items; bytes = bytes.now } ∷ []) }
+        requires short { length bytes.now ≤ 65507 }
+        requires room { length self.old.senders.items < 256 }
+        ensures datagrams { OnOk result (self.new.datagrams.items ≡ self.old.datagrams.items ++ record { peer = length self.old.senders.items; bytes = bytes.now } ∷ []) }
+        ensures senders { OnOk result (self.new.senders.items ≡ self.old.senders.items ++ sender ∷ []) }
+        ensures mark { self.new.is_refused ≡ self.old.is_refused }
+        ensures grown { length self.new.senders.items ≤ length self.old.senders.items + 1 }
     {
-        let peer = self.add_sender(sender)?;
+        let peer = self.senders.len() as u32;
+        self.senders.push(sender)?;
         let bytes = Items::from_slice(alloc, bytes)?;
         self.datagrams.push(Datagram { peer, bytes })?;
         Ok(())
     }
 
-    /// Takes a datagram from that sender. Where memory is refused to it, the whole burst is refused.
+    /// Takes a datagram from that sender: it goes last. Where memory is refused to it, the whole burst is refused.
     pub(crate) fn take(&mut self, alloc: Global, bytes: &[u8], sender: SocketAddr)
-        requires { length bytes.now ≤ 65507 }
+        requires short { length bytes.now ≤ 65507 }
+        requires room { length self.old.senders.items < 256 }
+        ensures taken { (letters : List Letter) → Holds self.old letters → Holds self.new (letters ++ record { bytes = bytes.now; address = sender } ∷ []) }
+        ensures grown { length self.new.senders.items ≤ length self.old.senders.items + 1 }
     {
         if self.push(alloc, bytes, sender).is_err() {
             self.is_refused = true;
+        }
+    }
+
+    /// Takes the next datagram of a network, unless it is too long; whether it was taken.
+    ///
+    /// # Errors
+    ///
+    /// Those of the network.
+    pub(crate) fn receive<S: Exchange>(
+        &mut self,
+        alloc: Global,
+        exchange: &mut S,
+        buffer: &mut [u8],
+    ) -> io::Result<bool>
+        requires { length self.old.senders.items < 256 }
+        ensures gathered { Gathers (S.course exchange.old) (S.course exchange.new) self.old self.new }
+        ensures grown { length self.new.senders.items ≤ length self.old.senders.items + 1 }
+    {
+        match exchange.receive(buffer) {
+            Ok((count, sender)) => {
+                if count > LONGEST_DATAGRAM {
+                    return Ok(false);
+                }
+                self.take(alloc, &buffer[..count], sender);
+                Ok(true)
+            }
+            Err(e) => Err(e),
         }
     }
 
@@ -100,7 +135,10 @@ impl Inbox {
         alloc: Global,
         gateway: &mut Gateway,
     ) -> Result<Items<Datagram>, NoMemory>
-        ensures served { ServesOne gateway.old gateway.new }
+        ensures limits { IsWithinLimits self.now.datagrams.items }
+        ensures answers { IfOk result (λ answers. AnswersBurst gateway.old self.now.datagrams.items answers gateway.new) }
+        ensures whole { OnOk result (self.now.is_refused ≡ false) }
+        ensures refused { OnErr result (gateway.new ≡ gateway.old) }
     {
         if self.is_refused {
             return Err(NoMemory);

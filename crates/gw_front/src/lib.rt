@@ -1,12 +1,16 @@
 //! What an operator hands to the gateway: configurations as text, bursts of datagrams to replay, and controllers over UDP.
 #![tactic(auto)]
 
+mod answering;
 mod answers;
 mod burst_reading;
 mod counted;
 mod counts;
+mod desk;
+mod exchange;
 mod header;
 mod inbox;
+mod losses;
 mod reading;
 mod replay_fault;
 mod replay_laws;
@@ -15,11 +19,13 @@ mod serve_fault;
 mod server;
 mod writing;
 
+pub use answering::answer;
 pub use counts::Counts;
+pub use exchange::Exchange;
 pub use gw_base::Config;
 pub use gw_config::{ConfigTextFault, read_config};
 pub use replay_fault::ReplayFault;
 pub use replay_laws::{bursts_are_one, first_faults_are_one};
 pub use replaying::replay;
 pub use serve_fault::ServeFault;
-pub use server::serve;
+pub use server::{serve, serve_over};

@@ -1,3 +1,4 @@
 pub mod Faults
+pub mod Jobs
 pub mod Outcomes
 pub mod Start

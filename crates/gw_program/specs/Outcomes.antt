@@ -1,35 +1,38 @@
--- How the program ends: its exit status, and what is out (own).
-use Rattle.std.specs.Prelude.{◌≡◌, ⊤, ℕ, List, Option, Result, Ok, Err}
-use Rattle.std.specs.Io.KnownBytes.{Keeps}
+-- How the program ends: its exit status, and what it tells (own).
+use Rattle.std.specs.Prelude.{◌≡◌, ◌<◌, ◌⊎◌, ⊤, ℕ, Bool, List, ◌++◌, length, codes, Option, Result, Ok, Err}
+use Rattle.std.specs.Bool.{OnTrue}
+use Rattle.std.specs.Io.KnownBytes.{Appends, Keeps}
 use Rattle.gw_program.specs.declared.ended.Ended.{Ended}
 use Rattle.gw_program.specs.declared.ended.Ended.TheVariants.{Done, Misused, Failed}
 use Rattle.gw_program.specs.declared.fault.Fault.{Fault}
-use Rattle.gw_program.specs.declared.fault.Fault.TheVariants as fault
+use Rattle.gw_program.specs.declared.fault.Fault.TheVariants as why
+use Rattle.std.specs.declared.io.ErrorKind.{ErrorKind}
+use Rattle.std.specs.declared.io.ErrorKind.TheVariants.{OutOfMemory}
+use Rattle.gw_program.specs.Faults.{line_of}
 
 -- the exit status
 abbrev pub status_of : Ended → ℕ
 status_of Done = 0
-status_of (Failed fault) = 1
-status_of Misused = 2
+status_of (Failed fault told) = 1
+status_of (Misused told) = 2
 
--- Nothing is out where the fault comes before the run: the file, its text, the gateway, the address.
-abbrev pub KeepsOut : Fault → Option (List ℕ) → Option (List ℕ) → Type 0
-KeepsOut (fault.CannotRead file) old new = Keeps old new
-KeepsOut (fault.ConfigLine number) old new = Keeps old new
-KeepsOut fault.ConfigLimit old new = Keeps old new
-KeepsOut fault.ConfigReservedName old new = Keeps old new
-KeepsOut fault.ConfigDuplicateName old new = Keeps old new
-KeepsOut fault.ServeBind old new = Keeps old new
-KeepsOut _ old new = ⊤
-
--- What the two outputs say, by how the program ended: no word of a fault where there is none; nothing on standard output where the
--- words ask for nothing, nor after a fault before the run.
-abbrev pub IsOutcome : Ended → (out out′ err err′ : Option (List ℕ)) → Type 0
-IsOutcome Done out out′ err err′ = Keeps err err′
-IsOutcome (Failed fault) out out′ err err′ = KeepsOut fault out out′
-IsOutcome Misused out out′ err err′ = Keeps out out′
-
--- A fault is told where there is one.
+-- How a job ended, and what standard error says: nothing where the job was done, else the fault's line and nothing else, where it
+-- took that.
 abbrev pub IsTold : Result Unit Fault → (err err′ : Option (List ℕ)) → Ended → Type 0
 IsTold (Ok done) err err′ ended = (ended ≡ Done) × Keeps err err′
-IsTold (Err fault) err err′ ended = ended ≡ Failed fault
+IsTold (Err fault) err err′ ended = (told : Bool) × (ended ≡ Failed fault told) × OnTrue told (Appends err err′ (line_of fault ++ codes "\n"))
+
+-- something, of which no more is said
+abbrev pub Says : (err err′ : Option (List ℕ)) → Type 0
+Says err err′ = (said : List ℕ) × (0 < length said) × Appends err err′ said
+
+-- The words ask for no job: help and the version, which standard error says nothing of, a mistake, or want of memory.
+abbrev pub IsExplained : Ended → (out out′ err err′ : Option (List ℕ)) → Type 0
+IsExplained Done out out′ err err′ = Keeps err err′
+IsExplained (Failed fault told) out out′ err err′ = (fault ≡ why.NoMemory) × Keeps out out′ × OnTrue told (Appends err err′ (line_of fault ++ codes "\n"))
+IsExplained (Misused told) out out′ err err′ = Keeps out out′ × OnTrue told (Says err err′)
+
+-- The words could not be read: memory was refused to them, or one of them is no text, which standard error says.
+abbrev pub IsUnreadable : ErrorKind → (err err′ : Option (List ℕ)) → Ended → Type 0
+IsUnreadable OutOfMemory err err′ ended = (told : Bool) × (ended ≡ Failed why.NoMemory told) × OnTrue told (Appends err err′ (line_of why.NoMemory ++ codes "\n"))
+IsUnreadable _ err err′ ended = (told : Bool) × (ended ≡ Misused told) × OnTrue told (Appends err err′ (codes "error: a word of the command line is not UTF-8\n"))

@@ -1,52 +1,39 @@
 //! The command `check`: what a configuration has.
 
-ghost use Rattle.std.specs.Prelude.{IfErr};
-ghost use Rattle.gw_program.specs.Outcomes.{KeepsOut};
+ghost use Rattle.std.specs.Prelude.{◌≡◌, ◌++◌, OnOk, IfOk, decimal};
+ghost use Rattle.gw_program.specs.Jobs.{IsCheck, check_text};
 
 use crate::fault::Fault;
 use crate::file::config_of;
 use gw_engine::Gateway;
 use gw_front::Config;
-use std::alloc::Global;
-use std::fmt;
+use itoa::Buffer;
+use std::alloc::{AllocError, Global};
 use std::io::Write;
 use std::rt::Files;
 
-/// The numbers of a configuration, as `check` prints them.
-#[derive(Clone, Copy)]
-struct Numbers {
-    terms: usize,
-    contexts: u32,
-    slots: u32,
-    members: u32,
-    keep: u32,
+/// Puts a word and a number behind the line.
+fn put(line: &mut Vec<u8>, word: &[u8], number: usize) -> Result<(), AllocError>
+    ensures { OnOk result (line.new.items ≡ line.old.items ++ word.now ++ decimal number) }
+{
+    let mut buffer = Buffer::new();
+    line.extend_from_slice(word)?;
+    line.extend_from_slice(buffer.format(number).as_bytes())?;
+    Ok(())
 }
 
-impl fmt::Display for Numbers {
-    fn fmt<W: fmt::Write>(&self, f: &mut fmt::Formatter<W>) -> fmt::Result {
-        let Numbers {
-            terms,
-            contexts,
-            slots,
-            members,
-            keep,
-        } = self;
-        write!(
-            f,
-            "ok terms={terms} contexts={contexts} slots={slots} members={members} keep={keep}"
-        )
-    }
-}
-
-/// The numbers of a configuration.
-fn numbers_of(config: &Config) -> Numbers {
-    Numbers {
-        terms: config.terms.len(),
-        contexts: config.contexts,
-        slots: config.slots,
-        members: config.members,
-        keep: config.keep,
-    }
+/// The line of a configuration.
+fn line_of(alloc: Global, config: &Config) -> Result<Vec<u8>, AllocError>
+    ensures { IfOk result (λ line. line.items ≡ check_text config.now) }
+{
+    let mut line = Vec::new(alloc);
+    put(&mut line, b"ok terms=", config.terms.len())?;
+    put(&mut line, b" contexts=", config.contexts as usize)?;
+    put(&mut line, b" slots=", config.slots as usize)?;
+    put(&mut line, b" members=", config.members as usize)?;
+    put(&mut line, b" keep=", config.keep as usize)?;
+    line.push(b'\n')?;
+    Ok(line)
 }
 
 /// Makes the gateway that the file describes, and writes its numbers.
@@ -60,12 +47,12 @@ pub(crate) fn check<'a, R: Files, W: Write>(
     path: &'a str,
     out: &mut W,
 ) -> Result<(), Fault<'a>>
-    ensures { IfErr result (λ fault. KeepsOut fault (W.contents out.old) (W.contents out.new)) }
+    ensures { IsCheck R.File.Read.remaining path.now (W.contents out.old) (W.contents out.new) result }
 {
     let config = config_of(rt, alloc, path)?;
-    let numbers = numbers_of(&config);
+    let line = line_of(alloc, &config)?;
     let _gateway = Gateway::new(alloc, config)?;
-    match writeln!(out, "{numbers}") {
+    match out.write_all(line.as_slice()) {
         Ok(()) => Ok(()),
         Err(_) => Err(Fault::ReplayWrite),
     }

@@ -1,6 +1,6 @@
 //! The command line: its words, and what they ask for.
 
-use clap::{Arg, ArgMatches, Command, Error, value_parser};
+use clap::{Arg, ArgAction, ArgMatches, Command, Error, value_parser};
 use std::alloc::{AllocError, Global};
 use std::convert::AsStr;
 
@@ -19,9 +19,17 @@ const AFTER: &str = "Exit status:
   2  the command line asks for nothing that there is
 
 Example:
+  printf '%s' 'MEGACO/1 [10.0.0.9]:2944 Transaction=1{Context=${Add=T/1,Add=T/2}}' | h248gw answer
   h248gw check four.conf
   h248gw replay four.conf < call.replay
   h248gw serve four.conf --listen 127.0.0.1:2944";
+
+const ANSWER: &str = "Answers one datagram";
+
+const ANSWER_LONG: &str = "Answers one datagram
+
+Reads standard input to its end as one datagram, answers it, and writes the reply as it is to standard output; nothing where there is
+no answer. The gateway is a new one: that of FILE, or the built-in one.";
 
 const CHECK: &str = "Reads a configuration and prints its numbers";
 
@@ -36,27 +44,34 @@ const REPLAY_LONG: &str = "Answers recorded datagrams
 
 Reads FILE and makes its gateway. Reads bursts of datagrams from standard input and writes the answers to standard output, both as
   D <peer> <length>   a line, then so many bytes and a line feed: a datagram from, or to, a peer
-  .                   a line: the burst ends, and is answered";
+  .                   a line: the burst ends, and is answered
+With --audit the tables follow behind the last answers.";
 
 const SERVE: &str = "Answers controllers over UDP";
 
 const SERVE_LONG: &str = "Answers controllers over UDP
 
 Reads FILE and makes its gateway. Binds the address, writes a line `listening` to standard output, and answers each datagram to
-where it came from, until it is ended by a signal. The calls of a gateway that ends are lost.";
+where it came from, until it is ended by a signal. The calls of a gateway that ends are lost. What is dropped is told on standard
+output at the 1st, 2nd, 4th, 8th, .. time.";
 
 /// What the words ask for.
 #[derive(Clone, Copy)]
-pub(crate) enum Job<'a> {
+pub enum Job<'a> {
     /// A replay with the built-in configuration.
     BuiltIn,
+    /// An answer to one datagram, of the file's gateway or the built-in one.
+    Answer {
+        file: Option<&'a str>,
+    },
     /// The numbers of a configuration.
     Check {
         file: &'a str,
     },
-    /// A replay.
+    /// A replay, and the tables behind its answers where they are asked for.
     Replay {
         file: &'a str,
+        audit: bool,
     },
     /// Controllers over UDP, for so many bursts or without end.
     Serve {
@@ -73,6 +88,21 @@ fn file<'a>(alloc: Global) -> Arg<'a> {
     )
 }
 
+/// The configuration file where one may be named.
+fn config<'a>(alloc: Global) -> Arg<'a> {
+    Arg::new(alloc, "CONFIG")
+        .long("config")
+        .value_name("FILE")
+        .help("The configuration; without it the built-in one")
+}
+
+fn answer<'a>(alloc: Global) -> Result<Command<'a>, AllocError> {
+    Command::new(alloc, "answer")
+        .about(ANSWER)
+        .long_about(ANSWER_LONG)
+        .arg(config(alloc))
+}
+
 fn check<'a>(alloc: Global) -> Result<Command<'a>, AllocError> {
     Command::new(alloc, "check")
         .about(CHECK)
@@ -80,11 +110,20 @@ fn check<'a>(alloc: Global) -> Result<Command<'a>, AllocError> {
         .arg(file(alloc))
 }
 
+/// Whether the tables are told.
+fn audit<'a>(alloc: Global) -> Arg<'a> {
+    Arg::new(alloc, "audit")
+        .long("audit")
+        .action(ArgAction::SetTrue)
+        .help("Tells the tables behind the last answers")
+}
+
 fn replay<'a>(alloc: Global) -> Result<Command<'a>, AllocError> {
     Command::new(alloc, "replay")
         .about(REPLAY)
         .long_about(REPLAY_LONG)
-        .arg(file(alloc))
+        .arg(file(alloc))?
+        .arg(audit(alloc))
 }
 
 /// The address that is served.
@@ -128,6 +167,7 @@ fn command<'a>(alloc: Global) -> Result<Command<'a>, AllocError> {
         .version("0.1.0")
         .about(ABOUT)
         .after_help(AFTER);
+    let program = with(program, answer(alloc))?;
     let program = with(program, check(alloc))?;
     let program = with(program, replay(alloc))?;
     with(program, serve(alloc))
@@ -145,8 +185,14 @@ fn text_of<'a>(matches: &ArgMatches<'a>, id: &str) -> &'a str {
 fn job_of<'a>(name: &str, matches: &ArgMatches<'a>) -> Job<'a> {
     let file = text_of(matches, "FILE");
     match name {
+        "answer" => Job::Answer {
+            file: matches.get_str("CONFIG"),
+        },
         "check" => Job::Check { file },
-        "replay" => Job::Replay { file },
+        "replay" => Job::Replay {
+            file,
+            audit: matches.get_flag("audit"),
+        },
         _ => Job::Serve {
             file,
             listen: text_of(matches, "ADDR"),

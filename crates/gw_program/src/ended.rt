@@ -10,10 +10,10 @@ use crate::fault::Fault;
 pub enum Ended<'a> {
     /// What the words ask for is done; help and the version too.
     Done,
-    /// A fault, whose line stands on standard error.
-    Failed(Fault<'a>),
-    /// The words ask for nothing that there is, which standard error says.
-    Misused,
+    /// A fault. Its line stands on standard error, where that took what it was told.
+    Failed { fault: Fault<'a>, is_told: bool },
+    /// The words ask for nothing that there is, which standard error says, where it took what it was told.
+    Misused { is_told: bool },
 }
 
 impl Ended<'_> {
@@ -23,8 +23,8 @@ impl Ended<'_> {
     {
         match self {
             Ended::Done => 0,
-            Ended::Failed(_) => 1,
-            Ended::Misused => 2,
+            Ended::Failed { .. } => 1,
+            Ended::Misused { .. } => 2,
         }
     }
 }

@@ -1,7 +1,13 @@
 //! The program apart from its streams: words in, a status out.
 
-ghost use Rattle.std.specs.Prelude.{◌≡◌, ◌≤◌, IfErr};
-ghost use Rattle.gw_program.specs.Outcomes.{KeepsOut, IsOutcome, IsTold, status_of};
+ghost use Rattle.std.specs.Prelude.{◌≡◌, ◌⊎◌, ℕ, Bool, List, Option, OnOk, IfErr};
+ghost use Rattle.std.specs.Bool.{OnTrue};
+ghost use Rattle.std.specs.IoError.{error_kind};
+ghost use Rattle.std.specs.Io.KnownBytes.{Appends};
+ghost use Rattle.std.specs.Option.{option_map};
+ghost use Rattle.gw_engine.specs.AuditText.{audit_text};
+ghost use Rattle.gw_program.specs.Jobs.{IsStart, IsReplayJob, IsAnswerJob, IsServeJob, IsJob, IsEnd};
+ghost use Rattle.gw_program.specs.Outcomes.{IsExplained, IsTold, IsUnreadable, Says, status_of};
 ghost use Rattle.gw_program.specs.declared.ended.Ended.{Ended as Ending};
 
 use crate::check::check;
@@ -13,7 +19,7 @@ use crate::gateway::gateway;
 use clap::Error;
 use clap::error::ErrorKind;
 use gw_engine::Gateway;
-use gw_front::{replay, serve};
+use gw_front::{answer, replay, serve};
 use std::alloc::Global;
 use std::convert::AsStr;
 use std::io::{self, Read, Write};
@@ -21,36 +27,66 @@ use std::net::{Net, SocketAddr};
 use std::rt::Files;
 use std::sync::Wait;
 
-/// A replay with the built-in configuration.
-fn replay_built_in<I: Read, W: Write>(
+/// The gateway before the first datagram: that of the file, or the built-in one.
+fn start<'a, R: Files>(rt: &R, alloc: Global, file: Option<&'a str>) -> Result<Gateway, Fault<'a>>
+    ensures { IsStart R.File.Read.remaining (option_map (λ f. f.now) file.entry) result }
+{
+    match file {
+        Some(file) => gateway_of(rt, alloc, file),
+        None => gateway(alloc),
+    }
+}
+
+/// Writes the tables of a gateway.
+fn tell_tables<W: Write>(
     alloc: Global,
+    gateway: &Gateway,
+    out: &mut W,
+) -> Result<(), Fault<'static>>
+    ensures told { OnOk result (Appends (W.contents out.old) (W.contents out.new) (audit_text gateway.now)) }
+    ensures fault { IfErr result (λ fault. (fault ≡ Fault.NoMemory) ⊎ (fault ≡ Fault.ReplayWrite)) }
+{
+    let Ok(tables) = gateway.audit_tables(alloc) else {
+        return Err(Fault::NoMemory);
+    };
+    match out.write_all(tables.as_slice()) {
+        Ok(()) => Ok(()),
+        Err(_) => Err(Fault::ReplayWrite),
+    }
+}
+
+/// A replay, and behind its answers the tables where they are asked for.
+fn replay_with<I: Read, W: Write>(
+    alloc: Global,
+    gateway: &mut Gateway,
+    audit: bool,
     reader: &mut I,
     out: &mut W,
 ) -> Result<(), Fault<'static>>
-    ensures { IfErr result (λ fault. KeepsOut fault (W.contents out.old) (W.contents out.new)) }
+    ensures { IsReplayJob audit gateway.old (I.remaining reader.old) (W.contents out.old) (W.contents out.new) result }
 {
-    let mut gateway = gateway(alloc)?;
-    replay(alloc, reader, out, &mut gateway)?;
+    replay(alloc, reader, out, gateway)?;
+    if audit {
+        tell_tables(alloc, gateway, out)?;
+    }
     Ok(())
 }
 
-/// A replay with the configuration of a file.
-fn replay_file<'a, R: Files, I: Read, W: Write>(
-    rt: &R,
+/// One datagram, answered.
+fn answer_with<I: Read, W: Write>(
     alloc: Global,
-    file: &'a str,
+    gateway: &mut Gateway,
     reader: &mut I,
     out: &mut W,
-) -> Result<(), Fault<'a>>
-    ensures { IfErr result (λ fault. KeepsOut fault (W.contents out.old) (W.contents out.new)) }
+) -> Result<(), Fault<'static>>
+    ensures { IsAnswerJob gateway.old (I.remaining reader.old) (W.contents out.old) (W.contents out.new) result }
 {
-    let mut gateway = gateway_of(rt, alloc, file)?;
-    replay(alloc, reader, out, &mut gateway)?;
+    answer(alloc, reader, out, gateway)?;
     Ok(())
 }
 
 /// Serves a gateway at the address that a text is.
-fn serve_at<R: Net + Wait, W: Write>(
+fn serve_with<R: Net + Wait, W: Write>(
     rt: &R,
     alloc: Global,
     gateway: &mut Gateway,
@@ -58,7 +94,7 @@ fn serve_at<R: Net + Wait, W: Write>(
     bursts: Option<u64>,
     out: &mut W,
 ) -> Result<(), Fault<'static>>
-    ensures { IfErr result (λ fault. KeepsOut fault (W.contents out.old) (W.contents out.new)) }
+    ensures { IsServeJob bursts gateway.old (W.contents out.old) (W.contents out.new) result }
 {
     let Ok(addr) = listen.parse::<SocketAddr>() else {
         return Err(Fault::ServeBind);
@@ -67,19 +103,61 @@ fn serve_at<R: Net + Wait, W: Write>(
     Ok(())
 }
 
-/// Serves the gateway of a file.
-fn serve_file<'a, R: Files + Net + Wait, W: Write>(
+/// A replay with the built-in gateway.
+fn run_built_in<'a, R: Files, I: Read, W: Write>(
+    rt: &R,
+    alloc: Global,
+    reader: &mut I,
+    out: &mut W,
+) -> Result<(), Fault<'a>>
+    ensures { IsJob R.File.Read.remaining Job.BuiltIn (I.remaining reader.old) (W.contents out.old) (W.contents out.new) result }
+{
+    let mut gateway = start(rt, alloc, None)?;
+    replay_with(alloc, &mut gateway, false, reader, out)
+}
+
+/// One datagram, answered by the file's gateway or the built-in one.
+fn run_answer<'a, R: Files, I: Read, W: Write>(
+    rt: &R,
+    alloc: Global,
+    file: Option<&'a str>,
+    reader: &mut I,
+    out: &mut W,
+) -> Result<(), Fault<'a>>
+    ensures { IsJob R.File.Read.remaining (Job.Answer file.entry) (I.remaining reader.old) (W.contents out.old) (W.contents out.new) result }
+{
+    let mut gateway = start(rt, alloc, file)?;
+    answer_with(alloc, &mut gateway, reader, out)
+}
+
+/// A replay with the file's gateway.
+fn run_replay<'a, R: Files, I: Read, W: Write>(
     rt: &R,
     alloc: Global,
     file: &'a str,
-    listen: &str,
+    audit: bool,
+    reader: &mut I,
+    out: &mut W,
+) -> Result<(), Fault<'a>>
+    ensures { IsJob R.File.Read.remaining (Job.Replay file.entry audit) (I.remaining reader.old) (W.contents out.old) (W.contents out.new) result }
+{
+    let mut gateway = start(rt, alloc, Some(file))?;
+    replay_with(alloc, &mut gateway, audit, reader, out)
+}
+
+/// Controllers, served by the file's gateway.
+fn run_serve<'a, R: Files + Net + Wait, W: Write>(
+    rt: &R,
+    alloc: Global,
+    file: &'a str,
+    listen: &'a str,
     bursts: Option<u64>,
     out: &mut W,
 ) -> Result<(), Fault<'a>>
-    ensures { IfErr result (λ fault. KeepsOut fault (W.contents out.old) (W.contents out.new)) }
+    ensures { (input : Option (List ℕ)) → IsJob R.File.Read.remaining (Job.Serve file.entry listen.entry bursts) input (W.contents out.old) (W.contents out.new) result }
 {
-    let mut gateway = gateway_of(rt, alloc, file)?;
-    serve_at(rt, alloc, &mut gateway, listen, bursts, out)
+    let mut gateway = start(rt, alloc, Some(file))?;
+    serve_with(rt, alloc, &mut gateway, listen, bursts, out)
 }
 
 /// Does what the words ask for.
@@ -90,17 +168,18 @@ fn run<'a, R: Files + Net + Wait, I: Read, W: Write>(
     reader: &mut I,
     out: &mut W,
 ) -> Result<(), Fault<'a>>
-    ensures { IfErr result (λ fault. KeepsOut fault (W.contents out.old) (W.contents out.new)) }
+    ensures { IsJob R.File.Read.remaining job.entry (I.remaining reader.old) (W.contents out.old) (W.contents out.new) result }
 {
     match job {
-        Job::BuiltIn => replay_built_in(alloc, reader, out),
+        Job::BuiltIn => run_built_in(rt, alloc, reader, out),
+        Job::Answer { file } => run_answer(rt, alloc, file, reader, out),
         Job::Check { file } => check(rt, alloc, file, out),
-        Job::Replay { file } => replay_file(rt, alloc, file, reader, out),
+        Job::Replay { file, audit } => run_replay(rt, alloc, file, audit, reader, out),
         Job::Serve {
             file,
             listen,
             bursts,
-        } => serve_file(rt, alloc, file, listen, bursts, out),
+        } => run_serve(rt, alloc, file, listen, bursts, out),
     }
 }
 
@@ -111,41 +190,63 @@ fn told<'a, E: Write>(done: Result<(), Fault<'a>>, err: &mut E) -> Ended<'a>
     match done {
         Ok(()) => Ended::Done,
         Err(fault) => {
-            let _ = writeln!(err, "{fault}");
-            Ended::Failed(fault)
+            let is_told = writeln!(err, "{fault}").is_ok();
+            Ended::Failed { fault, is_told }
         }
     }
 }
 
+/// What is said of words that ask for nothing, where their reader says nothing of it.
+const MISTAKE: &str = "error: the words ask for nothing that there is\n";
+
+/// Tells a mistake in the words.
+fn misused<E: Write>(text: &str, err: &mut E) -> Ended<'static>
+    ensures { (is_told : Bool) × (result ≡ Ended.Misused is_told) × OnTrue is_told (Says (E.contents err.old) (E.contents err.new)) }
+{
+    let said = if text.is_empty() { MISTAKE } else { text };
+    let is_told = err.write_all(said.as_bytes()).is_ok();
+    Ended::Misused { is_told }
+}
+
 /// How the program ends on words that ask for no job: help and the version go to `out`, a mistake is told on `err`.
-fn explained<W: Write, E: Write>(error: &Error, out: &mut W, err: &mut E) -> Ended<'static>
-    ensures { IsOutcome result (W.contents out.old) (W.contents out.new) (E.contents err.old) (E.contents err.new) }
+fn explained<W: Write, E: Write>(
+    alloc: Global,
+    error: &Error,
+    out: &mut W,
+    err: &mut E,
+) -> Ended<'static>
+    ensures { IsExplained result (W.contents out.old) (W.contents out.new) (E.contents err.old) (E.contents err.new) }
 {
     if error.kind() == ErrorKind::OutOfMemory {
         return told(Err(Fault::NoMemory), err);
     }
-    if error.use_stderr() {
-        let _ = write!(err, "{error}");
-        return Ended::Misused;
+    if !error.use_stderr() {
+        let _ = write!(out, "{error}");
+        return Ended::Done;
     }
-    let _ = write!(out, "{error}");
-    Ended::Done
+    match format!(in alloc; "{error}") {
+        Ok(text) => misused(text.as_str(), err),
+        Err(_) => told(Err(Fault::NoMemory), err),
+    }
 }
+
+/// What is said of a word that is no text.
+const NO_TEXT: &[u8] = b"error: a word of the command line is not UTF-8\n";
 
 /// How the program ends where the words could not be read: one of them is no text, or memory was refused to them.
 fn refused<E: Write>(error: &io::Error, err: &mut E) -> Ended<'static>
-    ensures { 1 ≤ status_of result }
+    ensures { IsUnreadable (error_kind error.now) (E.contents err.old) (E.contents err.new) result }
 {
     if error.kind() == io::ErrorKind::OutOfMemory {
         return told(Err(Fault::NoMemory), err);
     }
-    let _ = writeln!(err, "error: a word of the command line is not UTF-8");
-    Ended::Misused
+    let is_told = err.write_all(NO_TEXT).is_ok();
+    Ended::Misused { is_told }
 }
 
 /// The exit status where the words could not be read: 1 where memory was refused, else 2, and `err` says why.
 pub fn unreadable_words<E: Write>(error: &io::Error, err: &mut E) -> u8
-    ensures { 1 ≤ result }
+    ensures { (ended : Ending) × (result ≡ status_of ended) × IsUnreadable (error_kind error.now) (E.contents err.old) (E.contents err.new) ended }
 {
     refused(error, err).status()
 }
@@ -159,11 +260,11 @@ fn end_of<'a, R: Files + Net + Wait, S: AsStr, I: Read, W: Write, E: Write>(
     out: &mut W,
     err: &mut E,
 ) -> Ended<'a>
-    ensures { IsOutcome result (W.contents out.old) (W.contents out.new) (E.contents err.old) (E.contents err.new) }
+    ensures { IsEnd R.File.Read.remaining (I.remaining reader.old) (W.contents out.old) (W.contents out.new) (E.contents err.old) (E.contents err.new) result }
 {
     let job = match read_words(alloc, words) {
         Ok(job) => job,
-        Err(error) => return explained(&error, out, err),
+        Err(error) => return explained(alloc, &error, out, err),
     };
     let done = run(rt, alloc, job, reader, out);
     told(done, err)
@@ -179,7 +280,7 @@ pub fn program<R: Files + Net + Wait + AllocGlobal, S: AsStr, I: Read, W: Write,
     out: &mut W,
     err: &mut E,
 ) -> u8
-    ensures { (ended : Ending) × (result ≡ status_of ended) × IsOutcome ended (W.contents out.old) (W.contents out.new) (E.contents err.old) (E.contents err.new) }
+    ensures { (ended : Ending) × (result ≡ status_of ended) × IsEnd R.File.Read.remaining (I.remaining reader.old) (W.contents out.old) (W.contents out.new) (E.contents err.old) (E.contents err.new) ended }
 {
     end_of(rt, rt.alloc(), words, reader, out, err).status()
 }

@@ -7,55 +7,70 @@ ghost use Rattle.gw_program.specs.declared.fault.Fault.TheVariants.{NoMemory as 
 use gw_engine::ConfigFault;
 use gw_front::{ConfigTextFault, ReplayFault, ServeFault};
 use std::alloc::AllocError;
-use thiserror::Error;
+use std::error::Error;
+use std::fmt;
 
 /// Why the program ends with status 1. Each has its line on standard error.
-#[derive(Clone, Copy, Debug, Error)]
+#[derive(Clone, Copy, Debug)]
 pub enum Fault<'a> {
     /// The configuration file of that name cannot be read, or has more than 16,777,216 bytes.
-    #[error("h248gw: cannot read {0}")]
     CannotRead(&'a str),
     /// The first line of the configuration, from 1, that is of no form or repeats a keyword; where a keyword is missing, the number
     /// of lines plus 1.
-    #[error("h248gw: config line {0}")]
     ConfigLine(u32),
     /// A limit of the configuration is not kept.
-    #[error("h248gw: config limit")]
     ConfigLimit,
     /// A termination of the configuration has a reserved name.
-    #[error("h248gw: config reserved name")]
     ConfigReservedName,
     /// A termination of the configuration is named twice.
-    #[error("h248gw: config duplicate name")]
     ConfigDuplicateName,
     /// A header of the replay is of no form, or a datagram has another byte than LF behind it.
-    #[error("h248gw: replay bad header")]
     ReplayBadHeader,
     /// The replay ends within a header or a datagram.
-    #[error("h248gw: replay truncated")]
     ReplayTruncated,
     /// A datagram of the replay has more than 65,507 bytes, or a burst more than 256 datagrams.
-    #[error("h248gw: replay too long")]
     ReplayTooLong,
     /// Standard input could not be read.
-    #[error("h248gw: replay read")]
     ReplayRead,
     /// Standard output could not be written.
-    #[error("h248gw: replay write")]
     ReplayWrite,
     /// The address is none, or cannot be bound.
-    #[error("h248gw: serve bind")]
     ServeBind,
     /// The system refused to wait for datagrams.
-    #[error("h248gw: serve poll")]
     ServePoll,
     /// A datagram could not be received.
-    #[error("h248gw: serve receive")]
     ServeReceive,
     /// A growth was refused.
-    #[error("h248gw: no memory")]
     NoMemory,
 }
+
+impl fmt::Display for Fault<'_> {
+    ghost use Rattle.std.specs.Prelude.{Some};
+    ghost use Rattle.gw_program.specs.Faults.{line_of};
+
+    ghost output = { λ fault. Some (line_of fault) };
+
+    fn fmt<W: fmt::Write>(&self, f: &mut fmt::Formatter<W>) -> fmt::Result {
+        match self {
+            Fault::CannotRead(file) => write!(f, "h248gw: cannot read {file}"),
+            Fault::ConfigLine(number) => write!(f, "h248gw: config line {number}"),
+            Fault::ConfigLimit => f.write_str("h248gw: config limit"),
+            Fault::ConfigReservedName => f.write_str("h248gw: config reserved name"),
+            Fault::ConfigDuplicateName => f.write_str("h248gw: config duplicate name"),
+            Fault::ReplayBadHeader => f.write_str("h248gw: replay bad header"),
+            Fault::ReplayTruncated => f.write_str("h248gw: replay truncated"),
+            Fault::ReplayTooLong => f.write_str("h248gw: replay too long"),
+            Fault::ReplayRead => f.write_str("h248gw: replay read"),
+            Fault::ReplayWrite => f.write_str("h248gw: replay write"),
+            Fault::ServeBind => f.write_str("h248gw: serve bind"),
+            Fault::ServePoll => f.write_str("h248gw: serve poll"),
+            Fault::ServeReceive => f.write_str("h248gw: serve receive"),
+            Fault::NoMemory => f.write_str("h248gw: no memory"),
+        }
+    }
+}
+
+impl Error for Fault<'_> {}
 
 impl<'a> From<AllocError> for Fault<'a> {
     ghost from_gives = { λ _ fault. fault ≡ OutOfMemory };

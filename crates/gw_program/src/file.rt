@@ -1,6 +1,7 @@
 //! Reading a configuration file into a gateway.
 
-ghost use Rattle.std.specs.Prelude.{◌≤◌, length, IfOk};
+ghost use Rattle.std.specs.Prelude.{◌≡◌, ◌≤◌, length, take, IfOk, IfErr, IfSome};
+ghost use Rattle.gw_program.specs.Jobs.{IsTextOf, IsConfigIn, IsGatewayIn, IsUnread};
 
 use crate::fault::Fault;
 use gw_engine::Gateway;
@@ -14,7 +15,9 @@ use std::rt::Files;
 const LONGEST_TEXT: usize = 16_777_216;
 
 /// What a file holds, or one byte more than a configuration may have, which tells that there is more.
-fn bytes_of<R: Files>(rt: &R, alloc: Global, path: &str) -> io::Result<Vec<u8>> {
+fn bytes_of<R: Files>(rt: &R, alloc: Global, path: &str) -> io::Result<Vec<u8>>
+    ensures { IfOk result (λ text. (file : R.File) × IfSome (R.File.Read.remaining file) (λ bytes. text.items ≡ take 16777217 bytes)) }
+{
     let mut text = Vec::new(alloc);
     let limit = LONGEST_TEXT as u64 + 1;
     File::open(rt, path)?.take(limit).read_to_end(&mut text)?;
@@ -23,7 +26,9 @@ fn bytes_of<R: Files>(rt: &R, alloc: Global, path: &str) -> io::Result<Vec<u8>> 
 
 /// The text of a configuration file.
 fn text_of<'a, R: Files>(rt: &R, alloc: Global, path: &'a str) -> Result<Vec<u8>, Fault<'a>>
-    ensures { IfOk result (λ text. length text.items ≤ 16777216) }
+    ensures short { IfOk result (λ text. length text.items ≤ 16777216) }
+    ensures held { IfOk result (λ text. IsTextOf R.File.Read.remaining text.items) }
+    ensures fault { IfErr result (IsUnread path.now) }
 {
     match bytes_of(rt, alloc, path) {
         Ok(text) if text.len() <= LONGEST_TEXT => Ok(text),
@@ -41,7 +46,9 @@ pub(crate) fn config_of<'a, R: Files>(
     rt: &R,
     alloc: Global,
     path: &'a str,
-) -> Result<Config, Fault<'a>> {
+) -> Result<Config, Fault<'a>>
+    ensures { IsConfigIn R.File.Read.remaining path.now result }
+{
     let text = text_of(rt, alloc, path)?;
     Ok(read_config(alloc, text.as_slice())?)
 }
@@ -55,7 +62,9 @@ pub(crate) fn gateway_of<'a, R: Files>(
     rt: &R,
     alloc: Global,
     path: &'a str,
-) -> Result<Gateway, Fault<'a>> {
+) -> Result<Gateway, Fault<'a>>
+    ensures { IsGatewayIn R.File.Read.remaining path.now result }
+{
     let config = config_of(rt, alloc, path)?;
     Ok(Gateway::new(alloc, config)?)
 }

@@ -9,6 +9,7 @@ mod fault;
 mod file;
 mod gateway;
 
+pub use command_line::Job;
 pub use ended::Ended;
 pub use entry::{program, unreadable_words};
 pub use fault::Fault;

@@ -1,8 +1,9 @@
 //! The program by its words: what each command writes and which status it ends with.
 
+use crate::places::{file_of, new_file};
 use crate::runs::{CONFIGURATION, Run};
 use gw_program::program;
-use std::fs::{self, File, OpenFile};
+use std::fs::{self, OpenFile};
 use std::io::{self, Error, ErrorKind, Write};
 use std::net::Net;
 use std::rt::Files;
@@ -13,8 +14,8 @@ use tests_wanted::{is_so, is_text};
 /// What `check` says of the configuration.
 const CHECKED: &[u8] = b"ok terms=4 contexts=8 slots=4 members=3 keep=4\n";
 
-/// A file that is not there.
-const MISSING: &str = "/tmp/h248gw-missing.conf";
+/// A file that is not there, since its folder is none.
+const MISSING: &str = "/dev/null/missing.conf";
 
 /// A writer that fails.
 #[derive(Drop)]
@@ -36,30 +37,31 @@ fn fails_on<R: Files + Net + Wait + AllocGlobal>(
     rest: &str,
     line: &[u8],
 ) -> Result<(), Fail> {
-    let file = "/tmp/h248gw-fault.conf";
     let text = format!(in rt.alloc(); "mid [10.0.0.1]:2944\nmedia 10.0.0.1\n{rest}")?;
-    fs::write(rt, file, text)?;
+    let file = file_of(rt, text.as_str())?;
     Run::of(rt, &["check", file]).fails(line)?;
     Run::of(rt, &["serve", file, "--listen", "x"]).fails(line)?;
     Ok(fs::remove_file(rt, file)?)
 }
 
-/// The program fails so on a file of so many bytes.
+/// The program fails so on a file of so many bytes: the line, and the file's name behind it where that is told.
 fn fails_at<R: Files + Net + Wait + AllocGlobal>(
     rt: &R,
     length: u64,
-    line: &[u8],
+    line: &str,
+    is_named: bool,
 ) -> Result<(), Fail> {
-    let file = "/tmp/h248gw-long.conf";
-    File::create(rt, file)?.set_len(length)?;
-    Run::of(rt, &["check", file]).fails(line)?;
-    Ok(fs::remove_file(rt, file)?)
+    let (name, file) = new_file(rt)?;
+    file.set_len(length)?;
+    let told = if is_named { name } else { "" };
+    let line = format!(in rt.alloc(); "{line}{told}\n")?;
+    Run::of(rt, &["check", name]).fails(line.as_bytes())?;
+    Ok(fs::remove_file(rt, name)?)
 }
 
 #[test]
 fn a_configuration_is_checked(rt: HostRuntime) -> Result<(), Fail> {
-    let file = "/tmp/h248gw-checked.conf";
-    fs::write(&rt, file, CONFIGURATION)?;
+    let file = file_of(&rt, CONFIGURATION)?;
     is_so(
         Run::of(&rt, &["check", file]).is_done(CHECKED),
         "the numbers",
@@ -91,7 +93,7 @@ fn words_and_their_statuses(rt: HostRuntime) -> Result<(), Fail> {
     for (words, part) in misused {
         Run::of(&rt, words).is_misused(part)?;
     }
-    Run::of(&rt, &["check", MISSING]).fails(b"h248gw: cannot read /tmp/h248gw-missing.conf\n")
+    Run::of(&rt, &["check", MISSING]).fails(b"h248gw: cannot read /dev/null/missing.conf\n")
 }
 
 #[test]
@@ -116,11 +118,7 @@ fn a_configuration_with_a_fault(rt: HostRuntime) -> Result<(), Fail> {
 
 #[test]
 fn a_file_that_is_too_long_or_no_file(rt: HostRuntime) -> Result<(), Fail> {
-    fails_at(&rt, 16_777_216, b"h248gw: config line 1\n")?;
-    fails_at(
-        &rt,
-        16_777_217,
-        b"h248gw: cannot read /tmp/h248gw-long.conf\n",
-    )?;
+    fails_at(&rt, 16_777_216, "h248gw: config line 1", false)?;
+    fails_at(&rt, 16_777_217, "h248gw: cannot read ", true)?;
     Run::of(&rt, &["check", "/tmp"]).fails(b"h248gw: cannot read /tmp\n")
 }

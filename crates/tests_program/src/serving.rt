@@ -1,63 +1,185 @@
-//! Serving over the loopback.
+//! Serving over the loopback. What is to wait when the gateway first looks is sent from within the line `listening`, which it writes
+//! once it is bound: so each burst is what a test says, without a thread.
 
+use crate::places::{file_of, free_address};
 use crate::runs::{CONFIGURATION, Run};
-use std::net::{Ipv4Addr, Net, SocketAddr, UdpSocket};
+use gw_program::program;
+use std::alloc::Global;
+use std::fs;
+use std::io::{self, Write};
+use std::net::{IpAddr, Ipv4Addr, Ipv6Addr, Net, SocketAddr, UdpSocket};
+use std::rt::Files;
+use std::sync::Wait;
 use std::test::Fail;
 use std::time::Duration;
-use std::{fs, thread};
-use tests_wanted::is_so;
+use tests_wanted::{is_so, is_text};
 
 /// A transaction, and its answer.
 const ASKED: &[u8] = b"MEGACO/1 [10.0.0.9]:2944 Transaction=1{Context=${Add=T/1,Add=$}}";
 
 const ANSWERED: &[u8] = b"MEGACO/1 [10.0.0.1]:2944\nReply=1{Context=1{Add=T/1,Add=RTP/0}}";
 
+/// Another, of another controller.
+const OTHER: &[u8] = b"MEGACO/1 [10.0.0.8]:2944 Transaction=2{Context=${Add=T/2}}";
+
+const OTHER_ANSWERED: &[u8] = b"MEGACO/1 [10.0.0.1]:2944\nReply=2{Context=2{Add=T/2}}";
+
+/// The answer to what is no message.
+const NO_MESSAGE: &[u8] = b"MEGACO/1 [10.0.0.1]:2944\nError=400{\"Syntax error in message\"}";
+
 /// What the program says once it serves.
 const SERVING: &[u8] = b"listening\n";
 
-/// How often it is asked.
-const MOST_TURNS: u32 = 1_000_000;
+/// A datagram, and the socket that sends it.
+#[derive(Clone, Copy)]
+struct Sent<'a> {
+    from: &'a UdpSocket,
+    bytes: &'a [u8],
+}
 
-/// Whether the server answers the transaction as it should.
-fn is_answered(client: &UdpSocket, server: SocketAddr) -> bool {
-    let mut buffer = [0u8; 1024];
-    for _ in 0..MOST_TURNS {
-        let _ = client.send_to(ASKED, server);
-        if let Ok((count, from)) = client.recv_from(&mut buffer) {
-            return from == server && &buffer[..count] == ANSWERED;
+/// An output that sends datagrams to the server when it is first written to.
+#[derive(Drop)]
+struct Starter<'a> {
+    server: SocketAddr,
+    sent: &'a [Sent<'a>],
+    told: Vec<u8>,
+}
+
+impl Write for Starter<'_> {
+    fn write(&mut self, buf: &[u8]) -> io::Result<usize> {
+        if self.told.is_empty() {
+            for sent in self.sent {
+                sent.from.send_to(sent.bytes, self.server)?;
+            }
         }
+        self.told.extend_from_slice(buf)?;
+        Ok(buf.len())
     }
-    false
+
+    fn flush(&mut self) -> io::Result<()> {
+        Ok(())
+    }
+}
+
+/// Serves one burst of datagrams, which wait when it begins, and says this.
+fn serves<R: Files + Net + Wait + AllocGlobal>(
+    rt: &R,
+    is_ipv6: bool,
+    sent: &[Sent<'_>],
+    said: &[u8],
+) -> Result<(), Fail> {
+    let file = file_of(rt, CONFIGURATION)?;
+    let (listen, server) = free_address(rt, is_ipv6)?;
+    let words: [&str; 6] = ["serve", file, "--listen", listen, "--bursts", "1"];
+    let mut out = Starter {
+        server,
+        sent,
+        told: Vec::new(rt.alloc()),
+    };
+    let (mut input, mut err) = (b"".as_slice(), Vec::new(rt.alloc()));
+    let status = program(rt, words.as_slice(), &mut input, &mut out, &mut err);
+    is_so(status == 0 && err.is_empty(), "a run that is done")?;
+    is_text(out.told.as_slice(), said)?;
+    Ok(fs::remove_file(rt, file)?)
+}
+
+/// A socket of the loopback.
+fn client(rt: &impl Net, host: IpAddr) -> Result<UdpSocket, Fail> {
+    let client = rt.bind_udp(SocketAddr::from((host, 0)))?;
+    client.set_read_timeout(Some(Duration::from_millis(20)))?;
+    Ok(client)
+}
+
+/// The answers that wait at a socket are so many, each of them this.
+fn has_answers(client: &UdpSocket, count: u32, answer: &[u8]) -> Result<(), Fail> {
+    let mut buffer = [0u8; 1024];
+    for _ in 0..count {
+        let (length, _) = client.recv_from(&mut buffer)?;
+        is_text(&buffer[..length], answer)?;
+    }
+    is_so(client.recv_from(&mut buffer).is_err(), "no more answers")
+}
+
+/// A datagram of so many bytes, white space behind the text.
+fn padded(alloc: Global, text: &[u8], length: usize) -> Result<Vec<u8>, Fail> {
+    let mut bytes = Vec::with_capacity(alloc, length)?;
+    bytes.extend_from_slice(text)?;
+    bytes.resize(length, b' ')?;
+    Ok(bytes)
+}
+
+const IPV4: IpAddr = IpAddr::V4(Ipv4Addr::LOCALHOST);
+
+const IPV6: IpAddr = IpAddr::V6(Ipv6Addr::LOCALHOST);
+
+#[test]
+fn two_senders_in_one_burst(rt: HostRuntime) -> Result<(), Fail> {
+    let (one, other) = (client(&rt, IPV4)?, client(&rt, IPV4)?);
+    let sent = [
+        Sent {
+            from: &one,
+            bytes: ASKED,
+        },
+        Sent {
+            from: &other,
+            bytes: OTHER,
+        },
+    ];
+    serves(&rt, false, &sent, SERVING)?;
+    has_answers(&one, 1, ANSWERED)?;
+    has_answers(&other, 1, OTHER_ANSWERED)
 }
 
 #[test]
-fn a_datagram_over_the_loopback(rt: HostRuntime) -> Result<(), Fail> {
-    let file = "/tmp/h248gw-loopback.conf";
-    fs::write(&rt, file, CONFIGURATION)?;
-    let server = SocketAddr::from((Ipv4Addr::LOCALHOST, 29_440));
-    let client = rt.bind_udp(SocketAddr::from((Ipv4Addr::LOCALHOST, 0)))?;
-    client.set_read_timeout(Some(Duration::from_millis(20)))?;
-    let is_right = thread::scope(thread::scope_env(), &rt, |scope| {
-        let serving = scope.spawn(move || {
-            let listen = "127.0.0.1:29440";
-            Run::of(&rt, &["serve", file, "--listen", listen, "--bursts", "1"]).is_done(SERVING)
-        });
-        let is_answered = is_answered(&client, server);
-        match serving {
-            Ok(serving) => serving.join(&rt) && is_answered,
-            Err(_) => false,
-        }
-    });
-    is_so(is_right, "the answer, and a run that is done")?;
-    Ok(fs::remove_file(&rt, file)?)
+fn datagrams_of_every_length(rt: HostRuntime) -> Result<(), Fail> {
+    let (none, some, all) = (client(&rt, IPV4)?, client(&rt, IPV4)?, client(&rt, IPV4)?);
+    let longer = padded(rt.alloc(), ASKED, 1_473)?;
+    let longest = padded(rt.alloc(), OTHER, 65_507)?;
+    let sent = [
+        Sent {
+            from: &none,
+            bytes: b"",
+        },
+        Sent {
+            from: &some,
+            bytes: longer.as_slice(),
+        },
+        Sent {
+            from: &all,
+            bytes: longest.as_slice(),
+        },
+    ];
+    serves(&rt, false, &sent, SERVING)?;
+    has_answers(&none, 1, NO_MESSAGE)?;
+    has_answers(&some, 1, ANSWERED)?;
+    has_answers(&all, 1, OTHER_ANSWERED)
+}
+
+#[test]
+fn a_datagram_that_is_too_long(rt: HostRuntime) -> Result<(), Fail> {
+    let (long, good) = (client(&rt, IPV6)?, client(&rt, IPV6)?);
+    let bytes = padded(rt.alloc(), ASKED, 65_508)?;
+    let sent = [
+        Sent {
+            from: &long,
+            bytes: bytes.as_slice(),
+        },
+        Sent {
+            from: &good,
+            bytes: ASKED,
+        },
+    ];
+    let said = b"listening\ndropped 1 datagrams: too long\n";
+    serves(&rt, true, &sent, said)?;
+    has_answers(&long, 0, b"")?;
+    has_answers(&good, 1, ANSWERED)
 }
 
 #[test]
 fn an_address_that_cannot_be_bound(rt: HostRuntime) -> Result<(), Fail> {
-    let file = "/tmp/h248gw-bound.conf";
-    fs::write(&rt, file, CONFIGURATION)?;
-    let taken = rt.bind_udp(SocketAddr::from((Ipv4Addr::LOCALHOST, 29_441)))?;
-    let own = "127.0.0.1:29441";
+    let file = file_of(&rt, CONFIGURATION)?;
+    let (own, address) = free_address(&rt, false)?;
+    let taken = rt.bind_udp(address)?;
     for listen in [own, "127.0.0.1", "localhost:2944", "10.0.0.1:2944 ", ""] {
         Run::of(&rt, &["serve", file, "--listen", listen]).fails(b"h248gw: serve bind\n")?;
     }
