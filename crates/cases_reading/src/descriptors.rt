@@ -6,7 +6,7 @@ use gw_desc::{
     Descriptor, KeptKind, MediaPart, Property, ServiceParm, ServiceValue, Sign, StreamPart, Tail,
 };
 use gw_text::Cursor;
-use gw_text::parts::Part;
+use gw_text::parts::Parse;
 
 fn write_property(out: &mut Page, property: &Property<Span<'_>>) {
     out.put(b"(");

@@ -80,7 +80,10 @@ impl<'a> Parse<'a> for Span<'a> {
 /// # Errors
 ///
 /// `Syntax` where there are none; `NoMemory` where a growth was refused.
-pub fn list<'a, T: Parse<'a>>(alloc: Global, cursor: &mut Cursor<'a>) -> Result<Items<T>, ParseFault>
+pub fn list<'a, T: Parse<'a>>(
+    alloc: Global,
+    cursor: &mut Cursor<'a>,
+) -> Result<Items<T>, ParseFault>
     requires { Shrinks T.read_at }
     ensures { Gives result cursor.new (list_at T.read_at cursor.old) }
 {
@@ -169,7 +172,10 @@ pub fn braced_or_empty<'a, T: Parse<'a>>(
 /// # Errors
 ///
 /// `Syntax` where anything else stands there; `NoMemory` where a growth was refused.
-pub fn items<'a, T: Parse<'a>>(alloc: Global, cursor: &mut Cursor<'a>) -> Result<Items<T>, ParseFault>
+pub fn items<'a, T: Parse<'a>>(
+    alloc: Global,
+    cursor: &mut Cursor<'a>,
+) -> Result<Items<T>, ParseFault>
     requires { ShrinksMore T.read_at }
     ensures { Gives result cursor.new (items_at T.read_at cursor.old) }
 {
