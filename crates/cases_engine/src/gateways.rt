@@ -84,6 +84,20 @@ fn write_audit(gateway: &Gateway, out: &mut Page) {
     }
 }
 
+/// How many bytes the tables have, and how many lines.
+fn write_audit_size(gateway: &Gateway, out: &mut Page) {
+    match gateway.audit_tables(out.alloc()) {
+        Ok(text) => {
+            let lines = text.as_slice().iter().filter(|b| **b == b'\n').count();
+            out.number(text.len() as u64);
+            out.put(b" bytes in ");
+            out.number(lines as u64);
+            out.put(b" lines");
+        }
+        Err(fault) => out.shown(&fault),
+    }
+}
+
 impl Gateways {
     /// No gateway yet.
     pub fn new(alloc: Global) -> Gateways {
@@ -130,6 +144,7 @@ impl Gateways {
             "last" => write_run(gateway, &mut self.burst, false, out),
             "nothing" => write_nothing(gateway, out),
             "audit" => write_audit(gateway, out),
+            "audit-size" => write_audit_size(gateway, out),
             _ => return Err(CaseFault::Call),
         }
         Ok(())

@@ -43,11 +43,6 @@ impl Run {
         Run { status, out, err }
     }
 
-    /// Whether it ended so, with this text on standard output and nothing on standard error.
-    pub(crate) fn is_done(self, out: &[u8]) -> bool {
-        self.status == 0 && self.out.as_slice() == out && self.err.is_empty()
-    }
-
     /// It ended with status 0, and said this among more.
     pub(crate) fn explains(self, part: &[u8]) -> Result<(), Fail> {
         is_so(self.status == 0 && self.err.is_empty(), "an explanation")?;
