@@ -84,14 +84,24 @@ fn write_audit(gateway: &Gateway, out: &mut Page) {
     }
 }
 
+/// How many lines a text has.
+fn lines_of(text: &[u8]) -> u64 {
+    let mut lines = 0u64;
+    for byte in text {
+        if *byte == b'\n' {
+            lines = lines.saturating_add(1);
+        }
+    }
+    lines
+}
+
 /// How many bytes the tables have, and how many lines.
 fn write_audit_size(gateway: &Gateway, out: &mut Page) {
     match gateway.audit_tables(out.alloc()) {
         Ok(text) => {
-            let lines = text.as_slice().iter().filter(|b| **b == b'\n').count();
             out.number(text.len() as u64);
             out.put(b" bytes in ");
-            out.number(lines as u64);
+            out.number(lines_of(text.as_slice()));
             out.put(b" lines");
         }
         Err(fault) => out.shown(&fault),

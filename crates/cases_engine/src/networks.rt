@@ -25,7 +25,10 @@ fn write_ended(out: &mut Page, ended: Result<(), ServeFault>) {
 
 /// A sender by his number.
 fn sender_of(word: &[u8]) -> Result<u16, CaseFault> {
-    as_text(word).parse().map_err(|_| CaseFault::Form)
+    match as_text(word).parse() {
+        Ok(sender) => Ok(sender),
+        Err(_) => Err(CaseFault::Form),
+    }
 }
 
 /// The gateway of cases.
