@@ -2,6 +2,7 @@ pub mod Folding
 pub mod Frames
 pub mod Growth
 pub mod InPlace
+pub mod Localities
 pub mod Lookups
 pub mod PartLookups
 pub mod Provisioning

@@ -1,5 +1,6 @@
 pub mod Accesses
 pub mod Folds
+pub mod Locality
 pub mod Maps
 pub mod Members
 pub mod Parts
