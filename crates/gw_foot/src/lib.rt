@@ -1,0 +1,10 @@
+//! Which entries of the tables a request may touch, and what follows for requests that are carried out side by side.
+#![tactic(auto)]
+
+mod laws;
+
+pub use laws::{
+    a_part_with_its_footprint_covers_a_request, footprints_are_the_same_while_others_are_out,
+    keys_after_another, keys_that_do_not_meet_are_apart, requests_keep_to_their_keys,
+    requests_on_other_keys_change_places, requests_own_what_is_unused,
+};
