@@ -1,2 +1,10 @@
+pub mod AfterAnother
 pub mod Gathering
+pub mod InTurn
+pub mod Meetings
 pub mod Merging
+pub mod RequestAccesses
+pub mod Staying
+pub mod WholeKeys
+pub mod WithOthers
+pub mod WithinKeys

@@ -25,7 +25,7 @@ use Rattle.gw_reserve.specs.Owned.{OwnedAction, first_owned, later_owned, slots_
 use Rattle.gw_tx.specs.Transactions.{actions, paired_transaction, transaction}
 use Rattle.gw_tx.proofs.Entries.{number_entries, all_entries, all_behind, paired_all, front_of_all}
 use Rattle.gw_tx.proofs.Facts.{Any, IsNamedOtherThan, MakesOther, commands_keep_whole, commands_keep_free, commands_keep_number}
-use Rattle.gw_tx.proofs.FreeSlots.{IsOfKind, AnySlot, kind_first, kind_later}
+use Rattle.gw_tx.proofs.FreeSlots.{IsOfKind, kind_first, kind_later}
 use Rattle.gw_tx.proofs.Kept.{CommandsKeep, Oks, OksIn, AllOks, kept_actions}
 
 -- ---- of a list of unused slots, its front and its end
