@@ -4,7 +4,7 @@
 mod asked;
 mod gather;
 mod laws;
-mod meetings;
+mod merge;
 mod requests;
 
 pub use laws::{
@@ -12,5 +12,5 @@ pub use laws::{
     keys_after_another, keys_that_do_not_meet_are_apart, requests_keep_to_their_keys,
     requests_on_other_keys_change_places, requests_own_what_is_unused,
 };
-pub use meetings::meets;
+pub use merge::meets;
 pub use requests::footprint;

@@ -2,7 +2,7 @@ use Rattle.std.proofs.Common.{refl, sym, ap, ◌∙◌, arith}
 use Rattle.std.specs.Ordering.{ordering_reverse}
 use Rattle.gw_table.proofs.KeyOrder.{key_total}
 use Rattle.gw_foot.proofs.Merging.{left_less, left_greater, left_equal, left_empty, right_empty}
-use Rattle.gw_foot.proofs.meetings.share_a_key.Goals as goal
+use Rattle.gw_foot.proofs.merge.share_a_key.Goals as goal
 
 pub loop-left-init : goal.loop-left-init
 loop-left-init c = record { left_order = c.requires.b; right_order = c.requires.a; same = refl }
