@@ -1,8 +1,10 @@
 pub mod AfterAnother
 pub mod InTurn
 pub mod Meetings
+pub mod OutAndBack
 pub mod RequestAccesses
 pub mod Staying
+pub mod StillUnused
 pub mod WholeKeys
 pub mod WithinKeys
 pub mod WithOthers
