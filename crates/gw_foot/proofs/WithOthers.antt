@@ -1,23 +1,21 @@
 -- Requests on their keys alone, and beside others.
-use Rattle.std.proofs.Common.{◌≡◌, ℕ, Bool, true, false, cond, List, [], ◌++◌, Option, None, get_or, refl, sym, subst, ◌∙◌, arith}
+use Rattle.std.proofs.Common.{◌≡◌, true, List, [], ◌++◌, refl, sym, subst, ◌∙◌}
 use Rattle.gw_base.specs.declared.command_words.Rules.{Rules}
 use Rattle.gw_base.specs.declared.key.Key.{Key}
-use Rattle.gw_base.specs.declared.key.Key.TheVariants.{Term, Whole}
+use Rattle.gw_base.specs.declared.key.Key.TheVariants.{Whole}
 use Rattle.gw_base.specs.Keys.{has, same_key, Among, AreApart}
 use Rattle.gw_base.proofs.KeyTests.{any-append_cases, any-append_left, any-append_right}
 use Rattle.gw_base.proofs.NamesInLists.{either}
 use Rattle.gw_msg.specs.declared.message.Request.{Request}
-use Rattle.gw_term.specs.declared.record.Termination.{Termination}
 use Rattle.gw_table.specs.Accesses.{Within}
 use Rattle.gw_table.specs.Locality.{KeepsTo, ChangePlaces}
-use Rattle.gw_table.specs.Maps.{Maps, term}
-use Rattle.gw_table.specs.Parts.{Every, Only, IsPart, Holds, restricted, cut}
-use Rattle.gw_table.specs.Reserved.{slot_name}
+use Rattle.gw_table.specs.Maps.{Maps}
+use Rattle.gw_table.specs.Parts.{Every, Only, IsPart, Holds, restricted, cut, overlaid}
 use Rattle.gw_table.specs.Unused.{owned, AreUnused}
 use Rattle.gw_table.specs.WellFormed.{IsSound, AreWellFormed}
-use Rattle.gw_table.proofs.Frames.{Apart, agree-apart}
-use Rattle.gw_table.proofs.Localities.{keeps_to, change_places, part_more, part_grows, agree_cut}
-use Rattle.gw_table.proofs.PartLookups.{term-restricted, sound_restricted, part_restricted}
+use Rattle.gw_table.proofs.Frames.{Apart, agree-apart, within_more}
+use Rattle.gw_table.proofs.Localities.{keeps_to, change_places, part_more, part_is_all, part_grows, agree_cut}
+use Rattle.gw_table.proofs.PartLookups.{sound_restricted, part_restricted}
 use Rattle.gw_reserve.specs.declared.owned.Owned.{Owned}
 use Rattle.gw_reserve.specs.Ids.{Ids}
 use Rattle.gw_reserve.specs.Owned.{OwnedAction, AreFreeSlots, with_ids, paired, paired_actions}
@@ -26,6 +24,7 @@ use Rattle.gw_tx.specs.Transactions.{paired_transaction, transaction}
 use Rattle.gw_tx.proofs.Entries.{number_entries, all_entries, all_behind, paired_all, front_of_all}
 use Rattle.gw_tx.proofs.Unowned.{front_unused}
 use Rattle.gw_foot.specs.OwnsUnused.{OwnsUnused}
+use Rattle.gw_foot.proofs.OutAndBack.{laid_beside}
 use Rattle.gw_foot.specs.PartOf.{part_of}
 use Rattle.gw_foot.proofs.AfterAnother.{held_after, footprint_same}
 use Rattle.gw_foot.proofs.RequestAccesses.{of_request, effect-of_request}
@@ -59,19 +58,6 @@ part_covers keys owners m s h = record {
   held = held_after keys owners m (restricted keys m) h (λ _. part_restricted keys m) (part_grows keys m);
 }
 
-pub part_unused : (keys : List Key) (slots : List (Option ℕ)) (m : Maps) → AreFreeSlots m slots → AreFreeSlots (restricted keys m) slots
-part_unused keys slots m u = record {
-  numbers_apart = u.numbers_apart;
-  no_contexts = λ k d h. absurd (omega arith);
-  slots_apart = u.slots_apart;
-  no_terminations = λ k d h. let q : List ℕ = slot_name (get_or (owned slots) k d) in term-restricted keys m q ∙ none (has keys (Term q)) (term m q) (u.no_terminations k d h);
-  slots_small = u.slots_small;
-}
-  where
-    none : (b : Bool) (o : Option Termination) → o ≡ None → cond b o None ≡ None
-    none true o e = e
-    none false o e = refl
-
 -- ---- one request
 
 module _ (rules : Rules) (r : Request) (owners : List OwnedAction) (m : Maps) (w : AreWellFormed rules.members m) (o : OwnsUnused m r owners) where
@@ -89,6 +75,17 @@ module _ (rules : Rules) (r : Request) (owners : List OwnedAction) (m : Maps) (w
 
   pub request_keeps : KeepsTo (footprint_of owners m) (paired_transaction rules r owners) m
   request_keeps = keeps_to (footprint_of owners m) (of_request rules r owners) (paired_transaction rules r owners) m (effect-of_request rules r owners) within_footprint (lists owners m)
+
+  -- keys that hold its footprint, and have the whole where that has it
+  module _ (keys : List Key) (h : Among (footprint_of owners m) keys) (same : has keys Whole ≡ true → has (footprint_of owners m) Whole ≡ true) where
+    pub holding_keeps : KeepsTo keys (paired_transaction rules r owners) m
+    holding_keeps =
+        keeps_to keys (of_request rules r owners) (paired_transaction rules r owners) m (effect-of_request rules r owners)
+        (within_more (footprint_of owners m) keys (of_request rules r owners) m h within_footprint)
+        (λ all. part_is_all keys m (part_more (footprint_of owners m) keys m h (whole_part owners m (same all))))
+
+    pub put_back_after : overlaid keys (paired_transaction rules r owners (restricted keys m)).maps (cut keys m) ≡ (paired_transaction rules r owners m).maps
+    put_back_after = laid_beside keys (paired_transaction rules r owners (restricted keys m)).maps m ∙ holding_keeps.maps
 
   pub request_whole : AreWellFormed rules.members (paired_transaction rules r owners m).maps
   request_whole = (stays (footprint_of owners m) (whole_part owners m) (λ k h. h)).whole

@@ -90,7 +90,7 @@ any_in : (ps : List (Option ℕ × Command)) (at : At) → Oks Any at ps
 any_in [] at = tt
 any_in (p ∷ ps) at = (tt, any_in ps at)
 
-any_of : (actions : List OwnedAction) → AllOks Any actions
+pub any_of : (actions : List OwnedAction) → AllOks Any actions
 any_of [] = tt
 any_of (a ∷ more) = (by a.sent.ctx a.number, any_of more)
   where

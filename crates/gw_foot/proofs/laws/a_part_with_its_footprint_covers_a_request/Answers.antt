@@ -1,4 +1,5 @@
-use Rattle.gw_foot.proofs.WithOthers.{part_covers, part_unused}
+use Rattle.gw_foot.proofs.OutAndBack.{part_unused}
+use Rattle.gw_foot.proofs.WithOthers.{part_covers}
 use Rattle.gw_foot.proofs.laws.a_part_with_its_footprint_covers_a_request.Goals as goal
 
 pub returns-clause-covers : goal.returns-clause-covers
