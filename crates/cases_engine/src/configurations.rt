@@ -1,5 +1,6 @@
 //! Configurations: texts, and the configuration or the line that each is answered with.
 
+use crate::repeats::repeated;
 use cases_text::{CaseFault, Page, decoded};
 use gw_base::Config;
 use gw_front::{ConfigTextFault, read_config};
@@ -40,9 +41,15 @@ fn write_read(out: &mut Page, text: &[u8]) -> Result<(), CaseFault> {
 
 /// The answer to a case of configurations.
 pub fn answer(call: &str, asked: &[u8], out: &mut Page) -> Result<(), CaseFault> {
-    if call != "text" {
-        return Err(CaseFault::Call);
+    match call {
+        "text" => {
+            let text = decoded(out.alloc(), asked)?;
+            write_read(out, text.as_slice())
+        }
+        "times" => {
+            let text = repeated(out.alloc(), asked)?;
+            write_read(out, text.whole()?)
+        }
+        _ => Err(CaseFault::Call),
     }
-    let text = decoded(out.alloc(), asked)?;
-    write_read(out, text.as_slice())
 }

@@ -84,6 +84,30 @@ fn write_audit(gateway: &Gateway, out: &mut Page) {
     }
 }
 
+/// How many lines a text has.
+fn lines_of(text: &[u8]) -> u64 {
+    let mut lines = 0u64;
+    for byte in text {
+        if *byte == b'\n' {
+            lines = lines.saturating_add(1);
+        }
+    }
+    lines
+}
+
+/// How many bytes the tables have, and how many lines.
+fn write_audit_size(gateway: &Gateway, out: &mut Page) {
+    match gateway.audit_tables(out.alloc()) {
+        Ok(text) => {
+            out.number(text.len() as u64);
+            out.put(b" bytes in ");
+            out.number(lines_of(text.as_slice()));
+            out.put(b" lines");
+        }
+        Err(fault) => out.shown(&fault),
+    }
+}
+
 impl Gateways {
     /// No gateway yet.
     pub fn new(alloc: Global) -> Gateways {
@@ -130,6 +154,7 @@ impl Gateways {
             "last" => write_run(gateway, &mut self.burst, false, out),
             "nothing" => write_nothing(gateway, out),
             "audit" => write_audit(gateway, out),
+            "audit-size" => write_audit_size(gateway, out),
             _ => return Err(CaseFault::Call),
         }
         Ok(())

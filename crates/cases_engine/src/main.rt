@@ -1,16 +1,27 @@
-//! Cases of the engine, a subject behind another: gateways, configurations and replays.
+//! Cases of the engine and of what stands above it, a subject behind another: gateways, configurations, replays, networks and runs
+//! of the program.
 #![tactic(auto)]
 
 mod answers;
 mod bursts;
 mod configurations;
 mod gateways;
+mod line;
+mod networks;
 mod pieces;
+mod programs;
+mod repeats;
 mod replays;
+mod streams;
 
 use cases_text::{CaseFault, Desk, Page, as_text, transcript};
 use gateways::Gateways;
+use networks::Networks;
+use programs::Programs;
 use std::io;
+use std::net::Net;
+use std::rt::Files;
+use std::sync::Wait;
 
 /// What cases are about.
 #[derive(Clone, Copy)]
@@ -18,13 +29,17 @@ enum Subject {
     Gateways,
     Configurations,
     Replays,
+    Networks,
+    Programs,
 }
 
 /// Answers cases of each subject, which a line `subject ..` names.
 #[derive(Drop)]
-struct Cases {
+struct Cases<'r, R> {
     subject: Subject,
     gateways: Gateways,
+    networks: Networks<'r, R>,
+    programs: Programs<'r, R>,
 }
 
 fn subject_of(word: &[u8]) -> Result<Subject, CaseFault> {
@@ -32,11 +47,13 @@ fn subject_of(word: &[u8]) -> Result<Subject, CaseFault> {
         "gateways" => Ok(Subject::Gateways),
         "configurations" => Ok(Subject::Configurations),
         "replays" => Ok(Subject::Replays),
+        "networks" => Ok(Subject::Networks),
+        "programs" => Ok(Subject::Programs),
         _ => Err(CaseFault::Form),
     }
 }
 
-impl Desk for Cases {
+impl<R: Files + Net + Wait + AllocGlobal> Desk for Cases<'_, R> {
     fn answer(&mut self, call: &str, asked: &[u8], out: &mut Page) -> Result<(), CaseFault> {
         if call == "subject" {
             self.subject = subject_of(asked)?;
@@ -46,6 +63,8 @@ impl Desk for Cases {
             Subject::Gateways => self.gateways.answer(call, asked, out),
             Subject::Configurations => configurations::answer(call, asked, out),
             Subject::Replays => replays::answer(call, asked, out),
+            Subject::Networks => self.networks.answer(call, asked, out),
+            Subject::Programs => self.programs.answer(call, asked, out),
         }
     }
 }
@@ -54,6 +73,8 @@ fn main(rt: HostRuntime) -> io::Result<()> {
     let mut cases = Cases {
         subject: Subject::Gateways,
         gateways: Gateways::new(rt.alloc()),
+        networks: Networks::new(&rt, rt.alloc()),
+        programs: Programs::new(&rt),
     };
     transcript(&rt, &mut cases)
 }

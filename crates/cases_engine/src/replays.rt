@@ -1,7 +1,8 @@
 //! Replays: inputs, how the replay of each ends, and what it writes.
 
 use crate::pieces::Pieces;
-use cases_text::{CaseFault, Page, config_of, decoded, number_of, split_word};
+use crate::repeats::repeated;
+use cases_text::{CaseFault, Page, config_of, decoded};
 use gw_engine::Gateway;
 use gw_front::{Counts, ReplayFault, replay};
 use std::alloc::Global;
@@ -99,20 +100,6 @@ fn write_replays(text: &[u8], out: &mut Page) -> Result<(), CaseFault> {
         }
     }
     Ok(())
-}
-
-/// A text so many times, and another behind it.
-fn repeated(alloc: Global, words: &[u8]) -> Result<Page, CaseFault> {
-    let (count, words) = split_word(words);
-    let (record, rest) = split_word(words);
-    let count = number_of(count).ok_or(CaseFault::Form)?;
-    let record = decoded(alloc, record)?;
-    let mut text = Page::new(alloc);
-    for _ in 0..count {
-        text.put(record.as_slice());
-    }
-    text.put(decoded(alloc, rest)?.as_slice());
-    Ok(text)
 }
 
 /// The answer to a case of replays.

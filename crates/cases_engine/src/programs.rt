@@ -1,0 +1,131 @@
+//! Runs of the program: words, files and standard input, and below them the status and what each stream got.
+
+use crate::streams::{Input, Output};
+use cases_text::{CaseFault, Page, as_text, decoded, number_of, split_word};
+use gw_program::{program, unreadable_words};
+use std::alloc::{AllocError, Global};
+use std::fs;
+use std::io::{Error, ErrorKind};
+use std::net::Net;
+use std::rt::Files;
+use std::sync::Wait;
+
+/// Answers cases of runs, each of which gets the input that was told last.
+#[derive(Drop)]
+pub struct Programs<'r, R> {
+    rt: &'r R,
+    input: Vec<u8>,
+}
+
+/// How the streams of a run end.
+#[derive(Clone, Copy)]
+struct Ends {
+    /// A read behind the input fails.
+    input_fails: bool,
+    /// So many bytes go to standard output, and no more.
+    room: usize,
+}
+
+/// Every read and write succeeds.
+const WELL: Ends = Ends {
+    input_fails: false,
+    room: usize::MAX,
+};
+
+/// The words of a line.
+fn words_of<'a>(alloc: Global, line: &'a [u8]) -> Result<Vec<&'a str>, AllocError> {
+    let mut words = Vec::new(alloc);
+    let mut rest = line;
+    // Each step takes a byte at least.
+    for _step in line {
+        if rest.is_empty() {
+            break;
+        }
+        let (word, behind) = split_word(rest);
+        words.push(as_text(word))?;
+        rest = behind;
+    }
+    Ok(words)
+}
+
+/// A line for what a stream got, where it got something.
+fn write_stream(out: &mut Page, name: &[u8], text: &[u8]) {
+    if !text.is_empty() {
+        out.put(b"\n");
+        out.put(name);
+        out.encoded(text);
+    }
+}
+
+/// The status of words that could not be read, and what is said of them.
+fn write_unreadable(kind: ErrorKind, out: &mut Page) {
+    let mut err = Output::new(Vec::new(out.alloc()), usize::MAX);
+    let status = unreadable_words(&Error::from(kind), &mut err);
+    out.put(b"status ");
+    out.number(u64::from(status));
+    write_stream(out, b"err ", err.as_bytes());
+}
+
+impl<'r, R: Files + Net + Wait + AllocGlobal> Programs<'r, R> {
+    /// Runs on that system, with no input yet.
+    pub fn new(rt: &'r R) -> Programs<'r, R> {
+        Programs {
+            rt,
+            input: Vec::new(rt.alloc()),
+        }
+    }
+
+    /// Runs the program on the words: its status, and what each stream got.
+    fn run(&self, line: &[u8], ends: Ends, out: &mut Page) -> Result<(), CaseFault> {
+        let words = words_of(out.alloc(), line)?;
+        let mut input = Input::new(self.input.as_slice(), ends.input_fails);
+        let mut told = Output::new(Vec::new(out.alloc()), ends.room);
+        let mut err = Output::new(Vec::new(out.alloc()), usize::MAX);
+        let status = program(self.rt, words.as_slice(), &mut input, &mut told, &mut err);
+        out.put(b"status ");
+        out.number(u64::from(status));
+        write_stream(out, b"out ", told.as_bytes());
+        write_stream(out, b"err ", err.as_bytes());
+        Ok(())
+    }
+
+    /// Runs the program with an output that has room for so many bytes: the number comes before the words.
+    fn run_short(&self, line: &[u8], out: &mut Page) -> Result<(), CaseFault> {
+        let (room, words) = split_word(line);
+        let room = number_of(room).ok_or(CaseFault::Form)?;
+        let ends = Ends {
+            room: room as usize,
+            ..WELL
+        };
+        self.run(words, ends, out)
+    }
+
+    /// Writes a file, into the folder that the cases run in: its name, and its text.
+    fn write_file(&self, line: &[u8], out: &mut Page) -> Result<(), CaseFault> {
+        let (name, text) = split_word(line);
+        let text = decoded(out.alloc(), text)?;
+        match fs::write(self.rt, as_text(name), text.as_slice()) {
+            Ok(()) => Ok(()),
+            Err(_) => Err(CaseFault::Form),
+        }
+    }
+
+    /// The answer to a case of runs.
+    pub fn answer(&mut self, call: &str, asked: &[u8], out: &mut Page) -> Result<(), CaseFault> {
+        let failing = Ends {
+            input_fails: true,
+            ..WELL
+        };
+        match call {
+            "file" => return self.write_file(asked, out),
+            "input" => self.input = decoded(out.alloc(), asked)?,
+            "run" => return self.run(asked, WELL, out),
+            "run-unread" => return self.run(asked, failing, out),
+            "run-short" => return self.run_short(asked, out),
+            "no-text" => write_unreadable(ErrorKind::InvalidData, out),
+            "no-memory" => write_unreadable(ErrorKind::OutOfMemory, out),
+            _ => return Err(CaseFault::Call),
+        }
+        Ok(())
+    }
+}
