@@ -1,6 +1,7 @@
 //! Single commands: what each is answered, and what it changes in the tables.
 
 use crate::bench::Bench;
+use crate::footprints::{write_footprint, write_meeting};
 use crate::places::place_of;
 use crate::tables::{write_changes, write_outcome, write_tables};
 use cases_text::{CaseFault, Desk, Page, as_text, config_of, decoded, split_word};
@@ -88,6 +89,14 @@ impl Desk for Commands {
             "new" => self.make(out.alloc(), asked),
             "tables" => match &self.bench {
                 Some(bench) => write_tables(out, bench.tables()),
+                None => Err(CaseFault::Form),
+            },
+            "footprint" => match &self.bench {
+                Some(bench) => write_footprint(out, bench.tables(), asked),
+                None => Err(CaseFault::Form),
+            },
+            "meeting" => match &self.bench {
+                Some(bench) => write_meeting(out, bench.tables(), asked),
                 None => Err(CaseFault::Form),
             },
             "given" => self.ask(Use::Given, as_text(next), behind, out),

@@ -1,8 +1,9 @@
-//! Cases of single commands on tables: what each is answered, and what it changes.
+//! Cases of single commands on tables: what each is answered, and what it changes; and which entries requests may touch.
 #![tactic(auto)]
 
 mod bench;
 mod commands;
+mod footprints;
 mod places;
 mod tables;
 

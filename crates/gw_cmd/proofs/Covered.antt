@@ -1,5 +1,5 @@
 -- What a command does to a part that has its keys: what each change of a termination keeps there, the command keeps.
-use Rattle.std.proofs.Common.{◌≡◌, ℕ, Bool, true, false, List, [], ◌∷◌, bytes_eq, Option, None, Some, is_some, Result, Ok, Err, refl, sym, ap, ◌∙◌}
+use Rattle.std.proofs.Common.{◌≡◌, ℕ, true, false, List, [], ◌∷◌, bytes_eq, Option, None, Some, is_some, Result, Ok, Err, refl, sym, ap, ◌∙◌}
 use Rattle.std.specs.Prelude.{◌≢◌}
 use Rattle.gw_base.specs.declared.code.Code.{Code}
 use Rattle.gw_base.specs.declared.ids.CtxNum.{CtxNum}
@@ -17,7 +17,7 @@ use Rattle.gw_msg.specs.declared.message.Command.{Command}
 use Rattle.gw_term.specs.declared.record.Termination.{Termination}
 use Rattle.gw_term.specs.Record.{ephemeral, serviced}
 use Rattle.gw_table.specs.Folds.{in_order}
-use Rattle.gw_table.specs.Maps.{Maps, Outcome, term, names}
+use Rattle.gw_table.specs.Maps.{Maps, term, names}
 use Rattle.gw_table.specs.Members.{put_service}
 use Rattle.gw_table.specs.Parts.{PartKeys, holds, Holds}
 use Rattle.gw_table.specs.Reserved.{slot_name}
@@ -25,11 +25,11 @@ use Rattle.gw_refusal.specs.declared.at.At.{At}
 use Rattle.gw_refusal.specs.Asked.{service_asked}
 use Rattle.gw_refusal.specs.Forms.{refusal_by_form}
 use Rattle.gw_refusal.specs.Places.{place_at}
-use Rattle.gw_refusal.specs.Targets.{targets, targets_of}
+use Rattle.gw_refusal.specs.Targets.{targets}
 use Rattle.gw_cmd.specs.declared.change.Change.{Change}
 use Rattle.gw_cmd.specs.declared.change.Change.TheVariants.{Stays, Becomes, Joins, Crosses, Leaves}
 use Rattle.gw_cmd.specs.declared.change.Decided.{Decided}
-use Rattle.gw_cmd.specs.Commands.{on_target, on_targets, on_names, on_new, all_serviced, serviced_if, root_maps, carried, unless_refused, command}
+use Rattle.gw_cmd.specs.Commands.{on_target, on_new, all_serviced, serviced_if, root_maps, carried, unless_refused, command}
 use Rattle.gw_cmd.specs.Effects.{decided, done, on_record, on_found, on_name}
 use Rattle.gw_cmd.specs.Keys.{command_keys}
 use Rattle.gw_cmd.specs.Changes.{changed}

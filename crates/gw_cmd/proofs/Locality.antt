@@ -1,5 +1,5 @@
 -- A command on the entries of its keys alone, in well-formed maps.
-use Rattle.std.proofs.Common.{◌≡◌, ℕ, Bool, true, false, cond, List, [], ◌∷◌, ◌++◌, map, Option, None, Some, is_some, bytes_eq, Ok, refl, sym, ap, subst, ◌∙◌}
+use Rattle.std.proofs.Common.{◌≡◌, ℕ, Bool, true, false, List, [], ◌∷◌, ◌++◌, map, Option, None, Some, is_some, bytes_eq, Ok, refl, sym, ap, subst, ◌∙◌}
 use Rattle.std.specs.Prelude.{◌||◌, ◌&&◌, if◌then◌else◌}
 use Rattle.std.specs.List.{filter}
 use Rattle.std.specs.FinMap.{contains_key-keys}
@@ -14,7 +14,7 @@ use Rattle.gw_base.specs.declared.key.Key.{Key}
 use Rattle.gw_base.specs.declared.key.Key.TheVariants.{Term, Ctx, Whole}
 use Rattle.gw_base.specs.declared.term_ref.TermRef.{TermRef}
 use Rattle.gw_base.specs.declared.term_ref.TermRef.TheVariants.{Root, All, Under, Choose, Name, Other}
-use Rattle.gw_base.specs.Keys.{has, same_key}
+use Rattle.gw_base.specs.Keys.{has, same_key, AreApart}
 use Rattle.gw_base.specs.NameLists.{is_in, name_cmp}
 use Rattle.gw_base.proofs.Booleans.{refuted}
 use Rattle.gw_base.proofs.KeyTests.{has-head, any-append_cases}
@@ -26,14 +26,13 @@ use Rattle.gw_msg.specs.declared.message.Command.{Command}
 use Rattle.gw_term.specs.declared.record.Termination.{Termination}
 use Rattle.gw_table.specs.Accesses.{Accesses, Done, and_then, Within}
 use Rattle.gw_table.specs.Maps.{Maps, Outcome, term, ctx, names, numbers, place_of, members_of}
-use Rattle.gw_table.specs.Parts.{Only, restricted, overlaid, Holds, HoldsPlace}
+use Rattle.gw_table.specs.Parts.{Only, restricted, Holds, HoldsPlace}
 use Rattle.gw_table.specs.WellFormed.{AreWellFormed}
-use Rattle.gw_table.proofs.Frames.{within-then, Lists, IsLocal, local}
-use Rattle.gw_table.proofs.Lookups.{same_maps}
-use Rattle.gw_table.proofs.PartLookups.{term-restricted, ctx-restricted}
+use Rattle.gw_table.specs.Locality.{KeepsTo, ChangePlaces}
+use Rattle.gw_table.proofs.Frames.{within-then, Lists}
+use Rattle.gw_table.proofs.Localities.{keeps_to, change_places, part_is_all}
 use Rattle.gw_refusal.specs.declared.at.At.{At}
 use Rattle.gw_refusal.specs.declared.at.At.TheVariants.{Null, Live, Unmade, Each}
-use Rattle.gw_cmd.specs.declared.outcome.CmdOutcome.{CmdOutcome}
 use Rattle.gw_refusal.specs.Asked.{is_add, is_root, is_service_change, is_wildcard, matches, service_asked}
 use Rattle.gw_cmd.specs.Commands as commands
 use Rattle.gw_cmd.specs.Keys.{every_key, is_for_all, keys_if, action_keys, place_key, slot_key, member_keys, term_keys, command_keys}
@@ -210,11 +209,6 @@ module _ (rules : Rules) (at : At) (slot : Option ℕ) (c : Command) (m : Maps) 
 
 -- ---- the keys of a command for all are all keys
 
-kept_entry : {X : Type 0} (b : Bool) (o : Option X) → (is_some o ≡ true → b ≡ true) → cond b o None ≡ o
-kept_entry true o h = refl
-kept_entry false None h = refl
-kept_entry false (Some x) h = let clash : false ≡ true = h refl in cc
-
 no_whole_names : (l : List (List ℕ)) → has (map Term l) Whole ≡ false
 no_whole_names [] = refl
 no_whole_names (t ∷ ts) = no_whole_names ts
@@ -256,25 +250,19 @@ unfolding command_keys
 lists at slot c m = by (is_for_all at c) refl
   where
     by : (b : Bool) → is_for_all at c ≡ b → has (keys_if b (every_key m) ++ action_keys at ++ term_keys at slot c m c.term) Whole ≡ true → m ≡ restricted (keys_if (is_for_all at c) (every_key m) ++ action_keys at ++ term_keys at slot c m c.term) m
-    by true e h =
-        let keys : List Key = keys_if (is_for_all at c) (every_key m) ++ action_keys at ++ term_keys at slot c m c.term in
-        same_maps m (restricted keys m)
-        (λ q. sym (term-restricted keys m q ∙ kept_entry (has keys (Term q)) (term m q) (λ i. among_all at slot c m (Term q) e (every_term m q (named m q i)))))
-        (λ q. sym (ctx-restricted keys m q ∙ kept_entry (has keys (Ctx q)) (ctx m q) (λ i. among_all at slot c m (Ctx q) e (every_ctx m q i))))
+    by true e h = part_is_all (keys_if (is_for_all at c) (every_key m) ++ action_keys at ++ term_keys at slot c m c.term) m (record {
+      terms = λ q i. among_all at slot c m (Term q) e (every_term m q (named m q i));
+      contexts = λ q i. among_all at slot c m (Ctx q) e (every_ctx m q i);
+    })
     by false e h =
         let none : has (action_keys at ++ term_keys at slot c m c.term) Whole ≡ false = none_in_both (action_keys at) (term_keys at slot c m c.term) (no_whole_action at) (no_whole_term at slot c m c.term) in
         absurd (let clash : true ≡ false = sym h ∙ none in cc)
 
-module _ (rules : Rules) (at : At) (slot : Option ℕ) (c : Command) (m : Maps) (w : AreWellFormed rules.members m) where
-  here : IsLocal (command_keys at slot c m) (program rules at slot c) m
-  here = local (command_keys at slot c m) (program rules at slot c) m (within-program rules at slot c m w) (lists at slot c m)
+pub command_keeps : (rules : Rules) (at : At) (slot : Option ℕ) (c : Command) (m : Maps) → AreWellFormed rules.members m → KeepsTo (command_keys at slot c m) (commands.command rules at slot c) m
+command_keeps rules at slot c m w = keeps_to (command_keys at slot c m) (program rules at slot c) (commands.command rules at slot c) m (effect-program rules at slot c) (within-program rules at slot c m w) (lists at slot c m)
 
-  pub command_answer : (commands.command rules at slot c (restricted (command_keys at slot c m) m)).answer ≡ (commands.command rules at slot c m).answer
-  command_answer =
-      ap (λ (o : Outcome CmdOutcome). o.answer) (sym (effect-program rules at slot c (restricted (command_keys at slot c m) m)))
-      ∙ here.answer ∙ ap (λ (o : Outcome CmdOutcome). o.answer) (effect-program rules at slot c m)
-
-  pub command_maps : overlaid (command_keys at slot c m) (commands.command rules at slot c (restricted (command_keys at slot c m) m)).maps m ≡ (commands.command rules at slot c m).maps
-  command_maps =
-      ap (λ (o : Outcome CmdOutcome). overlaid (command_keys at slot c m) o.maps m) (sym (effect-program rules at slot c (restricted (command_keys at slot c m) m)))
-      ∙ here.maps ∙ ap (λ (o : Outcome CmdOutcome). o.maps) (effect-program rules at slot c m)
+pub commands_change : (rules : Rules) (m : Maps) (at : At) (slot : Option ℕ) (c : Command) (other_at : At) (other_slot : Option ℕ) (d : Command) → AreWellFormed rules.members m → AreApart (command_keys at slot c m) (command_keys other_at other_slot d m)
+    → ChangePlaces (commands.command rules at slot c) (commands.command rules other_at other_slot d) m
+commands_change rules m at slot c other_at other_slot d w h =
+    change_places (command_keys at slot c m) (command_keys other_at other_slot d m) (program rules at slot c) (program rules other_at other_slot d) (commands.command rules at slot c) (commands.command rules other_at other_slot d) m
+    (effect-program rules at slot c) (effect-program rules other_at other_slot d) (within-program rules at slot c m w) (within-program rules other_at other_slot d m w) h

@@ -1,5 +1,5 @@
 -- A command that a part covers leaves it sound, with no entry but at its keys; who is new in a place or a list is one of them.
-use Rattle.std.proofs.Common.{nat_eq, ◌≡◌, ℕ, Bool, true, false, cond, ◌⊎◌, inl, inr, List, [], ◌++◌, ◌∷◌, bytes_eq, Option, None, Some, is_some, is_none, refl, sym, ap, subst, ◌∙◌}
+use Rattle.std.proofs.Common.{nat_eq, ◌≡◌, ℕ, Bool, true, false, cond, ◌⊎◌, inl, inr, List, bytes_eq, Option, None, Some, is_some, refl, sym, ap, subst, ◌∙◌}
 use Rattle.gw_base.specs.declared.code.Code.{Code}
 use Rattle.gw_base.specs.declared.ids.CtxNum.{CtxNum}
 use Rattle.gw_base.specs.declared.command_words.Rules.{Rules}
@@ -11,15 +11,14 @@ use Rattle.gw_base.proofs.NamesInLists.{either, in_pushed, in_without}
 use Rattle.gw_ctx.specs.Contexts.{ContextRecord, joined, left}
 use Rattle.gw_msg.specs.declared.message.Command.{Command}
 use Rattle.gw_term.specs.declared.record.Termination.{Termination}
-use Rattle.gw_table.specs.Maps.{Maps, term, ctx, put_term, put_ctx, place_of, context_of, members_of}
+use Rattle.gw_table.specs.Maps.{Maps, term, ctx, put_term, place_of, context_of, members_of}
 use Rattle.gw_table.specs.Parts.{PartKeys, IsPart, holds, Holds, HoldsPlace}
 use Rattle.gw_table.specs.Members.{with_member, without_member, unless_empty}
 use Rattle.gw_table.specs.WellFormed.{IsSound}
-use Rattle.gw_table.proofs.Growth.{Grows, grows_not, grows_on}
+use Rattle.gw_table.proofs.Growth.{Grows, grows_on}
 use Rattle.gw_table.proofs.Lookups.{term-put_term, ctx-put_term}
 use Rattle.gw_refusal.specs.declared.at.At.{At}
 use Rattle.gw_refusal.specs.Forms.{refusal_by_form}
-use Rattle.gw_refusal.specs.Places.{place_at}
 use Rattle.gw_cmd.specs.declared.change.Change.{Change}
 use Rattle.gw_cmd.specs.declared.change.Change.TheVariants.{Stays, Becomes, Joins, Crosses, Leaves}
 use Rattle.gw_cmd.specs.Commands.{command}

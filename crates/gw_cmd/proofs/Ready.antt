@@ -5,7 +5,6 @@ use Rattle.std.specs.Ordering.{nat_cmp}
 use Rattle.std.specs.List.{list_any, filter}
 use Rattle.std.specs.FinMap as finite
 use Rattle.std.specs.FinMap.{contains_key-keys}
-use Rattle.gw_base.specs.declared.code.Code.{Code}
 use Rattle.gw_base.specs.declared.code.Code.TheVariants.{UnknownCommand, NotImplemented, IllegalCombination, UnknownContext}
 use Rattle.gw_base.specs.declared.ids.CtxNum.{CtxNum}
 use Rattle.gw_base.specs.declared.key.Key.{Key}
@@ -19,8 +18,7 @@ use Rattle.gw_base.specs.NameLists.{is_in, name_cmp}
 use Rattle.gw_base.proofs.KeyTests.{any-append_left, any-append_right, has-head, has-tail}
 use Rattle.gw_base.proofs.NamesInLists.{or_left, or_right, or_cases, either}
 use Rattle.gw_base.proofs.NameTests.{name_test, number_test}
-use Rattle.gw_desc.specs.declared.descriptor.Descriptor.{Descriptor}
-use Rattle.gw_desc.specs.Checks.{check_code, has_illegal, has_bad}
+use Rattle.gw_desc.specs.Checks.{check_code}
 use Rattle.gw_msg.specs.declared.message.Command.{Command}
 use Rattle.gw_ctx.specs.Contexts.{ContextRecord}
 use Rattle.gw_table.specs.Maps.{Maps, term, ctx, names, numbers, number, members_of, place_of}

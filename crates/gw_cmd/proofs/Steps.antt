@@ -1,12 +1,8 @@
 -- What some writes in a row come to.
-use Rattle.std.proofs.Common.{◌≡◌, ℕ, Bool, true, false, cond, List, [], ◌∷◌, Option, None, Some, bytes_eq, refl, sym, ap, ◌∙◌}
-use Rattle.gw_base.specs.declared.ids.CtxNum.{CtxNum}
-use Rattle.gw_ctx.specs.Contexts.{ContextRecord, joined, left}
+use Rattle.std.proofs.Common.{◌≡◌, ℕ, Bool, true, false, cond, List, Option, bytes_eq, refl, sym, ap, ◌∙◌}
 use Rattle.gw_term.specs.declared.record.Termination.{Termination}
-use Rattle.gw_base.proofs.NameTests.{same_name}
-use Rattle.gw_table.specs.Maps.{Maps, term, ctx, put_term, put_ctx, context_of}
-use Rattle.gw_table.proofs.Lookups.{term-put_term, ctx-put_term, put_ctx-put_ctx, same_maps}
-use Rattle.gw_table.specs.Members.{with_member, without_member, unless_none, unless_empty}
+use Rattle.gw_table.specs.Maps.{Maps, term, put_term}
+use Rattle.gw_table.proofs.Lookups.{term-put_term, ctx-put_term, same_maps}
 
 twice : {A : Type 0} (b : Bool) (x y z : A) → cond b x (cond b y z) ≡ cond b x z
 twice true x y z = refl

@@ -1,5 +1,5 @@
 -- A command's reads and writes stay within its keys, on well-formed maps.
-use Rattle.std.proofs.Common.{◌≡◌, ℕ, true, false, inl, inr, List, [], ◌∷◌, ◌++◌, Option, None, Some, is_some, bytes_eq, Result, Ok, Err, refl, sym, ap, subst, ◌∙◌}
+use Rattle.std.proofs.Common.{◌≡◌, ℕ, true, false, inl, inr, List, [], ◌∷◌, ◌++◌, Option, None, Some, bytes_eq, Result, Ok, Err, refl, sym, ap, subst, ◌∙◌}
 use Rattle.gw_base.specs.declared.code.Code.{Code}
 use Rattle.gw_base.specs.declared.ids.CtxNum.{CtxNum}
 use Rattle.gw_base.specs.declared.command_words.Rules.{Rules}
@@ -21,7 +21,6 @@ use Rattle.gw_table.specs.Accesses.{Done, effect, and_then, NewIn, NewPlace, Wit
 use Rattle.gw_table.specs.Maps.{Maps, Outcome, term, ctx, put_term, place_of, context_of, members_of}
 use Rattle.gw_table.specs.Parts.{Only, HoldsPlace}
 use Rattle.gw_table.specs.Reserved.{slot_name}
-use Rattle.gw_table.specs.WellFormed.{AreWellFormed}
 use Rattle.gw_table.proofs.Frames.{within-then}
 use Rattle.gw_refusal.specs.declared.at.At.{At}
 use Rattle.gw_cmd.specs.declared.change.Change.{Change}
@@ -32,9 +31,7 @@ use Rattle.gw_cmd.specs.Commands as commands
 use Rattle.gw_cmd.specs.Effects.{decided, decided_in_null}
 use Rattle.gw_table.specs.Members.{unless_empty}
 use Rattle.gw_refusal.specs.Places.{place_at}
-use Rattle.gw_cmd.proofs.Kept.{kept_service}
 use Rattle.gw_cmd.proofs.KeptSound.{nowhere_after}
-use Rattle.gw_cmd.proofs.KeptWhole.{whole_is_kept}
 use Rattle.gw_cmd.proofs.Lawful.{Lawful, decided_lawful}
 use Rattle.gw_cmd.proofs.Programs.{make, finish, of_record, of_found, of_name, of_names, of_services, of_service}
 use Rattle.gw_cmd.proofs.Sound.{members-unless_empty}

@@ -16,11 +16,10 @@ use Rattle.gw_msg.specs.declared.message.Command.{Command}
 use Rattle.gw_reply.specs.declared.parts.ReplyPart.{ReplyPart}
 use Rattle.gw_reply.specs.declared.parts.ReplyPart.TheVariants as part
 use Rattle.gw_reply.specs.declared.reply.CommandReply.{CommandReply}
-use Rattle.gw_term.specs.declared.record.Termination.{Termination}
-use Rattle.gw_term.specs.Record.{ephemeral, serviced}
+use Rattle.gw_term.specs.Record.{ephemeral}
 use Rattle.gw_table.specs.declared.attempts.Attempts.{Attempts}
 use Rattle.gw_table.specs.Folds.{in_order}
-use Rattle.gw_table.specs.Maps.{Maps, Outcome, term, names, put_term}
+use Rattle.gw_table.specs.Maps.{Maps, Outcome, term, names}
 use Rattle.gw_table.specs.Members.{put_service}
 use Rattle.gw_table.specs.Reserved.{slot_name}
 use Rattle.gw_refusal.specs.declared.at.At.{At}

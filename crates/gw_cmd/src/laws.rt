@@ -8,11 +8,12 @@ ghost use Rattle.gw_base.specs.declared.term_ref.TermRef.TheVariants.{Name};
 ghost use Rattle.gw_base.specs.declared.ids.CtxNum.{CtxNum};
 ghost use Rattle.gw_base.specs.declared.key.Key.{Key};
 ghost use Rattle.gw_base.specs.declared.key.Key.TheVariants.{Term, Ctx, Whole};
-ghost use Rattle.gw_base.specs.Keys.{has};
+ghost use Rattle.gw_base.specs.Keys.{has, AreApart};
 ghost use Rattle.gw_base.specs.NameLists.{is_in};
 ghost use Rattle.gw_desc.specs.declared.descriptor.Descriptor.{Descriptor};
 ghost use Rattle.gw_base.specs.declared.command_words.Rules.{Rules};
 ghost use Rattle.gw_msg.specs.declared.message.Command.{Command};
+ghost use Rattle.gw_table.specs.Locality.{KeepsTo, ChangePlaces};
 ghost use Rattle.gw_table.specs.Maps.{Maps, term, ctx, place_of, members_of};
 ghost use Rattle.gw_table.specs.WellFormed.{AreWellFormed};
 ghost use Rattle.gw_refusal.specs.declared.at.At.{At};
@@ -35,10 +36,15 @@ pub fn commands_keep_forms()
     ensures { (rules : Rules) (at : At) (slot : Option ℕ) (c : Command) (m : Maps) → IsAddress rules.media → IsSlot slot → IsAsked c → AreKept m → KeepsForms (command rules at slot c m) }
 {}
 
-/// A command on the entries of its keys alone gives the same replies, and its new entries laid over the maps are the new maps.
+/// A command in well-formed tables keeps to its keys: on their entries alone it gives the same replies, its new entries laid over the
+/// maps are the new maps, and each entry at another key stays.
 pub fn commands_keep_to_their_keys()
-    ensures answer { (rules : Rules) (at : At) (slot : Option ℕ) (c : Command) (m : Maps) → AreWellFormed rules.members m → (command rules at slot c (restricted (command_keys at slot c m) m)).answer ≡ (command rules at slot c m).answer }
-    ensures maps { (rules : Rules) (at : At) (slot : Option ℕ) (c : Command) (m : Maps) → AreWellFormed rules.members m → overlaid (command_keys at slot c m) (command rules at slot c (restricted (command_keys at slot c m) m)).maps m ≡ (command rules at slot c m).maps }
+    ensures { (rules : Rules) (at : At) (slot : Option ℕ) (c : Command) (m : Maps) → AreWellFormed rules.members m → KeepsTo (command_keys at slot c m) (command rules at slot c) m }
+{}
+
+/// Two commands whose keys do not meet give the same maps in either order, and each the same replies.
+pub fn commands_on_other_keys_change_places()
+    ensures { (rules : Rules) (m : Maps) (at : At) (slot : Option ℕ) (c : Command) (other_at : At) (other_slot : Option ℕ) (d : Command) → AreWellFormed rules.members m → AreApart (command_keys at slot c m) (command_keys other_at other_slot d m) → ChangePlaces (command rules at slot c) (command rules other_at other_slot d) m }
 {}
 
 /// The whole of the tables is among the keys of a command exactly where the command is for all.

@@ -18,6 +18,6 @@ pub use carry::command;
 pub use gw_refusal::At;
 pub use laws::{
     commands_keep_forms, commands_keep_tables_well_formed, commands_keep_to_their_keys,
-    keys_are_needed, the_whole_is_a_key_of_commands_for_all,
+    commands_on_other_keys_change_places, keys_are_needed, the_whole_is_a_key_of_commands_for_all,
 };
 pub use outcome::CmdOutcome;

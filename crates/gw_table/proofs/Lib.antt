@@ -2,6 +2,9 @@ pub mod Folding
 pub mod Frames
 pub mod Growth
 pub mod InPlace
+pub mod KeyLists
+pub mod KeyOrder
+pub mod Localities
 pub mod Lookups
 pub mod PartLookups
 pub mod Provisioning

@@ -1,5 +1,7 @@
 pub mod Accesses
 pub mod Folds
+pub mod KeyLists
+pub mod Locality
 pub mod Maps
 pub mod Members
 pub mod Parts

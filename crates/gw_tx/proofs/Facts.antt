@@ -1,5 +1,5 @@
 -- What commands keep: the parts that cover them, well-formed tables, and that slots and numbers that are not their own stay free.
-use Rattle.std.proofs.Common.{nat_eq, ◌≡◌, ◌⊎◌, ℕ, Bool, true, false, Option, None, Some, is_some, is_none, refl, sym, ap, ◌∙◌}
+use Rattle.std.proofs.Common.{nat_eq, ◌≡◌, ℕ, Bool, true, false, Option, None, Some, is_some, is_none, refl, sym, ap, ◌∙◌}
 use Rattle.std.specs.Prelude.{◌≢◌}
 use Rattle.gw_base.specs.declared.code.Code.{Code}
 use Rattle.gw_base.specs.declared.code.Code.TheVariants.{UnknownContext}
@@ -42,7 +42,7 @@ IsHeld keys start at slot c = Holds keys (command_keys at slot c start)
 
 pub commands_keep_part : (rules : Rules) (keys : PartKeys) (start : Maps) → CommandsKeep rules (IsHeld keys start) AnySlot (StaysPart keys start)
 commands_keep_part rules keys start = record {
-  keeps = λ at slot c m o u a q. part_kept rules keys start at slot c m (command_stays keys start m q.entries q.grown at slot c o) u q;
+  keeps = λ at slot c m o u a q. part_kept rules keys start at slot c m (command_stays keys start m (λ _. q.entries) q.grown at slot c o) u q;
   lives = λ at slot c o. made_held keys at slot c start o;
   less = λ at slot c o. less_held keys at slot c start o;
 }

@@ -1,5 +1,5 @@
 -- A transaction keeps the forms of what is kept, and its reply can be read.
-use Rattle.std.proofs.Common.{◌≡◌, ℕ, Bool, true, false, ◌&&◌, ◌||◌, not, cond, List, [], ◌∷◌, ◌++◌, Option, None, Some, Result, Ok, Err, refl}
+use Rattle.std.proofs.Common.{ℕ, Bool, true, false, cond, List, [], ◌∷◌, Option, None, Some, Err}
 use Rattle.std.specs.List.{All}
 use Rattle.std.proofs.lemmas.List.Elements.{All-nil, All-cons, All-head, All-tail, All-append}
 use Rattle.gw_base.specs.Addresses.{IsAddress}
@@ -29,7 +29,7 @@ use Rattle.gw_cmd.specs.KeptForms.{AreKept, IsAsked, IsSlot}
 use Rattle.gw_cmd.proofs.FormsKept.{command_kept}
 use Rattle.gw_tx.specs.KeptForms.{AreAsked, IsAskedRequest, AreSlots}
 use Rattle.gw_reserve.specs.Owned.{OwnedAction, first_owned, later_owned, is_adding, with_slots, slots_behind, owning, with_owned}
-use Rattle.gw_tx.specs.Transactions.{attempt, commands, action_reply, refused_action, carried_action, in_each, in_all, gathered, action_for_each, action_in, action_for, action_on, action, actions, paired_transaction, transaction}
+use Rattle.gw_tx.specs.Transactions.{attempt, commands, action_reply, refused_action, carried_action, in_each, in_all, action_for_each, action_in, action_for, action_on, action, paired_transaction, transaction}
 
 -- ---- in order
 

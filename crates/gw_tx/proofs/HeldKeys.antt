@@ -1,6 +1,6 @@
 -- Keys that a part holds, and goes on holding while commands change it.
 use Rattle.std.proofs.Common.{nat_eq, ◌≡◌, ℕ, Bool, true, false, List, [], ◌∷◌, ◌++◌, map, Option, None, Some, is_some, refl, sym, ap, subst, ◌∙◌}
-use Rattle.std.specs.Prelude.{◌||◌, ◌&&◌}
+use Rattle.std.specs.Prelude.{◌||◌}
 use Rattle.std.specs.List.{flat_map, list_any}
 use Rattle.std.specs.FinMap as finite
 use Rattle.std.specs.FinMap.{contains_key-keys}
@@ -26,7 +26,6 @@ use Rattle.gw_refusal.specs.Asked.{is_add}
 use Rattle.gw_refusal.specs.Places.{made}
 use Rattle.gw_cmd.specs.Keys.{every_key, is_for_all, keys_if, action_keys, place_key, name_keys, slot_key, member_keys, term_keys, command_keys}
 use Rattle.gw_cmd.proofs.Locality.{entered_name}
-use Rattle.gw_cmd.proofs.Parted.{StaysPart}
 use Rattle.gw_cmd.proofs.Ready.{same_any}
 use Rattle.gw_reserve.specs.Owned.{OwnedAction}
 use Rattle.gw_tx.specs.Footprints.{is_for_each, one_context, stands_for_all, keys_of_members, named_keys, keys_in_action, action_footprint, list_keys}
@@ -92,11 +91,11 @@ module _ (keys : PartKeys) where
       (λ x. let clash : true ≡ false = sym x ∙ names_no_ctx (names m) n in cc)
       (λ x. p.contexts n (numbered_there m n x))
 
-  -- ---- while it grows
+  -- ---- while it grows: one that has the whole has no entry but at its keys
 
-  module _ (s m : Maps) (p : IsPart keys m) (g : Grows keys s m) where
+  module _ (s m : Maps) (p : holds keys Whole ≡ true → IsPart keys m) (g : Grows keys s m) where
     every_stays : (b : Bool) → Holds keys (keys_if b (every_key s)) → Holds keys (keys_if b (every_key m))
-    every_stays true h = every_held m p (h Whole (has-head Whole (map Term (names s) ++ map Ctx (numbers s))))
+    every_stays true h = let w : holds keys Whole ≡ true = h Whole (has-head Whole (map Term (names s) ++ map Ctx (numbers s))) in every_held m (p w) w
     every_stays false h = none_held
 
     name_stays : (t : List ℕ) → Holds keys (name_keys t s) → Holds keys (name_keys t m)

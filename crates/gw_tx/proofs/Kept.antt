@@ -61,7 +61,7 @@ one_of P true x y p q = p
 one_of P false x y p q = q
 
 -- the entries behind one more
-drop_later : {X : Type 0} (k : ℕ) (l : List (Option X)) → drop k (later_owned l) ≡ drop (suc k) l
+pub drop_later : {X : Type 0} (k : ℕ) (l : List (Option X)) → drop k (later_owned l) ≡ drop (suc k) l
 drop_later zero [] = refl
 drop_later (suc k) [] = refl
 drop_later k (x ∷ xs) = refl
@@ -70,7 +70,7 @@ module _ {Ok : At → Option ℕ → Command → Type 0} {S : ℕ → Type 0} {Q
   later : (slots : List (Option ℕ)) (m : Maps) → With S Q slots m → With S Q (later_owned slots) m
   later slots m w = record { kept = w.kept; free = free_later m slots w.free; kind = kind_later S slots w.kind }
 
-  behind : (slots : List (Option ℕ)) (n : ℕ) (m : Maps) → With S Q slots m → With S Q (drop n slots) m
+  pub behind : (slots : List (Option ℕ)) (n : ℕ) (m : Maps) → With S Q slots m → With S Q (drop n slots) m
   behind slots zero m w = w
   behind slots (suc n) m w = subst (λ (l : List (Option ℕ)). With S Q l m) (drop_later n slots) (behind (later_owned slots) n m (later slots m w))
 
@@ -98,7 +98,7 @@ module _ {Ok : At → Option ℕ → Command → Type 0} {S : ℕ → Type 0} {Q
       (kept_commands now.answer.next (later_owned slots) cs now.maps (all_live at (command rules at (first_owned slots) c m).answer.made (paired_commands (later_owned slots) cs) o.1) one))
 
   -- in one of the contexts under *, the slots are left
-  kept_there : (n : CtxNum) (held : List (Option ℕ)) (slot : Option ℕ) (c : Command) (m : Maps) → Ok (Each n) slot c → With S Q held m → With S Q held (command rules (Each n) slot c m).maps
+  pub kept_there : (n : CtxNum) (held : List (Option ℕ)) (slot : Option ℕ) (c : Command) (m : Maps) → Ok (Each n) slot c → With S Q held m → With S Q held (command rules (Each n) slot c m).maps
   kept_there n held slot c m o w =
       subst (λ x. With S Q held x.maps) (sym (each_takes_none rules n slot c m))
       (record { kept = k.keeps (Each n) None c m (k.less (Each n) slot c o) tt tt w.kept; free = free_on m (command rules (Each n) None c m).maps None held (λ i d h. tt) (makes_none rules (Each n) None c m tt) w.free; kind = w.kind })

@@ -36,17 +36,17 @@ module _ (start now : Parted) (slots : List (Option ℕ)) (w : With AnySlot (Sta
 
   -- it covers a command whose keys it had
   pub covers_command : (at : At) (slot : Option ℕ) (c : Command) → IsHeld start.keys start.maps at slot c → Covers now (command_keys at slot c now.maps)
-  covers_command at slot c h = covers (command_keys at slot c now.maps) (command_stays start.keys start.maps now.maps w.kept.entries w.kept.grown at slot c h)
+  covers_command at slot c h = covers (command_keys at slot c now.maps) (command_stays start.keys start.maps now.maps (λ _. w.kept.entries) w.kept.grown at slot c h)
 
   -- an action
   pub covers_action : (a : OwnedAction) → Holds start.keys (action_footprint a start.maps) → Covers now (action_footprint a now.maps)
-  covers_action a h = covers (action_footprint a now.maps) (action_stays start.keys start.maps now.maps w.kept.entries w.kept.grown a h)
+  covers_action a h = covers (action_footprint a now.maps) (action_stays start.keys start.maps now.maps (λ _. w.kept.entries) w.kept.grown a h)
 
   -- and commands in one context
   pub covers_list : (at : At) (ps : List (Option ℕ × Command)) → Holds start.keys (list_keys at ps start.maps) → Covers now (list_keys at ps now.maps)
   covers_list at ps h =
       covers (list_keys at ps now.maps)
-      (each_held start.keys (λ p. command_keys at p.0 p.1 start.maps) (λ p. command_keys at p.0 p.1 now.maps) (λ p k. command_stays start.keys start.maps now.maps w.kept.entries w.kept.grown at p.0 p.1 k) ps h)
+      (each_held start.keys (λ p. command_keys at p.0 p.1 start.maps) (λ p. command_keys at p.0 p.1 now.maps) (λ p k. command_stays start.keys start.maps now.maps (λ _. w.kept.entries) w.kept.grown at p.0 p.1 k) ps h)
 
 -- ---- each command has its keys
 

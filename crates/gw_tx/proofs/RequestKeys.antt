@@ -1,17 +1,16 @@
 -- The keys of a command alone are those of a request of its own, and when a request has every key.
-use Rattle.std.proofs.Common.{◌≡◌, ℕ, Bool, true, false, List, [], ◌∷◌, ◌++◌, map, Option, None, Some, refl, sym, ap, ◌∙◌}
-use Rattle.std.specs.Prelude.{◌||◌, ◌&&◌}
+use Rattle.std.proofs.Common.{◌≡◌, ℕ, Bool, true, false, List, [], ◌∷◌, ◌++◌, Option, None, Some, refl, sym, ap, ◌∙◌}
+use Rattle.std.specs.Prelude.{◌||◌}
 use Rattle.std.specs.List.{flat_map, list_any}
 use Rattle.gw_base.specs.declared.ids.CtxNum.{CtxNum}
 use Rattle.gw_base.specs.declared.command_words.CtxRef.{CtxRef}
 use Rattle.gw_base.specs.declared.command_words.CtxRef.TheVariants as ref
 use Rattle.gw_base.specs.declared.key.Key.{Key}
-use Rattle.gw_base.specs.declared.key.Key.TheVariants.{Term, Ctx, Whole}
+use Rattle.gw_base.specs.declared.key.Key.TheVariants.{Ctx, Whole}
 use Rattle.gw_base.specs.declared.term_ref.TermRef.{TermRef}
 use Rattle.gw_base.specs.declared.term_ref.TermRef.TheVariants as term_ref
 use Rattle.gw_base.specs.Keys.{has, same_key}
 use Rattle.gw_base.proofs.KeyTests.{names_no_whole}
-use Rattle.gw_base.proofs.NamesInLists.{or_right}
 use Rattle.gw_msg.specs.declared.message.Command.{Command}
 use Rattle.gw_table.specs.Maps.{Maps, term, ctx, place_of, members_of}
 use Rattle.gw_table.specs.Parts.{Only, Holds}
@@ -21,7 +20,7 @@ use Rattle.gw_refusal.specs.Asked.{is_add}
 use Rattle.gw_cmd.specs.Keys.{every_key, is_for_all, keys_if, place_key, slot_key, action_keys, member_keys, term_keys, command_keys}
 use Rattle.gw_cmd.proofs.Ready.{among_all, among_action, among_term}
 use Rattle.gw_reserve.specs.Owned.{OwnedAction}
-use Rattle.gw_tx.specs.Footprints.{is_for_each, one_context, stands_for_all, keys_of_members, named_keys, keys_in_action, action_footprint, footprint_of, is_meant_for_all, list_keys, sent_for, owned_for, alone}
+use Rattle.gw_tx.specs.Footprints.{is_for_each, one_context, stands_for_all, keys_of_members, named_keys, keys_in_action, footprint_of, is_meant_for_all, list_keys, sent_for, owned_for, alone}
 use Rattle.gw_tx.proofs.HeldKeys.{footprint_in, both_held, left_held, none_held, in_null, in_live, in_unmade, in_each}
 
 -- ---- a command alone
@@ -89,7 +88,7 @@ command_alone at slot c m k =
 
 -- ---- every key
 
-has-append : (a b : List Key) → has (a ++ b) Whole ≡ (has a Whole || has b Whole)
+pub has-append : (a b : List Key) → has (a ++ b) Whole ≡ (has a Whole || has b Whole)
 has-append [] b = refl
 has-append (x ∷ xs) b = by (same_key Whole x) (has-append xs b)
   where
@@ -101,7 +100,7 @@ in_every : (b : Bool) (m : Maps) → has (keys_if b (every_key m)) Whole ≡ b
 in_every true m = refl
 in_every false m = refl
 
-no_place : (o : Option CtxNum) → has (place_key o) Whole ≡ false
+pub no_place : (o : Option CtxNum) → has (place_key o) Whole ≡ false
 no_place None = refl
 no_place (Some n) = refl
 
@@ -114,7 +113,7 @@ no_slot true None = refl
 no_slot true (Some s) = refl
 no_slot false slot = refl
 
-no_named : (o : Option CtxNum) (slot : Option ℕ) (c : Command) (m : Maps) (r : TermRef) → has (named_keys o slot c m r) Whole ≡ false
+pub no_named : (o : Option CtxNum) (slot : Option ℕ) (c : Command) (m : Maps) (r : TermRef) → has (named_keys o slot c m r) Whole ≡ false
 no_named o slot c m (term_ref.Name t) = no_place (place_of (term m t))
 no_named o slot c m term_ref.Choose = no_slot (is_add c.verb) slot
 no_named o slot c m term_ref.All = no_members o m

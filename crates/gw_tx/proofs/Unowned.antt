@@ -25,7 +25,7 @@ use Rattle.gw_reserve.specs.Owned.{OwnedAction, first_owned, later_owned, slots_
 use Rattle.gw_tx.specs.Transactions.{actions, paired_transaction, transaction}
 use Rattle.gw_tx.proofs.Entries.{number_entries, all_entries, all_behind, paired_all, front_of_all}
 use Rattle.gw_tx.proofs.Facts.{Any, IsNamedOtherThan, MakesOther, commands_keep_whole, commands_keep_free, commands_keep_number}
-use Rattle.gw_tx.proofs.FreeSlots.{IsOfKind, AnySlot, kind_first, kind_later}
+use Rattle.gw_tx.proofs.FreeSlots.{IsOfKind, kind_first, kind_later}
 use Rattle.gw_tx.proofs.Kept.{CommandsKeep, Oks, OksIn, AllOks, kept_actions}
 
 -- ---- of a list of unused slots, its front and its end
@@ -90,7 +90,7 @@ any_in : (ps : List (Option ℕ × Command)) (at : At) → Oks Any at ps
 any_in [] at = tt
 any_in (p ∷ ps) at = (tt, any_in ps at)
 
-any_of : (actions : List OwnedAction) → AllOks Any actions
+pub any_of : (actions : List OwnedAction) → AllOks Any actions
 any_of [] = tt
 any_of (a ∷ more) = (by a.sent.ctx a.number, any_of more)
   where

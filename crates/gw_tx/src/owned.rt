@@ -4,7 +4,7 @@ ghost use Rattle.std.specs.Prelude.{◌≡◌, drop};
 ghost use Rattle.gw_reserve.specs.Owned.{first_owned, later_owned};
 
 /// The first entry, and those behind it. Past the end nothing is owned.
-pub(crate) fn next_entry<T: Copy>(entries: &[Option<T>]) -> (Option<T>, &[Option<T>])
+pub fn next_entry<T: Copy>(entries: &[Option<T>]) -> (Option<T>, &[Option<T>])
     ensures own { result.0 ≡ first_owned entries.now }
     ensures later { result.1.now ≡ later_owned entries.now }
 {
@@ -15,7 +15,7 @@ pub(crate) fn next_entry<T: Copy>(entries: &[Option<T>]) -> (Option<T>, &[Option
 }
 
 /// The entries behind so many.
-pub(crate) fn entries_behind<T: Copy>(entries: &[Option<T>], count: usize) -> &[Option<T>]
+pub fn entries_behind<T: Copy>(entries: &[Option<T>], count: usize) -> &[Option<T>]
     ensures { result.now ≡ drop count entries.now }
 {
     if count < entries.len() {

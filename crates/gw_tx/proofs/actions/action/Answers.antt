@@ -1,5 +1,4 @@
-use Rattle.std.proofs.Common.{ℕ, List, Option, sym, subst}
-use Rattle.gw_base.specs.declared.ids.CtxNum.{CtxNum}
+use Rattle.std.proofs.Common.{sym, subst}
 use Rattle.gw_msg.specs.declared.message.Action.{Action}
 use Rattle.gw_refusal.specs.declared.at.At.{At}
 use Rattle.gw_refusal.specs.declared.at.At.TheVariants.{Null, Live, Unmade, Each}

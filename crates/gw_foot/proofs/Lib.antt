@@ -1,0 +1,12 @@
+pub mod AfterAnother
+pub mod Gathering
+pub mod InTurn
+pub mod Meetings
+pub mod Merging
+pub mod OutAndBack
+pub mod RequestAccesses
+pub mod Staying
+pub mod StillUnused
+pub mod WholeKeys
+pub mod WithOthers
+pub mod WithinKeys

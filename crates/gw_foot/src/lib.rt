@@ -1,0 +1,16 @@
+//! Which entries of the tables a request may touch, and what follows for requests that are carried out side by side.
+#![tactic(auto)]
+
+mod asked;
+mod gather;
+mod laws;
+mod merge;
+mod requests;
+
+pub use laws::{
+    a_part_with_its_footprint_covers_a_request, footprints_are_the_same_while_others_are_out,
+    keys_after_another, keys_that_do_not_meet_are_apart, requests_keep_to_their_keys,
+    requests_on_other_keys_change_places, requests_own_what_is_unused,
+};
+pub use merge::meets;
+pub use requests::footprint;

@@ -1,0 +1,65 @@
+//! Which entries of the tables a request may touch.
+
+ghost use Rattle.std.specs.Prelude.{IfOk, ◌≡◌};
+ghost use Rattle.std.specs.List.{list_any};
+ghost use Rattle.gw_table.specs.KeyLists.{IsListOf};
+ghost use Rattle.gw_cmd.specs.Keys.{every_key, keys_if};
+ghost use Rattle.gw_reserve.specs.Owned.{paired};
+ghost use Rattle.gw_tx.specs.Footprints.{footprint_of};
+ghost use Rattle.gw_foot.specs.Gathered.{asks_all};
+
+use crate::asked::asks_all;
+use crate::gather::{add_actions, add_every_key};
+use gw_base::{Key, NoMemory};
+use gw_msg::{Action, Request};
+use gw_reserve::Owned;
+use gw_table::{Tables, put_in_order};
+use std::alloc::Global;
+
+/// Most requests have no more keys, so that the list is made by one growth.
+const MOST_HAVE: usize = 8;
+
+fn any_asks_all(actions: &[Action<'_>]) -> bool
+    ensures { result ≡ list_any asks_all actions.now }
+{
+    actions.iter().any(|action| asks_all(action))
+}
+
+/// Every key where something in the request is meant for all, else none.
+fn begun(alloc: Global, tables: &Tables, actions: &[Action<'_>]) -> Result<Vec<Key>, NoMemory>
+    ensures { IfOk result (λ keys. keys.items ≡ keys_if (list_any asks_all actions.now) (every_key tables.now)) }
+{
+    let mut keys = Vec::with_capacity(alloc, MOST_HAVE)?;
+    if any_asks_all(actions) {
+        add_every_key(alloc, tables, &mut keys)?;
+    }
+    Ok(keys)
+}
+
+/// The keys of a request with what it owns, in the tables as they are, over all its actions and commands, reached or not: each once,
+/// in order. With n keys the work is n log n. A wildcard's members are those that its context tells; every termination is looked at only
+/// where something in the request is meant for all.
+///
+/// # Errors
+///
+/// Want of memory.
+pub fn footprint(
+    alloc: Global,
+    tables: &Tables,
+    request: &Request<'_>,
+    owned: &Owned,
+) -> Result<Vec<Key>, NoMemory>
+    ensures { IfOk result (λ keys. IsListOf keys.items (footprint_of (paired request.now owned.now) tables.now)) }
+{
+    let actions = request.actions.as_slice();
+    let mut keys = begun(alloc, tables, actions)?;
+    add_actions(
+        tables,
+        owned.contexts.as_slice(),
+        owned.slots.as_slice(),
+        actions,
+        &mut keys,
+    )?;
+    put_in_order(&mut keys);
+    Ok(keys)
+}
