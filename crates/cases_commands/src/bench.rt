@@ -1,20 +1,24 @@
 //! Tables on which single commands are carried out.
 
-ghost use Rattle.std.specs.Prelude.{◌≡◌, true};
+ghost use Rattle.std.specs.Prelude.{◌≡◌, true, OnOk};
 ghost use Rattle.std.specs.List.{list_any};
 ghost use Rattle.gw_table.specs.Reserved.{is_reserved};
+ghost use Rattle.gw_table.specs.Stored.{maps_of, NoneIsOut};
+ghost use Rattle.gw_table.specs.WellFormed.{AreWellFormed};
+ghost use Rattle.gw_cmd.specs.Commands.{command as command_done};
 ghost use Rattle.gw_cmd.specs.Suits.{IsUnused};
 
+use crate::keys::enough_keys;
 use crate::places::Place;
 use cases_text::{CaseFault, Page};
-use gw_base::{Config, Rules, TermName};
+use gw_base::{Config, NoMemory, Rules, TermName};
 use gw_cmd::{CmdOutcome, command};
 use gw_msg::{Command, Item, Message, read_message};
 use gw_table::{Tables, is_reserved, slot_name};
 use std::alloc::Global;
 use std::marker::Model;
 
-/// A gateway's rules and its tables, which are well-formed.
+/// A gateway's rules and its tables, which are well-formed and of which nothing is out.
 #[derive(Drop)]
 pub struct Bench {
     rules: Rules,
@@ -23,15 +27,16 @@ pub struct Bench {
 
 impl Model for Bench {
     ghost use Rattle.gw_table.specs.Maps.{Maps, coded_maps};
+    ghost use Rattle.gw_table.specs.Stored.{maps_of, NoneIsOut};
     ghost use Rattle.gw_table.specs.WellFormed.{AreWellFormed};
 
     ghost Value = { Maps };
 
     ghost coded = { coded_maps };
 
-    ghost view = { λ a. a.tables };
+    ghost view = { λ a. maps_of a.tables };
 
-    ghost invariant = { λ a. AreWellFormed a.rules.members a.tables };
+    ghost invariant = { λ a. AreWellFormed a.rules.members (maps_of a.tables) × NoneIsOut a.tables };
 }
 
 /// Whether a name is the gateway's own to give.
@@ -43,7 +48,7 @@ fn has_reserved(names: &[TermName]) -> bool
 
 /// Whether no termination is in the slot that a command owns.
 fn is_unused(tables: &Tables, slot: Option<u16>) -> bool
-    ensures { result ≡ true → IsUnused slot tables.now }
+    ensures { result ≡ true → IsUnused slot (maps_of tables.now) }
 {
     match slot {
         Some(slot) => tables.find_term(&slot_name(slot)).is_none(),
@@ -66,6 +71,29 @@ fn command_of<'m, 'a>(message: &'m Message<'a>) -> Option<&'m Command<'a>> {
         return None;
     };
     Some(command)
+}
+
+/// Carries a command out on all of the tables.
+fn carry_out(
+    alloc: Global,
+    rules: &Rules,
+    tables: &mut Tables,
+    place: Place,
+    asked: &Command<'_>,
+) -> Result<CmdOutcome, NoMemory>
+    requires whole { AreWellFormed rules.now.members (maps_of tables.old) }
+    requires here { NoneIsOut tables.old }
+    requires unused { IsUnused place.slot (maps_of tables.old) }
+    ensures maps { OnOk result (maps_of tables.new ≡ (command_done rules.now place.at place.slot asked.now (maps_of tables.old)).maps) }
+    ensures here { OnOk result (NoneIsOut tables.new) }
+{
+    let keys = enough_keys(alloc, tables, place, asked)?;
+    tables.reserve_slots(keys.list())?;
+    let mut part = tables.take_out(keys);
+    let outcome = command(alloc, rules, &mut part, place.at, place.slot, asked)?;
+    tables.put_back(part);
+    tables.sweep();
+    Ok(outcome)
 }
 
 impl Bench {
@@ -101,20 +129,14 @@ impl Bench {
         if !is_unused(&self.tables, place.slot) {
             return Err(CaseFault::Form);
         }
-        let Ok(copy) = self.tables.copy() else {
+        let Ok(mut tables) = self.tables.copy() else {
             return Err(CaseFault::NoMemory);
         };
-        let mut part = copy.all();
-        let Ok(outcome) = command(alloc, &self.rules, &mut part, place.at, place.slot, asked) else {
+        let Ok(outcome) = carry_out(alloc, &self.rules, &mut tables, place, asked) else {
             return Err(CaseFault::NoMemory);
         };
-        Ok((
-            outcome,
-            Bench {
-                rules: self.rules,
-                tables: part.tables(),
-            },
-        ))
+        let rules = self.rules;
+        Ok((outcome, Bench { rules, tables }))
     }
 
     /// The command of a message carried out at its place.

@@ -1,20 +1,15 @@
 //! Which entries of the tables a request may touch, and whether two requests may touch the same.
 
-ghost use Rattle.std.specs.Prelude.{IfOk};
-ghost use Rattle.gw_table.specs.KeyLists.{IsInOrder};
-
 use cases_text::{CaseFault, Page, decoded, split_at_byte};
 use gw_base::Key;
 use gw_foot::{footprint, meets};
 use gw_msg::{Item, Message, Request, read_message};
 use gw_reserve::{Cursors, Reservation};
-use gw_table::Tables;
+use gw_table::{Keys, Tables};
 use std::alloc::Global;
 
 /// The keys of a request that is alone in its burst, with 8 contexts and 4 slots and cursors at 0.
-fn keys_of(alloc: Global, tables: &Tables, request: &Request<'_>) -> Result<Vec<Key>, CaseFault>
-    ensures { IfOk result (λ keys. IsInOrder keys.items) }
-{
+fn keys_of(alloc: Global, tables: &Tables, request: &Request<'_>) -> Result<Keys, CaseFault> {
     let cursors = Cursors {
         context: 0,
         slot: 0,
@@ -41,9 +36,7 @@ fn request_of<'m, 'a>(message: &'m Message<'a>) -> Option<&'m Request<'a>> {
 }
 
 /// The keys of the request of a message.
-fn keys_in(alloc: Global, tables: &Tables, message: &[u8]) -> Result<Vec<Key>, CaseFault>
-    ensures { IfOk result (λ keys. IsInOrder keys.items) }
-{
+fn keys_in(alloc: Global, tables: &Tables, message: &[u8]) -> Result<Keys, CaseFault> {
     let Ok(message) = read_message(alloc, message) else {
         return Err(CaseFault::Form);
     };
@@ -54,9 +47,7 @@ fn keys_in(alloc: Global, tables: &Tables, message: &[u8]) -> Result<Vec<Key>, C
 }
 
 /// The keys of the request of these actions.
-fn keys_asked(alloc: Global, tables: &Tables, actions: &[u8]) -> Result<Vec<Key>, CaseFault>
-    ensures { IfOk result (λ keys. IsInOrder keys.items) }
-{
+fn keys_asked(alloc: Global, tables: &Tables, actions: &[u8]) -> Result<Keys, CaseFault> {
     let text = decoded(alloc, actions)?;
     let mut whole = Page::new(alloc);
     whole.put(b"MEGACO/1 mg T=1{");
@@ -79,6 +70,7 @@ fn write_key(out: &mut Page, key: &Key) {
 /// The keys of a request, in order.
 pub fn write_footprint(out: &mut Page, tables: &Tables, actions: &[u8]) -> Result<(), CaseFault> {
     let keys = keys_asked(out.alloc(), tables, actions)?;
+    let keys = keys.list();
     if keys.is_empty() {
         out.put(b"none");
     }

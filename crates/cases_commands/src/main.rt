@@ -4,6 +4,7 @@
 mod bench;
 mod commands;
 mod footprints;
+mod keys;
 mod places;
 mod tables;
 

@@ -28,13 +28,12 @@ pub(crate) fn put(
     part: &mut Part,
     name: TermName,
     entry: Option<Held<Termination>>,
-) -> Result<(), NoMemory>
+)
     requires { holds part.old.keys (Term name) ≡ true }
-    ensures ok { OnOk result (part.new.maps ≡ put_term part.old.maps name entry) }
+    ensures maps { part.new.maps ≡ put_term part.old.maps name entry }
     ensures keys { part.new.keys ≡ part.old.keys }
 {
-    part.set_term(name, entry)?;
-    Ok(())
+    part.set_term(name, entry);
 }
 
 /// What a change makes of the tables.
@@ -51,18 +50,21 @@ fn changed(
 {
     match change {
         Change::Stays => Ok(()),
-        Change::Becomes(record) => put(part, name, Some(record)),
+        Change::Becomes(record) => {
+            put(part, name, Some(record));
+            Ok(())
+        }
         Change::Joins(number, record) => {
-            put(part, name, Some(record))?;
+            put(part, name, Some(record));
             part.join(alloc, number, name, usize::from(rules.members))
         }
         Change::Crosses(from, number, record) => {
-            put(part, name, Some(record))?;
+            put(part, name, Some(record));
             part.leave(from, &name);
             part.join(alloc, number, name, usize::from(rules.members))
         }
         Change::Leaves(number, remains) => {
-            put(part, name, remains)?;
+            put(part, name, remains);
             part.leave(number, &name);
             Ok(())
         }

@@ -16,16 +16,6 @@ use Rattle.gw_engine.specs.declared.reserve.Job.{Job}
 use Rattle.gw_engine.specs.Carried.{carried}
 use Rattle.gw_engine.specs.Phases.{sent_of, slots_of, done_by, entry_of, entries_of}
 
--- a part with every key covers all
-pub covers_all : (limit : ℕ) (part : Parted) (needed : List Key) → part.keys ≡ Every → AreWellFormed limit part.maps → Covers part needed
-covers_all limit part needed every w =
-    let all : (k : Key) → holds part.keys k ≡ true = λ k. ap (λ (p : PartKeys). holds p k) every in
-    record {
-      sound = record { recorded = λ t n k h. w.recorded t n h; once = w.once };
-      entries = record { terms = λ t h. all (Term t); contexts = λ n h. all (Ctx n) };
-      held = λ k h. all k;
-    }
-
 -- The tables are well-formed, what the jobs that are left own is unused in them, and with those jobs they come to the end of all.
 pub record IsCarrying (mid : List ℕ) (rules : Rules) (start : Maps) (all left : List Job) (m : Maps) (entries : List Entry) : Type 0 where
   pub whole : AreWellFormed rules.members m

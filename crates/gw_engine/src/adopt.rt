@@ -2,6 +2,7 @@
 
 ghost use Rattle.std.specs.Prelude.{◌≡◌};
 ghost use Rattle.gw_kept.specs.Pairs.{AreNew};
+ghost use Rattle.gw_table.specs.Stored.{maps_of, NoneIsOut};
 ghost use Rattle.gw_engine.specs.Phases.{adopted};
 ghost use Rattle.gw_engine.specs.State.{IsWellFormed};
 
@@ -26,10 +27,11 @@ impl Gateway {
     /// Makes it the gateway's state, and hands the answers out. It takes no memory.
     pub(crate) fn adopt(&mut self, done: Done) -> Items<Datagram>
         requires new { AreNew self.old.state.kept done.entries.items }
-        requires fits { IsWellFormed self.old.settings (adopted self.old.state done.tables done.cursors done.entries.items) }
+        requires here { NoneIsOut done.tables }
+        requires fits { IsWellFormed self.old.settings (adopted self.old.state (maps_of done.tables) done.cursors done.entries.items) }
         ensures answers { result ≡ done.answers }
         ensures settings { self.new.settings ≡ self.old.settings }
-        ensures state { self.new.state ≡ adopted self.old.state done.tables done.cursors done.entries.items }
+        ensures state { self.new.state ≡ adopted self.old.state (maps_of done.tables) done.cursors done.entries.items }
         ensures fits { IsWellFormed self.new.settings self.new.state }
     {
         let Done {

@@ -2,6 +2,7 @@
 
 ghost use Rattle.std.specs.Prelude.{◌≡◌, [], IfOk, OnErr};
 ghost use Rattle.gw_reserve.specs.Owners.{AreWithin};
+ghost use Rattle.gw_table.specs.Stored.{maps_of, NoneIsOut};
 ghost use Rattle.gw_table.specs.Unused.{AreUnused};
 ghost use Rattle.gw_table.specs.WellFormed.{AreWellFormed};
 ghost use Rattle.gw_engine.specs.Bursts.{AnswersBurst};
@@ -53,19 +54,21 @@ impl Gateway {
     /// Carries jobs out on a copy of the tables; answers the copy, and what is to be kept.
     fn perform(&self, alloc: Global, jobs: &[Job<'_, '_>]) -> Result<(Tables, Vec<Entry>), NoMemory>
         requires { AreUnused self.now.state.maps [] (slots_of jobs.now) }
-        ensures tables { IfOk result (λ done. done.0 ≡ (done_by self.now.settings.rules jobs.now self.now.state.maps).maps) }
+        ensures tables { IfOk result (λ done. maps_of done.0 ≡ (done_by self.now.settings.rules jobs.now self.now.state.maps).maps) }
         ensures entries { IfOk result (λ done. done.1.items ≡ kept_of self.now jobs.now) }
-        ensures whole { IfOk result (λ done. AreWellFormed self.now.settings.rules.members done.0) }
+        ensures whole { IfOk result (λ done. AreWellFormed self.now.settings.rules.members (maps_of done.0)) }
+        ensures here { IfOk result (λ done. NoneIsOut done.0) }
     {
-        let mut part = self.tables.copy()?.all();
-        let entries = carry(alloc, &self.mid, &self.rules, &mut part, jobs)?;
-        Ok((part.tables(), entries))
+        let mut tables = self.tables.copy()?;
+        let entries = carry(alloc, &self.mid, &self.rules, &mut tables, jobs)?;
+        Ok((tables, entries))
     }
 
     /// What comes of a burst, in phases: each is over for the whole burst before the next begins.
     fn carry_out(&self, alloc: Global, heard: &[Heard<'_>]) -> Result<Done, NoMemory>
         requires { AreInForm heard.now }
-        ensures { IfOk result (λ done. IsOutcome self.now heard.now done.answers done.tables done.cursors done.entries.items) }
+        ensures outcome { IfOk result (λ done. IsOutcome self.now heard.now done.answers (maps_of done.tables) done.cursors done.entries.items) }
+        ensures here { IfOk result (λ done. NoneIsOut done.tables) }
     {
         // No effect at run time. The proof reads here that the state is well-formed.
         let _ = &self.tables;

@@ -5,6 +5,7 @@ ghost use Rattle.gw_base.specs.declared.key.Key.{Key};
 ghost use Rattle.gw_base.specs.declared.key.Key.TheVariants.{Term, Ctx};
 ghost use Rattle.gw_base.specs.Keys.{has};
 ghost use Rattle.gw_table.specs.Maps.{ctx, members_of};
+ghost use Rattle.gw_table.specs.Stored.{maps_of};
 ghost use Rattle.gw_cmd.specs.Keys.{every_key, name_keys};
 ghost use Rattle.gw_tx.specs.Footprints.{one_context};
 ghost use Rattle.gw_reserve.specs.Owned.{paired_action, paired_actions, paired_commands};
@@ -45,7 +46,7 @@ pub(crate) fn add_every_key(
     tables: &Tables,
     keys: &mut Vec<Key>,
 ) -> Result<(), NoMemory>
-    ensures { OnOk result (keys.new.items ≡ keys.old.items ++ every_key tables.now) }
+    ensures { OnOk result (keys.new.items ≡ keys.old.items ++ every_key (maps_of tables.now)) }
 {
     keys.push(Key::Whole)?;
     let names = tables.names(alloc)?;
@@ -56,7 +57,7 @@ pub(crate) fn add_every_key(
 
 /// The members of a context, which the context itself tells.
 fn add_members(tables: &Tables, number: CtxNum, keys: &mut Vec<Key>) -> Result<(), NoMemory>
-    ensures { OnOk result (keys.new.items ≡ keys.old.items ++ map Term (members_of (ctx tables.now number))) }
+    ensures { OnOk result (keys.new.items ≡ keys.old.items ++ map Term (members_of (ctx (maps_of tables.now) number))) }
 {
     match tables.find_ctx(number) {
         Some(context) => add_names(context.members().as_slice(), keys),
@@ -66,7 +67,7 @@ fn add_members(tables: &Tables, number: CtxNum, keys: &mut Vec<Key>) -> Result<(
 
 /// A termination, and the context that it is in.
 fn add_name(tables: &Tables, name: TermName, keys: &mut Vec<Key>) -> Result<(), NoMemory>
-    ensures { OnOk result (keys.new.items ≡ keys.old.items ++ name_keys name tables.now) }
+    ensures { OnOk result (keys.new.items ≡ keys.old.items ++ name_keys name (maps_of tables.now)) }
 {
     keys.push(Key::Term(name))?;
     let Some(termination) = tables.find_term(&name) else {
@@ -85,7 +86,7 @@ fn add_own(
     command: &Command<'_>,
     keys: &mut Vec<Key>,
 ) -> Result<(), NoMemory>
-    ensures { OnOk result (keys.new.items ≡ keys.old.items ++ own_keys tables.now (slot, command.now)) }
+    ensures { OnOk result (keys.new.items ≡ keys.old.items ++ own_keys (maps_of tables.now) (slot, command.now)) }
 {
     match command.term {
         TermRef::Name(name) => add_name(tables, name, keys),
@@ -106,7 +107,7 @@ fn add_each_own(
     commands: &[Command<'_>],
     keys: &mut Vec<Key>,
 ) -> Result<(), NoMemory>
-    ensures { OnOk result (keys.new.items ≡ keys.old.items ++ flat_map (own_keys tables.now) (paired_commands slots.now commands.now)) }
+    ensures { OnOk result (keys.new.items ≡ keys.old.items ++ flat_map (own_keys (maps_of tables.now)) (paired_commands slots.now commands.now)) }
 {
     let mut left = slots;
     for command in commands {
@@ -136,7 +137,7 @@ fn add_action(
     sent: &Action<'_>,
     keys: &mut Vec<Key>,
 ) -> Result<(), NoMemory>
-    ensures { OnOk result (keys.new.items ≡ keys.old.items ++ gathered tables.now (paired_action number slots.now sent.now)) }
+    ensures { OnOk result (keys.new.items ≡ keys.old.items ++ gathered (maps_of tables.now) (paired_action number slots.now sent.now)) }
 {
     let commands = sent.commands.as_slice();
     if let Some(number) = one_context(sent.ctx, number) {
@@ -168,7 +169,7 @@ pub(crate) fn add_actions(
     asked: &[Action<'_>],
     keys: &mut Vec<Key>,
 ) -> Result<(), NoMemory>
-    ensures { OnOk result ((k : Key) → has keys.new.items k ≡ has (keys.old.items ++ all_gathered tables.now (paired_actions numbers.now slots.now asked.now)) k) }
+    ensures { OnOk result ((k : Key) → has keys.new.items k ≡ has (keys.old.items ++ all_gathered (maps_of tables.now) (paired_actions numbers.now slots.now asked.now)) k) }
 {
     let mut numbers_left = numbers;
     let mut slots_left = slots;

@@ -8,7 +8,7 @@ ghost use Rattle.gw_table.specs.KeyLists.{IsInOrder};
 ghost use Rattle.gw_foot.specs.Meets.{meets};
 
 use gw_base::Key;
-use gw_table::compare_keys;
+use gw_table::{Keys, compare_keys};
 use std::cmp::Ordering;
 
 /// Whether the key stands for every entry.
@@ -47,11 +47,11 @@ fn share_a_key(a: &[Key], b: &[Key]) -> bool
     false
 }
 
-/// Whether two lists of keys, each in order, meet: a key is in both, or `Whole` in either. The work is one pass over both.
-pub fn meets(a: &[Key], b: &[Key]) -> bool
-    requires a { IsInOrder a.now }
-    requires b { IsInOrder b.now }
+/// Whether keys meet: a key is in both, or `Whole` in either. The work is one pass over both.
+pub fn meets(a: &Keys, b: &Keys) -> bool
     ensures { result ≡ meets a.now b.now }
 {
+    let a = a.list();
+    let b = b.list();
     has_whole(a) || has_whole(b) || share_a_key(a, b)
 }

@@ -3,6 +3,7 @@
 ghost use Rattle.std.specs.Prelude.{IfOk, ◌≡◌};
 ghost use Rattle.std.specs.List.{list_any};
 ghost use Rattle.gw_table.specs.KeyLists.{IsListOf};
+ghost use Rattle.gw_table.specs.Stored.{maps_of};
 ghost use Rattle.gw_cmd.specs.Keys.{every_key, keys_if};
 ghost use Rattle.gw_reserve.specs.Owned.{paired};
 ghost use Rattle.gw_tx.specs.Footprints.{footprint_of};
@@ -13,7 +14,7 @@ use crate::gather::{add_actions, add_every_key};
 use gw_base::{Key, NoMemory};
 use gw_msg::{Action, Request};
 use gw_reserve::Owned;
-use gw_table::{Tables, put_in_order};
+use gw_table::{Keys, Tables, put_in_order};
 use std::alloc::Global;
 
 /// Most requests have no more keys, so that the list is made by one growth.
@@ -27,7 +28,7 @@ fn any_asks_all(actions: &[Action<'_>]) -> bool
 
 /// Every key where something in the request is meant for all, else none.
 fn begun(alloc: Global, tables: &Tables, actions: &[Action<'_>]) -> Result<Vec<Key>, NoMemory>
-    ensures { IfOk result (λ keys. keys.items ≡ keys_if (list_any asks_all actions.now) (every_key tables.now)) }
+    ensures { IfOk result (λ keys. keys.items ≡ keys_if (list_any asks_all actions.now) (every_key (maps_of tables.now))) }
 {
     let mut keys = Vec::with_capacity(alloc, MOST_HAVE)?;
     if any_asks_all(actions) {
@@ -48,8 +49,8 @@ pub fn footprint(
     tables: &Tables,
     request: &Request<'_>,
     owned: &Owned,
-) -> Result<Vec<Key>, NoMemory>
-    ensures { IfOk result (λ keys. IsListOf keys.items (footprint_of (paired request.now owned.now) tables.now)) }
+) -> Result<Keys, NoMemory>
+    ensures { IfOk result (λ keys. IsListOf keys (footprint_of (paired request.now owned.now) (maps_of tables.now))) }
 {
     let actions = request.actions.as_slice();
     let mut keys = begun(alloc, tables, actions)?;
@@ -61,5 +62,5 @@ pub fn footprint(
         &mut keys,
     )?;
     put_in_order(&mut keys);
-    Ok(keys)
+    Ok(Keys::from_list(alloc, keys)?)
 }

@@ -1,20 +1,17 @@
 -- How jobs end.
-use Rattle.std.proofs.Common.{◌≡◌, ℕ, List, [], ◌++◌, Bool, true, false, Option, None, ◌⊎◌, refl, inl, inr}
-use Rattle.std.specs.Prelude.{Result, Ok, Err, IfErr}
-use Rattle.std.specs.Io.KnownBytes.{Appends, Keeps}
+use Rattle.std.proofs.Common.{◌≡◌, ℕ, List, Bool, true, false, Option, None, ◌⊎◌, refl, inl, inr}
+use Rattle.std.specs.Prelude.{Ok, Err}
+use Rattle.std.specs.Io.KnownBytes.{Appends}
 use Rattle.std.proofs.KnownBytes.{Appends-nil, Keeps-refl}
 use Rattle.gw_engine.specs.AuditText.{audit_text}
 use Rattle.gw_engine.specs.State.{GatewayValue}
-use Rattle.gw_front.specs.Answering.{IsAnswer}
 use Rattle.gw_front.specs.Replays.{IsReplay}
-use Rattle.gw_front.specs.Serving.{ServesSome, IsAtStart}
 use Rattle.gw_front.specs.declared.counts.Counts.{Counts}
 use Rattle.gw_front.specs.declared.replay_fault.ReplayFault.{ReplayFault}
-use Rattle.gw_front.specs.declared.serve_fault.ServeFault.{ServeFault}
 use Rattle.gw_front.specs.declared.serve_fault.ServeFault.TheVariants.{Bind}
 use Rattle.gw_front.proofs.Served.{not_begun}
-use Rattle.gw_program.specs.Faults.{of_replay, of_serve}
-use Rattle.gw_program.specs.Jobs.{IsReplayJob, IsToEnd, told_tables, IsAnswerJob, IsServeJob, IsDoneWith}
+use Rattle.gw_program.specs.Faults.{of_replay}
+use Rattle.gw_program.specs.Jobs.{IsReplayJob, IsServeJob}
 use Rattle.gw_program.specs.declared.fault.Fault.{Fault}
 use Rattle.gw_program.specs.declared.fault.Fault.TheVariants as why
 

@@ -20,6 +20,7 @@ use Rattle.gw_front.specs.declared.serve_fault.ServeFault.{ServeFault}
 use Rattle.gw_program.specs.Faults.{of_replay, of_serve}
 use Rattle.gw_program.specs.Outcomes.{IsTold, IsExplained}
 use Rattle.gw_program.specs.Start.{start}
+use Rattle.gw_program.specs.Words.{IsAsked, mistakes}
 use Rattle.gw_program.specs.declared.command_line.Job.{Job}
 use Rattle.gw_program.specs.declared.command_line.Job.TheVariants as job
 use Rattle.gw_program.specs.declared.ended.Ended.{Ended}
@@ -171,13 +172,14 @@ abbrev pub IsJob : {F : Type 0} → (F → Option (List ℕ)) → Job → (input
 IsJob held (job.Check file) input out out′ ended = IsCheck held file.now out out′ ended
 IsJob held asked input out out′ ended = (made : Result GatewayValue Fault) × IsStart held (file_of asked) made × IsBegun asked input out out′ ended made
 
--- a job was asked for, done up to a fault that it has, and its end was told
-pub record IsJobEnd {F : Type 0} (held : F → Option (List ℕ)) (input out out′ err err′ : Option (List ℕ)) (ended : Ended) : Type 0 where
+-- the job that the words ask for was done, up to a fault that it has, and its end was told
+pub record IsJobEnd {F : Type 0} (held : F → Option (List ℕ)) (words : List (List ℕ)) (input out out′ err err′ : Option (List ℕ)) (ended : Ended) : Type 0 where
   pub asked : Job
+  pub is_asked : IsAsked words asked
   pub done : Result Unit Fault
   pub is_job : IsJob held asked input out out′ done
   pub told : IsTold done err err′ ended
 
--- how the program ends: a job was done, or the words ask for none
-abbrev pub IsEnd : {F : Type 0} → (F → Option (List ℕ)) → (input out out′ err err′ : Option (List ℕ)) → Ended → Type 0
-IsEnd held input out out′ err err′ ended = IsJobEnd held input out out′ err err′ ended ⊎ IsExplained ended out out′ err err′
+-- how the program ends on these words: the job that they ask for was done, or they ask for none
+abbrev pub IsEnd : {F : Type 0} → (F → Option (List ℕ)) → List (List ℕ) → (input out out′ err err′ : Option (List ℕ)) → Ended → Type 0
+IsEnd held words input out out′ err err′ ended = IsJobEnd held words input out out′ err err′ ended ⊎ IsExplained (mistakes words) ended out out′ err err′

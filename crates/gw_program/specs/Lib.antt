@@ -1,4 +1,7 @@
+pub mod Commands
 pub mod Faults
+pub mod Forms
 pub mod Jobs
 pub mod Outcomes
 pub mod Start
+pub mod Words

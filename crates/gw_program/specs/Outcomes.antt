@@ -1,12 +1,15 @@
 -- How the program ends: its exit status, and what it tells (own).
-use Rattle.std.specs.Prelude.{◌≡◌, ◌<◌, ◌⊎◌, ⊤, ℕ, Bool, List, ◌++◌, length, codes, Option, Result, Ok, Err}
+use Rattle.std.specs.Prelude.{◌≡◌, ◌≢◌, ◌<◌, ◌⊎◌, ℕ, Bool, List, ◌++◌, length, codes, Option, Result, Ok, Err}
 use Rattle.std.specs.Bool.{OnTrue}
 use Rattle.std.specs.Io.KnownBytes.{Appends, Keeps}
 use Rattle.gw_program.specs.declared.ended.Ended.{Ended}
 use Rattle.gw_program.specs.declared.ended.Ended.TheVariants.{Done, Misused, Failed}
 use Rattle.gw_program.specs.declared.fault.Fault.{Fault}
 use Rattle.gw_program.specs.declared.fault.Fault.TheVariants as why
-use Rattle.std.specs.declared.io.ErrorKind.{ErrorKind}
+use Rattle.clap.specs.Kinds.{IsAmong, Kinds}
+use Rattle.clap.specs.declared.error.kind.ErrorKind.{ErrorKind}
+use Rattle.clap.specs.declared.error.kind.ErrorKind.TheVariants as asked
+use Rattle.std.specs.declared.io.ErrorKind.{ErrorKind as ReadFault}
 use Rattle.std.specs.declared.io.ErrorKind.TheVariants.{OutOfMemory}
 use Rattle.gw_program.specs.Faults.{line_of}
 
@@ -26,13 +29,28 @@ IsTold (Err fault) err err′ ended = (told : Bool) × (ended ≡ Failed fault t
 abbrev pub Says : (err err′ : Option (List ℕ)) → Type 0
 Says err err′ = (said : List ℕ) × (0 < length said) × Appends err err′ said
 
--- The words ask for no job: help and the version, which standard error says nothing of, a mistake, or want of memory.
-abbrev pub IsExplained : Ended → (out out′ err err′ : Option (List ℕ)) → Type 0
-IsExplained Done out out′ err err′ = Keeps err err′
-IsExplained (Failed fault told) out out′ err err′ = (fault ≡ why.NoMemory) × Keeps out out′ × OnTrue told (Appends err err′ (line_of fault ++ codes "\n"))
-IsExplained (Misused told) out out′ err err′ = Keeps out out′ × OnTrue told (Says err err′)
+-- the words ask for help or the version
+abbrev pub IsShown : ErrorKind → Type 0
+IsShown kind = (kind ≡ asked.DisplayHelp) ⊎ (kind ≡ asked.DisplayVersion)
+
+-- the words have a mistake
+abbrev pub IsMistake : ErrorKind → Type 0
+IsMistake kind = (kind ≢ asked.OutOfMemory) × (kind ≢ asked.DisplayHelp) × (kind ≢ asked.DisplayVersion)
+
+-- What is said of words with a mistake of that kind: help and the version, which standard error says nothing of, a mistake, or want
+-- of memory.
+abbrev pub IsExplainedBy : ErrorKind → Ended → (out out′ err err′ : Option (List ℕ)) → Type 0
+IsExplainedBy kind Done out out′ err err′ = IsShown kind × Keeps err err′
+IsExplainedBy kind (Failed fault told) out out′ err err′ = (fault ≡ why.NoMemory) × Keeps out out′ × OnTrue told (Appends err err′ (line_of fault ++ codes "\n"))
+IsExplainedBy kind (Misused told) out out′ err err′ = IsMistake kind × Keeps out out′ × OnTrue told (Says err err′)
+
+-- The words ask for no job, since they have one of these mistakes, or memory was refused.
+pub record IsExplained (mistakes : Kinds) (ended : Ended) (out out′ err err′ : Option (List ℕ)) : Type 0 where
+  pub kind : ErrorKind
+  pub is_one : (kind ≡ asked.OutOfMemory) ⊎ IsAmong kind mistakes
+  pub explained : IsExplainedBy kind ended out out′ err err′
 
 -- The words could not be read: memory was refused to them, or one of them is no text, which standard error says.
-abbrev pub IsUnreadable : ErrorKind → (err err′ : Option (List ℕ)) → Ended → Type 0
+abbrev pub IsUnreadable : ReadFault → (err err′ : Option (List ℕ)) → Ended → Type 0
 IsUnreadable OutOfMemory err err′ ended = (told : Bool) × (ended ≡ Failed why.NoMemory told) × OnTrue told (Appends err err′ (line_of why.NoMemory ++ codes "\n"))
 IsUnreadable _ err err′ ended = (told : Bool) × (ended ≡ Misused told) × OnTrue told (Appends err err′ (codes "error: a word of the command line is not UTF-8\n"))

@@ -1,5 +1,11 @@
 //! The command line: its words, and what they ask for.
 
+ghost use Rattle.std.specs.Prelude.{◌≡◌, false, IfOk, IfErr, IfSome, IsOkAnd, map};
+ghost use Rattle.clap.specs.Words.{AddsSubcommand, HasKind, found_of, app_of, rows_of, rule_of, subcommand_rows_of};
+ghost use Rattle.clap.specs.declared.builder.command.Command.TheViews.{out-Command as fields_of};
+ghost use Rattle.gw_program.specs.Commands.{alone, answer_command, audit_rule, bursts_rule, check_command, config_rule, file_rule, listen_rule, program_app, replay_command, serve_command};
+ghost use Rattle.gw_program.specs.Words.{IsAsked, IsAskedBy, IsCommand, IsJobOf, given, mistakes};
+
 use clap::{Arg, ArgAction, ArgMatches, Command, Error, value_parser};
 use std::alloc::{AllocError, Global};
 use std::convert::AsStr;
@@ -82,28 +88,40 @@ pub enum Job<'a> {
 }
 
 /// The configuration file of a command.
-fn file<'a>(alloc: Global) -> Arg<'a> {
+fn file<'a>(alloc: Global) -> Arg<'a>
+    ensures rule { rule_of result ≡ file_rule }
+    ensures own { result.global ≡ false }
+{
     Arg::new(alloc, "FILE").required(true).help(
         "The configuration, a text of lines as `contexts 8` and `term T/1`",
     )
 }
 
 /// The configuration file where one may be named.
-fn config<'a>(alloc: Global) -> Arg<'a> {
+fn config<'a>(alloc: Global) -> Arg<'a>
+    ensures rule { rule_of result ≡ config_rule }
+    ensures own { result.global ≡ false }
+{
     Arg::new(alloc, "CONFIG")
         .long("config")
         .value_name("FILE")
         .help("The configuration; without it the built-in one")
 }
 
-fn answer<'a>(alloc: Global) -> Result<Command<'a>, AllocError> {
+fn answer<'a>(alloc: Global) -> Result<Command<'a>, AllocError>
+    ensures shape { IfOk result (λ command. app_of command ≡ alone answer_command) }
+    ensures own { IfOk result (λ command. (fields_of command).has_globals ≡ false) }
+{
     Command::new(alloc, "answer")
         .about(ANSWER)
         .long_about(ANSWER_LONG)
         .arg(config(alloc))
 }
 
-fn check<'a>(alloc: Global) -> Result<Command<'a>, AllocError> {
+fn check<'a>(alloc: Global) -> Result<Command<'a>, AllocError>
+    ensures shape { IfOk result (λ command. app_of command ≡ alone check_command) }
+    ensures own { IfOk result (λ command. (fields_of command).has_globals ≡ false) }
+{
     Command::new(alloc, "check")
         .about(CHECK)
         .long_about(CHECK_LONG)
@@ -111,14 +129,20 @@ fn check<'a>(alloc: Global) -> Result<Command<'a>, AllocError> {
 }
 
 /// Whether the tables are told.
-fn audit<'a>(alloc: Global) -> Arg<'a> {
+fn audit<'a>(alloc: Global) -> Arg<'a>
+    ensures rule { rule_of result ≡ audit_rule }
+    ensures own { result.global ≡ false }
+{
     Arg::new(alloc, "audit")
         .long("audit")
         .action(ArgAction::SetTrue)
         .help("Tells the tables behind the last answers")
 }
 
-fn replay<'a>(alloc: Global) -> Result<Command<'a>, AllocError> {
+fn replay<'a>(alloc: Global) -> Result<Command<'a>, AllocError>
+    ensures shape { IfOk result (λ command. app_of command ≡ alone replay_command) }
+    ensures own { IfOk result (λ command. (fields_of command).has_globals ≡ false) }
+{
     Command::new(alloc, "replay")
         .about(REPLAY)
         .long_about(REPLAY_LONG)
@@ -127,7 +151,10 @@ fn replay<'a>(alloc: Global) -> Result<Command<'a>, AllocError> {
 }
 
 /// The address that is served.
-fn listen<'a>(alloc: Global) -> Arg<'a> {
+fn listen<'a>(alloc: Global) -> Arg<'a>
+    ensures rule { rule_of result ≡ listen_rule }
+    ensures own { result.global ≡ false }
+{
     Arg::new(alloc, "ADDR")
         .long("listen")
         .default_value(EVERYWHERE)
@@ -135,14 +162,20 @@ fn listen<'a>(alloc: Global) -> Arg<'a> {
 }
 
 /// After how many bursts serving ends.
-fn bursts<'a>(alloc: Global) -> Arg<'a> {
+fn bursts<'a>(alloc: Global) -> Arg<'a>
+    ensures rule { rule_of result ≡ bursts_rule }
+    ensures own { result.global ≡ false }
+{
     Arg::new(alloc, "N")
         .long("bursts")
         .value_parser(value_parser!(u64))
         .help("Ends after so many bursts, with 0 once the address is bound; without it, never")
 }
 
-fn serve<'a>(alloc: Global) -> Result<Command<'a>, AllocError> {
+fn serve<'a>(alloc: Global) -> Result<Command<'a>, AllocError>
+    ensures shape { IfOk result (λ command. app_of command ≡ alone serve_command) }
+    ensures own { IfOk result (λ command. (fields_of command).has_globals ≡ false) }
+{
     Command::new(alloc, "serve")
         .about(SERVE)
         .long_about(SERVE_LONG)
@@ -155,12 +188,16 @@ fn serve<'a>(alloc: Global) -> Result<Command<'a>, AllocError> {
 fn with<'a>(
     command: Command<'a>,
     below: Result<Command<'a>, AllocError>,
-) -> Result<Command<'a>, AllocError> {
+) -> Result<Command<'a>, AllocError>
+    ensures { IfOk result (λ r. IsOkAnd below.entry (λ b. AddsSubcommand command.entry b r)) }
+{
     command.subcommand(below?)
 }
 
 /// The program's commands.
-fn command<'a>(alloc: Global) -> Result<Command<'a>, AllocError> {
+fn command<'a>(alloc: Global) -> Result<Command<'a>, AllocError>
+    ensures { IfOk result (λ command. app_of command ≡ program_app) }
+{
     let program = Command::new(alloc, "h248gw")
         .bin_name("h248gw")?
         .no_binary_name(true)
@@ -174,7 +211,9 @@ fn command<'a>(alloc: Global) -> Result<Command<'a>, AllocError> {
 }
 
 /// The text of an argument that is required or has a default, and so is there.
-fn text_of<'a>(matches: &ArgMatches<'a>, id: &str) -> &'a str {
+fn text_of<'a>(matches: &ArgMatches<'a>, id: &str) -> &'a str
+    ensures { result.now ≡ given id.now (rows_of (found_of matches.now)) }
+{
     match matches.get_str(id) {
         Some(text) => text,
         None => "",
@@ -182,7 +221,10 @@ fn text_of<'a>(matches: &ArgMatches<'a>, id: &str) -> &'a str {
 }
 
 /// What the matches of a command ask for.
-fn job_of<'a>(name: &str, matches: &ArgMatches<'a>) -> Job<'a> {
+fn job_of<'a>(name: &str, matches: &ArgMatches<'a>) -> Job<'a>
+    requires { IsCommand name.now }
+    ensures { IsAskedBy name.now (rows_of (found_of matches.now)) result }
+{
     let file = text_of(matches, "FILE");
     match name {
         "answer" => Job::Answer {
@@ -201,15 +243,26 @@ fn job_of<'a>(name: &str, matches: &ArgMatches<'a>) -> Job<'a> {
     }
 }
 
+/// What matches of the program ask for.
+fn job_in<'a>(matches: &ArgMatches<'a>) -> Job<'a>
+    requires { IfSome (subcommand_rows_of matches.now) (λ found. IsCommand found.0) }
+    ensures { IsJobOf (subcommand_rows_of matches.now) result }
+{
+    match matches.subcommand() {
+        Some((name, inner)) => job_of(name, inner),
+        None => Job::BuiltIn,
+    }
+}
+
 /// What the words ask for.
 ///
 /// # Errors
 ///
 /// A mistake in the words, a request for help or the version, or want of memory.
-pub(crate) fn read_words<'a, S: AsStr>(alloc: Global, words: &'a [S]) -> Result<Job<'a>, Error> {
+pub(crate) fn read_words<'a, S: AsStr>(alloc: Global, words: &'a [S]) -> Result<Job<'a>, Error>
+    ensures asked { IfOk result (IsAsked (map S.text words.entry.now)) }
+    ensures mistaken { IfErr result (HasKind (mistakes (map S.text words.entry.now))) }
+{
     let matches = command(alloc)?.try_get_matches_from(words)?;
-    match matches.subcommand() {
-        Some((name, inner)) => Ok(job_of(name, inner)),
-        None => Ok(Job::BuiltIn),
-    }
+    Ok(job_in(&matches))
 }

@@ -1,13 +1,14 @@
 //! The program apart from its streams: words in, a status out.
 
-ghost use Rattle.std.specs.Prelude.{◌≡◌, ◌⊎◌, ℕ, Bool, List, Option, OnOk, IfErr};
+ghost use Rattle.std.specs.Prelude.{◌≡◌, ◌⊎◌, ℕ, Bool, List, Option, OnOk, IfErr, map};
+ghost use Rattle.clap.specs.Words.{kind_of};
 ghost use Rattle.std.specs.Bool.{OnTrue};
 ghost use Rattle.std.specs.IoError.{error_kind};
 ghost use Rattle.std.specs.Io.KnownBytes.{Appends};
 ghost use Rattle.std.specs.Option.{option_map};
 ghost use Rattle.gw_engine.specs.AuditText.{audit_text};
 ghost use Rattle.gw_program.specs.Jobs.{IsStart, IsReplayJob, IsAnswerJob, IsServeJob, IsJob, IsEnd};
-ghost use Rattle.gw_program.specs.Outcomes.{IsExplained, IsTold, IsUnreadable, Says, status_of};
+ghost use Rattle.gw_program.specs.Outcomes.{IsExplainedBy, IsTold, IsUnreadable, Says, status_of};
 ghost use Rattle.gw_program.specs.declared.ended.Ended.{Ended as Ending};
 
 use crate::check::check;
@@ -215,18 +216,18 @@ fn explained<W: Write, E: Write>(
     out: &mut W,
     err: &mut E,
 ) -> Ended<'static>
-    ensures { IsExplained result (W.contents out.old) (W.contents out.new) (E.contents err.old) (E.contents err.new) }
+    ensures { IsExplainedBy (kind_of error.now) result (W.contents out.old) (W.contents out.new) (E.contents err.old) (E.contents err.new) }
 {
-    if error.kind() == ErrorKind::OutOfMemory {
-        return told(Err(Fault::NoMemory), err);
-    }
-    if !error.use_stderr() {
-        let _ = write!(out, "{error}");
-        return Ended::Done;
-    }
-    match format!(in alloc; "{error}") {
-        Ok(text) => misused(text.as_str(), err),
-        Err(_) => told(Err(Fault::NoMemory), err),
+    match error.kind() {
+        ErrorKind::OutOfMemory => told(Err(Fault::NoMemory), err),
+        ErrorKind::DisplayHelp | ErrorKind::DisplayVersion => {
+            let _ = write!(out, "{error}");
+            Ended::Done
+        }
+        _ => match format!(in alloc; "{error}") {
+            Ok(text) => misused(text.as_str(), err),
+            Err(_) => told(Err(Fault::NoMemory), err),
+        },
     }
 }
 
@@ -260,7 +261,7 @@ fn end_of<'a, R: Files + Net + Wait, S: AsStr, I: Read, W: Write, E: Write>(
     out: &mut W,
     err: &mut E,
 ) -> Ended<'a>
-    ensures { IsEnd R.File.Read.remaining (I.remaining reader.old) (W.contents out.old) (W.contents out.new) (E.contents err.old) (E.contents err.new) result }
+    ensures { IsEnd R.File.Read.remaining (map S.text words.entry.now) (I.remaining reader.old) (W.contents out.old) (W.contents out.new) (E.contents err.old) (E.contents err.new) result }
 {
     let job = match read_words(alloc, words) {
         Ok(job) => job,
@@ -280,7 +281,7 @@ pub fn program<R: Files + Net + Wait + AllocGlobal, S: AsStr, I: Read, W: Write,
     out: &mut W,
     err: &mut E,
 ) -> u8
-    ensures { (ended : Ending) × (result ≡ status_of ended) × IsEnd R.File.Read.remaining (I.remaining reader.old) (W.contents out.old) (W.contents out.new) (E.contents err.old) (E.contents err.new) ended }
+    ensures { (ended : Ending) × (result ≡ status_of ended) × IsEnd R.File.Read.remaining (map S.text words.now) (I.remaining reader.old) (W.contents out.old) (W.contents out.new) (E.contents err.old) (E.contents err.new) ended }
 {
     end_of(rt, rt.alloc(), words, reader, out, err).status()
 }

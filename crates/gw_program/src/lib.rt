@@ -8,8 +8,10 @@ mod entry;
 mod fault;
 mod file;
 mod gateway;
+mod laws;
 
 pub use command_line::Job;
 pub use ended::Ended;
 pub use entry::{program, unreadable_words};
 pub use fault::Fault;
+pub use laws::words_of_each_form_ask_for_their_job;

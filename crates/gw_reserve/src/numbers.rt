@@ -4,6 +4,7 @@ ghost use Rattle.std.specs.Prelude.{◌≡◌, ℕ, ◌<◌, ◌≤◌, if◌the
 ghost use Rattle.std.proofs.Common.{get_or};
 ghost use Rattle.gw_base.specs.Choose.{is_choose};
 ghost use Rattle.gw_table.specs.Maps.{number};
+ghost use Rattle.gw_table.specs.Stored.{maps_of};
 ghost use Rattle.gw_reserve.specs.Owners.{last_number};
 ghost use Rattle.gw_reserve.specs.Searches.{numbers_in_order, numbers_from, IsSearch};
 
@@ -26,8 +27,8 @@ fn number_at(order: Order, rank: u32) -> CtxNum
 /// The next free number. The work is a look-up for each number that is passed by.
 fn take_number(tables: &Tables, order: Order, search: &mut Search) -> Option<CtxNum>
     requires search { IsSearch 65535 order search.old }
-    ensures value { result ≡ slice_get (numbers_from tables.now order search.old.next) 0 }
-    ensures rest { numbers_from tables.now order search.new.next ≡ drop 1 (numbers_from tables.now order search.old.next) }
+    ensures value { result ≡ slice_get (numbers_from (maps_of tables.now) order search.old.next) 0 }
+    ensures rest { numbers_from (maps_of tables.now) order search.new.next ≡ drop 1 (numbers_from (maps_of tables.now) order search.old.next) }
     ensures cursor { search.new.cursor ≡ last_number search.old.cursor (option_to_list result) }
     ensures none { result ≡ None → search.new.next ≡ order.limit }
     ensures search { IsSearch 65535 order search.new }
@@ -52,8 +53,8 @@ pub(crate) fn number_for(
     action: &Action<'_>,
 ) -> Option<CtxNum>
     requires search { IsSearch 65535 order search.old }
-    ensures value { result ≡ (if is_choose action.now.ctx then slice_get (numbers_from tables.now order search.old.next) 0 else None) }
-    ensures rest { numbers_from tables.now order search.new.next ≡ (if is_choose action.now.ctx then drop 1 (numbers_from tables.now order search.old.next) else numbers_from tables.now order search.old.next) }
+    ensures value { result ≡ (if is_choose action.now.ctx then slice_get (numbers_from (maps_of tables.now) order search.old.next) 0 else None) }
+    ensures rest { numbers_from (maps_of tables.now) order search.new.next ≡ (if is_choose action.now.ctx then drop 1 (numbers_from (maps_of tables.now) order search.old.next) else numbers_from (maps_of tables.now) order search.old.next) }
     ensures cursor { search.new.cursor ≡ last_number search.old.cursor (option_to_list result) }
     ensures search { IsSearch 65535 order search.new }
 {

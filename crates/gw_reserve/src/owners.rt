@@ -3,6 +3,7 @@
 ghost use Rattle.std.specs.Prelude.{◌≡◌, ℕ, ◌≤◌, ◌∷◌, [], IfOk, OnOk, take, drop};
 ghost use Rattle.gw_base.specs.Choose.{is_choose};
 ghost use Rattle.gw_table.specs.Unused.{owned};
+ghost use Rattle.gw_table.specs.Stored.{maps_of};
 ghost use Rattle.gw_reserve.specs.Owned.{is_adding, paired, with_ids};
 ghost use Rattle.gw_reserve.specs.Owners.{number_choices, slot_choices, chosen, all_adding, all_commands, taken_by, last_number, behind_last, new_cursors, ids_of, AreWithin};
 ghost use Rattle.gw_reserve.specs.Reservations.{begun, numbers_left, slots_left};
@@ -72,12 +73,12 @@ fn own_all(
 ) -> Result<Owned, NoMemory>
     requires numbers { IsSearch 65535 numbers number_search.old }
     requires slots { IsSearch 4096 slots slot_search.old }
-    ensures contexts { IfOk result (λ o. o.contexts ≡ taken_by (λ a. is_choose a.ctx) actions.now (numbers_from tables.now numbers number_search.old.next)) }
-    ensures slots { IfOk result (λ o. o.slots ≡ taken_by is_adding (all_commands actions.now) (slots_from tables.now slots slot_search.old.next)) }
-    ensures numbers_left { OnOk result (numbers_from tables.now numbers number_search.new.next ≡ drop (chosen actions.now) (numbers_from tables.now numbers number_search.old.next)) }
-    ensures slots_left { OnOk result (slots_from tables.now slots slot_search.new.next ≡ drop (all_adding actions.now) (slots_from tables.now slots slot_search.old.next)) }
-    ensures number_cursor { OnOk result (number_search.new.cursor ≡ last_number number_search.old.cursor (take (chosen actions.now) (numbers_from tables.now numbers number_search.old.next))) }
-    ensures slot_cursor { OnOk result (slot_search.new.cursor ≡ behind_last slot_search.old.cursor (take (all_adding actions.now) (slots_from tables.now slots slot_search.old.next))) }
+    ensures contexts { IfOk result (λ o. o.contexts ≡ taken_by (λ a. is_choose a.ctx) actions.now (numbers_from (maps_of tables.now) numbers number_search.old.next)) }
+    ensures slots { IfOk result (λ o. o.slots ≡ taken_by is_adding (all_commands actions.now) (slots_from (maps_of tables.now) slots slot_search.old.next)) }
+    ensures numbers_left { OnOk result (numbers_from (maps_of tables.now) numbers number_search.new.next ≡ drop (chosen actions.now) (numbers_from (maps_of tables.now) numbers number_search.old.next)) }
+    ensures slots_left { OnOk result (slots_from (maps_of tables.now) slots slot_search.new.next ≡ drop (all_adding actions.now) (slots_from (maps_of tables.now) slots slot_search.old.next)) }
+    ensures number_cursor { OnOk result (number_search.new.cursor ≡ last_number number_search.old.cursor (take (chosen actions.now) (numbers_from (maps_of tables.now) numbers number_search.old.next))) }
+    ensures slot_cursor { OnOk result (slot_search.new.cursor ≡ behind_last slot_search.old.cursor (take (all_adding actions.now) (slots_from (maps_of tables.now) slots slot_search.old.next))) }
     ensures number_search { IsSearch 65535 numbers number_search.new }
     ensures slot_search { IsSearch 4096 slots slot_search.new }
 {
@@ -137,12 +138,12 @@ impl Reservation {
         tables: &Tables,
         request: &Request<'_>,
     ) -> Result<Owned, NoMemory>
-        ensures paired { IfOk result (λ o. paired request.now o ≡ with_ids request.now (ids_of request.now (numbers_left tables.now self.old) (slots_left tables.now self.old))) }
-        ensures contexts { IfOk result (λ o. owned o.contexts ≡ take (number_choices request.now) (numbers_left tables.now self.old)) }
-        ensures owned_slots { IfOk result (λ o. owned o.slots ≡ take (slot_choices request.now) (slots_left tables.now self.old)) }
-        ensures numbers { OnOk result (numbers_left tables.now self.new ≡ drop (number_choices request.now) (numbers_left tables.now self.old)) }
-        ensures slots { OnOk result (slots_left tables.now self.new ≡ drop (slot_choices request.now) (slots_left tables.now self.old)) }
-        ensures cursors { OnOk result (self.new.cursors ≡ new_cursors self.old.cursors (ids_of request.now (numbers_left tables.now self.old) (slots_left tables.now self.old) ∷ [])) }
+        ensures paired { IfOk result (λ o. paired request.now o ≡ with_ids request.now (ids_of request.now (numbers_left (maps_of tables.now) self.old) (slots_left (maps_of tables.now) self.old))) }
+        ensures contexts { IfOk result (λ o. owned o.contexts ≡ take (number_choices request.now) (numbers_left (maps_of tables.now) self.old)) }
+        ensures owned_slots { IfOk result (λ o. owned o.slots ≡ take (slot_choices request.now) (slots_left (maps_of tables.now) self.old)) }
+        ensures numbers { OnOk result (numbers_left (maps_of tables.now) self.new ≡ drop (number_choices request.now) (numbers_left (maps_of tables.now) self.old)) }
+        ensures slots { OnOk result (slots_left (maps_of tables.now) self.new ≡ drop (slot_choices request.now) (slots_left (maps_of tables.now) self.old)) }
+        ensures cursors { OnOk result (self.new.cursors ≡ new_cursors self.old.cursors (ids_of request.now (numbers_left (maps_of tables.now) self.old) (slots_left (maps_of tables.now) self.old) ∷ [])) }
         ensures contexts_stay { OnOk result (self.new.most_contexts ≡ self.old.most_contexts) }
         ensures slots_stay { OnOk result (self.new.most_slots ≡ self.old.most_slots) }
     {

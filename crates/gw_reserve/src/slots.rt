@@ -4,6 +4,7 @@ ghost use Rattle.std.specs.Prelude.{◌≡◌, ℕ, ◌++◌, if◌then◌else�
 ghost use Rattle.gw_reserve.specs.Owned.{is_adding};
 ghost use Rattle.gw_reserve.specs.Owners.{adding, taken_by, behind_last};
 ghost use Rattle.gw_reserve.specs.Searches.{slots_from, IsSearch};
+ghost use Rattle.gw_table.specs.Stored.{maps_of};
 
 use crate::order::{Order, Search};
 use gw_base::{Items, NoMemory};
@@ -13,8 +14,8 @@ use gw_table::{Tables, owns_slot, slot_name};
 /// The next free slot. The work is a look-up for each slot that is passed by.
 fn take_slot(tables: &Tables, order: Order, search: &mut Search) -> Option<u16>
     requires search { IsSearch 4096 order search.old }
-    ensures value { result ≡ slice_get (slots_from tables.now order search.old.next) 0 }
-    ensures rest { slots_from tables.now order search.new.next ≡ drop 1 (slots_from tables.now order search.old.next) }
+    ensures value { result ≡ slice_get (slots_from (maps_of tables.now) order search.old.next) 0 }
+    ensures rest { slots_from (maps_of tables.now) order search.new.next ≡ drop 1 (slots_from (maps_of tables.now) order search.old.next) }
     ensures cursor { search.new.cursor ≡ behind_last search.old.cursor (option_to_list result) }
     ensures none { result ≡ None → search.new.next ≡ order.limit }
     ensures search { IsSearch 4096 order search.new }
@@ -39,8 +40,8 @@ fn slot_for(
     command: &Command<'_>,
 ) -> Option<u16>
     requires search { IsSearch 4096 order search.old }
-    ensures value { result ≡ (if is_adding command.now then slice_get (slots_from tables.now order search.old.next) 0 else None) }
-    ensures rest { slots_from tables.now order search.new.next ≡ (if is_adding command.now then drop 1 (slots_from tables.now order search.old.next) else slots_from tables.now order search.old.next) }
+    ensures value { result ≡ (if is_adding command.now then slice_get (slots_from (maps_of tables.now) order search.old.next) 0 else None) }
+    ensures rest { slots_from (maps_of tables.now) order search.new.next ≡ (if is_adding command.now then drop 1 (slots_from (maps_of tables.now) order search.old.next) else slots_from (maps_of tables.now) order search.old.next) }
     ensures cursor { search.new.cursor ≡ behind_last search.old.cursor (option_to_list result) }
     ensures search { IsSearch 4096 order search.new }
 {
@@ -64,9 +65,9 @@ pub(crate) fn own_slots(
     slots: &mut Items<Option<u16>>,
 ) -> Result<(), NoMemory>
     requires search { IsSearch 4096 order search.old }
-    ensures slots { OnOk result (slots.new ≡ slots.old ++ taken_by is_adding commands.now (slots_from tables.now order search.old.next)) }
-    ensures rest { OnOk result (slots_from tables.now order search.new.next ≡ drop (adding commands.now) (slots_from tables.now order search.old.next)) }
-    ensures cursor { OnOk result (search.new.cursor ≡ behind_last search.old.cursor (take (adding commands.now) (slots_from tables.now order search.old.next))) }
+    ensures slots { OnOk result (slots.new ≡ slots.old ++ taken_by is_adding commands.now (slots_from (maps_of tables.now) order search.old.next)) }
+    ensures rest { OnOk result (slots_from (maps_of tables.now) order search.new.next ≡ drop (adding commands.now) (slots_from (maps_of tables.now) order search.old.next)) }
+    ensures cursor { OnOk result (search.new.cursor ≡ behind_last search.old.cursor (take (adding commands.now) (slots_from (maps_of tables.now) order search.old.next))) }
     ensures search { IsSearch 4096 order search.new }
 {
     for command in commands {

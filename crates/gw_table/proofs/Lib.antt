@@ -1,11 +1,16 @@
+pub mod Exchanged
 pub mod Folding
 pub mod Frames
 pub mod Growth
-pub mod InPlace
 pub mod KeyLists
 pub mod KeyOrder
+pub mod Leaving
 pub mod Localities
 pub mod Lookups
+pub mod Moved
 pub mod PartLookups
+pub mod Places
+pub mod Prepared
 pub mod Provisioning
+pub mod Shown
 pub mod SlotNames

@@ -6,6 +6,7 @@ pub mod Maps
 pub mod Members
 pub mod Parts
 pub mod Reserved
+pub mod Stored
 pub mod TableTexts
 pub mod Unused
 pub mod WellFormed

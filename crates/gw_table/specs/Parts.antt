@@ -15,6 +15,11 @@ pub data PartKeys : Type 0 where
   Every : PartKeys
   Only : List Key → PartKeys
 
+-- the keys, where they are listed
+abbrev pub list_of : PartKeys → List Key
+list_of Every = []
+list_of (Only keys) = keys
+
 -- the key is the part's
 abbrev pub holds : PartKeys → Key → Bool
 holds Every k = true
@@ -71,7 +76,7 @@ same_keyed (Term t) = refl
 same_keyed (Ctx n) = refl
 same_keyed Whole = refl
 
-abbrev coded_key : Coded Key
+abbrev pub coded_key : Coded Key
 coded_key = code_by (List ℕ ⊎ (ℕ ⊎ ℕ)) (coded⊎ (coded_list coded_ℕ) (coded⊎ coded_ℕ coded_ℕ)) keyed key_of same_keyed
 
 abbrev listed : PartKeys → Option (List Key)

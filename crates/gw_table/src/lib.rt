@@ -2,12 +2,15 @@
 #![tactic(auto)]
 
 mod attempts;
-mod in_place;
 mod key_list;
 mod key_order;
+mod keys;
 mod laws;
+mod moves;
 mod part;
+mod place;
 mod reserved;
+mod slots;
 mod tables;
 mod text;
 mod unused;
@@ -15,8 +18,10 @@ mod unused;
 pub use attempts::Attempts;
 pub use key_list::put_in_order;
 pub use key_order::compare_keys;
+pub use keys::Keys;
 pub use laws::{part_put_back, slots_have_names_of_their_own, sound_part};
 pub use part::Part;
+pub use place::Place;
 pub use reserved::{is_reserved, slot_name};
 pub use tables::Tables;
 pub use unused::owns_slot;

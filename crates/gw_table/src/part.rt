@@ -1,87 +1,110 @@
 //! A part of the tables, on which commands work.
 
-ghost use Rattle.std.specs.Prelude.{◌≡◌, ◌<◌, true, false, length, IfOk, OnOk, OnErr, option_copied};
+ghost use Rattle.std.specs.Prelude.{◌≡◌, ◌<◌, Some, None, true, false, length, IfOk, OnOk, option_copied};
 ghost use Rattle.gw_base.specs.declared.key.Key.TheVariants.{Term, Ctx};
 ghost use Rattle.gw_base.specs.NameLists.{is_in};
-ghost use Rattle.gw_table.specs.Maps.{term, ctx, put_term, names, numbers, members_of};
+ghost use Rattle.gw_ctx.specs.Contexts.{joined};
+ghost use Rattle.gw_table.specs.Maps.{term, ctx, put_term, put_ctx, names, numbers, members_of, context_of};
 ghost use Rattle.gw_table.specs.Members.{put_service, with_member, without_member};
-ghost use Rattle.gw_table.specs.Parts.{holds, Every};
+ghost use Rattle.gw_table.specs.Parts.{holds};
 
+use crate::place::Place;
 use crate::tables::Tables;
-use gw_base::{CtxNum, Held, NoMemory, Service, TermName};
-use gw_ctx::Context;
+use gw_base::{CtxNum, Held, Key, NoMemory, Service, TermName};
+use gw_ctx::{Context, JoinFault};
 use gw_term::Termination;
 use std::alloc::Global;
 use std::marker::Model;
 
-/// A part of the tables: its keys, and the entry of each or none. A part stands for every key today.
+/// A part of the tables: its keys, and the entry of each or none. A look-up takes log k steps in its k keys.
 #[derive(Drop)]
 pub struct Part {
-    tables: Tables,
+    pub(crate) keys: Vec<Key>,
+    pub(crate) places: Tables,
 }
 
 impl Model for Part {
-    ghost use Rattle.gw_table.specs.Parts.{Parted, Every, coded_part};
+    ghost use Rattle.gw_table.specs.KeyLists.{IsInOrder};
+    ghost use Rattle.gw_table.specs.Parts.{Parted, Only, coded_part};
+    ghost use Rattle.gw_table.specs.Stored.{maps_of, ArePacked};
 
     ghost Value = { Parted };
 
     ghost coded = { coded_part };
 
-    ghost use Rattle.gw_table.specs.Parts.{IsPart};
+    ghost view = { λ a. record { keys = Only a.keys.items; maps = maps_of a.places } };
 
-    ghost view = { λ a. record { keys = Every; maps = a.tables } };
-
-    ghost invariant = { λ a. IsPart Every a.tables };
+    ghost invariant = { λ a. IsInOrder a.keys.items × ArePacked a.keys.items a.places };
 }
 
-impl Tables {
-    /// All of the tables, as a part of every key.
-    pub fn all(self) -> Part
-        ensures { result ≡ record { keys = Every; maps = self } }
-    {
-        Part { tables: self }
+/// The name joins the context as its last member. The caller knows that there is room.
+fn joined(context: &mut Context, name: TermName, limit: usize) -> Result<(), NoMemory>
+    requires new { is_in name context.old.members ≡ false }
+    requires room { length context.old.members < limit }
+    ensures { OnOk result (context.new ≡ joined name context.old) }
+{
+    match context.join(name, limit) {
+        Ok(()) => Ok(()),
+        Err(JoinFault::Full) => unreachable!(),
+        Err(JoinFault::NoMemory) => Err(NoMemory),
     }
 }
 
 impl Part {
-    /// The tables that the part shows. A part of every key shows all of them.
-    pub fn tables(self) -> Tables
-        ensures { result ≡ self.maps }
+    /// A part with the same keys and equal entries.
+    ///
+    /// # Errors
+    ///
+    /// Want of memory.
+    pub fn copy(&self) -> Result<Part, NoMemory>
+        ensures { IfOk result (λ copy. copy ≡ self.now) }
     {
-        self.tables
+        Ok(Part {
+            keys: self.keys.clone()?,
+            places: self.places.copy()?,
+        })
     }
 
     /// The termination of a name.
     pub fn term(&self, name: &TermName) -> Option<&Termination>
         ensures { option_copied result ≡ term self.now.maps name.now }
     {
-        self.tables.find_term(name)
+        self.places.find_term(name)
     }
 
     /// The context with a number.
     pub fn ctx(&self, number: CtxNum) -> Option<&Context>
         ensures { option_copied result ≡ ctx self.now.maps number }
     {
-        self.tables.find_ctx(number)
+        self.places.find_ctx(number)
     }
 
     /// Sets the termination of a name, and hands back the one before. The caller knows that the name is one of the part's keys.
-    ///
-    /// # Errors
-    ///
-    /// Want of memory, after which the part is as it was.
     pub fn set_term(
         &mut self,
         name: TermName,
         entry: Option<Held<Termination>>,
-    ) -> Result<Option<Held<Termination>>, NoMemory>
+    ) -> Option<Held<Termination>>
         requires { holds self.old.keys (Term name) ≡ true }
-        ensures before { IfOk result (λ before. before ≡ term self.old.maps name) }
-        ensures ok { OnOk result (self.new.maps ≡ put_term self.old.maps name entry) }
-        ensures err { OnErr result (self.new.maps ≡ self.old.maps) }
+        ensures before { result ≡ term self.old.maps name }
+        ensures maps { self.new.maps ≡ put_term self.old.maps name entry }
         ensures keys { self.new.keys ≡ self.old.keys }
     {
-        self.tables.set_term(name, entry)
+        self.places
+            .exchange_term(&name, Place::of(entry))
+            .into_entry()
+    }
+
+    /// Sets the context with a number, and hands back the one before. The caller knows that the number is one of the part's keys.
+    pub fn set_ctx(&mut self, number: CtxNum, entry: Option<Held<Context>>) -> Option<Held<Context>>
+        requires { holds self.old.keys (Ctx number) ≡ true }
+        ensures before { result ≡ ctx self.old.maps number }
+        ensures maps { self.new.maps ≡ put_ctx self.old.maps number entry }
+        ensures keys { self.new.keys ≡ self.old.keys }
+    {
+        self.places
+            .exchange_ctx(number, Place::of(entry))
+            .into_entry()
     }
 
     /// The termination of a name has another service state, if there is one. The caller knows that the name is one of the part's
@@ -91,7 +114,23 @@ impl Part {
         ensures maps { self.new.maps ≡ put_service service name.now self.old.maps (term self.old.maps name.now) }
         ensures keys { self.new.keys ≡ self.old.keys }
     {
-        self.tables.set_service(name, service);
+        if let Some(mut termination) = self.set_term(*name, None) {
+            termination.get_mut().set_service(service);
+            self.set_term(*name, Some(termination));
+        }
+    }
+
+    /// Takes the context with a number out of its place. One that is not there is as one that has just come into being.
+    fn take_context(&mut self, alloc: Global, number: CtxNum) -> Result<Held<Context>, NoMemory>
+        requires { holds self.old.keys (Ctx number) ≡ true }
+        ensures context { IfOk result (λ context. context ≡ context_of (ctx self.old.maps number)) }
+        ensures maps { self.new.maps ≡ put_ctx self.old.maps number None }
+        ensures keys { self.new.keys ≡ self.old.keys }
+    {
+        match self.set_ctx(number, None) {
+            Some(context) => Ok(context),
+            None => Ok(Held::new(alloc, Context::new(alloc))?),
+        }
     }
 
     /// The name joins the context as its last member. A context comes into being with its first. The caller knows that the number
@@ -99,7 +138,7 @@ impl Part {
     ///
     /// # Errors
     ///
-    /// Want of memory.
+    /// Want of memory. The context may then be gone from the part.
     pub fn join(
         &mut self,
         alloc: Global,
@@ -113,7 +152,10 @@ impl Part {
         ensures maps { OnOk result (self.new.maps ≡ with_member number name self.old.maps) }
         ensures keys { self.new.keys ≡ self.old.keys }
     {
-        self.tables.join(alloc, number, name, limit)
+        let mut context = self.take_context(alloc, number)?;
+        joined(context.get_mut(), name, limit)?;
+        self.set_ctx(number, Some(context));
+        Ok(())
     }
 
     /// The name leaves the context, which ends if it is empty. The caller knows that the number is one of the part's keys.
@@ -122,7 +164,13 @@ impl Part {
         ensures maps { self.new.maps ≡ without_member number name.now self.old.maps }
         ensures keys { self.new.keys ≡ self.old.keys }
     {
-        self.tables.leave(number, name);
+        let Some(mut context) = self.set_ctx(number, None) else {
+            return;
+        };
+        context.get_mut().leave(name);
+        if !context.get().members().is_empty() {
+            self.set_ctx(number, Some(context));
+        }
     }
 
     /// The names of all terminations that the part shows, in the order of their bytes.
@@ -133,7 +181,7 @@ impl Part {
     pub fn names(&self, alloc: Global) -> Result<Vec<TermName>, NoMemory>
         ensures { IfOk result (λ list. list.items ≡ names self.now.maps) }
     {
-        self.tables.names(alloc)
+        self.places.names(alloc)
     }
 
     /// The numbers of all contexts that the part shows, rising.
@@ -144,6 +192,6 @@ impl Part {
     pub fn numbers(&self, alloc: Global) -> Result<Vec<CtxNum>, NoMemory>
         ensures { IfOk result (λ list. list.items ≡ numbers self.now.maps) }
     {
-        self.tables.numbers(alloc)
+        self.places.numbers(alloc)
     }
 }

@@ -1,8 +1,11 @@
-//! The gateway's tables: two ordered maps, which contracts see as finite maps.
+//! The gateway's tables: two ordered maps with a place for each prepared key, which contracts see as finite maps.
 
-ghost use Rattle.std.specs.Prelude.{◌≡◌, IfOk, OnOk, OnErr, option_copied};
-ghost use Rattle.gw_table.specs.Maps.{Maps, term, ctx, put_term, names, numbers, no_maps, new_maps};
+ghost use Rattle.std.specs.Prelude.{◌≡◌, Some, IfOk, OnOk, option_copied};
+ghost use Rattle.gw_term.specs.Record.{provisioned};
+ghost use Rattle.gw_table.specs.Maps.{term, ctx, put_term, names, numbers, new_maps};
+ghost use Rattle.gw_table.specs.Stored.{maps_of, nothing_stored, NoneIsOut};
 
+use crate::place::{Place, entry_at};
 use gw_base::{Config, CtxNum, Held, NoMemory, TermName};
 use gw_ctx::Context;
 use gw_term::Termination;
@@ -10,10 +13,10 @@ use std::alloc::Global;
 use std::collections::BTreeMap;
 use std::marker::Model;
 
-/// Terminations by name, each by its handle, and contexts by number. A look-up takes log n steps.
+/// Terminations by name, and contexts by number, each by its handle in a place. A look-up takes log n steps.
 pub struct Tables {
-    pub(crate) terms: BTreeMap<TermName, Held<Termination>>,
-    pub(crate) contexts: BTreeMap<u32, Context>,
+    pub(crate) terms: BTreeMap<TermName, Place<Held<Termination>>>,
+    pub(crate) contexts: BTreeMap<u32, Place<Held<Context>>>,
 }
 
 // By hand, so that a function that lets tables go does so by one call. A derived one would stand in it field by field.
@@ -28,24 +31,34 @@ impl Drop for Tables {
 
 impl Model for Tables {
     ghost use Rattle.std.specs.FinMap as finite;
-    ghost use Rattle.gw_table.specs.Maps.{Maps, coded_maps};
+    ghost use Rattle.gw_table.specs.Stored.{Stored, coded_stored};
 
-    ghost Value = { Maps };
+    ghost Value = { Stored };
 
-    ghost coded = { coded_maps };
+    ghost coded = { coded_stored };
 
     ghost view = { λ a. record { terms = finite.from_entries a.terms.entries; contexts = finite.from_entries a.contexts.entries } };
 }
 
 impl Tables {
-    /// Tables without entries, which take no memory.
-    fn new(alloc: Global) -> Self
-        ensures { result ≡ no_maps }
+    /// Tables without places, which take no memory.
+    pub(crate) fn new(alloc: Global) -> Self
+        ensures { result ≡ nothing_stored }
     {
         Tables {
             terms: BTreeMap::new(alloc),
             contexts: BTreeMap::new(alloc),
         }
+    }
+
+    /// A termination in the null context under the name.
+    fn provide(&mut self, alloc: Global, name: TermName) -> Result<(), NoMemory>
+        ensures maps { OnOk result (maps_of self.new ≡ put_term (maps_of self.old) name (Some provisioned)) }
+        ensures out { OnOk result (NoneIsOut self.old → NoneIsOut self.new) }
+    {
+        let new = Held::new(alloc, Termination::provisioned(alloc))?;
+        self.terms.insert(name, Place::Here(new))?;
+        Ok(())
     }
 
     /// The configured terminations, all in the null context, and no contexts. A name that is given
@@ -55,12 +68,12 @@ impl Tables {
     ///
     /// Want of memory.
     pub fn provision(alloc: Global, config: &Config) -> Result<Tables, NoMemory>
-        ensures { IfOk result (λ tables. tables ≡ new_maps config.now.terms) }
+        ensures maps { IfOk result (λ tables. maps_of tables ≡ new_maps config.now.terms) }
+        ensures out { IfOk result NoneIsOut }
     {
         let mut tables = Tables::new(alloc);
         for name in config.terms.as_slice() {
-            let new = Held::new(alloc, Termination::provisioned(alloc))?;
-            tables.set_term(*name, Some(new))?;
+            tables.provide(alloc, *name)?;
         }
         Ok(tables)
     }
@@ -79,21 +92,18 @@ impl Tables {
         })
     }
 
-    /// The termination of a name.
+    /// The termination of a name. One that is out is not found.
     pub fn find_term(&self, name: &TermName) -> Option<&Termination>
-        ensures { option_copied result ≡ term self.now name.now }
+        ensures { option_copied result ≡ term (maps_of self.now) name.now }
     {
-        match self.terms.get(name) {
-            Some(termination) => Some(termination.get()),
-            None => None,
-        }
+        entry_at(self.terms.get(name))
     }
 
-    /// The context with a number.
+    /// The context with a number. One that is out is not found.
     pub fn find_ctx(&self, number: CtxNum) -> Option<&Context>
-        ensures { option_copied result ≡ ctx self.now number }
+        ensures { option_copied result ≡ ctx (maps_of self.now) number }
     {
-        self.contexts.get(&number.0)
+        entry_at(self.contexts.get(&number.0))
     }
 
     /// The names of all terminations, in the order of their bytes.
@@ -102,9 +112,15 @@ impl Tables {
     ///
     /// Want of memory.
     pub fn names(&self, alloc: Global) -> Result<Vec<TermName>, NoMemory>
-        ensures { IfOk result (λ list. list.items ≡ names self.now) }
+        ensures { IfOk result (λ list. list.items ≡ names (maps_of self.now)) }
     {
-        Ok(self.terms.keys().copied().collect(alloc)?)
+        let mut names = Vec::with_capacity(alloc, self.terms.len())?;
+        for (name, place) in &self.terms {
+            if place.is_here() {
+                names.push(*name)?;
+            }
+        }
+        Ok(names)
     }
 
     /// The numbers of all contexts, rising.
@@ -113,28 +129,14 @@ impl Tables {
     ///
     /// Want of memory.
     pub fn numbers(&self, alloc: Global) -> Result<Vec<CtxNum>, NoMemory>
-        ensures { IfOk result (λ list. list.items ≡ numbers self.now) }
+        ensures { IfOk result (λ list. list.items ≡ numbers (maps_of self.now)) }
     {
         let mut numbers = Vec::with_capacity(alloc, self.contexts.len())?;
-        for number in self.contexts.keys() {
-            numbers.push(CtxNum(*number))?;
+        for (number, place) in &self.contexts {
+            if place.is_here() {
+                numbers.push(CtxNum(*number))?;
+            }
         }
         Ok(numbers)
-    }
-
-    /// Sets the termination of a name, and hands back the one before. A refused growth changes nothing.
-    pub(crate) fn set_term(
-        &mut self,
-        name: TermName,
-        entry: Option<Held<Termination>>,
-    ) -> Result<Option<Held<Termination>>, NoMemory>
-        ensures before { IfOk result (λ before. before ≡ term self.old name) }
-        ensures ok { OnOk result (self.new ≡ put_term self.old name entry) }
-        ensures err { OnErr result (self.new ≡ self.old) }
-    {
-        match entry {
-            Some(entry) => Ok(self.terms.insert(name, entry)?),
-            None => Ok(self.terms.remove(&name)),
-        }
     }
 }

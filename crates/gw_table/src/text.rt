@@ -3,6 +3,7 @@
 ghost use Rattle.std.specs.Prelude.{◌≡◌, ◌++◌, OnOk, option_copied};
 ghost use Rattle.std.specs.List.{flat_map};
 ghost use Rattle.gw_table.specs.TableTexts.{place_text, service_text, member_text, context_line, term_line, context_lines, term_lines, tables_text};
+ghost use Rattle.gw_table.specs.Stored.{maps_of};
 
 use crate::tables::Tables;
 use gw_base::{CtxNum, NoMemory, Service, TermName};
@@ -77,7 +78,7 @@ fn write_term(
 
 /// A line for each of the contexts.
 fn write_contexts(tables: &Tables, numbers: &[CtxNum], out: &mut Vec<u8>) -> Result<(), AllocError>
-    ensures { OnOk result (out.new.items ≡ out.old.items ++ context_lines tables.now numbers.now) }
+    ensures { OnOk result (out.new.items ≡ out.old.items ++ context_lines (maps_of tables.now) numbers.now) }
 {
     for number in numbers {
         write_context(*number, tables.find_ctx(*number), out)?;
@@ -87,7 +88,7 @@ fn write_contexts(tables: &Tables, numbers: &[CtxNum], out: &mut Vec<u8>) -> Res
 
 /// A line for each of the terminations.
 fn write_terms(tables: &Tables, names: &[TermName], out: &mut Vec<u8>) -> Result<(), AllocError>
-    ensures { OnOk result (out.new.items ≡ out.old.items ++ term_lines tables.now names.now) }
+    ensures { OnOk result (out.new.items ≡ out.old.items ++ term_lines (maps_of tables.now) names.now) }
 {
     for name in names {
         write_term(*name, tables.find_term(name), out)?;
@@ -104,7 +105,7 @@ impl Tables {
     ///
     /// Want of memory. A front of the text may then be written.
     pub fn write_text(&self, alloc: Global, out: &mut Vec<u8>) -> Result<(), NoMemory>
-        ensures { OnOk result (out.new.items ≡ out.old.items ++ tables_text self.now) }
+        ensures { OnOk result (out.new.items ≡ out.old.items ++ tables_text (maps_of self.now)) }
     {
         let numbers = self.numbers(alloc)?;
         write_contexts(self, numbers.as_slice(), out)?;

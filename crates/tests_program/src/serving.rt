@@ -5,13 +5,13 @@ use crate::places::{file_of, free_address};
 use crate::runs::{CONFIGURATION, Run};
 use gw_program::program;
 use std::alloc::Global;
-use std::fs;
 use std::io::{self, Write};
 use std::net::{IpAddr, Ipv4Addr, Ipv6Addr, Net, SocketAddr, UdpSocket};
 use std::rt::Files;
 use std::sync::Wait;
 use std::test::Fail;
 use std::time::Duration;
+use std::{fs, thread};
 use tests_wanted::{is_so, is_text};
 
 /// A transaction, and its answer.
@@ -164,6 +164,33 @@ fn two_senders_in_one_burst(rt: HostRuntime) -> Result<(), Fail> {
     serves(&rt, IPV4, "1", &sent, SERVING)?;
     has_answers(&one, 1, ANSWERED)?;
     has_answers(&other, 1, OTHER_ANSWERED)
+}
+
+/// Asks again when the first answer has come, so that a burst follows another; whether each answer is the one that is wanted.
+fn is_answered_twice(client: &UdpSocket) -> io::Result<bool> {
+    let mut buffer = [0u8; 1024];
+    let (length, server) = client.recv_from(&mut buffer)?;
+    let is_first = &buffer[..length] == ANSWERED;
+    client.send_to(OTHER, server)?;
+    let (length, _) = client.recv_from(&mut buffer)?;
+    Ok(is_first && &buffer[..length] == OTHER_ANSWERED)
+}
+
+#[test]
+fn two_bursts(rt: HostRuntime) -> Result<(), Fail> {
+    let client = client(&rt, IPV4)?;
+    client.set_read_timeout(Some(Duration::from_secs(10)))?;
+    let sent = [Sent {
+        from: &client,
+        bytes: ASKED,
+    }];
+    let (served, asked) = thread::join(
+        &rt,
+        || serves(&rt, IPV4, "2", &sent, SERVING),
+        || is_answered_twice(&client),
+    );
+    served?;
+    is_so(asked?, "an answer in each burst")
 }
 
 #[test]

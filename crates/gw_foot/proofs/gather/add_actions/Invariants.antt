@@ -1,3 +1,4 @@
+use Rattle.gw_table.specs.Stored.{maps_of}
 use Rattle.std.proofs.Common.{◌≡◌, ◌++◌, drop}
 use Rattle.gw_base.specs.declared.key.Key.{Key}
 use Rattle.gw_base.specs.Keys.{has}
@@ -7,4 +8,4 @@ use Rattle.gw_foot.proofs.gather.add_actions.Given as goal
 
 -- the keys so far, and then those of the rest
 abbrev pub invariant-loop-sent : goal.invariant-loop-sent
-invariant-loop-sent l = (k : Key) → has (l.keys.items ++ all_gathered l.tables (paired_actions l.numbers_left l.slots_left (drop l.sent-index l.asked))) k ≡ has (l.initial.keys.items ++ all_gathered l.tables (paired_actions l.numbers l.slots l.asked)) k
+invariant-loop-sent l = (k : Key) → has (l.keys.items ++ all_gathered (maps_of l.tables) (paired_actions l.numbers_left l.slots_left (drop l.sent-index l.asked))) k ≡ has (l.initial.keys.items ++ all_gathered (maps_of l.tables) (paired_actions l.numbers l.slots l.asked)) k

@@ -1,9 +1,8 @@
-use Rattle.std.proofs.Common.{◌≡◌, ap, refl, rules}
+use Rattle.std.proofs.Common.{refl, rules}
 use Rattle.std.specs.Ordering.{is_lt}
 use Rattle.std.proofs.lemmas.Fn.{always_returns_same}
 use Rattle.std.proofs.lemmas.List.Filters.{dedup_is}
 use Rattle.std.proofs.lemmas.List.Sorted.{ranks_by}
-use Rattle.gw_base.specs.declared.key.Key.{Key}
 use Rattle.gw_table.specs.KeyLists.{key_cmp}
 use Rattle.gw_table.proofs.KeyOrder.{key_total, test_by_cases}
 use Rattle.gw_table.proofs.KeyLists.{put_in_order}

@@ -9,4 +9,4 @@ use Rattle.cases_commands.proofs.bench.Bench.new.Goals as goal
 pub invariant_of-result : goal.invariant_of-result
 invariant_of-result c =
     let free : list_any is_reserved c.args.config.now.terms ≡ false = ap (λ (l : List (List ℕ)). list_any is_reserved l) (sym c.as_slice.ensures) ∙ sym c.if-has_reserved.ensures in
-    subst (λ (m : Maps). AreWellFormed c.args.config.now.members m) (sym c.in-Ok.ensures) (new_maps_fit c.args.config.now.members c.args.config.now.terms free)
+    (subst (λ (m : Maps). AreWellFormed c.args.config.now.members m) (sym c.in-Ok.ensures.maps) (new_maps_fit c.args.config.now.members c.args.config.now.terms free), c.in-Ok.ensures.out)

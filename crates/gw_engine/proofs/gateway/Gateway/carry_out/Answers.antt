@@ -1,4 +1,5 @@
 use Rattle.std.proofs.Common.{◌≡◌, ℕ, ◌≤◌, true, List, [], ap, sym, subst, ◌∙◌, rules}
+use Rattle.gw_table.specs.Stored.{maps_of}
 use Rattle.gw_table.specs.Unused.{AreUnused}
 use Rattle.gw_engine.specs.declared.reserve.Job.{Job}
 use Rattle.gw_engine.specs.Configuration.{is_within, most_slots}
@@ -21,12 +22,12 @@ perform-requires c =
     let kept : IsKept g = subst IsKept c.self.view_is (c.self.invariant.well_formed, few_slots (value_of c.self.inside).settings.slots c.self.invariant.slots) in
     subst (λ (l : List Job). AreUnused g.state.maps [] (slots_of l)) (sym c.as_slice.ensures) (jobs_unused g (new_of g c.args.heard.now) c.in_ok-plan.plan.jobs c.in_ok-plan.ensures.jobs kept.0 kept.1)
 
-pub returns : goal.returns
-returns c =
+pub returns-clause-outcome : goal.returns-clause-outcome
+returns-clause-outcome c =
     let g : GatewayValue = c.args.self.now in
     let kept : IsKept g = subst IsKept c.self.view_is (c.self.invariant.well_formed, few_slots (value_of c.self.inside).settings.slots c.self.invariant.slots) in
     let done = c.in_ok-tables.ensures in
-    outcome g c.args.heard.now c.in_ok-plan.plan.tasks c.in_ok-plan.plan.jobs c.in_ok-plan.plan.cursors c.in_ok-tables.tables c.in_ok-tables.entries.items c.in_ok-answers.answers kept.0 kept.1 c.requires
+    outcome g c.args.heard.now c.in_ok-plan.plan.tasks c.in_ok-plan.plan.jobs c.in_ok-plan.plan.cursors (maps_of c.in_ok-tables.tables) c.in_ok-tables.entries.items c.in_ok-answers.answers kept.0 kept.1 c.requires
     (record {
       tasks_are = c.in_ok-plan.ensures.tasks;
       jobs_are = c.in_ok-plan.ensures.jobs;

@@ -5,6 +5,7 @@ use Rattle.gw_reserve.specs.Owners.{AreWithin}
 use Rattle.gw_reserve.specs.Reservations.{Reserving, begun}
 use Rattle.gw_table.proofs.Folding.{rest_of}
 use Rattle.gw_table.specs.Maps.{Maps}
+use Rattle.gw_table.specs.Stored.{maps_of}
 use Rattle.gw_engine.specs.declared.asked.Sent.{Sent}
 use Rattle.gw_engine.specs.declared.reserve.Job.{Job}
 use Rattle.gw_engine.specs.Bursts.{cursors_of}
@@ -35,8 +36,8 @@ loop-sent-preserved c =
     let w : Reserving = c.own.new.self in
     let o = c.in_ok-owned.owned in
     let e = c.in_ok-owned.ensures in
-    let told : IsOwned c.self.inside.tables c.get.result.now v w o = record { pairs = e.paired; slots_are = e.owned_slots; numbers = e.numbers; slots = e.slots; cursors = e.cursors } in
-    let owned : IsOwned g.state.maps x.request v w o = subst (λ (m : Maps). IsOwned m x.request v w o) (ap (λ (k : GatewayValue). k.state.maps) c.self.view_is) (subst (λ (r : Request). IsOwned c.self.inside.tables r v w o) c.get.ensures told) in
+    let told : IsOwned (maps_of c.self.inside.tables) c.get.result.now v w o = record { pairs = e.paired; slots_are = e.owned_slots; numbers = e.numbers; slots = e.slots; cursors = e.cursors } in
+    let owned : IsOwned g.state.maps x.request v w o = subst (λ (m : Maps). IsOwned m x.request v w o) (ap (λ (k : GatewayValue). k.state.maps) c.self.view_is) (subst (λ (r : Request). IsOwned (maps_of c.self.inside.tables) r v w o) c.get.ensures told) in
     let job : Job = record { sent = c.again.result; owned = o } in
     record {
       contexts = e.contexts_stay ∙ c.loop-sent.invariant.contexts;

@@ -15,5 +15,5 @@ returns-clause-readable c = record {
   heard = c.in_ok-heard.heard;
   read = c.in_ok-heard.ensures;
   answers_are = subst (λ (l : List Datagram). AllZip (IsAnswerTo c.args.self.now.settings.mid) (questions c.in_ok-heard.heard) l) (sym c.adopt.ensures.answers)
-      (subst (λ (h : List Heard). AllZip (IsAnswerTo c.args.self.now.settings.mid) (questions h) c.in_ok-done.done.answers) c.as_slice.ensures c.in_ok-done.ensures.readable);
+      (subst (λ (h : List Heard). AllZip (IsAnswerTo c.args.self.now.settings.mid) (questions h) c.in_ok-done.done.answers) c.as_slice.ensures c.in_ok-done.ensures.outcome.readable);
 }

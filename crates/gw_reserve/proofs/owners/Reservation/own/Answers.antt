@@ -1,3 +1,4 @@
+use Rattle.gw_table.specs.Stored.{maps_of}
 use Rattle.std.proofs.Common.{refl}
 use Rattle.gw_reserve.specs.ReservationView.{value_of}
 use Rattle.gw_reserve.proofs.Owning.{if_both, own_paired, own_contexts, own_slots, own_cursors}
@@ -10,21 +11,21 @@ invariant_of-self c = record { numbers = c.own_all.ensures.number_search; slots 
 pub returns-clause-paired : goal.returns-clause-paired
 returns-clause-paired c =
     if_both c.own_all.result _ _ _
-    (λ o p q. own_paired c.args.tables.now c.args.request.now.actions c.as_slice.result.now c.as_slice.ensures (value_of c.self.inside) c.args.self.now c.self.view_is o.contexts o.slots p q)
+    (λ o p q. own_paired (maps_of c.args.tables.now) c.args.request.now.actions c.as_slice.result.now c.as_slice.ensures (value_of c.self.inside) c.args.self.now c.self.view_is o.contexts o.slots p q)
     c.own_all.ensures.contexts c.own_all.ensures.slots
 
 pub returns-clause-contexts : goal.returns-clause-contexts
 returns-clause-contexts c =
     IfOk-weaker c.own_all.result _ _
-    (λ o p. own_contexts c.args.tables.now c.args.request.now.actions c.as_slice.result.now c.as_slice.ensures (value_of c.self.inside) c.args.self.now c.self.view_is o.contexts p) c.own_all.ensures.contexts
+    (λ o p. own_contexts (maps_of c.args.tables.now) c.args.request.now.actions c.as_slice.result.now c.as_slice.ensures (value_of c.self.inside) c.args.self.now c.self.view_is o.contexts p) c.own_all.ensures.contexts
 
 pub returns-clause-owned_slots : goal.returns-clause-owned_slots
 returns-clause-owned_slots c =
     IfOk-weaker c.own_all.result _ _
-    (λ o p. own_slots c.args.tables.now c.args.request.now.actions c.as_slice.result.now c.as_slice.ensures (value_of c.self.inside) c.args.self.now c.self.view_is o.slots p) c.own_all.ensures.slots
+    (λ o p. own_slots (maps_of c.args.tables.now) c.args.request.now.actions c.as_slice.result.now c.as_slice.ensures (value_of c.self.inside) c.args.self.now c.self.view_is o.slots p) c.own_all.ensures.slots
 
 pub returns-clause-cursors : goal.returns-clause-cursors
 returns-clause-cursors c =
     if_both c.own_all.result _ _ _
-    (λ o p q. own_cursors c.args.tables.now c.args.request.now.actions c.as_slice.result.now c.as_slice.ensures (value_of c.self.inside) c.args.self.now c.self.view_is c.args.request.now refl c.own_all.new.number_search.cursor c.own_all.new.slot_search.cursor p q)
+    (λ o p q. own_cursors (maps_of c.args.tables.now) c.args.request.now.actions c.as_slice.result.now c.as_slice.ensures (value_of c.self.inside) c.args.self.now c.self.view_is c.args.request.now refl c.own_all.new.number_search.cursor c.own_all.new.slot_search.cursor p q)
     c.own_all.ensures.number_cursor c.own_all.ensures.slot_cursor

@@ -1,16 +1,12 @@
-use Rattle.std.proofs.Common.{◌∙◌, sym, ap, Some}
-use Rattle.std.specs.Option.{option_copied}
+use Rattle.std.proofs.Common.{◌∙◌, sym, ap}
 use Rattle.std.specs.Cmp.Lexicographic.{nat_list_cmp_total}
+use Rattle.std.specs.FinMap as finite
 use Rattle.gw_base.proofs.Views.{seen}
-use Rattle.gw_table.specs.Maps.{term}
+use Rattle.gw_table.specs.Stored.{Stored, shown}
+use Rattle.gw_table.proofs.Places.{term-maps_of}
 use Rattle.gw_table.proofs.tables.Tables.find_term.Goals as goal
 
-pub returns-in-Some : goal.returns-in-Some
-returns-in-Some c =
-    ap (λ t. Some t) c.get-in-Some.ensures ∙ ap (λ o. option_copied o) (sym c.in-Some.is) ∙ c.get.ensures.value
-    ∙ sym (seen nat_list_cmp_total c.self.inside.terms.entries c.args.name.now) ∙ ap (λ m. term m c.args.name.now) c.self.view_is
-
-pub returns-in-None : goal.returns-in-None
-returns-in-None c =
-    ap (λ o. option_copied o) (sym c.in-None.is) ∙ c.get.ensures.value
-    ∙ sym (seen nat_list_cmp_total c.self.inside.terms.entries c.args.name.now) ∙ ap (λ m. term m c.args.name.now) c.self.view_is
+pub returns : goal.returns
+returns c =
+    c.entry_at.ensures ∙ ap (λ o. shown o) (c.get.ensures.value ∙ sym (seen nat_list_cmp_total c.self.inside.terms.entries c.args.name.now))
+    ∙ ap (λ (s : Stored). shown (finite.get s.terms c.args.name.now)) c.self.view_is ∙ sym (term-maps_of c.args.self.now c.args.name.now)

@@ -1,23 +1,29 @@
-use Rattle.std.proofs.Common.{◌≡◌, ℕ, List, [], ◌++◌, sym, ap, ◌∙◌, append-nil, map}
-use Rattle.std.specs.FinMap as finite
-use Rattle.std.specs.Ordering.{nat_cmp}
-use Rattle.std.specs.Map.Iter.{deref}
-use Rattle.std.proofs.lemmas.Map.Iter.{rest_all}
-use Rattle.std.specs.Cmp.{nat_cmp_total}
-use Rattle.std.specs.FinMap.{nat_cmp-IsAntisymmetric}
+use Rattle.std.proofs.Common.{ℕ, List, ◌++◌, map, sym, ap, ◌∙◌, append-nil}
 use Rattle.gw_base.specs.declared.ids.CtxNum.{CtxNum}
-use Rattle.gw_base.proofs.Views.{entries_seen}
 use Rattle.gw_ctx.specs.Contexts.{ContextRecord}
-use Rattle.gw_table.specs.Maps.{Maps, number, numbers}
+use Rattle.gw_table.specs.declared.place.Place.{Place}
+use Rattle.gw_table.specs.Maps.{number, numbers}
+use Rattle.gw_table.specs.Stored.{Stored, maps_of}
+use Rattle.gw_table.proofs.Exchanged.{numbers_are}
+use Rattle.gw_table.proofs.Shown.{keys_here, numbered_more, not_here}
 use Rattle.gw_table.proofs.tables.Tables.numbers.Goals as goal
+
+pub loop-number-init : goal.loop-number-init
+loop-number-init c = ap (λ (l : List CtxNum). l ++ map number (keys_here c.into_iter-number-iterator.result)) c.in_ok-numbers.ensures.items
+
+pub loop-number-preserved-in-Continue-branch-2 : goal.loop-number-preserved-in-Continue-branch-2
+loop-number-preserved-in-Continue-branch-2 c =
+    ap (λ (l : List CtxNum). l ++ map number (keys_here c.next.new.self)) c.in_ok-push.ensures.items
+    ∙ numbered_more number c.loop-number.numbers.items c.in-Some.number.now c.in-Some.place.now c.next.new.self (sym c.is_here.ensures ∙ c.if-is_here.true)
+    ∙ ap (λ (l : List (ℕ × Place ContextRecord)). c.loop-number.numbers.items ++ map number (keys_here l)) (sym c.in-Some.ensures.steps) ∙ c.loop-number.invariant
+
+pub loop-number-preserved : goal.loop-number-preserved
+loop-number-preserved c =
+    ap (λ (l : List ℕ). c.loop-number.numbers.items ++ map number l) (not_here c.in-Some.number.now c.in-Some.place.now c.next.new.self (sym c.is_here.ensures ∙ c.if-is_here.false))
+    ∙ ap (λ (l : List (ℕ × Place ContextRecord)). c.loop-number.numbers.items ++ map number (keys_here l)) (sym c.in-Some.ensures.steps) ∙ c.loop-number.invariant
 
 pub returns : goal.returns
 returns c =
-    let written = c.loop-number.numbers.items in
-    let keys : List (ℕ × ContextRecord) → List ℕ = λ es. map (λ e. e.0) es in
-    let numbered : List ℕ → List CtxNum = λ l. map number l in
-    let none : c.loop-number.number-iterator ≡ [] = rest_all deref c.loop-number.number-iterator c.next.new.self c.next.result c.in-None.is c.next.ensures.steps in
-    let all : c.into_iter-number-iterator.result ≡ keys c.self.inside.contexts.entries = c.into_iter-number-iterator.ensures.into_iter_gives ∙ c.keys-number-items.ensures.rest in
-    let seen : finite.entries (finite.from_entries {R = nat_cmp} c.self.inside.contexts.entries) ≡ c.self.inside.contexts.entries = entries_seen nat_cmp_total nat_cmp-IsAntisymmetric c.self.inside.contexts.entries c.keys-number-items.ensures.ordered in
-    sym (append-nil written) ∙ ap (λ (l : List ℕ). written ++ numbered l) (sym none) ∙ c.loop-number.invariant
-    ∙ ap numbered (all ∙ ap keys (sym seen)) ∙ ap (λ (m : Maps). numbers m) c.self.view_is
+    sym (append-nil c.loop-number.numbers.items) ∙ ap (λ (l : List (ℕ × Place ContextRecord)). c.loop-number.numbers.items ++ map number (keys_here l)) (sym c.in-None.ensures.steps.0) ∙ c.loop-number.invariant
+    ∙ ap (λ (l : List (ℕ × Place ContextRecord)). map number (keys_here l)) c.into_iter-number-iterator.ensures.into_iter_gives.0
+    ∙ numbers_are c.self.inside.terms.entries c.self.inside.contexts.entries c.len.ensures.ordered ∙ ap (λ (s : Stored). numbers (maps_of s)) c.self.view_is

@@ -1,0 +1,146 @@
+-- What a state comes to: with what is out put back the maps are whole, and nothing is left to be put back where nothing is open.
+use Rattle.std.proofs.Common.{◌≡◌, ℕ, Bool, true, false, cond, List, [], ◌∷◌, ◌++◌, Option, None, refl, sym, ap, ◌∙◌}
+use Rattle.std.specs.Prelude.{◌||◌}
+use Rattle.std.specs.List.{list_any}
+use Rattle.gw_base.specs.declared.ids.CtxNum.{CtxNum}
+use Rattle.gw_base.specs.declared.command_words.Rules.{Rules}
+use Rattle.gw_base.specs.declared.key.Key.{Key}
+use Rattle.gw_base.specs.declared.key.Key.TheVariants.{Term, Ctx}
+use Rattle.gw_base.specs.Keys.{has, same_key}
+use Rattle.gw_base.proofs.Booleans.{neither}
+use Rattle.gw_reply.specs.declared.reply.TxReply.{TxReply}
+use Rattle.gw_table.specs.Maps.{Maps, Outcome, term, ctx}
+use Rattle.gw_table.specs.Parts.{cut}
+use Rattle.gw_table.specs.Unused.{AreUnused}
+use Rattle.gw_table.specs.WellFormed.{AreWellFormed}
+use Rattle.gw_table.proofs.Lookups.{same_maps}
+use Rattle.gw_table.proofs.PartLookups.{term-restricted, ctx-restricted, term-cut, ctx-cut, term-overlaid, ctx-overlaid}
+use Rattle.gw_board.specs.Carried.{Asked, carried}
+use Rattle.gw_board.specs.Core.{Standing, Pending, Opened, Closed, Place, Core, start, Event, Events}
+use Rattle.gw_board.specs.Journal.{original_of, journal, undone}
+use Rattle.gw_board.specs.Results.{is_open, NothingIsOpen, part_back, all_back, carried_at, carried_on, result_of, AreClosed, slots_of}
+use Rattle.gw_board.proofs.Orders.{each_in}
+use Rattle.gw_board.proofs.Outs.{any-append, cut_none}
+use Rattle.gw_board.proofs.Started.{carried_start}
+use Rattle.gw_board.proofs.Steps.{Leaves, step_leaves, steps_leave, kept_start}
+use Rattle.gw_board.specs.Fitting.{Each, out_at, out, Fits, Stands, Beside, FitsTogether}
+
+module _ {X : Type 0} where
+  put : (b c : Bool) (x y : Option X) → cond b (cond b x None) (cond c x y) ≡ cond (b || c) x y
+  put true c x y = refl
+  put false c x y = refl
+
+  all_put : (b : Bool) (x : Option X) → cond b x (cond b None x) ≡ x
+  all_put true x = refl
+  all_put false x = refl
+
+module _ (rules : Rules) (m n : Maps) where
+  -- what is read at a key, by whether it was out
+  terms_at : (a : Asked) (x : Standing) (o : List Key) (later : Maps) → Fits rules a m x → ((q : List ℕ) → term later q ≡ cond (has o (Term q)) (term m q) (term n q)) → (q : List ℕ) → term (part_back x later) q ≡ cond (has (out_at x ++ o) (Term q)) (term m q) (term n q)
+  terms_at a Pending o later f h q = h q
+  terms_at a (Closed reply) o later f h q = h q
+  terms_at a (Opened j) o later f h q =
+      term-overlaid j.keys j.part later q
+      ∙ ap (λ (p : Maps). cond (has j.keys (Term q)) (term p q) (term later q)) f.1.part
+      ∙ (λ i. cond (has j.keys (Term q)) (term-restricted j.keys m q i) (h q i))
+      ∙ put (has j.keys (Term q)) (has o (Term q)) (term m q) (term n q)
+      ∙ ap (λ b. cond b (term m q) (term n q)) (sym (any-append (same_key (Term q)) j.keys o))
+
+  ctxs_at : (a : Asked) (x : Standing) (o : List Key) (later : Maps) → Fits rules a m x → ((q : CtxNum) → ctx later q ≡ cond (has o (Ctx q)) (ctx m q) (ctx n q)) → (q : CtxNum) → ctx (part_back x later) q ≡ cond (has (out_at x ++ o) (Ctx q)) (ctx m q) (ctx n q)
+  ctxs_at a Pending o later f h q = h q
+  ctxs_at a (Closed reply) o later f h q = h q
+  ctxs_at a (Opened j) o later f h q =
+      ctx-overlaid j.keys j.part later q
+      ∙ ap (λ (p : Maps). cond (has j.keys (Ctx q)) (ctx p q) (ctx later q)) f.1.part
+      ∙ (λ i. cond (has j.keys (Ctx q)) (ctx-restricted j.keys m q i) (h q i))
+      ∙ put (has j.keys (Ctx q)) (has o (Ctx q)) (ctx m q) (ctx n q)
+      ∙ ap (λ b. cond b (ctx m q) (ctx n q)) (sym (any-append (same_key (Ctx q)) j.keys o))
+
+  terms_back : (places : List Place) → Each (Stands rules m) places → (q : List ℕ) → term (all_back places n) q ≡ cond (has (out places) (Term q)) (term m q) (term n q)
+  terms_back [] h q = refl
+  terms_back (p ∷ ps) h q = terms_at p.asked p.standing (out ps) (all_back ps n) h.0 (terms_back ps h.1) q
+
+  ctxs_back : (places : List Place) → Each (Stands rules m) places → (q : CtxNum) → ctx (all_back places n) q ≡ cond (has (out places) (Ctx q)) (ctx m q) (ctx n q)
+  ctxs_back [] h q = refl
+  ctxs_back (p ∷ ps) h q = ctxs_at p.asked p.standing (out ps) (all_back ps n) h.0 (ctxs_back ps h.1) q
+
+whole_back : (rules : Rules) (places : List Place) (m : Maps) → Each (Stands rules m) places → all_back places (cut (out places) m) ≡ m
+whole_back rules places m h = same_maps (all_back places (cut (out places) m)) m
+    (λ q. terms_back rules m (cut (out places) m) places h q ∙ ap (cond (has (out places) (Term q)) (term m q)) (term-cut (out places) m q) ∙ all_put (has (out places) (Term q)) (term m q))
+    (λ q. ctxs_back rules m (cut (out places) m) places h q ∙ ap (cond (has (out places) (Ctx q)) (ctx m q)) (ctx-cut (out places) m q) ∙ all_put (has (out places) (Ctx q)) (ctx m q))
+
+result_kept : (rules : Rules) (s : Core) (k : FitsTogether rules s) → result_of rules s ≡ carried_on rules s.places k.whole
+result_kept rules s k =
+    ap (carried_on rules s.places) (ap (all_back s.places) k.maps ∙ whole_back rules s.places k.whole (each_in (Stands rules k.whole) (Beside k.whole) s.places k.stand))
+
+pub results_are : (rules : Rules) (workers : ℕ) (asked : List Asked) (m : Maps) (s : Core) → AreWellFormed rules.members m → AreUnused m [] (slots_of asked) → Events rules (start workers asked m) s → result_of rules s ≡ carried rules asked m
+results_are rules workers asked m s w u events =
+    let k : FitsTogether rules (start workers asked m) = kept_start rules workers asked m w u in
+    let l : Leaves rules (start workers asked m) s k (journal events) = steps_leave rules (start workers asked m) s k events in
+    result_kept rules s l.kept ∙ l.same ∙ carried_start rules asked m
+
+-- ---- where nothing is open
+
+back_at : (x : Standing) (m : Maps) → is_open x ≡ false → part_back x m ≡ m
+back_at Pending m h = refl
+back_at (Opened j) m h = absurd cc
+back_at (Closed reply) m h = refl
+
+nothing_back : (places : List Place) (m : Maps) → list_any (λ p. is_open p.standing) places ≡ false → all_back places m ≡ m
+nothing_back [] m h = refl
+nothing_back (p ∷ ps) m h = let both = neither (is_open p.standing) (list_any (λ p. is_open p.standing) ps) h in back_at p.standing (all_back ps m) both.0 ∙ nothing_back ps m both.1
+
+pub nothing_open : (rules : Rules) (s : Core) → NothingIsOpen s → result_of rules s ≡ carried_on rules s.places s.maps
+nothing_open rules s h = ap (carried_on rules s.places) (nothing_back s.places s.maps h)
+
+-- ---- where every place is closed
+
+closed_ones : (places : List Place) (replies : List TxReply) → AreClosed places replies → list_any (λ p. is_open p.standing) places ≡ false
+closed_ones [] replies e = refl
+closed_ones (p ∷ ps) [] e = absurd cc
+closed_ones (p ∷ ps) (r ∷ rs) e =
+    let first : p.standing ≡ Closed r = cc in
+    let later : AreClosed ps rs = cc in
+    ap (λ (x : Standing). is_open x || list_any (λ p. is_open p.standing) ps) first ∙ closed_ones ps rs later
+
+closed_on : (rules : Rules) (places : List Place) (replies : List TxReply) (m : Maps) → AreClosed places replies → carried_on rules places m ≡ record { maps = m; answer = replies }
+closed_on rules [] [] m e = refl
+closed_on rules [] (r ∷ rs) m e = absurd cc
+closed_on rules (p ∷ ps) [] m e = absurd cc
+closed_on rules (p ∷ ps) (r ∷ rs) m e =
+    let first : p.standing ≡ Closed r = cc in
+    let later : AreClosed ps rs = cc in
+    ap (λ (x : Standing). let now : Outcome TxReply = carried_at rules p.asked x m in let rest : Outcome (List TxReply) = carried_on rules ps now.maps in record { maps = rest.maps; answer = now.answer ∷ rest.answer }) first
+    ∙ ap (λ (o : Outcome (List TxReply)). record { maps = o.maps; answer = r ∷ o.answer }) (closed_on rules ps rs m later)
+
+pub all_closed : (rules : Rules) (s : Core) (replies : List TxReply) → AreClosed s.places replies → result_of rules s ≡ record { maps = s.maps; answer = replies }
+all_closed rules s replies e = nothing_open rules s (closed_ones s.places replies e) ∙ closed_on rules s.places replies s.maps e
+
+-- ---- the way back
+
+out_of_none : (places : List Place) → list_any (λ p. is_open p.standing) places ≡ false → (q : Key) → has (out places) q ≡ false
+out_of_none [] h q = refl
+out_of_none (p ∷ ps) h q =
+    let both = neither (is_open p.standing) (list_any (λ p. is_open p.standing) ps) h in
+    any-append (same_key q) (out_at p.standing) (out ps) ∙ ap (λ b. b || has (out ps) q) (by p.standing both.0) ∙ out_of_none ps both.1 q
+  where
+    by : (x : Standing) → is_open x ≡ false → has (out_at x) q ≡ false
+    by Pending e = refl
+    by (Opened j) e = absurd cc
+    by (Closed reply) e = refl
+
+pub undone_is : (rules : Rules) (workers : ℕ) (asked : List Asked) (m : Maps) (s : Core) → AreWellFormed rules.members m → AreUnused m [] (slots_of asked) → (events : Events rules (start workers asked m) s) → NothingIsOpen s → undone (journal events) s.maps ≡ m
+undone_is rules workers asked m s w u events h =
+    let k : FitsTogether rules (start workers asked m) = kept_start rules workers asked m w u in
+    let l : Leaves rules (start workers asked m) s k (journal events) = steps_leave rules (start workers asked m) s k events in
+    ap (undone (journal events)) (l.kept.maps ∙ cut_none (out s.places) l.kept.whole (out_of_none s.places h)) ∙ l.back
+
+-- ---- one event
+
+pub fits_on : (rules : Rules) (s t : Core) → FitsTogether rules s → Event rules s t → FitsTogether rules t
+fits_on rules s t k event = (step_leaves rules s t k event).kept
+
+pub comes_to_the_same : (rules : Rules) (s t : Core) → FitsTogether rules s → Event rules s t → result_of rules t ≡ result_of rules s
+comes_to_the_same rules s t k event =
+    let l : Leaves rules s t k (original_of event) = step_leaves rules s t k event in
+    result_kept rules t l.kept ∙ l.same ∙ sym (result_kept rules s k)

@@ -1,0 +1,17 @@
+pub mod Closing
+pub mod Comes
+pub mod Drawing
+pub mod Ending
+pub mod FirstOfAll
+pub mod Leading
+pub mod LeftOut
+pub mod Opening
+pub mod Orders
+pub mod Outs
+pub mod Requests
+pub mod Slices
+pub mod Started
+pub mod States
+pub mod Steps
+pub mod Together
+pub mod Untold

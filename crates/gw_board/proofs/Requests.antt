@@ -1,0 +1,63 @@
+-- One request, and another one after it.
+use Rattle.std.proofs.Common.{◌≡◌, ℕ, ◌<◌, List, ◌++◌, None, get_or, arith}
+use Rattle.std.specs.Prelude.{All}
+use Rattle.gw_base.specs.declared.command_words.Rules.{Rules}
+use Rattle.gw_base.specs.Keys.{Among, AreApart}
+use Rattle.gw_table.specs.Locality.{KeepsTo, ChangePlaces}
+use Rattle.gw_table.specs.Maps.{Maps, term}
+use Rattle.gw_table.specs.Reserved.{slot_name}
+use Rattle.gw_table.specs.Unused.{owned}
+use Rattle.gw_table.specs.WellFormed.{AreWellFormed}
+use Rattle.gw_table.proofs.SlotNames.{slots_apart}
+use Rattle.gw_reserve.specs.Owned.{OwnedAction, AreFreeSlots, paired}
+use Rattle.gw_tx.specs.Transactions.{paired_transaction}
+use Rattle.gw_tx.proofs.Facts.{IsNamedOtherThan, commands_keep_free}
+use Rattle.gw_tx.proofs.Kept.{kept_actions}
+use Rattle.gw_tx.proofs.Unowned.{any_of}
+use Rattle.gw_foot.specs.OwnsUnused.{OwnsUnused, OwnOthers}
+use Rattle.gw_foot.proofs.WithOthers as foot
+use Rattle.gw_board.specs.Carried.{Asked, keys_of, done}
+
+own : (a : Asked) (m : Maps) → AreFreeSlots m a.owned.slots → OwnsUnused m a.request (paired a.request a.owned)
+own a m f = foot.entries_unused a.request a.owned m f
+
+module _ (rules : Rules) (a : Asked) (m : Maps) (w : AreWellFormed rules.members m) (f : AreFreeSlots m a.owned.slots) where
+  abbrev owners : List OwnedAction
+  owners = paired a.request a.owned
+
+  pub keeps : KeepsTo (keys_of a m) (done rules a) m
+  keeps = foot.request_keeps rules a.request owners m w (own a m f)
+
+  pub well_after : AreWellFormed rules.members (done rules a m).maps
+  well_after = foot.request_whole rules a.request owners m w (own a m f)
+
+  pub keys_grow : (b : Asked) → Among (keys_of b (done rules a m).maps) (keys_of a m ++ keys_of b m)
+  keys_grow b = foot.keys_after rules a.request owners m w (own a m f) (paired b.request b.owned)
+
+  pub keys_stay : (b : Asked) → AreApart (keys_of a m) (keys_of b m) → keys_of b (done rules a m).maps ≡ keys_of b m
+  keys_stay b h = foot.keys_stay rules a.request owners m w (own a m f) (paired b.request b.owned) h
+
+  pub change : (b : Asked) → AreFreeSlots m b.owned.slots → AreApart (keys_of a m) (keys_of b m) → ChangePlaces (done rules a) (done rules b) m
+  change b g h = foot.requests_change rules m a.request owners b.request (paired b.request b.owned) w (own a m f) (own b m g) h
+
+  -- a slot with another name than each of its own
+  named_free : (t : ℕ) → All (IsNamedOtherThan t) (owned a.owned.slots) → term m (slot_name t) ≡ None → term (done rules a m).maps (slot_name t) ≡ None
+  unfolding paired_transaction
+  named_free t other none = kept_actions rules (commands_keep_free rules t) a.owned.contexts a.owned.slots a.request.actions m (any_of owners) (record { kept = none; free = f; kind = other })
+
+  pub stays_free : (b : Asked) → AreFreeSlots m b.owned.slots → OwnOthers a.owned.slots b.owned.slots → AreFreeSlots (done rules a m).maps b.owned.slots
+  stays_free b g differ = record {
+    numbers_apart = g.numbers_apart;
+    no_contexts = λ k d h. absurd (omega arith);
+    slots_apart = g.slots_apart;
+    no_terminations = λ k d h.
+        let t : ℕ = get_or (owned b.owned.slots) k d in
+        let small : t < 4096 = g.slots_small k d h in
+        named_free t
+        (λ i e j same.
+        let s : ℕ = get_or (owned a.owned.slots) i e in
+        let low : s < 4096 = f.slots_small i e j in
+        differ k d h i e j (slots_apart s t (omega (arith, low)) (omega (arith, small)) same))
+        (g.no_terminations k d h);
+    slots_small = g.slots_small;
+  }

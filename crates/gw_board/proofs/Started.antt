@@ -1,0 +1,76 @@
+-- At the start every place is pending, and nothing is out.
+use Rattle.std.proofs.Common.{◌≡◌, ℕ, ◌+◌, ◌<◌, false, List, [], ◌∷◌, ◌++◌, map, None, length, refl, sym, ap, subst, ◌∙◌, arith, get_or-append-add}
+use Rattle.std.specs.Prelude.{◌≢◌, All, AllPairs}
+use Rattle.std.proofs.lemmas.List.{length-append, get_or_append_left, get_or_default}
+use Rattle.gw_base.specs.declared.command_words.Rules.{Rules}
+use Rattle.gw_base.specs.declared.key.Key.{Key}
+use Rattle.gw_base.specs.Keys.{has}
+use Rattle.gw_reply.specs.declared.reply.TxReply.{TxReply}
+use Rattle.gw_table.specs.Maps.{Maps, term, Outcome}
+use Rattle.gw_table.specs.Parts.{cut}
+use Rattle.gw_table.specs.Reserved.{slot_name}
+use Rattle.gw_table.specs.Unused.{owned, AreUnused}
+use Rattle.gw_tx.proofs.Unowned.{front_unused}
+use Rattle.gw_foot.specs.OwnsUnused.{OwnOthers}
+use Rattle.gw_board.specs.Carried.{Asked, done, carried}
+use Rattle.gw_board.specs.Core.{pending}
+use Rattle.gw_board.specs.Results.{carried_on, slots_of}
+use Rattle.gw_board.proofs.Outs.{cut_none}
+use Rattle.gw_board.specs.Fitting.{Each, out, Beside, Stand}
+
+-- ---- slots that are distinct and unused
+
+-- those of the front are others than those behind it
+others_behind : (front later : List ℕ) → AllPairs (λ a b. a ≢ b) (front ++ later) → All (λ t. All (λ s. s ≢ t) front) later
+others_behind front later apart k d h i e l same =
+    apart i (length front + k) d (omega (arith, l)) (omega (arith, length-append front later, h))
+    (get_or_append_left front later d i l ∙ get_or_default front i d e l ∙ same ∙ sym (get_or-append-add front later k d))
+
+pairs_behind : (front later : List ℕ) → AllPairs (λ a b. a ≢ b) (front ++ later) → AllPairs (λ a b. a ≢ b) later
+pairs_behind front later apart i j d a b same =
+    apart (length front + i) (length front + j) d (omega (arith, a)) (omega (arith, length-append front later, b))
+    (get_or-append-add front later i d ∙ same ∙ sym (get_or-append-add front later j d))
+
+all_behind : (P : ℕ → Type 0) (front later : List ℕ) → All P (front ++ later) → All P later
+all_behind P front later a k d h = subst P (get_or-append-add front later k d) (a (length front + k) d (omega (arith, length-append front later, h)))
+
+all_front : (P : ℕ → Type 0) (front later : List ℕ) → All P (front ++ later) → All P front
+all_front P front later a k d h = subst P (get_or_append_left front later d k h) (a k d (omega (arith, length-append front later)))
+
+pub behind_unused : (m : Maps) (front later : List ℕ) → AreUnused m [] (front ++ later) → AreUnused m [] later
+behind_unused m front later u = record {
+  numbers_apart = u.numbers_apart;
+  no_contexts = u.no_contexts;
+  slots_apart = pairs_behind front later u.slots_apart;
+  no_terminations = all_behind (λ s. term m (slot_name s) ≡ None) front later u.no_terminations;
+  slots_small = all_behind (λ s. s < 4096) front later u.slots_small;
+}
+
+each_other : (mine : List ℕ) (more : List Asked) → All (λ t. All (λ s. s ≢ t) mine) (slots_of more) → Each (λ b. All (λ t. All (λ s. s ≢ t) mine) (owned b.owned.slots)) more
+each_other mine [] h = tt
+each_other mine (b ∷ more) h =
+    (all_front (λ t. All (λ s. s ≢ t) mine) (owned b.owned.slots) (slots_of more) h, each_other mine more (all_behind (λ t. All (λ s. s ≢ t) mine) (owned b.owned.slots) (slots_of more) h))
+
+each_pending : (m : Maps) (a : Asked) (more : List Asked) → Each (λ b. OwnOthers a.owned.slots b.owned.slots) more → Each (Beside m (pending a)) (map pending more)
+each_pending m a [] h = tt
+each_pending m a (b ∷ more) h = (record { differ = h.0; apart = tt }, each_pending m a more h.1)
+
+-- ---- the start
+
+pub stand_start : (rules : Rules) (m : Maps) (asked : List Asked) → AreUnused m [] (slots_of asked) → Stand rules m (map pending asked)
+stand_start rules m [] u = tt
+stand_start rules m (a ∷ more) u =
+    let mine : List ℕ = owned a.owned.slots in
+    let theirs : List ℕ = slots_of more in
+    (front_unused m mine theirs u, each_pending m a more (each_other mine more (others_behind mine theirs u.slots_apart)), stand_start rules m more (behind_unused m mine theirs u))
+
+nothing_out : (asked : List Asked) (q : Key) → has (out (map pending asked)) q ≡ false
+nothing_out [] q = refl
+nothing_out (a ∷ more) q = nothing_out more q
+
+pub start_maps : (asked : List Asked) (m : Maps) → m ≡ cut (out (map pending asked)) m
+start_maps asked m = sym (cut_none (out (map pending asked)) m (nothing_out asked))
+
+pub carried_start : (rules : Rules) (asked : List Asked) (m : Maps) → carried_on rules (map pending asked) m ≡ carried rules asked m
+carried_start rules [] m = refl
+carried_start rules (a ∷ more) m = ap (λ (o : Outcome (List TxReply)). record { maps = o.maps; answer = (done rules a m).answer ∷ o.answer }) (carried_start rules more (done rules a m).maps)

@@ -1,0 +1,5 @@
+pub mod Sums
+pub mod Rule
+pub mod Places
+pub mod Joined
+pub mod Runs

@@ -1,0 +1,14 @@
+use Rattle.std.proofs.Common.{◌∙◌, sym}
+use Rattle.gw_draw.proofs.Places.{same_read}
+use Rattle.gw_draw.proofs.draw.carry.Goals as goal
+
+pub f-requires : goal.f-requires
+f-requires g c = c.requires.accepts c.args.place _ c.requires.inside c.index-jobs-place.is
+
+pub returns : goal.returns
+returns g c = record {
+  inside = c.requires.inside;
+  shown = _;
+  shows = λ d. same_read c.args.jobs.now c.args.place d c.index-jobs-place.result c.requires.inside ∙ sym c.index-jobs-place.is;
+  call = c.f.ensures;
+}

@@ -1,0 +1,3 @@
+pub mod Draws
+pub mod Answers
+pub mod Runs

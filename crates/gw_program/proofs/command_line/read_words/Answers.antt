@@ -1,0 +1,24 @@
+use Rattle.std.proofs.Common.{◌≡◌, ◌∙◌, List, [], ap, map, subst, sym}
+use Rattle.std.specs.Prelude.{IfSome, Option}
+use Rattle.clap.specs.Words.{App, Row, Text, fault_of, is_simple, is_simple_and_free, subcommand_of}
+use Rattle.gw_program.proofs.Asking.{command_named}
+use Rattle.gw_program.specs.Words.{IsCommand, IsJobOf, mistakes}
+use Rattle.gw_program.proofs.command_line.read_words.Goals as goal
+
+pub job_in-requires : goal.job_in-requires
+job_in-requires g c =
+    let words = map g.S.AsStr.text c.args.words.now in
+    let is = c.in_ok-command.ensures in
+    let sound : mistakes words ≡ [] = subst (λ (a : App). fault_of a words ≡ []) is (c.in_ok-matches.ensures.kinds (ap is_simple_and_free is)) in
+    let found = (c.in_ok-matches.ensures.matches (ap is_simple is)).1 ∙ ap (λ (a : App). subcommand_of a words) is in
+    subst (λ (o : Option (Text × List Row)). IfSome o (λ p. IsCommand p.0)) (sym found) (command_named words sound)
+
+pub returns-clause-asked : goal.returns-clause-asked
+returns-clause-asked g c =
+    let words = map g.S.AsStr.text c.args.words.now in
+    let is = c.in_ok-command.ensures in
+    let found = (c.in_ok-matches.ensures.matches (ap is_simple is)).1 ∙ ap (λ (a : App). subcommand_of a words) is in
+    record {
+      sound = subst (λ (a : App). fault_of a words ≡ []) is (c.in_ok-matches.ensures.kinds (ap is_simple_and_free is));
+      found = subst (λ (o : Option (Text × List Row)). IsJobOf o c.job_in.result) found c.job_in.ensures;
+    }

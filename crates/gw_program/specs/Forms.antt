@@ -1,0 +1,50 @@
+-- The forms of the command line that docs/OPERATIONS.md shows, and what each asks for (own).
+use Rattle.std.specs.Prelude.{◌≢◌, ⊤, ℕ, Bool, true, false, List, [], ◌∷◌, codes, Option, Some, None, option_map}
+use Rattle.std.specs.Str.Parse.{digits_value, without_leading_plus}
+use Rattle.clap.specs.Values.{IsUnsignedIn}
+use Rattle.clap.specs.Walk.{Text}
+use Rattle.gw_program.specs.declared.command_line.Job.{Job}
+use Rattle.gw_program.specs.declared.command_line.Job.TheVariants as job
+
+-- what words ask for: a job, apart from where its texts lie
+pub data Request : Type 0 where
+  built_in : Request
+  answer : Option Text → Request
+  check : Text → Request
+  replay : Text → Bool → Request
+  serve : Text → Text → Option ℕ → Request
+
+abbrev pub request_of : Job → Request
+request_of job.BuiltIn = built_in
+request_of (job.Answer file) = answer (option_map (λ f. f.now) file)
+request_of (job.Check file) = check file.now
+request_of (job.Replay file audit) = replay file.now audit
+request_of (job.Serve file listen bursts) = serve file.now listen.now bursts
+
+-- the word does not begin with a hyphen
+abbrev pub IsPlain : Text → Type 0
+IsPlain [] = ⊤
+IsPlain (first ∷ rest) = first ≢ 45
+
+-- the word is a number of 64 bits
+abbrev pub IsCount : Text → Type 0
+IsCount word = IsUnsignedIn 0 18446744073709551615 word
+
+abbrev pub number_of : Text → ℕ
+number_of word = digits_value 10 (without_leading_plus word)
+
+-- any address of the host, at the port for text
+abbrev pub everywhere : Text
+everywhere = codes "0.0.0.0:2944"
+
+-- the words have this form, and ask for this
+pub data Asks : List Text → Request → Type 0 where
+  nothing : Asks [] built_in
+  answers : Asks (codes "answer" ∷ []) (answer None)
+  answers_by : (file : Text) → IsPlain file → Asks (codes "answer" ∷ (codes "--config" ∷ (file ∷ []))) (answer (Some file))
+  checks : (file : Text) → IsPlain file → Asks (codes "check" ∷ (file ∷ [])) (check file)
+  replays : (file : Text) → IsPlain file → Asks (codes "replay" ∷ (file ∷ [])) (replay file false)
+  replays_and_tells : (file : Text) → IsPlain file → Asks (codes "replay" ∷ (file ∷ (codes "--audit" ∷ []))) (replay file true)
+  serves : (file : Text) → IsPlain file → Asks (codes "serve" ∷ (file ∷ [])) (serve file everywhere None)
+  serves_at : (file listen : Text) → IsPlain file → IsPlain listen → Asks (codes "serve" ∷ (file ∷ (codes "--listen" ∷ (listen ∷ [])))) (serve file listen None)
+  serves_so_long : (file bursts : Text) → IsPlain file → IsPlain bursts → IsCount bursts → Asks (codes "serve" ∷ (file ∷ (codes "--bursts" ∷ (bursts ∷ [])))) (serve file everywhere (Some (number_of bursts)))

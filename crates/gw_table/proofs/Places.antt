@@ -1,0 +1,116 @@
+-- Look-ups in the maps that stored tables are seen as, and what one place changes.
+use Rattle.std.proofs.Common.{nat_eq, ◌≡◌, ℕ, Bool, true, false, cond, List, bytes_eq, Option, None, Some, is_some, refl, sym, ap, ◌∙◌}
+use Rattle.std.specs.Cmp.{nat_cmp_total}
+use Rattle.std.specs.Cmp.Lexicographic.{nat_list_cmp_total}
+use Rattle.std.specs.FinMap as finite
+use Rattle.std.specs.FinMap.{get-insert, get-empty}
+use Rattle.std.specs.Ordering.{nat_cmp}
+use Rattle.gw_base.specs.declared.ids.CtxNum.{CtxNum}
+use Rattle.gw_base.specs.declared.key.Key.{Key}
+use Rattle.gw_base.specs.declared.key.Key.TheVariants.{Term, Ctx, Whole}
+use Rattle.gw_base.specs.Keys.{has}
+use Rattle.gw_base.specs.NameLists.{name_cmp}
+use Rattle.gw_base.proofs.NameTests.{name_test, number_test, same_name, same_number}
+use Rattle.gw_term.specs.declared.record.Termination.{Termination}
+use Rattle.gw_ctx.specs.Contexts.{ContextRecord}
+use Rattle.gw_table.specs.declared.place.Place.{Place}
+use Rattle.gw_table.specs.Maps.{term, ctx, put_term, put_ctx, no_maps}
+use Rattle.gw_table.specs.Stored.{Stored, shown, has_left, placed, maps_of, is_ready, put_term_place, put_ctx_place, nothing_stored, ArePacked, NoneIsOut}
+use Rattle.gw_table.proofs.Lookups.{term-put_term, ctx-put_term, term-put_ctx, ctx-put_ctx, same_maps}
+use Rattle.gw_table.proofs.Shown.{got_shown, shown-cond}
+
+pub term-maps_of : (s : Stored) (t : List ℕ) → term (maps_of s) t ≡ shown (finite.get s.terms t)
+unfolding maps_of
+term-maps_of s t = got_shown nat_list_cmp_total s.terms t
+
+pub ctx-maps_of : (s : Stored) (n : CtxNum) → ctx (maps_of s) n ≡ shown (finite.get s.contexts n.0)
+unfolding maps_of
+ctx-maps_of s n = got_shown nat_cmp_total s.contexts n.0
+
+-- tables that show the same entries are seen as the same maps
+pub shown_alike : (a b : Stored) → ((t : List ℕ) → shown (finite.get a.terms t) ≡ shown (finite.get b.terms t)) → ((n : CtxNum) → shown (finite.get a.contexts n.0) ≡ shown (finite.get b.contexts n.0)) → maps_of a ≡ maps_of b
+shown_alike a b ts cs = same_maps (maps_of a) (maps_of b) (λ t. term-maps_of a t ∙ ts t ∙ sym (term-maps_of b t)) (λ n. ctx-maps_of a n ∙ cs n ∙ sym (ctx-maps_of b n))
+
+-- ---- no places
+
+pub maps_of_nothing : maps_of nothing_stored ≡ no_maps
+maps_of_nothing = same_maps (maps_of nothing_stored) no_maps
+    (λ t. term-maps_of nothing_stored t ∙ ap (λ o. shown o) (get-empty name_cmp t) ∙ sym (get-empty name_cmp t))
+    (λ n. ctx-maps_of nothing_stored n ∙ ap (λ o. shown o) (get-empty nat_cmp n.0) ∙ sym (get-empty nat_cmp n.0))
+
+pub nothing_out : NoneIsOut nothing_stored
+nothing_out (Term t) = ap (λ o. has_left o) (get-empty name_cmp t)
+nothing_out (Ctx n) = ap (λ o. has_left o) (get-empty nat_cmp n.0)
+nothing_out Whole = refl
+
+-- ---- one place
+
+pub got_term : (s : Stored) (t : List ℕ) (p : Place Termination) (q : List ℕ) → finite.get (put_term_place s t p).terms q ≡ cond (bytes_eq q t) (Some p) (finite.get s.terms q)
+got_term s t p q = get-insert nat_list_cmp_total s.terms t p q ∙ ap (λ b. cond b (Some p) (finite.get s.terms q)) (name_test q t)
+
+pub got_ctx : (s : Stored) (n : CtxNum) (p : Place ContextRecord) (q : CtxNum) → finite.get (put_ctx_place s n p).contexts q.0 ≡ cond (nat_eq q.0 n.0) (Some p) (finite.get s.contexts q.0)
+got_ctx s n p q = get-insert nat_cmp_total s.contexts n.0 p q.0 ∙ ap (λ b. cond b (Some p) (finite.get s.contexts q.0)) (number_test q.0 n.0)
+
+pub maps-put_term_place : (s : Stored) (t : List ℕ) (p : Place Termination) → maps_of (put_term_place s t p) ≡ put_term (maps_of s) t (shown (Some p))
+maps-put_term_place s t p = same_maps (maps_of (put_term_place s t p)) (put_term (maps_of s) t (shown (Some p)))
+    (λ q. term-maps_of (put_term_place s t p) q ∙ ap (λ o. shown o) (got_term s t p q) ∙ sym (shown-cond (bytes_eq q t) p (finite.get s.terms q))
+    ∙ ap (cond (bytes_eq q t) (shown (Some p))) (sym (term-maps_of s q)) ∙ sym (term-put_term (maps_of s) t (shown (Some p)) q))
+    (λ q. ctx-maps_of (put_term_place s t p) q ∙ sym (ctx-maps_of s q) ∙ sym (ctx-put_term (maps_of s) t (shown (Some p)) q))
+
+pub maps-put_ctx_place : (s : Stored) (n : CtxNum) (p : Place ContextRecord) → maps_of (put_ctx_place s n p) ≡ put_ctx (maps_of s) n (shown (Some p))
+maps-put_ctx_place s n p = same_maps (maps_of (put_ctx_place s n p)) (put_ctx (maps_of s) n (shown (Some p)))
+    (λ q. term-maps_of (put_ctx_place s n p) q ∙ sym (term-maps_of s q) ∙ sym (term-put_ctx (maps_of s) n (shown (Some p)) q))
+    (λ q. ctx-maps_of (put_ctx_place s n p) q ∙ ap (λ o. shown o) (got_ctx s n p q) ∙ sym (shown-cond (nat_eq q.0 n.0) p (finite.get s.contexts q.0))
+    ∙ ap (cond (nat_eq q.0 n.0) (shown (Some p))) (sym (ctx-maps_of s q)) ∙ sym (ctx-put_ctx (maps_of s) n (shown (Some p)) q))
+
+-- a place of an entry, or of none
+pub shown_placed : {A : Type 0} (o : Option A) → shown (Some (placed o)) ≡ o
+shown_placed None = refl
+shown_placed (Some a) = refl
+
+pub placed_here : {A : Type 0} (o : Option A) → has_left (Some (placed o)) ≡ false
+placed_here None = refl
+placed_here (Some a) = refl
+
+-- a place that was there is there after it
+still : {K A : Type 0} (f : K → Option A) (b : Bool) (q t : K) (p : A) → (b ≡ true → q ≡ t) → is_some (f t) ≡ true → is_some (cond b (Some p) (f q)) ≡ is_some (f q)
+still f true q t p is h = sym (ap (λ y. is_some (f y)) (is refl) ∙ h)
+still f false q t p is h = refl
+
+pub ready-put_term : (s : Stored) (t : List ℕ) (p : Place Termination) (k : Key) → is_ready s (Term t) ≡ true → is_ready (put_term_place s t p) k ≡ is_ready s k
+ready-put_term s t p (Term q) h = ap (λ o. is_some o) (got_term s t p q) ∙ still (λ y. finite.get s.terms y) (bytes_eq q t) q t p (same_name q t) h
+ready-put_term s t p (Ctx n) h = refl
+ready-put_term s t p Whole h = refl
+
+pub ready-put_ctx : (s : Stored) (n : CtxNum) (p : Place ContextRecord) (k : Key) → is_ready s (Ctx n) ≡ true → is_ready (put_ctx_place s n p) k ≡ is_ready s k
+ready-put_ctx s n p (Term q) h = refl
+ready-put_ctx s n p (Ctx q) h = ap (λ o. is_some o) (got_ctx s n p q) ∙ still (λ (y : CtxNum). finite.get s.contexts y.0) (nat_eq q.0 n.0) q n p (same_number q n) h
+ready-put_ctx s n p Whole h = refl
+
+in_still : {A : Type 0} (b : Bool) (p : Place A) (o : Option (Place A)) → has_left (Some p) ≡ false → has_left o ≡ false → has_left (cond b (Some p) o) ≡ false
+in_still true p o g h = g
+in_still false p o g h = h
+
+pub in-put_term : (s : Stored) (t : List ℕ) (p : Place Termination) → has_left (Some p) ≡ false → NoneIsOut s → NoneIsOut (put_term_place s t p)
+in-put_term s t p g h (Term q) = ap (λ o. has_left o) (got_term s t p q) ∙ in_still (bytes_eq q t) p (finite.get s.terms q) g (h (Term q))
+in-put_term s t p g h (Ctx n) = h (Ctx n)
+in-put_term s t p g h Whole = refl
+
+pub in-put_ctx : (s : Stored) (n : CtxNum) (p : Place ContextRecord) → has_left (Some p) ≡ false → NoneIsOut s → NoneIsOut (put_ctx_place s n p)
+in-put_ctx s n p g h (Term q) = h (Term q)
+in-put_ctx s n p g h (Ctx q) = ap (λ o. has_left o) (got_ctx s n p q) ∙ in_still (nat_eq q.0 n.0) p (finite.get s.contexts q.0) g (h (Ctx q))
+in-put_ctx s n p g h Whole = refl
+
+pub packed-put_term : (keys : List Key) (s : Stored) (t : List ℕ) (o : Option Termination) → has keys (Term t) ≡ true → ArePacked keys s → ArePacked keys (put_term_place s t (placed o))
+packed-put_term keys s t o h p = record {
+  terms = λ q. ready-put_term s t (placed o) (Term q) (p.terms t ∙ h) ∙ p.terms q;
+  contexts = p.contexts;
+  here = in-put_term s t (placed o) (placed_here o) p.here;
+}
+
+pub packed-put_ctx : (keys : List Key) (s : Stored) (n : CtxNum) (o : Option ContextRecord) → has keys (Ctx n) ≡ true → ArePacked keys s → ArePacked keys (put_ctx_place s n (placed o))
+packed-put_ctx keys s n o h p = record {
+  terms = p.terms;
+  contexts = λ q. ready-put_ctx s n (placed o) (Ctx q) (p.contexts n ∙ h) ∙ p.contexts q;
+  here = in-put_ctx s n (placed o) (placed_here o) p.here;
+}

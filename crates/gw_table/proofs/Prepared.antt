@@ -1,0 +1,259 @@
+-- Places that are made, and places that are swept; and a key of a list in order, which is none of those before it.
+use Rattle.std.proofs.Common.{nat_eq, ◌≡◌, ℕ, suc, zero, ◌<◌, Bool, true, false, cond, List, [], ◌∷◌, ◌++◌, length, get_or, take, filter, bytes_eq, Option, None, Some, is_some, refl, sym, ap, ◌∙◌, arith}
+use Rattle.std.specs.Prelude.{◌||◌}
+use Rattle.std.specs.Cmp.{IsTotalOrder, eq_by_cmp_equiv}
+use Rattle.std.specs.FinMap as finite
+use Rattle.std.specs.FinMap.{from_entries, get, get-empty}
+use Rattle.std.specs.List.{AllByRecursion}
+use Rattle.std.specs.List.Sorted.{IsStrictlySortedBy}
+use Rattle.std.specs.Map.{keys_of, lookup}
+use Rattle.std.specs.BTreeMap.{is_at}
+use Rattle.std.specs.Ordering.{is_eq, nat_cmp}
+use Rattle.std.specs.declared.cmp.Ordering.{Ordering}
+use Rattle.std.specs.declared.cmp.Ordering.TheVariants.{Less}
+use Rattle.std.proofs.lemmas.Map.Entries.{option_filter, lookup-filter-values}
+use Rattle.std.proofs.lemmas.Map.Keys.{IsDistinct-from_sorted}
+use Rattle.gw_base.specs.declared.ids.CtxNum.{CtxNum}
+use Rattle.gw_base.specs.declared.key.Key.{Key}
+use Rattle.gw_base.specs.declared.key.Key.TheVariants.{Term, Ctx, Whole}
+use Rattle.gw_base.specs.Keys.{same_key, has}
+use Rattle.gw_base.specs.NameLists.{name_cmp}
+use Rattle.gw_base.proofs.Booleans.{refuted}
+use Rattle.gw_base.proofs.KeyTests.{has-head, has-tail}
+use Rattle.gw_base.proofs.NameTests.{same_name, same_number}
+use Rattle.gw_base.proofs.NamesInLists.{or_left, or_right, or_cases, either}
+use Rattle.gw_base.proofs.Views.{seen}
+use Rattle.gw_table.specs.declared.place.Place.{Place}
+use Rattle.gw_table.specs.declared.place.Place.TheVariants.{Empty, Here, Out}
+use Rattle.gw_table.specs.KeyLists.{key_cmp, IsInOrder}
+use Rattle.gw_table.specs.Stored.{Stored, shown, if_shown, has_left, maps_of, is_ready, is_out, put_term_place, put_ctx_place, ArePrepared, AreAsOut, NoneIsOut, AreSwept, KeepReady, AreReady, NoOtherReady, AreBlank, nothing_stored}
+use Rattle.gw_table.proofs.KeyOrder.{key_test, same_key_is}
+use Rattle.gw_table.proofs.Moved.{has-pushed}
+use Rattle.gw_table.proofs.Places.{term-maps_of, ctx-maps_of, shown_alike, got_term, got_ctx, nothing_out, maps_of_nothing}
+
+-- ---- places are made
+
+or_nothing : (b : Bool) → b ≡ (b || false)
+or_nothing true = refl
+or_nothing false = refl
+
+pub prepared_none : (a : Stored) → ArePrepared [] a a
+prepared_none a = record { maps = refl; out = λ k. refl; ready = λ k. or_nothing (is_ready a k) }
+
+regroup : (a b c : Bool) → ((a || b) || c) ≡ (a || (b || c))
+regroup true b c = refl
+regroup false b c = refl
+
+pub prepared_more : (keys : List Key) (k : Key) (a b c : Stored) → ArePrepared keys a b → ArePrepared (k ∷ []) b c → ArePrepared (keys ++ k ∷ []) a c
+prepared_more keys k a b c p q = record {
+  maps = q.maps ∙ p.maps;
+  out = λ x. q.out x ∙ p.out x;
+  ready = λ x. q.ready x ∙ ap (λ y. y || (same_key x k || false)) (p.ready x) ∙ ap (λ y. (is_ready a x || has keys x) || y) (sym (or_nothing (same_key x k))) ∙ regroup (is_ready a x) (has keys x) (same_key x k) ∙ ap (λ y. is_ready a x || y) (sym (has-pushed keys k x));
+}
+
+-- a key that was prepared
+there_already : {K A : Type 0} (f : K → Option A) (b : Bool) (q t : K) → (b ≡ true → q ≡ t) → is_some (f t) ≡ true → is_some (f q) ≡ (is_some (f q) || (b || false))
+there_already f true q t is h = let here : is_some (f q) ≡ true = ap (λ y. is_some (f y)) (is refl) ∙ h in here ∙ sym (ap (λ y. y || true) here)
+there_already f false q t is h = or_nothing (is_some (f q))
+
+pub term_there : (s : Stored) (t : List ℕ) → is_ready s (Term t) ≡ true → ArePrepared (Term t ∷ []) s s
+term_there s t h = record { maps = refl; out = λ k. refl; ready = at }
+  where
+    at : (k : Key) → is_ready s k ≡ (is_ready s k || has (Term t ∷ []) k)
+    at (Term q) = there_already (λ y. finite.get s.terms y) (bytes_eq q t) q t (same_name q t) h
+    at (Ctx n) = or_nothing (is_ready s (Ctx n))
+    at Whole = refl
+
+pub ctx_there : (s : Stored) (n : CtxNum) → is_ready s (Ctx n) ≡ true → ArePrepared (Ctx n ∷ []) s s
+ctx_there s n h = record { maps = refl; out = λ k. refl; ready = at }
+  where
+    at : (k : Key) → is_ready s k ≡ (is_ready s k || has (Ctx n ∷ []) k)
+    at (Term q) = or_nothing (is_ready s (Term q))
+    at (Ctx q) = there_already (λ (y : CtxNum). finite.get s.contexts y.0) (nat_eq q.0 n.0) q n (same_number q n) h
+    at Whole = refl
+
+pub whole_there : (s : Stored) → ArePrepared (Whole ∷ []) s s
+whole_there s = record { maps = refl; out = λ k. refl; ready = at }
+  where
+    at : (k : Key) → is_ready s k ≡ (is_ready s k || has (Whole ∷ []) k)
+    at (Term q) = or_nothing (is_ready s (Term q))
+    at (Ctx q) = or_nothing (is_ready s (Ctx q))
+    at Whole = refl
+
+-- one that was not
+module _ {K A : Type 0} (f : K → Option (Place A)) (q t : K) (none : f t ≡ None) where
+  same_shown : (b : Bool) → (b ≡ true → q ≡ t) → shown (cond b (Some Empty) (f q)) ≡ shown (f q)
+  same_shown true is = sym (ap (λ y. shown (f y)) (is refl) ∙ ap (λ o. shown o) none)
+  same_shown false is = refl
+
+  same_out : (b : Bool) → (b ≡ true → q ≡ t) → has_left (cond b (Some Empty) (f q)) ≡ has_left (f q)
+  same_out true is = sym (ap (λ y. has_left (f y)) (is refl) ∙ ap (λ o. has_left o) none)
+  same_out false is = refl
+
+  now_there : (b : Bool) → (b ≡ true → q ≡ t) → is_some (cond b (Some Empty) (f q)) ≡ (is_some (f q) || (b || false))
+  now_there true is = sym (ap (λ y. y || true) (ap (λ y. is_some (f y)) (is refl) ∙ ap (λ o. is_some o) none))
+  now_there false is = or_nothing (is_some (f q))
+
+pub term_made : (s : Stored) (t : List ℕ) → finite.get s.terms t ≡ None → ArePrepared (Term t ∷ []) s (put_term_place s t Empty)
+term_made s t none = record {
+  maps = shown_alike (put_term_place s t Empty) s (λ q. ap (λ o. shown o) (got_term s t Empty q) ∙ same_shown (λ y. finite.get s.terms y) q t none (bytes_eq q t) (same_name q t)) (λ n. refl);
+  out = out;
+  ready = ready;
+}
+  where
+    out : AreAsOut s (put_term_place s t Empty)
+    out (Term q) = ap (λ o. has_left o) (got_term s t Empty q) ∙ same_out (λ y. finite.get s.terms y) q t none (bytes_eq q t) (same_name q t)
+    out (Ctx n) = refl
+    out Whole = refl
+
+    ready : (k : Key) → is_ready (put_term_place s t Empty) k ≡ (is_ready s k || has (Term t ∷ []) k)
+    ready (Term q) = ap (λ o. is_some o) (got_term s t Empty q) ∙ now_there (λ y. finite.get s.terms y) q t none (bytes_eq q t) (same_name q t)
+    ready (Ctx n) = or_nothing (is_ready s (Ctx n))
+    ready Whole = refl
+
+pub ctx_made : (s : Stored) (n : CtxNum) → finite.get s.contexts n.0 ≡ None → ArePrepared (Ctx n ∷ []) s (put_ctx_place s n Empty)
+ctx_made s n none = record {
+  maps = shown_alike (put_ctx_place s n Empty) s (λ t. refl) (λ q. ap (λ o. shown o) (got_ctx s n Empty q) ∙ same_shown (λ (y : CtxNum). finite.get s.contexts y.0) q n none (nat_eq q.0 n.0) (same_number q n));
+  out = out;
+  ready = ready;
+}
+  where
+    out : AreAsOut s (put_ctx_place s n Empty)
+    out (Term q) = refl
+    out (Ctx q) = ap (λ o. has_left o) (got_ctx s n Empty q) ∙ same_out (λ (y : CtxNum). finite.get s.contexts y.0) q n none (nat_eq q.0 n.0) (same_number q n)
+    out Whole = refl
+
+    ready : (k : Key) → is_ready (put_ctx_place s n Empty) k ≡ (is_ready s k || has (Ctx n ∷ []) k)
+    ready (Term q) = or_nothing (is_ready s (Term q))
+    ready (Ctx q) = ap (λ o. is_some o) (got_ctx s n Empty q) ∙ now_there (λ (y : CtxNum). finite.get s.contexts y.0) q n none (nat_eq q.0 n.0) (same_number q n)
+    ready Whole = refl
+
+-- ---- what follows of the keys so far, and of all
+
+pub are_ready : (keys : List Key) (a b : Stored) → ArePrepared keys a b → AreReady keys b
+are_ready keys a b p k h = p.ready k ∙ or_right (is_ready a k) (has keys k) h
+
+pub keep_ready : (keys : List Key) (a b : Stored) → ArePrepared keys a b → KeepReady a b
+keep_ready keys a b p k h = p.ready k ∙ or_left (is_ready a k) (has keys k) h
+
+any_front : (x : Key) (keys : List Key) (i : ℕ) → has keys x ≡ false → has (take i keys) x ≡ false
+any_front x keys zero h = refl
+any_front x [] (suc i) h = refl
+any_front x (y ∷ ys) (suc i) h = by (same_key x y) (has ys x) h (any_front x ys i)
+  where
+    by : (a b : Bool) → (a || b) ≡ false → (b ≡ false → has (take i ys) x ≡ false) → (a || has (take i ys) x) ≡ false
+    by true b h f = absurd cc
+    by false b h f = f h
+
+pub no_other_ready : (keys : List Key) (i : ℕ) (a b : Stored) → ArePrepared (take i keys) a b → NoOtherReady keys a b
+no_other_ready keys i a b p k off h = by (is_ready a k) (has (take i keys) k) (sym (p.ready k) ∙ h) (any_front k keys i off)
+  where
+    by : (x y : Bool) → (x || y) ≡ true → y ≡ false → x ≡ true
+    by true y h o = refl
+    by false y h o = absurd (let clash : true ≡ false = sym h ∙ o in cc)
+
+-- places that were made for keys where there were none
+pub blank : (keys : List Key) (a b : Stored) → a ≡ nothing_stored → maps_of b ≡ maps_of a → AreAsOut a b → AreReady keys b → NoOtherReady keys a b → AreBlank keys b
+blank keys a b start maps out ready alone = record {
+  packed = record {
+    terms = λ t. only (is_ready b (Term t)) (has keys (Term t)) (ready (Term t)) (λ off h. alone (Term t) off h) (ap (λ (s : Stored). is_ready s (Term t)) start ∙ ap (λ o. is_some o) (get-empty name_cmp t));
+    contexts = λ n. only (is_ready b (Ctx n)) (has keys (Ctx n)) (ready (Ctx n)) (λ off h. alone (Ctx n) off h) (ap (λ (s : Stored). is_ready s (Ctx n)) start ∙ ap (λ o. is_some o) (get-empty nat_cmp n.0));
+    here = λ k. out k ∙ ap (λ (s : Stored). is_out s k) start ∙ nothing_out k;
+  };
+  maps = maps ∙ ap (λ s. maps_of s) start ∙ maps_of_nothing;
+}
+  where
+    only : {x : Bool} (r h : Bool) → (h ≡ true → r ≡ true) → (h ≡ false → r ≡ true → x ≡ true) → x ≡ false → r ≡ h
+    only true true f g e = refl
+    only true false f g e = absurd (let clash : true ≡ false = sym (g refl refl) ∙ e in cc)
+    only false true f g e = f refl
+    only false false f g e = refl
+
+-- ---- places are swept
+
+filter_shown : {A : Type 0} (o : Option (Place A)) → option_filter (λ p. is_some (shown (Some p))) o ≡ if_shown o
+filter_shown None = refl
+filter_shown (Some Empty) = refl
+filter_shown (Some (Here a)) = refl
+filter_shown (Some Out) = refl
+
+pub swept : {K X : Type 0} {R : K → K → Ordering} (total : IsTotalOrder R) (es fs : List (K × Place X)) → IsStrictlySortedBy R (keys_of es) → fs ≡ filter (λ e. is_some (shown (Some e.1))) es → (q : K) → get (from_entries {R = R} fs) q ≡ if_shown (get (from_entries {R = R} es) q)
+swept {R = R} total es fs sorted is q =
+    seen total fs q ∙ ap (λ l. lookup (is_at (R q)) l) is
+    ∙ lookup-filter-values (eq_by_cmp_equiv total) (λ p. is_some (shown (Some p))) q es (IsDistinct-from_sorted R (keys_of es) sorted)
+    ∙ filter_shown (lookup (is_at (R q)) es)
+    ∙ ap (λ o. if_shown o) (sym (seen total es q))
+
+shown_same : {A : Type 0} (o : Option (Place A)) → shown (if_shown o) ≡ shown o
+shown_same None = refl
+shown_same (Some Empty) = refl
+shown_same (Some (Here a)) = refl
+shown_same (Some Out) = refl
+
+none_left : {A : Type 0} (o : Option (Place A)) → has_left (if_shown o) ≡ false
+none_left None = refl
+none_left (Some Empty) = refl
+none_left (Some (Here a)) = refl
+none_left (Some Out) = refl
+
+only_shown : {A : Type 0} (o : Option (Place A)) → is_some (if_shown o) ≡ is_some (shown (if_shown o))
+only_shown None = refl
+only_shown (Some Empty) = refl
+only_shown (Some (Here a)) = refl
+only_shown (Some Out) = refl
+
+-- only places with an entry are left
+pub record AreShown (a b : Stored) : Type 0 where
+  pub terms : (t : List ℕ) → finite.get b.terms t ≡ if_shown (finite.get a.terms t)
+  pub contexts : (n : CtxNum) → finite.get b.contexts n.0 ≡ if_shown (finite.get a.contexts n.0)
+
+pub swept_maps : (a b : Stored) → AreShown a b → maps_of b ≡ maps_of a
+swept_maps a b s = shown_alike b a (λ t. ap (λ o. shown o) (s.terms t) ∙ shown_same (finite.get a.terms t)) (λ n. ap (λ o. shown o) (s.contexts n) ∙ shown_same (finite.get a.contexts n.0))
+
+pub swept_in : (a b : Stored) → AreShown a b → NoneIsOut b
+swept_in a b s (Term t) = ap (λ o. has_left o) (s.terms t) ∙ none_left (finite.get a.terms t)
+swept_in a b s (Ctx n) = ap (λ o. has_left o) (s.contexts n) ∙ none_left (finite.get a.contexts n.0)
+swept_in a b s Whole = refl
+
+pub swept_ready : (a b : Stored) → AreShown a b → AreSwept b
+swept_ready a b s (Term t) = ap (λ o. is_some o) (s.terms t) ∙ only_shown (finite.get a.terms t) ∙ ap (λ o. is_some (shown o)) (sym (s.terms t)) ∙ ap (λ o. is_some o) (sym (term-maps_of b t))
+swept_ready a b s (Ctx n) = ap (λ o. is_some o) (s.contexts n) ∙ only_shown (finite.get a.contexts n.0) ∙ ap (λ o. is_some (shown o)) (sym (s.contexts n)) ∙ ap (λ o. is_some o) (sym (ctx-maps_of b n))
+swept_ready a b s Whole = refl
+
+-- ---- keys in order
+
+swapped : (a b : Key) → a ≡ b → same_key a b ≡ same_key b a
+swapped a b e = ap (λ k. same_key k b) e ∙ ap (λ k. same_key b k) (sym e)
+
+all_at : {K : Type 0} (P : K → Type 0) (xs : List K) (i : ℕ) (d : K) → i < length xs → AllByRecursion P xs → P (get_or xs i d)
+all_at P [] i d h a = absurd (omega arith)
+all_at P (x ∷ xs) zero d h a = a.0
+all_at P (x ∷ xs) (suc i) d h a = all_at P xs i d (omega arith) a.1
+
+pub not_before : (keys : List Key) (i : ℕ) (d : Key) → i < length keys → IsInOrder keys → has (take i keys) (get_or keys i d) ≡ false
+unfolding IsStrictlySortedBy
+not_before [] i d h s = absurd (omega arith)
+not_before (x ∷ xs) zero d h s = refl
+not_before (x ∷ xs) (suc i) d h s = both (same_key (get_or xs i d) x) (has (take i xs) (get_or xs i d)) (refuted (same_key (get_or xs i d) x) apart) (not_before xs i d (omega arith) s.1)
+  where
+    both : (a b : Bool) → a ≡ false → b ≡ false → (a || b) ≡ false
+    both true b e f = e
+    both false b e f = f
+
+    apart : same_key (get_or xs i d) x ≡ true → ⊥
+    apart e =
+        let less : key_cmp x (get_or xs i d) ≡ Less = all_at (λ y. key_cmp x y ≡ Less) xs i d (omega arith) s.0 in
+        let off : same_key x (get_or xs i d) ≡ false = sym (key_test x (get_or xs i d)) ∙ ap (λ r. is_eq r) less in
+        let one : get_or xs i d ≡ x = same_key_is (get_or xs i d) x e in
+        let clash : true ≡ false = sym e ∙ swapped (get_or xs i d) x one ∙ off in
+        cc
+
+pub front_has : (keys : List Key) (i : ℕ) (x : Key) → has (take i keys) x ≡ true → has keys x ≡ true
+front_has keys zero x h = absurd cc
+front_has [] (suc i) x h = absurd cc
+front_has (y ∷ ys) (suc i) x h = either (or_cases (same_key x y) (has (take i ys) x) h) (λ a. or_left (same_key x y) (has ys x) a) (λ b. or_right (same_key x y) (has ys x) (front_has ys i x b))
+
+pub has_at : (keys : List Key) (i : ℕ) (d : Key) → i < length keys → has keys (get_or keys i d) ≡ true
+has_at [] i d h = absurd (omega arith)
+has_at (x ∷ xs) zero d h = has-head x xs
+has_at (x ∷ xs) (suc i) d h = has-tail x (get_or xs i d) xs (has_at xs i d (omega arith))

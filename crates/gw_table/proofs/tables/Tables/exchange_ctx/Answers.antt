@@ -1,0 +1,24 @@
+use Rattle.std.proofs.Common.{Option, Some, is_some, sym, ap, ◌∙◌}
+use Rattle.std.specs.Option.{option_copied_mut}
+use Rattle.gw_ctx.specs.Contexts.{ContextRecord}
+use Rattle.gw_table.specs.declared.place.Place.{Place}
+use Rattle.gw_table.specs.Stored.{Stored, put_ctx_place}
+use Rattle.gw_table.proofs.Exchanged.{ctx_written, ctx_seen, not_found}
+use Rattle.gw_table.proofs.tables.Tables.exchange_ctx.Goals as goal
+
+pub unreachable-requires : goal.unreachable-requires
+unreachable-requires c =
+    not_found _ c.requires (sym (ctx_seen c.self.inside.terms.entries c.self.inside.contexts.entries c.args.self.now c.args.number c.self.view_is) ∙ sym c.get_mut.ensures.value ∙ ap (λ o. option_copied_mut o) c.in-None.is)
+
+pub returns-clause-before : goal.returns-clause-before
+returns-clause-before c =
+    let none : Option (Place ContextRecord) = Some c.replace.result in
+    ap (λ (p : Place ContextRecord). Some p) c.replace.ensures.value ∙ ap (λ o. option_copied_mut o) (sym c.in-Some.is) ∙ c.get_mut.ensures.value
+    ∙ ctx_seen c.self.inside.terms.entries c.self.inside.contexts.entries c.args.self.now c.args.number c.self.view_is
+
+pub returns-clause-after : goal.returns-clause-after
+returns-clause-after c =
+    let w : Place ContextRecord = c.replace.new.dest in
+    ctx_written c.self.inside.terms.entries c.self.inside.contexts.entries (c.get_mut.follows.lender w).entries c.args.number w
+    ((c.get_mut.follows.holds w).3 (ap (λ o. is_some o) (sym c.get_mut.ensures.value) ∙ ap (λ o. is_some (option_copied_mut o)) c.in-Some.is)).0
+    ∙ ap (λ (s : Stored). put_ctx_place s c.args.number w) c.self.view_is ∙ ap (λ (p : Place ContextRecord). put_ctx_place c.args.self.now c.args.number p) c.replace.ensures.after

@@ -1,0 +1,25 @@
+use Rattle.std.proofs.Common.{◌≡◌, [], ◌∷◌, None, is_some, subst, sym, ap, ◌∙◌}
+use Rattle.std.specs.FinMap as finite
+use Rattle.gw_base.specs.declared.key.Key.TheVariants.{Term}
+use Rattle.gw_table.specs.declared.place.Place.TheVariants.{Empty}
+use Rattle.gw_table.specs.Stored.{Stored, put_term_place, ArePrepared}
+use Rattle.gw_table.proofs.Exchanged.{term_written, term_seen, nothing_found}
+use Rattle.gw_table.proofs.Prepared.{term_made, term_there}
+use Rattle.gw_table.proofs.tables.Tables.prepare_term.Goals.{in-Some+in-Here-1, in-Some+in-Empty-1, in-None-1}
+use Rattle.gw_table.proofs.tables.Tables.prepare_term.Goals as goal
+
+pub returns-in_ok-insert-clause-ok : goal.returns-in_ok-insert-clause-ok
+returns-in_ok-insert-clause-ok c =
+    let now : Stored = c.args.self.now in
+    let none : finite.get now.terms c.args.name ≡ None = nothing_found _ (ap (λ o. is_some o) (sym (term_seen c.self.inside.terms.entries c.self.inside.contexts.entries now c.args.name c.self.view_is)) ∙ sym c.contains_key.ensures ∙ c.if-not-contains_key.true) in
+    let new = term_written c.self.inside.terms.entries c.insert.new.self.entries c.self.inside.contexts.entries c.args.name Empty c.in_ok-insert.ensures.updates.0 ∙ ap (λ (s : Stored). put_term_place s c.args.name Empty) c.self.view_is in
+    let done : ArePrepared (Term c.args.name ∷ []) now (put_term_place now c.args.name Empty) = term_made now c.args.name none in
+    elim c.match-branch-2.branch [
+      | in-Some+in-Here-1 w ↦ subst (λ (s : Stored). ArePrepared (Term c.args.name ∷ []) now s) (sym (w.self-is ∙ new)) done
+      | in-Some+in-Empty-1 w ↦ subst (λ (s : Stored). ArePrepared (Term c.args.name ∷ []) now s) (sym (w.self-is ∙ new)) done
+      | in-None-1 w ↦ subst (λ (s : Stored). ArePrepared (Term c.args.name ∷ []) now s) (sym (w.self-is ∙ new)) done
+    ]
+
+pub returns-else-not-contains_key-clause-ok : goal.returns-else-not-contains_key-clause-ok
+returns-else-not-contains_key-clause-ok c =
+    term_there c.args.self.now c.args.name (ap (λ o. is_some o) (sym (term_seen c.self.inside.terms.entries c.self.inside.contexts.entries c.args.self.now c.args.name c.self.view_is)) ∙ sym c.contains_key.ensures ∙ c.if-not-contains_key.false)

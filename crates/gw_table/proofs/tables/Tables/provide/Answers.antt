@@ -1,0 +1,20 @@
+use Rattle.std.proofs.Common.{◌≡◌, subst, sym, ap, ◌∙◌, refl}
+use Rattle.gw_term.specs.Record.{provisioned}
+use Rattle.gw_term.specs.declared.record.Termination.{Termination}
+use Rattle.gw_table.specs.declared.place.Place.TheVariants.{Here}
+use Rattle.gw_table.specs.Stored.{Stored, maps_of, put_term_place, NoneIsOut}
+use Rattle.gw_table.proofs.Exchanged.{stored, term_written}
+use Rattle.gw_table.proofs.Places.{maps-put_term_place, in-put_term}
+use Rattle.gw_table.proofs.tables.Tables.provide.Goals as goal
+
+provided : (c : goal.Joined-branch-3) → stored c.insert.new.self.entries c.self.inside.contexts.entries ≡ put_term_place c.args.self.now c.args.name (Here provisioned)
+provided c =
+    term_written c.self.inside.terms.entries c.insert.new.self.entries c.self.inside.contexts.entries c.args.name (Here c.in_ok-new.new) c.in_ok-insert.ensures.updates.0
+    ∙ ap (λ (s : Stored). put_term_place s c.args.name (Here c.in_ok-new.new)) c.self.view_is
+    ∙ ap (λ (r : Termination). put_term_place c.args.self.now c.args.name (Here r)) (c.in_ok-new.ensures ∙ c.provisioned.ensures)
+
+pub returns-clause-maps : goal.returns-clause-maps
+returns-clause-maps c = ap (λ s. maps_of s) (provided c) ∙ maps-put_term_place c.args.self.now c.args.name (Here provisioned)
+
+pub returns-clause-out : goal.returns-clause-out
+returns-clause-out c h = subst (λ (s : Stored). NoneIsOut s) (sym (provided c)) (in-put_term c.args.self.now c.args.name (Here provisioned) refl h)

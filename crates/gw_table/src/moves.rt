@@ -1,0 +1,135 @@
+//! Entries that go from tables to a part, and back. Nothing here takes memory.
+
+ghost use Rattle.std.specs.Prelude.{◌≡◌, Some, [], true, List};
+ghost use Rattle.std.specs.FinMap as finite;
+ghost use Rattle.gw_base.specs.declared.key.Key.{Key};
+ghost use Rattle.gw_base.specs.declared.key.Key.TheVariants.{Term, Ctx};
+ghost use Rattle.gw_base.specs.Keys.{has};
+ghost use Rattle.gw_table.specs.KeyLists.{IsInOrder};
+ghost use Rattle.gw_table.specs.Parts.{Only, list_of, restricted, cut, overlaid};
+ghost use Rattle.gw_table.specs.Stored.{maps_of, is_ready, put_term_place, put_ctx_place, with_out, with_place_of, AreMoved, AreReady, AreIn, AreOut, AreAsReady, AreAsOut, WentOut, CameBack};
+
+use crate::keys::Keys;
+use crate::part::Part;
+use crate::place::Place;
+use crate::tables::Tables;
+use gw_base::{CtxNum, Held, Key, TermName};
+use gw_ctx::Context;
+use gw_term::Termination;
+use std::mem;
+
+impl Tables {
+    /// Puts something else in the place of a termination, and answers what stood there.
+    pub(crate) fn exchange_term(
+        &mut self,
+        name: &TermName,
+        new: Place<Held<Termination>>,
+    ) -> Place<Held<Termination>>
+        requires { is_ready self.old (Term name.now) ≡ true }
+        ensures before { Some result ≡ finite.get self.old.terms name.now }
+        ensures after { self.new ≡ put_term_place self.old name.now new }
+    {
+        match self.terms.get_mut(name) {
+            Some(place) => mem::replace(place, new),
+            None => unreachable!(),
+        }
+    }
+
+    /// Puts something else in the place of a context, and answers what stood there.
+    pub(crate) fn exchange_ctx(
+        &mut self,
+        number: CtxNum,
+        new: Place<Held<Context>>,
+    ) -> Place<Held<Context>>
+        requires { is_ready self.old (Ctx number) ≡ true }
+        ensures before { Some result ≡ finite.get self.old.contexts number.0 }
+        ensures after { self.new ≡ put_ctx_place self.old number new }
+    {
+        match self.contexts.get_mut(&number.0) {
+            Some(place) => mem::replace(place, new),
+            None => unreachable!(),
+        }
+    }
+
+    /// Moves what stands at a key.
+    fn move_to(&mut self, key: &Key, to: &mut Tables)
+        requires from { is_ready self.old key.now ≡ true }
+        requires to { is_ready to.old key.now ≡ true }
+        ensures left { self.new ≡ with_out self.old key.now }
+        ensures full { to.new ≡ with_place_of self.old key.now to.old }
+    {
+        match key {
+            Key::Term(name) => {
+                let place = self.exchange_term(name, Place::Out);
+                to.exchange_term(name, place);
+            }
+            Key::Ctx(number) => {
+                let place = self.exchange_ctx(*number, Place::Out);
+                to.exchange_ctx(*number, place);
+            }
+            Key::Whole => {}
+        }
+    }
+
+    /// Moves what stands at each of the keys.
+    fn move_each(&mut self, keys: &[Key], to: &mut Tables)
+        requires order { IsInOrder keys.now }
+        requires from { AreReady keys.now self.old }
+        requires to { AreReady keys.now to.old }
+        ensures { AreMoved keys.now self.old to.old self.new to.new }
+    {
+        for key in keys {
+            self.move_to(key, to);
+        }
+    }
+
+    /// Takes the entries of the keys out, as a part. The caller knows that each key is prepared and none is out. Of `Whole` nothing
+    /// is asked but that every entry's key is listed, and then the part has every entry. A key takes two look-ups.
+    pub fn take_out(&mut self, keys: Keys) -> Part
+        requires ready { AreReady keys self.old }
+        requires here { AreIn keys self.old }
+        ensures keys { result.keys ≡ Only keys }
+        ensures part { result.maps ≡ restricted keys (maps_of self.old) }
+        ensures maps { maps_of self.new ≡ cut keys (maps_of self.old) }
+        ensures out { WentOut keys self.old self.new }
+        ensures ready { AreAsReady self.old self.new }
+    {
+        let Keys { list, mut places } = keys;
+        self.move_each(&list, &mut places);
+        Part { keys: list, places }
+    }
+
+    /// Lays the entries of a part over those that are here.
+    fn lay(&mut self, part: Part)
+        requires { AreReady (list_of part.keys) self.old }
+        ensures maps { maps_of self.new ≡ overlaid (list_of part.keys) part.maps (maps_of self.old) }
+        ensures out { CameBack (list_of part.keys) self.old self.new }
+        ensures ready { AreAsReady self.old self.new }
+    {
+        let Part { keys, mut places } = part;
+        places.move_each(&keys, self);
+    }
+
+    /// Puts the entries of a part back: each of its keys has the part's entry then, or none where the part has none. The caller
+    /// knows that its keys are out. A key takes two look-ups.
+    pub fn put_back(&mut self, part: Part)
+        requires { AreOut (list_of part.keys) self.old }
+        ensures maps { maps_of self.new ≡ overlaid (list_of part.keys) part.maps (maps_of self.old) }
+        ensures out { CameBack (list_of part.keys) self.old self.new }
+        ensures ready { AreAsReady self.old self.new }
+    {
+        self.lay(part);
+    }
+
+    /// Puts the entries of a part in place of those that are here: each of its keys has the part's entry then, or none where the
+    /// part has none. The caller knows that its keys are prepared and none is out. A key takes two look-ups.
+    pub fn replace(&mut self, part: Part)
+        requires ready { AreReady (list_of part.keys) self.old }
+        requires here { AreIn (list_of part.keys) self.old }
+        ensures maps { maps_of self.new ≡ overlaid (list_of part.keys) part.maps (maps_of self.old) }
+        ensures out { AreAsOut self.old self.new }
+        ensures ready { AreAsReady self.old self.new }
+    {
+        self.lay(part);
+    }
+}

@@ -1,0 +1,91 @@
+//! Places for entries: made for keys that may get an entry, and swept where none came.
+
+ghost use Rattle.std.specs.Prelude.{◌≡◌, ℕ, List, [], ◌∷◌, OnOk, OnErr};
+ghost use Rattle.std.specs.FinMap as finite;
+ghost use Rattle.gw_base.specs.declared.key.Key.TheVariants.{Term, Ctx};
+ghost use Rattle.gw_table.specs.Stored.{maps_of, if_shown, ArePrepared, AreAsOut, AreReady, KeepReady, NoOtherReady, NoneIsOut, AreSwept};
+
+use crate::place::Place;
+use crate::tables::Tables;
+use gw_base::{CtxNum, Key, NoMemory, TermName};
+
+impl Tables {
+    /// Makes a place for a termination. A refused growth changes nothing.
+    fn prepare_term(&mut self, name: TermName) -> Result<(), NoMemory>
+        ensures ok { OnOk result (ArePrepared (Term name ∷ []) self.old self.new) }
+        ensures err { OnErr result (self.new ≡ self.old) }
+    {
+        if !self.terms.contains_key(&name) {
+            self.terms.insert(name, Place::Empty)?;
+        }
+        Ok(())
+    }
+
+    /// Makes a place for a context. A refused growth changes nothing.
+    fn prepare_ctx(&mut self, number: CtxNum) -> Result<(), NoMemory>
+        ensures ok { OnOk result (ArePrepared (Ctx number ∷ []) self.old self.new) }
+        ensures err { OnErr result (self.new ≡ self.old) }
+    {
+        if !self.contexts.contains_key(&number.0) {
+            self.contexts.insert(number.0, Place::Empty)?;
+        }
+        Ok(())
+    }
+
+    /// Makes a place for a key. A refused growth changes nothing.
+    fn prepare(&mut self, key: Key) -> Result<(), NoMemory>
+        ensures ok { OnOk result (ArePrepared (key ∷ []) self.old self.new) }
+        ensures err { OnErr result (self.new ≡ self.old) }
+    {
+        match key {
+            Key::Term(name) => self.prepare_term(name),
+            Key::Ctx(number) => self.prepare_ctx(number),
+            Key::Whole => Ok(()),
+        }
+    }
+
+    /// Prepares a place for each key, which stays prepared until `sweep`. The entries stay as they are. A key takes two look-ups.
+    ///
+    /// # Errors
+    ///
+    /// Want of memory. Some of the keys may then be prepared, and nothing else has changed.
+    pub fn reserve_slots(&mut self, keys: &[Key]) -> Result<(), NoMemory>
+        ensures maps { maps_of self.new ≡ maps_of self.old }
+        ensures out { AreAsOut self.old self.new }
+        ensures kept { KeepReady self.old self.new }
+        ensures ready { OnOk result (AreReady keys.now self.new) }
+        ensures alone { NoOtherReady keys.now self.old self.new }
+    {
+        for key in keys {
+            self.prepare(*key)?;
+        }
+        Ok(())
+    }
+
+    /// Ends the preparation of names without a termination.
+    fn sweep_terms(&mut self)
+        ensures terms { (t : List ℕ) → finite.get self.new.terms t ≡ if_shown (finite.get self.old.terms t) }
+        ensures contexts { self.new.contexts ≡ self.old.contexts }
+    {
+        self.terms.retain(|_, place| place.is_here());
+    }
+
+    /// Ends the preparation of numbers without a context.
+    fn sweep_contexts(&mut self)
+        ensures terms { self.new.terms ≡ self.old.terms }
+        ensures contexts { (n : ℕ) → finite.get self.new.contexts n ≡ if_shown (finite.get self.old.contexts n) }
+    {
+        self.contexts.retain(|_, place| place.is_here());
+    }
+
+    /// Ends the preparation of keys without an entry. The caller knows that no key is out. The work is one pass over all places.
+    pub fn sweep(&mut self)
+        requires { NoneIsOut self.old }
+        ensures maps { maps_of self.new ≡ maps_of self.old }
+        ensures out { NoneIsOut self.new }
+        ensures ready { AreSwept self.new }
+    {
+        self.sweep_terms();
+        self.sweep_contexts();
+    }
+}
