@@ -24,11 +24,7 @@ use gw_term::Termination;
 use std::alloc::Global;
 
 /// The termination's record becomes this one, or none.
-pub(crate) fn put(
-    part: &mut Part,
-    name: TermName,
-    entry: Option<Held<Termination>>,
-)
+pub(crate) fn put(part: &mut Part, name: TermName, entry: Option<Held<Termination>>)
     requires { holds part.old.keys (Term name) ≡ true }
     ensures maps { part.new.maps ≡ put_term part.old.maps name entry }
     ensures keys { part.new.keys ≡ part.old.keys }
