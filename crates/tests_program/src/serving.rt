@@ -200,18 +200,16 @@ fn two_bursts(rt: HostRuntime) -> Result<(), Fail> {
 fn waiting(rt: &impl Net) -> Result<u32, Fail> {
     let (held, sender) = (client(rt, IPV4)?, client(rt, IPV4)?);
     let address = held.local_addr()?;
-    for _ in 0..LARGEST_BURST + 1 {
+    for _ in 0..=LARGEST_BURST {
         sender.send_to(ASKED, address)?;
     }
     let mut buffer = [0u8; 1024];
-    let mut count = 0;
-    for _ in 0..LARGEST_BURST + 1 {
+    for count in 0..=LARGEST_BURST {
         if held.recv_from(&mut buffer).is_err() {
-            break;
+            return Ok(count);
         }
-        count += 1;
     }
-    Ok(count)
+    Ok(LARGEST_BURST + 1)
 }
 
 #[test]
