@@ -1,4 +1,5 @@
 pub mod Alike
+pub mod Behind
 pub mod Closing
 pub mod Comes
 pub mod Drawing
@@ -8,6 +9,7 @@ pub mod FirstOfAll
 pub mod KeptIn
 pub mod Leading
 pub mod LeftOut
+pub mod Naming
 pub mod OnTheWay
 pub mod Opening
 pub mod Orders

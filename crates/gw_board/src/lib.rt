@@ -7,6 +7,7 @@ mod close;
 mod fault;
 mod job;
 mod laws;
+mod named;
 mod open;
 mod plan;
 mod seat;
