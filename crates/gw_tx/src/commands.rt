@@ -13,7 +13,7 @@ use crate::owned::next_entry;
 use crate::replies::replied;
 use crate::told::{Counted, inside};
 use gw_base::{NoMemory, Rules};
-use gw_cmd::{At, command};
+use gw_cmd::{At, command_told};
 use gw_length::Telling;
 use gw_msg::Command;
 use gw_reply::{ActionReply, CommandReply};
@@ -37,11 +37,11 @@ fn attempt(
     ensures answer { IfOk result (λ done. done ≡ counted command_reply_text told (attempt rules.now at (slot, sent.now) part.old.maps).answer) }
     ensures keys { part.new.keys ≡ part.old.keys }
 {
-    let done = command(alloc, rules, part, at, slot, sent)?;
+    let done = command_told(alloc, rules, part, at, slot, sent, told)?;
     Ok(Counted {
         next: if done.made { at.made() } else { at },
         stopped: done.failed && !sent.optional,
-        told: told.tell_all(done.replies)?,
+        told: done.told,
     })
 }
 
