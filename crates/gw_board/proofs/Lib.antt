@@ -14,6 +14,7 @@ pub mod OnTheWay
 pub mod Opening
 pub mod Orders
 pub mod Outs
+pub mod Planned
 pub mod Planning
 pub mod Requests
 pub mod SeatFacts

@@ -8,6 +8,7 @@ pub mod Jobs
 pub mod Journal
 pub mod Met
 pub mod Named
+pub mod Planned
 pub mod Refused
 pub mod Results
 pub mod Seats
