@@ -46,7 +46,7 @@ module _ (rules : Rules) (m : Maps) (a : Asked) (j : Job) (before after : List P
   beside_before = earlier_in (Stands rules m) (Beside m) before after (open_with a j) h
 
   -- nothing else that is out is the job's
-  clear_of_others : Clear j.keys (out (before ++ after))
+  pub clear_of_others : Clear j.keys (out (before ++ after))
   clear_of_others = clear_out j.keys (before ++ after) (each_joined (ApartFromOpen j.keys) before after (apart_before rules m a j job.keys before after h) (apart_behind rules m a j job.keys before after h))
 
   -- entries laid over the maps, while others are out

@@ -69,7 +69,7 @@ whole_back rules places m h = same_maps (all_back places (cut (out places) m)) m
     (λ q. terms_back rules m (cut (out places) m) places h q ∙ ap (cond (has (out places) (Term q)) (term m q)) (term-cut (out places) m q) ∙ all_put (has (out places) (Term q)) (term m q))
     (λ q. ctxs_back rules m (cut (out places) m) places h q ∙ ap (cond (has (out places) (Ctx q)) (ctx m q)) (ctx-cut (out places) m q) ∙ all_put (has (out places) (Ctx q)) (ctx m q))
 
-result_kept : (rules : Rules) (s : Core) (k : FitsTogether rules s) → result_of rules s ≡ carried_on rules s.places k.whole
+pub result_kept : (rules : Rules) (s : Core) (k : FitsTogether rules s) → result_of rules s ≡ carried_on rules s.places k.whole
 result_kept rules s k =
     ap (carried_on rules s.places) (ap (all_back s.places) k.maps ∙ whole_back rules s.places k.whole (each_in (Stands rules k.whole) (Beside k.whole) s.places k.stand))
 
@@ -95,7 +95,7 @@ nothing_open rules s h = ap (carried_on rules s.places) (nothing_back s.places s
 
 -- ---- where every place is closed
 
-closed_ones : (places : List Place) (replies : List TxReply) → AreClosed places replies → list_any (λ p. is_open p.standing) places ≡ false
+pub closed_ones : (places : List Place) (replies : List TxReply) → AreClosed places replies → list_any (λ p. is_open p.standing) places ≡ false
 closed_ones [] replies e = refl
 closed_ones (p ∷ ps) [] e = absurd cc
 closed_ones (p ∷ ps) (r ∷ rs) e =
@@ -118,7 +118,7 @@ all_closed rules s replies e = nothing_open rules s (closed_ones s.places replie
 
 -- ---- the way back
 
-out_of_none : (places : List Place) → list_any (λ p. is_open p.standing) places ≡ false → (q : Key) → has (out places) q ≡ false
+pub out_of_none : (places : List Place) → list_any (λ p. is_open p.standing) places ≡ false → (q : Key) → has (out places) q ≡ false
 out_of_none [] h q = refl
 out_of_none (p ∷ ps) h q =
     let both = neither (is_open p.standing) (list_any (λ p. is_open p.standing) ps) h in

@@ -53,7 +53,7 @@ others_listed k i n (x ∷ xs) = by (nat_eq i x) refl (nat_eq k x) refl (others_
 
 -- ---- a place that is set
 
-set_here : {X : Type 0} (xs : List X) (i : ℕ) (x new : X) → slice_get xs i ≡ Some x → slice_get (slice_set xs i new) i ≡ Some new
+pub set_here : {X : Type 0} (xs : List X) (i : ℕ) (x new : X) → slice_get xs i ≡ Some x → slice_get (slice_set xs i new) i ≡ Some new
 set_here [] i x new e = absurd cc
 set_here (y ∷ ys) zero x new e = refl
 set_here (y ∷ ys) (suc i) x new e = set_here ys i x new e

@@ -12,7 +12,7 @@ use Rattle.gw_board.specs.Waves.{is_pending, meets_pending, is_free, wave, IsMet
 
 -- ---- places
 
-below : {X : Type 0} (xs : List X) (i : ℕ) (x : X) → slice_get xs i ≡ Some x → i < length xs
+pub below : {X : Type 0} (xs : List X) (i : ℕ) (x : X) → slice_get xs i ≡ Some x → i < length xs
 below [] i x e = absurd cc
 below (y ∷ ys) zero x e = omega arith
 below (y ∷ ys) (suc i) x e = let h : i < length ys = below ys i x e in omega (arith, h)

@@ -99,7 +99,7 @@ module _ (rules : Rules) (m : Maps) (w : AreWellFormed rules.members m) (a : Ask
     same : keys ≡ keys_of a m
     same = ap (keys_of a) now_half ∙ sym keys_now ∙ keys_half
 
-    clear : Clear keys all_out
+    pub clear : Clear keys all_out
     clear = clear_out keys (before ++ pending a ∷ after) (each_joined (ApartFromOpen keys) before (pending a ∷ after) apart_before
         (tt, subst (λ (l : List Key). Each (ApartFromOpen l) after) (sym same) apart_behind))
 

@@ -64,7 +64,7 @@ stand_start rules m (a ∷ more) u =
     let theirs : List ℕ = slots_of more in
     (front_unused m mine theirs u, each_pending m a more (each_other mine more (others_behind mine theirs u.slots_apart)), stand_start rules m more (behind_unused m mine theirs u))
 
-nothing_out : (asked : List Asked) (q : Key) → has (out (map pending asked)) q ≡ false
+pub nothing_out : (asked : List Asked) (q : Key) → has (out (map pending asked)) q ≡ false
 nothing_out [] q = refl
 nothing_out (a ∷ more) q = nothing_out more q
 

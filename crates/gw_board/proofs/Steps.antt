@@ -15,9 +15,9 @@ use Rattle.gw_board.specs.Journal.{Original, original_of, journal, undone}
 use Rattle.gw_board.specs.Results.{carried_at, carried_on, slots_of}
 use Rattle.gw_board.proofs.Closing.{job_here, drawn_stand, back_stand, back_maps, closed_stand, closed_answer, closed_maps, closed_back}
 use Rattle.gw_board.proofs.FirstOfAll.{MayWait, Waits, goes_first}
-use Rattle.gw_board.proofs.Opening.{open_maps, open_stand}
+use Rattle.gw_board.proofs.Opening.{clear, open_maps, open_stand}
 use Rattle.gw_board.proofs.Orders.{front_in, earlier_in, in_order_on}
-use Rattle.gw_board.proofs.Outs.{SameKeys, apart_right}
+use Rattle.gw_board.proofs.Outs.{SameKeys, Clear, clear_same, apart_right}
 use Rattle.gw_board.proofs.Requests.{well_after}
 use Rattle.gw_board.proofs.Slices.{parts_at, parts_set}
 use Rattle.gw_board.proofs.Started.{stand_start, start_maps}
@@ -101,7 +101,7 @@ module _ (rules : Rules) (s : Core) (k : FitsTogether rules s) (i : ℕ) (a : As
   abbrev job_in : List Key → Maps → Job
   job_in keys n = record { keys = keys; part = restricted keys n; result = None }
 
-  open_leaves : (keys : List Key) → MayOpen s i a keys → Leaves rules s (after_open s i a keys) k []
+  pub open_leaves : (keys : List Key) → MayOpen s i a keys → Leaves rules s (after_open s i a keys) k []
   open_leaves keys o =
       let now : Maps = cut (out (before ++ pending a ∷ after)) m in
       let is : s.maps ≡ now = maps_here (pending a) o.pends in
@@ -117,11 +117,22 @@ module _ (rules : Rules) (s : Core) (k : FitsTogether rules s) (i : ℕ) (a : As
         same = alike (pending a) o.pends (open_with a (job_in keys s.maps)) (λ n. refl);
       }
 
+  -- nothing that is out is among the keys of a place that may be opened
+  pub open_clear : (keys : List Key) → MayOpen s i a keys → Clear keys (out s.places)
+  open_clear keys o =
+      let now : Maps = cut (out (before ++ pending a ∷ after)) m in
+      let is : s.maps ≡ now = maps_here (pending a) o.pends in
+      let free : meets_any (keys_of a now) now before ≡ false = subst (λ n. meets_any (keys_of a n) n before ≡ false) is o.free in
+      let st : Stand rules m (before ++ pending a ∷ after) = standing (pending a) o.pends in
+      let listed : SameKeys keys (keys_of a now) = subst (λ n. SameKeys keys (keys_of a n)) is o.listed in
+      subst (λ (l : List Place). Clear keys (out l)) (sym (here (pending a) o.pends))
+      (clear_same (keys_of a now) keys (out (before ++ pending a ∷ after)) (λ q. sym (listed q)) (clear rules m k.well a before after st free))
+
   module _ (j : Job) (e : slice_get s.places i ≡ Some (open_with a j)) where
-    here_stand : Stand rules m (before ++ open_with a j ∷ after)
+    pub here_stand : Stand rules m (before ++ open_with a j ∷ after)
     here_stand = standing (open_with a j) e
 
-    draw_leaves : (worker : ℕ) → Leaves rules s (after_draw rules s worker i a j) k []
+    pub draw_leaves : (worker : ℕ) → Leaves rules s (after_draw rules s worker i a j) k []
     draw_leaves worker = record {
       kept = made_of rules (after_draw rules s worker i a j) m (before ++ open_with a (drawn rules a j) ∷ after) k.well
           (there (open_with a j) e (open_with a (drawn rules a j)))
@@ -131,7 +142,7 @@ module _ (rules : Rules) (s : Core) (k : FitsTogether rules s) (i : ℕ) (a : As
       same = alike (open_with a j) e (open_with a (drawn rules a j)) (λ n. refl);
     }
 
-    return_leaves : Leaves rules s (after_return s i a j) k []
+    pub return_leaves : Leaves rules s (after_return s i a j) k []
     return_leaves = record {
       kept = made_of rules (after_return s i a j) m (before ++ pending a ∷ after) k.well
           (there (open_with a j) e (pending a))
@@ -141,7 +152,7 @@ module _ (rules : Rules) (s : Core) (k : FitsTogether rules s) (i : ℕ) (a : As
       same = alike (open_with a j) e (pending a) (λ n. refl);
     }
 
-    close_leaves : (o : Outcome TxReply) → j.result ≡ Some o → Leaves rules s (after_close s i a j o) k (record { keys = j.keys; part = j.part } ∷ [])
+    pub close_leaves : (o : Outcome TxReply) → j.result ≡ Some o → Leaves rules s (after_close s i a j o) k (record { keys = j.keys; part = j.part } ∷ [])
     close_leaves o d = record {
       kept = made_of rules (after_close s i a j o) (done rules a m).maps (before ++ closed_with a o.answer ∷ after) (well_after rules a m k.well (job_here rules m a j before after here_stand).0)
           (there (open_with a j) e (closed_with a o.answer))
@@ -160,7 +171,7 @@ step_leaves rules s t k (Draw worker i a j d e) = subst (λ u. Leaves rules s u 
 step_leaves rules s t k (Close i a j o c e) = subst (λ u. Leaves rules s u k (record { keys = j.keys; part = j.part } ∷ [])) (sym e) (close_leaves rules s k i a j c.stands o c.drawn)
 step_leaves rules s t k (Return i a j r e) = subst (λ u. Leaves rules s u k []) (sym e) (return_leaves rules s k i a j r.stands)
 
-undone-append : (front later : List Original) (m : Maps) → undone (front ++ later) m ≡ undone front (undone later m)
+pub undone-append : (front later : List Original) (m : Maps) → undone (front ++ later) m ≡ undone front (undone later m)
 undone-append [] later m = refl
 undone-append (o ∷ os) later m = ap (overlaid o.keys o.part) (undone-append os later m)
 

@@ -2,18 +2,13 @@
 use Rattle.std.specs.Prelude.{List, [], ◌∷◌}
 use Rattle.gw_base.specs.declared.command_words.Rules.{Rules}
 use Rattle.gw_base.specs.declared.key.Key.{Key}
-use Rattle.gw_msg.specs.declared.message.Request.{Request}
 use Rattle.gw_reply.specs.declared.reply.TxReply.{TxReply}
 use Rattle.gw_table.specs.Maps.{Maps, Outcome}
-use Rattle.gw_reserve.specs.declared.owned.Owned.{Owned}
 use Rattle.gw_reserve.specs.Owned.{paired}
 use Rattle.gw_tx.specs.Footprints.{footprint_of}
 use Rattle.gw_tx.specs.Transactions.{paired_transaction}
-
 -- a request, and what it owns: an entry for each of its actions and commands
-pub record Asked : Type 0 where
-  pub request : Request
-  pub owned : Owned
+pub use Rattle.gw_board.specs.declared.asked.Asked.{Asked}
 
 -- its keys, in maps as they are
 abbrev pub keys_of : Asked → Maps → List Key

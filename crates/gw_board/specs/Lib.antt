@@ -1,7 +1,13 @@
+pub mod BoardView
+pub mod Boards
 pub mod Carried
 pub mod Core
 pub mod Endings
 pub mod Fitting
+pub mod Jobs
 pub mod Journal
+pub mod Met
+pub mod Refused
 pub mod Results
+pub mod Seats
 pub mod Waves

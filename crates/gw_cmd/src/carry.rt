@@ -9,8 +9,9 @@ ghost use Rattle.gw_table.specs.Maps.{term, names, place_of};
 ghost use Rattle.gw_table.specs.Parts.{holds, Holds, HoldsPlace};
 ghost use Rattle.gw_table.specs.WellFormed.{IsSound};
 ghost use Rattle.gw_refusal.specs.Asked.{is_move};
-ghost use Rattle.gw_cmd.specs.Commands.{reply, outcome_of, on_targets, refused, on_names, on_new as made_new, on_root as root_done, carried as carried_out, allowed, command as command_done};
+ghost use Rattle.gw_cmd.specs.Commands.{reply, outcome_of, outcome_told, on_targets, refused, on_names, on_new as made_new, on_root as root_done, carried as carried_out, allowed, command as command_done};
 ghost use Rattle.gw_cmd.specs.Effects.{on_name as name_done};
+ghost use Rattle.gw_cmd.specs.Told.{outcome_behind, seen};
 ghost use Rattle.gw_cmd.specs.Keys.{command_keys};
 ghost use Rattle.gw_refusal.specs.Places.{place_at};
 ghost use Rattle.gw_cmd.specs.Suits.{HoldsMoved, HoldsFound, HoldsSlot, IsUnused, IsReady, HoldsNew};
@@ -18,12 +19,13 @@ ghost use Rattle.gw_refusal.specs.Forms.{refusal_by_form};
 ghost use Rattle.gw_refusal.specs.Targets.{targets};
 
 use crate::effects::{on_name, on_new};
-use crate::outcome::CmdOutcome;
+use crate::outcome::{CmdOutcome, CmdTold, Seen};
 use crate::refusal::Refusal;
-use crate::replies::{alone, one, outcome_told, reply};
+use crate::replies::{code_of, has_one_reply, one, outcome_of, outcome_of_all, reply};
 use crate::root::{every_serviced, root_parts};
 use crate::tables::refusal_by_tables;
 use gw_base::{Code, Items, NoMemory, Rules, TermName, TermRef, Verb};
+use gw_length::Telling;
 use gw_msg::Command;
 use gw_refusal::{At, refusal_by_form, service_asked, targets};
 use gw_reply::CommandReply;
@@ -31,10 +33,15 @@ use gw_table::{Part, slot_name};
 use std::alloc::Global;
 
 /// One reply to the TerminationID as sent.
-fn refused(alloc: Global, at: At, command: &Command<'_>, code: Code) -> Result<CmdOutcome, NoMemory>
-    ensures { IfOk result (λ done. done ≡ outcome_of at (reply command.now command.now.term (Err code) ∷ [])) }
+fn refused(
+    told: Telling<CommandReply>,
+    at: At,
+    command: &Command<'_>,
+    code: Code,
+) -> Result<CmdTold, NoMemory>
+    ensures { IfOk result (λ done. done ≡ outcome_behind told (outcome_of at (reply command.now command.now.term (Err code) ∷ []))) }
 {
-    one(alloc, at, reply(command, command.term, Err(code)))
+    one(told, at, reply(command, command.term, Err(code)))
 }
 
 /// The reply of a command on the termination of a name.
@@ -62,7 +69,7 @@ fn on_target(
     Ok(reply(command, TermRef::Name(name), told))
 }
 
-/// The replies of a command on the terminations that a wildcard matched, one after another; none stops the others.
+/// What came of the terminations that a wildcard matched, one after another; none stops the others.
 fn on_targets(
     alloc: Global,
     rules: &Rules,
@@ -70,24 +77,34 @@ fn on_targets(
     at: At,
     command: &Command<'_>,
     named: &[TermName],
-) -> Result<Items<CommandReply>, NoMemory>
+    told: Telling<CommandReply>,
+) -> Result<Seen, NoMemory>
     requires sound { IsSound part.old.keys part.old.maps }
     requires term_keys { (t : List ℕ) → is_in t named.now ≡ true → HoldsFound part.old.keys t part.old.maps }
     requires ctx_key { HoldsPlace part.old.keys (place_at at) }
     requires stays { is_move command.now.verb ≡ false }
     ensures maps { OnOk result (part.new.maps ≡ (on_targets rules.now at command.now named.now part.old.maps).maps) }
-    ensures answer { IfOk result (λ replies. replies ≡ (on_targets rules.now at command.now named.now part.old.maps).answer.answers) }
+    ensures answer { IfOk result (λ done. done ≡ seen told (on_targets rules.now at command.now named.now part.old.maps).answer.answers) }
     ensures keys { part.new.keys ≡ part.old.keys }
 {
-    let mut replies = Items::new(alloc);
+    let mut told = told;
+    let mut first_error = None;
+    let mut any_done = false;
     for name in named {
         let reply = on_target(alloc, rules, part, at, command, *name)?;
-        replies.push(reply)?;
+        let error = code_of(&reply);
+        told = told.tell(reply)?;
+        any_done = any_done || error.is_none();
+        first_error = first_error.or(error);
     }
-    Ok(replies)
+    Ok(Seen {
+        told,
+        first_error,
+        any_done,
+    })
 }
 
-/// The replies of a command on one termination by its name.
+/// Carries the command out on one termination by its name.
 fn on_one(
     alloc: Global,
     rules: &Rules,
@@ -95,17 +112,44 @@ fn on_one(
     at: At,
     command: &Command<'_>,
     name: TermName,
-) -> Result<Items<CommandReply>, NoMemory>
+    told: Telling<CommandReply>,
+) -> Result<CmdTold, NoMemory>
     requires sound { IsSound part.old.keys part.old.maps }
     requires term_key { HoldsFound part.old.keys name part.old.maps }
     requires ctx_key { HoldsPlace part.old.keys (place_at at) }
     requires moved_key { HoldsMoved part.old.keys command.now.verb (place_of (term part.old.maps name)) }
     ensures maps { OnOk result (part.new.maps ≡ (on_targets rules.now at command.now (name ∷ []) part.old.maps).maps) }
-    ensures answer { IfOk result (λ replies. replies ≡ (on_targets rules.now at command.now (name ∷ []) part.old.maps).answer.answers) }
+    ensures answer { IfOk result (λ done. done ≡ outcome_behind told (outcome_of at (on_targets rules.now at command.now (name ∷ []) part.old.maps).answer.answers)) }
     ensures keys { part.new.keys ≡ part.old.keys }
 {
     let reply = on_target(alloc, rules, part, at, command, name)?;
-    alone(alloc, reply)
+    one(told, at, reply)
+}
+
+/// Carries the command out on the terminations that a wildcard matched. Where they have one reply together, nothing is told of each.
+fn on_all(
+    alloc: Global,
+    rules: &Rules,
+    part: &mut Part,
+    at: At,
+    command: &Command<'_>,
+    named: &[TermName],
+    told: Telling<CommandReply>,
+) -> Result<CmdTold, NoMemory>
+    requires sound { IsSound part.old.keys part.old.maps }
+    requires term_keys { (t : List ℕ) → is_in t named.now ≡ true → HoldsFound part.old.keys t part.old.maps }
+    requires ctx_key { HoldsPlace part.old.keys (place_at at) }
+    requires stays { is_move command.now.verb ≡ false }
+    ensures maps { OnOk result (part.new.maps ≡ (on_targets rules.now at command.now named.now part.old.maps).maps) }
+    ensures answer { IfOk result (λ done. done ≡ outcome_behind told (outcome_told at command.now (on_targets rules.now at command.now named.now part.old.maps).answer.answers)) }
+    ensures keys { part.new.keys ≡ part.old.keys }
+{
+    if has_one_reply(command) {
+        let seen = on_targets(alloc, rules, part, at, command, named, Telling::TooLong)?;
+        return outcome_of_all(alloc, told, at, command, seen);
+    }
+    let seen = on_targets(alloc, rules, part, at, command, named, told)?;
+    Ok(outcome_of(at, seen))
 }
 
 /// Carries the command out on the terminations that it is for.
@@ -116,19 +160,19 @@ fn on_names(
     at: At,
     command: &Command<'_>,
     named: &[TermName],
-) -> Result<CmdOutcome, NoMemory>
+    told: Telling<CommandReply>,
+) -> Result<CmdTold, NoMemory>
     requires sound { IsSound part.old.keys part.old.maps }
     requires ready { IsReady part.old.keys at command.now part.old.maps }
     requires named { named.now ≡ targets at command.now part.old.maps }
     ensures maps { OnOk result (part.new.maps ≡ (on_names rules.now at command.now part.old.maps).maps) }
-    ensures answer { IfOk result (λ done. done ≡ (on_names rules.now at command.now part.old.maps).answer) }
+    ensures answer { IfOk result (λ done. done ≡ outcome_behind told (on_names rules.now at command.now part.old.maps).answer) }
     ensures keys { part.new.keys ≡ part.old.keys }
 {
-    let replies = match command.term {
-        TermRef::Name(name) => on_one(alloc, rules, part, at, command, name),
-        _ => on_targets(alloc, rules, part, at, command, named),
-    }?;
-    outcome_told(alloc, at, command, replies)
+    match command.term {
+        TermRef::Name(name) => on_one(alloc, rules, part, at, command, name, told),
+        _ => on_all(alloc, rules, part, at, command, named, told),
+    }
 }
 
 /// Carries the command out on a termination that it makes in the slot, if one is owned.
@@ -139,24 +183,25 @@ fn on_slot(
     at: At,
     slot: Option<u16>,
     command: &Command<'_>,
-) -> Result<CmdOutcome, NoMemory>
+    told: Telling<CommandReply>,
+) -> Result<CmdTold, NoMemory>
     requires sound { IsSound part.old.keys part.old.maps }
     requires ctx_key { HoldsPlace part.old.keys (place_at at) }
     requires slot_key { HoldsSlot part.old.keys slot }
     requires unused { IsUnused slot part.old.maps }
     ensures maps { OnOk result (part.new.maps ≡ (made_new rules.now at command.now slot part.old.maps).maps) }
-    ensures answer { IfOk result (λ done. done ≡ (made_new rules.now at command.now slot part.old.maps).answer) }
+    ensures answer { IfOk result (λ done. done ≡ outcome_behind told (made_new rules.now at command.now slot part.old.maps).answer) }
     ensures keys { part.new.keys ≡ part.old.keys }
 {
     let Some(slot) = slot else {
-        return refused(alloc, at, command, Code::NoTerminationLeft);
+        return refused(told, at, command, Code::NoTerminationLeft);
     };
-    let told = match on_new(alloc, rules, part, at.place(), command, slot) {
+    let reply = match on_new(alloc, rules, part, at.place(), command, slot) {
         Ok(parts) => reply(command, TermRef::Name(slot_name(slot)), Ok(parts)),
         Err(Refusal::Code(code)) => reply(command, TermRef::Choose, Err(code)),
         Err(Refusal::NoMemory) => return Err(NoMemory),
     };
-    one(alloc, at, told)
+    one(told, at, reply)
 }
 
 /// Carries the command out on the gateway itself.
@@ -165,10 +210,11 @@ fn on_root(
     part: &mut Part,
     at: At,
     command: &Command<'_>,
-) -> Result<CmdOutcome, NoMemory>
+    told: Telling<CommandReply>,
+) -> Result<CmdTold, NoMemory>
     requires term_keys { command.now.verb ≡ ServiceChange → (t : List ℕ) → is_in t (names part.old.maps) ≡ true → holds part.old.keys (Term t) ≡ true }
     ensures maps { OnOk result (part.new.maps ≡ (root_done at command.now part.old.maps).maps) }
-    ensures answer { IfOk result (λ done. done ≡ (root_done at command.now part.old.maps).answer) }
+    ensures answer { IfOk result (λ done. done ≡ outcome_behind told (root_done at command.now part.old.maps).answer) }
     ensures keys { part.new.keys ≡ part.old.keys }
 {
     let descriptors = command.descriptors.as_slice();
@@ -178,7 +224,7 @@ fn on_root(
         }
     }
     let parts = root_parts(alloc, descriptors)?;
-    one(alloc, at, reply(command, TermRef::Root, Ok(parts)))
+    one(told, at, reply(command, TermRef::Root, Ok(parts)))
 }
 
 /// Carries out a command that is not refused.
@@ -190,20 +236,21 @@ fn carried(
     slot: Option<u16>,
     command: &Command<'_>,
     named: &[TermName],
-) -> Result<CmdOutcome, NoMemory>
+    told: Telling<CommandReply>,
+) -> Result<CmdTold, NoMemory>
     requires sound { IsSound part.old.keys part.old.maps }
     requires ready { IsReady part.old.keys at command.now part.old.maps }
     requires new { HoldsNew part.old.keys slot command.now }
     requires unused { IsUnused slot part.old.maps }
     requires named { named.now ≡ targets at command.now part.old.maps }
     ensures maps { OnOk result (part.new.maps ≡ (carried_out rules.now at slot command.now part.old.maps command.now.term).maps) }
-    ensures answer { IfOk result (λ done. done ≡ (carried_out rules.now at slot command.now part.old.maps command.now.term).answer) }
+    ensures answer { IfOk result (λ done. done ≡ outcome_behind told (carried_out rules.now at slot command.now part.old.maps command.now.term).answer) }
     ensures keys { part.new.keys ≡ part.old.keys }
 {
     match command.term {
-        TermRef::Root => on_root(alloc, part, at, command),
-        TermRef::Choose => on_slot(alloc, rules, part, at, slot, command),
-        _ => on_names(alloc, rules, part, at, command, named),
+        TermRef::Root => on_root(alloc, part, at, command, told),
+        TermRef::Choose => on_slot(alloc, rules, part, at, slot, command, told),
+        _ => on_names(alloc, rules, part, at, command, named, told),
     }
 }
 
@@ -216,20 +263,54 @@ fn with_targets(
     slot: Option<u16>,
     command: &Command<'_>,
     named: &[TermName],
-) -> Result<CmdOutcome, NoMemory>
+    told: Telling<CommandReply>,
+) -> Result<CmdTold, NoMemory>
     requires sound { IsSound part.old.keys part.old.maps }
     requires covered { Holds part.old.keys (command_keys at slot command.now part.old.maps) }
     requires unused { IsUnused slot part.old.maps }
     requires form { refusal_by_form at command.now ≡ None }
     requires named { named.now ≡ targets at command.now part.old.maps }
     ensures maps { OnOk result (part.new.maps ≡ (allowed rules.now at slot command.now part.old.maps).maps) }
-    ensures answer { IfOk result (λ done. done ≡ (allowed rules.now at slot command.now part.old.maps).answer) }
+    ensures answer { IfOk result (λ done. done ≡ outcome_behind told (allowed rules.now at slot command.now part.old.maps).answer) }
     ensures keys { part.new.keys ≡ part.old.keys }
 {
     if let Some(code) = refusal_by_tables(part, at, slot, command, named) {
-        return refused(alloc, at, command, code);
+        return refused(told, at, command, code);
     }
-    carried(alloc, rules, part, at, slot, command, named)
+    carried(alloc, rules, part, at, slot, command, named, told)
+}
+
+/// Carries one command out as [`command`] does, and tells its replies behind those before it. Where they are too long, none is kept,
+/// and the command is carried out all the same.
+///
+/// # Errors
+///
+/// Want of memory. The part is then spent: nothing is known of it but its keys.
+#[tactic(auto, unfolding(crate::specs::Commands::command))]
+pub fn command_told(
+    alloc: Global,
+    rules: &Rules,
+    part: &mut Part,
+    at: At,
+    slot: Option<u16>,
+    command: &Command<'_>,
+    told: Telling<CommandReply>,
+) -> Result<CmdTold, NoMemory>
+    requires sound { IsSound part.old.keys part.old.maps }
+    requires covered { Holds part.old.keys (command_keys at slot command.now part.old.maps) }
+    requires unused { IsUnused slot part.old.maps }
+    ensures maps { OnOk result (part.new.maps ≡ (command_done rules.now at slot command.now part.old.maps).maps) }
+    ensures answer { IfOk result (λ done. done ≡ outcome_behind told (command_done rules.now at slot command.now part.old.maps).answer) }
+    ensures keys { part.new.keys ≡ part.old.keys }
+{
+    if let Some(code) = refusal_by_form(at, command) {
+        return refused(told, at, command, code);
+    }
+    if let TermRef::Name(name) = command.term {
+        return with_targets(alloc, rules, part, at, slot, command, &[name], told);
+    }
+    let named = targets(alloc, part, at, command)?;
+    with_targets(alloc, rules, part, at, slot, command, &named, told)
 }
 
 /// Carries one command out (RFC 3525, section 7.2): its refusals in their order, and then what it does to each termination
@@ -243,7 +324,6 @@ fn with_targets(
 /// # Errors
 ///
 /// Want of memory. The part is then spent: nothing is known of it but its keys.
-#[tactic(auto, unfolding(crate::specs::Commands::command))]
 pub fn command(
     alloc: Global,
     rules: &Rules,
@@ -259,12 +339,14 @@ pub fn command(
     ensures answer { IfOk result (λ done. done ≡ (command_done rules.now at slot command.now part.old.maps).answer) }
     ensures keys { part.new.keys ≡ part.old.keys }
 {
-    if let Some(code) = refusal_by_form(at, command) {
-        return refused(alloc, at, command, code);
-    }
-    if let TermRef::Name(name) = command.term {
-        return with_targets(alloc, rules, part, at, slot, command, &[name]);
-    }
-    let named = targets(alloc, part, at, command)?;
-    with_targets(alloc, rules, part, at, slot, command, &named)
+    let told = Telling::All(Items::new(alloc));
+    let CmdTold { told, failed, made } = command_told(alloc, rules, part, at, slot, command, told)?;
+    let Telling::All(replies) = told else {
+        unreachable!()
+    };
+    Ok(CmdOutcome {
+        replies,
+        failed,
+        made,
+    })
 }

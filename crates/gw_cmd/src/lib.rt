@@ -14,10 +14,10 @@ mod replies;
 mod root;
 mod tables;
 
-pub use carry::command;
+pub use carry::{command, command_told};
 pub use gw_refusal::At;
 pub use laws::{
     commands_keep_forms, commands_keep_tables_well_formed, commands_keep_to_their_keys,
     commands_on_other_keys_change_places, keys_are_needed, the_whole_is_a_key_of_commands_for_all,
 };
-pub use outcome::CmdOutcome;
+pub use outcome::{CmdOutcome, CmdTold};

@@ -1,6 +1,7 @@
 //! What a command gives, beside the changed tables.
 
-use gw_base::Items;
+use gw_base::{Code, Items};
+use gw_length::Telling;
 use gw_reply::CommandReply;
 
 /// What a command gave.
@@ -12,4 +13,26 @@ pub struct CmdOutcome {
     pub failed: bool,
     /// Whether it made its action's context.
     pub made: bool,
+}
+
+/// What a command gave whose replies are told behind those before them.
+#[derive(Drop)]
+pub struct CmdTold {
+    /// What is told by now.
+    pub told: Telling<CommandReply>,
+    /// Whether one of its replies is an error.
+    pub failed: bool,
+    /// Whether it made its action's context.
+    pub made: bool,
+}
+
+/// What came of the targets of a command.
+#[derive(Drop)]
+pub(crate) struct Seen {
+    /// What is told by now.
+    pub told: Telling<CommandReply>,
+    /// The first error, if there is one.
+    pub first_error: Option<Code>,
+    /// Whether the command was carried out on one of them.
+    pub any_done: bool,
 }

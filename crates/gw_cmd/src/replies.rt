@@ -1,11 +1,15 @@
 //! The replies to a command.
 
-ghost use Rattle.std.specs.Prelude.{◌≡◌, ◌∷◌, [], IfOk};
-ghost use Rattle.std.specs.List.{list_all, list_any};
-ghost use Rattle.gw_cmd.specs.Commands.{reply, has_error, outcome_of, first_error, told, outcome_told};
+ghost use Rattle.std.specs.Prelude.{◌≡◌, ◌∷◌, [], ◌&&◌, true, false, List, IfOk};
+ghost use Rattle.gw_length.specs.declared.telling.Telling.{Telling};
+ghost use Rattle.gw_reply.specs.declared.reply.CommandReply.{CommandReply};
+ghost use Rattle.gw_cmd.specs.Commands.{reply, outcome_of, outcome_told};
+ghost use Rattle.gw_refusal.specs.Asked.{is_wildcard};
+ghost use Rattle.gw_cmd.specs.Told.{code_of, outcome_behind, seen};
 
-use crate::outcome::CmdOutcome;
+use crate::outcome::{CmdTold, Seen};
 use gw_base::{Code, Items, NoMemory, TermRef};
+use gw_length::Telling;
 use gw_msg::Command;
 use gw_refusal::{At, is_wildcard};
 use gw_reply::{AuditReply, CommandReply};
@@ -26,99 +30,68 @@ pub(crate) fn reply(
     }
 }
 
-fn has_error(reply: &CommandReply) -> bool
-    ensures { result ≡ has_error reply.now }
+/// The error of a reply, if it is one.
+pub(crate) fn code_of(reply: &CommandReply) -> Option<Code>
+    ensures { result ≡ code_of reply.now.result }
 {
-    reply.result.is_err()
+    match reply.result {
+        Ok(_) => None,
+        Err(code) => Some(code),
+    }
 }
 
-fn any_error(replies: &[CommandReply]) -> bool
-    ensures { result ≡ list_any has_error replies.now }
+/// What a command with one reply gave, told behind those before it.
+pub(crate) fn one(
+    told: Telling<CommandReply>,
+    at: At,
+    reply: CommandReply,
+) -> Result<CmdTold, NoMemory>
+    ensures { IfOk result (λ done. done ≡ outcome_behind told (outcome_of at (reply ∷ []))) }
 {
-    replies.iter().any(has_error)
-}
-
-fn all_errors(replies: &[CommandReply]) -> bool
-    ensures { result ≡ list_all has_error replies.now }
-{
-    replies.iter().all(has_error)
-}
-
-/// What the command gave: its replies, whether one is an error, and whether it made its context.
-fn outcome_of(at: At, replies: Items<CommandReply>) -> CmdOutcome
-    ensures { result ≡ outcome_of at replies }
-{
-    let failed = any_error(replies.as_slice());
-    let made = at.is_unmade() && !all_errors(replies.as_slice());
-    CmdOutcome {
-        replies,
+    let failed = reply.result.is_err();
+    Ok(CmdTold {
+        told: told.tell(reply)?,
         failed,
-        made,
+        made: at.is_unmade() && !failed,
+    })
+}
+
+/// What a command gave whose targets' replies are told.
+pub(crate) fn outcome_of(at: At, done: Seen) -> CmdTold
+    ensures { (told : Telling CommandReply) (replies : List CommandReply) → done ≡ seen told replies → result ≡ outcome_behind told (outcome_of at replies) }
+{
+    CmdTold {
+        told: done.told,
+        failed: done.first_error.is_some(),
+        made: at.is_unmade() && done.any_done,
     }
 }
 
-/// One reply alone.
-pub(crate) fn alone(alloc: Global, reply: CommandReply) -> Result<Items<CommandReply>, NoMemory>
-    ensures { IfOk result (λ replies. replies ≡ reply ∷ []) }
+/// Whether the targets of the command have one reply together, with `W-` and a wildcard.
+pub(crate) fn has_one_reply(command: &Command<'_>) -> bool
+    ensures { result ≡ (command.now.wild && is_wildcard command.now.term) }
 {
-    let mut replies = Items::new(alloc);
-    replies.push(reply)?;
-    Ok(replies)
+    command.wild && is_wildcard(&command.term)
 }
 
-/// What a command with one reply gave.
-pub(crate) fn one(alloc: Global, at: At, reply: CommandReply) -> Result<CmdOutcome, NoMemory>
-    ensures { IfOk result (λ done. done ≡ outcome_of at (reply ∷ [])) }
-{
-    Ok(outcome_of(at, alone(alloc, reply)?))
-}
-
-/// The first error, if there is one.
-fn first_error(alloc: Global, replies: &[CommandReply]) -> Result<AuditReply, Code>
-    ensures { result ≡ first_error replies.now }
-{
-    for reply in replies {
-        if let Err(code) = reply.result {
-            return Err(code);
-        }
-    }
-    Ok(Items::new(alloc))
-}
-
-/// What is told of the replies of the targets: with `W-` and a wildcard one reply to it as sent, with the first error if there
-/// is one.
-fn told(
+/// What a command gave whose targets have one reply together, to the wildcard as sent: with the first error, if there is one.
+pub(crate) fn outcome_of_all(
     alloc: Global,
-    command: &Command<'_>,
-    replies: Items<CommandReply>,
-) -> Result<Items<CommandReply>, NoMemory>
-    ensures { IfOk result (λ list. list ≡ told command.now replies) }
-{
-    if !(command.wild && is_wildcard(&command.term)) {
-        return Ok(replies);
-    }
-    let result = first_error(alloc, replies.as_slice());
-    alone(alloc, reply(command, command.term, result))
-}
-
-/// What a command gave whose targets have these replies.
-pub(crate) fn outcome_told(
-    alloc: Global,
+    told: Telling<CommandReply>,
     at: At,
     command: &Command<'_>,
-    replies: Items<CommandReply>,
-) -> Result<CmdOutcome, NoMemory>
-    ensures { IfOk result (λ done. done ≡ outcome_told at command.now replies) }
+    done: Seen,
+) -> Result<CmdTold, NoMemory>
+    requires { (command.now.wild && is_wildcard command.now.term) ≡ true }
+    ensures { (before : Telling CommandReply) (replies : List CommandReply) → done ≡ seen before replies → IfOk result (λ outcome. outcome ≡ outcome_behind told (outcome_told at command.now replies)) }
 {
-    let CmdOutcome {
-        replies,
-        failed,
-        made,
-    } = outcome_of(at, replies);
-    let replies = told(alloc, command, replies)?;
-    Ok(CmdOutcome {
-        replies,
-        failed,
-        made,
+    let result = match done.first_error {
+        Some(code) => Err(code),
+        None => Ok(Items::new(alloc)),
+    };
+    Ok(CmdTold {
+        told: told.tell(reply(command, command.term, result))?,
+        failed: done.first_error.is_some(),
+        made: at.is_unmade() && done.any_done,
     })
 }

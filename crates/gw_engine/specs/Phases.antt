@@ -1,6 +1,6 @@
 -- A burst in phases (own), each over the whole burst before the next begins: what is asked; the classes, from the keys alone; who
 -- owns which identifiers; the transactions; their texts, kept and answered.
-use Rattle.std.specs.Prelude.{◌≡◌, ◌+◌, ℕ, List, [], ◌∷◌, ◌++◌, map, length, flat_map, Option, None, Some, Result, Ok, Err}
+use Rattle.std.specs.Prelude.{◌≡◌, ◌+◌, ◌-◌, ℕ, List, [], ◌∷◌, ◌++◌, map, length, flat_map, Option, None, Some, Result, Ok, Err}
 use Rattle.std.specs.List.{zip, AllZip}
 use Rattle.gw_base.specs.declared.code.Code.{Code}
 use Rattle.gw_base.specs.declared.code.Code.TheVariants.{InsufficientResources}
@@ -18,7 +18,7 @@ use Rattle.gw_msg.specs.declared.message.Item.{Item}
 use Rattle.gw_msg.specs.declared.message.Item.TheVariants as item
 use Rattle.gw_msg.specs.declared.message.Message.{Message}
 use Rattle.gw_msg.specs.declared.message.Request.{Request}
-use Rattle.gw_reply.specs.Messages.{reply_text, fault_text}
+use Rattle.gw_reply.specs.Messages.{longest_message, reply_text, fault_text}
 use Rattle.gw_reply.specs.declared.reply.TxReply.{TxReply}
 use Rattle.gw_reserve.specs.Ids.{Ids}
 use Rattle.gw_reserve.specs.Owned.{OwnedAction, with_ids, paired}
@@ -138,6 +138,10 @@ abbrev pub done_by : Rules → List Job → Maps → Outcome (List TxReply)
 done_by rules jobs m = carried rules (map paired_job jobs) m
 
 -- ---- what is kept, and what is answered
+
+-- how many bytes a reply may have in a message from this mId
+abbrev pub reply_limit : List ℕ → ℕ
+reply_limit mid = longest_message - (length mid + 10)
 
 -- the pair of a request and its reply
 abbrev pub entry_of : List ℕ → Sent × TxReply → Entry

@@ -1,25 +1,28 @@
 -- How jobs end.
-use Rattle.std.proofs.Common.{◌≡◌, ℕ, List, Bool, true, false, Option, None, ◌⊎◌, refl, inl, inr}
-use Rattle.std.specs.Prelude.{Ok, Err}
+use Rattle.std.proofs.Common.{◌≡◌, ℕ, List, Bool, true, false, Option, None, refl, inl, inr}
+use Rattle.std.specs.Prelude.{Result, Ok, Err}
 use Rattle.std.specs.Io.KnownBytes.{Appends}
+use Rattle.std.specs.Net.Grammar.{IsSocketText}
+use Rattle.std.specs.declared.net.socket_addr.SocketAddr.{SocketAddr}
 use Rattle.std.proofs.KnownBytes.{Appends-nil, Keeps-refl}
 use Rattle.gw_engine.specs.AuditText.{audit_text}
 use Rattle.gw_engine.specs.State.{GatewayValue}
 use Rattle.gw_front.specs.Replays.{IsReplay}
 use Rattle.gw_front.specs.declared.counts.Counts.{Counts}
 use Rattle.gw_front.specs.declared.replay_fault.ReplayFault.{ReplayFault}
-use Rattle.gw_front.specs.declared.serve_fault.ServeFault.TheVariants.{Bind}
+use Rattle.gw_front.specs.declared.serve_fault.ServeFault.{ServeFault}
+use Rattle.gw_front.specs.declared.serve_fault.ServeFault.TheVariants.{Bind, Poll, Receive, NoMemory}
 use Rattle.gw_front.proofs.Served.{not_begun}
 use Rattle.gw_program.specs.Faults.{of_replay}
-use Rattle.gw_program.specs.Jobs.{IsReplayJob, IsServeJob}
+use Rattle.gw_program.specs.Jobs.{IsReplayJob, IsServeJob, IsServedAt, IsUntoldFor}
 use Rattle.gw_program.specs.declared.fault.Fault.{Fault}
 use Rattle.gw_program.specs.declared.fault.Fault.TheVariants as why
 
 pub stopped : (audit : Bool) (old new : GatewayValue) (input out after : Option (List ℕ)) (told : Fault) (fault : ReplayFault) → told ≡ of_replay fault → IsReplay input out after old new (Err fault) → IsReplayJob audit old input out after (Err told)
 stopped audit old new input out after told fault e h = inl (record { replay_fault = fault; new = new; replayed = h; becomes = e })
 
-pub untold : (audit : Bool) (old new : GatewayValue) (input out between after : Option (List ℕ)) (told : Fault) (counts : Counts) → IsReplay input out between old new (Ok counts) → ((told ≡ why.NoMemory) ⊎ (told ≡ why.ReplayWrite)) → IsReplayJob audit old input out after (Err told)
-untold audit old new input out between after told counts h cause = inr (record { counts = counts; new = new; between = between; replayed = h; cause = cause })
+pub untold : (audit : Bool) (old new : GatewayValue) (input out between after : Option (List ℕ)) (told : Fault) (counts : Counts) → audit ≡ true → IsReplay input out between old new (Ok counts) → IsUntoldFor told between after → IsReplayJob audit old input out after (Err told)
+untold audit old new input out between after told counts asked h cause = inr (record { asked = asked; counts = counts; new = new; between = between; replayed = h; cause = cause })
 
 pub plain : (old new : GatewayValue) (input out after : Option (List ℕ)) (counts : Counts) → IsReplay input out after old new (Ok counts) → IsReplayJob false old input out after (Ok tt)
 plain old new input out after counts h = record { counts = counts; new = new; between = after; replayed = h; audited = Appends-nil after }
@@ -27,5 +30,13 @@ plain old new input out after counts h = record { counts = counts; new = new; be
 pub with_tables : (old new : GatewayValue) (input out between after : Option (List ℕ)) (counts : Counts) → IsReplay input out between old new (Ok counts) → Appends between after (audit_text new) → IsReplayJob true old input out after (Ok tt)
 with_tables old new input out between after counts h audited = record { counts = counts; new = new; between = between; replayed = h; audited = audited }
 
-pub unbound : (most : Option ℕ) (gateway : GatewayValue) (out : Option (List ℕ)) → IsServeJob most gateway out out (Err why.ServeBind)
-unbound most gateway out = record { served = Err Bind; new = gateway; serves = not_begun most None gateway (Err Bind) refl; begins = λ start. Keeps-refl out; becomes = refl }
+pub unbound : (listen : List ℕ) (most : Option ℕ) (gateway : GatewayValue) (out : Option (List ℕ)) → IsServeJob listen most gateway out out (Err why.ServeBind)
+unbound listen most gateway out = record { served = Err Bind; new = gateway; address = tt; serves = not_begun most None gateway (Err Bind) refl; begins = λ start. Keeps-refl out; becomes = refl }
+
+-- however it ended, where the text is an address
+pub served_at : (listen : List ℕ) (address : SocketAddr) (served : Result Unit ServeFault) → IsSocketText listen address → IsServedAt listen served
+served_at listen address (Ok done) is = (address, is)
+served_at listen address (Err Bind) is = tt
+served_at listen address (Err Poll) is = (address, is)
+served_at listen address (Err Receive) is = (address, is)
+served_at listen address (Err NoMemory) is = (address, is)

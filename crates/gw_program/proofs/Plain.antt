@@ -1,8 +1,9 @@
 -- Words of the forms that docs/OPERATIONS.md shows.
-use Rattle.std.proofs.Common.{◌≡◌, ◌∙◌, ℕ, Bool, List, [], ◌∷◌, Option, Some, None, true, false, refl, ap, ap₂, sym, subst, arith, codes, slice_index, nat_eq}
+use Rattle.std.proofs.Common.{◌≡◌, ◌∙◌, ℕ, Bool, List, [], ◌∷◌, Option, Some, None, true, false, refl, ap, ap₂, sym, subst, arith, codes, cond, slice_index, nat_eq}
 use Rattle.std.specs.Prelude.{option_map}
 use Rattle.std.specs.Str.{bytes_eq}
 use Rattle.clap.proofs.OnLiterals.{clap_on_literals}
+use Rattle.clap.specs.Kinds.{Kinds, or_else}
 use Rattle.clap.specs.Lexer.{strip_byte}
 use Rattle.clap.specs.Simple.{subcommand_of}
 use Rattle.clap.specs.Walk.{Row, Text, first_of, one_of}
@@ -10,8 +11,9 @@ use Rattle.std.proofs.lemmas.Bool.{ne_eqb}
 use Rattle.gw_program.specs.Commands.{program_app}
 use Rattle.clap.proofs.ValueTestLemmas.{Accepts-accepts}
 use Rattle.clap.specs.ValueTests.{is_unsigned_in}
+use Rattle.clap.specs.Values.{refused_kind}
 use Rattle.clap.specs.declared.builder.value_parser.ValueParser.TheVariants.{Unsigned}
-use Rattle.gw_program.specs.Forms.{Asks, IsCount, IsPlain, Request, answer, answers, answers_by, check, checks, everywhere, nothing, number_of, replay, replays, replays_and_tells, request_of, serve, serves, serves_at, serves_so_long}
+use Rattle.gw_program.specs.Forms.{Asks, IsCount, IsPlain, Request, answer, answers, answers_by, check, checks, everywhere, nothing, number_of, replay, replays, replays_and_tells, request_of, serve, serves, serves_at, serves_at_so_long, serves_so_long}
 use Rattle.gw_program.specs.Words.{IsAsked, IsFlag, IsJobOf, IsNumber, given, mistakes}
 use Rattle.gw_program.specs.declared.command_line.Job.{Job}
 use Rattle.gw_program.specs.declared.command_line.Job.TheVariants as job
@@ -128,6 +130,23 @@ bursts_found : (f n : Text) → IsWord f → IsWord n → seen (subcommand_of pr
 unfolding clap_on_literals
 bursts_found f n w v = rw (w.plain, w.other) (rw w.plain (rw (v.plain, v.other) (rw v.plain refl)))
 
+-- the kinds of mistake that a number has behind the words before it, by whether it passes the test of its argument
+abbrev number_kinds : Bool → Kinds
+number_kinds passes = or_else (or_else (or_else (cond passes [] (refused_kind (Unsigned 0 18446744073709551615) ∷ [])) []) []) []
+
+both_kinds : (f a n : Text) → IsWord f → IsWord a → IsWord n
+    → mistakes (codes "serve" ∷ (f ∷ (codes "--listen" ∷ (a ∷ (codes "--bursts" ∷ (n ∷ [])))))) ≡ number_kinds (is_unsigned_in 0 18446744073709551615 n)
+unfolding clap_on_literals
+both_kinds f a n w v u = rw (w.plain, w.other) (rw w.plain (rw (v.plain, v.other) (rw v.plain (rw (u.plain, u.other) (rw u.plain refl)))))
+
+both_sound : (f a n : Text) → IsWord f → IsWord a → IsWord n → is_unsigned_in 0 18446744073709551615 n ≡ true
+    → mistakes (codes "serve" ∷ (f ∷ (codes "--listen" ∷ (a ∷ (codes "--bursts" ∷ (n ∷ [])))))) ≡ []
+both_sound f a n w v u c = both_kinds f a n w v u ∙ ap number_kinds c
+
+both_found : (f a n : Text) → IsWord f → IsWord a → IsWord n → seen (subcommand_of program_app (codes "serve" ∷ (f ∷ (codes "--listen" ∷ (a ∷ (codes "--bursts" ∷ (n ∷ []))))))) ≡ Some (served f a (Some n))
+unfolding clap_on_literals
+both_found f a n w v u = rw (w.plain, w.other) (rw w.plain (rw (v.plain, v.other) (rw v.plain (rw (u.plain, u.other) (rw u.plain refl)))))
+
 -- ---- the job of what is seen
 
 abbrev IsSeenJob : Option Seen → Job → Type 0
@@ -198,4 +217,8 @@ form_asks _ _ (serves_at f a p q) = (listen_sound f a (word_of f p) (word_of a q
 form_asks _ _ (serves_so_long f b p r c) = (
   bursts_sound f b (word_of f p) (word_of b r) (counts b c),
   λ asked h. of_serve (served f everywhere (Some b)) asked (Some (number_of b)) refl (λ n g. read_number b n c g) (as_seen _ asked (Some (served f everywhere (Some b))) (bursts_found f b (word_of f p) (word_of b r)) h),
+)
+form_asks _ _ (serves_at_so_long f a b p q r c) = (
+  both_sound f a b (word_of f p) (word_of a q) (word_of b r) (counts b c),
+  λ asked h. of_serve (served f a (Some b)) asked (Some (number_of b)) refl (λ n g. read_number b n c g) (as_seen _ asked (Some (served f a (Some b))) (both_found f a b (word_of f p) (word_of a q) (word_of b r)) h),
 )

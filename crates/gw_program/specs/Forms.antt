@@ -48,3 +48,4 @@ pub data Asks : List Text → Request → Type 0 where
   serves : (file : Text) → IsPlain file → Asks (codes "serve" ∷ (file ∷ [])) (serve file everywhere None)
   serves_at : (file listen : Text) → IsPlain file → IsPlain listen → Asks (codes "serve" ∷ (file ∷ (codes "--listen" ∷ (listen ∷ [])))) (serve file listen None)
   serves_so_long : (file bursts : Text) → IsPlain file → IsPlain bursts → IsCount bursts → Asks (codes "serve" ∷ (file ∷ (codes "--bursts" ∷ (bursts ∷ [])))) (serve file everywhere (Some (number_of bursts)))
+  serves_at_so_long : (file listen bursts : Text) → IsPlain file → IsPlain listen → IsPlain bursts → IsCount bursts → Asks (codes "serve" ∷ (file ∷ (codes "--listen" ∷ (listen ∷ (codes "--bursts" ∷ (bursts ∷ [])))))) (serve file listen (Some (number_of bursts)))

@@ -1,7 +1,9 @@
 -- What the program's jobs do (own). What a file holds is what the type of an opened file says of it, where that is known.
-use Rattle.std.specs.Prelude.{◌≡◌, ⊤, ◌⊎◌, ℕ, Bool, List, [], ◌++◌, length, codes, decimal, false, if◌then◌else◌, Option, None, Some, Result, Ok, Err, IfSome, IfErr}
+use Rattle.std.specs.Prelude.{◌≡◌, ⊤, ◌⊎◌, ℕ, Bool, List, [], ◌++◌, length, codes, decimal, false, true, if◌then◌else◌, Option, None, Some, Result, Ok, Err, IfSome, IfErr}
 use Rattle.std.specs.Option.{option_map}
 use Rattle.std.specs.Io.KnownBytes.{Appends, Keeps}
+use Rattle.std.specs.Net.Grammar.{IsSocketText}
+use Rattle.std.specs.declared.net.socket_addr.SocketAddr.{SocketAddr}
 use Rattle.gw_base.specs.declared.config.Config.{Config}
 use Rattle.gw_config.specs.ConfigTexts.{IsConfigReading}
 use Rattle.gw_config.specs.declared.fault.ConfigTextFault.TheVariants.{Line}
@@ -17,6 +19,7 @@ use Rattle.gw_front.specs.Serving.{ServesSome, IsAtStart}
 use Rattle.gw_front.specs.declared.counts.Counts.{Counts}
 use Rattle.gw_front.specs.declared.replay_fault.ReplayFault.{ReplayFault}
 use Rattle.gw_front.specs.declared.serve_fault.ServeFault.{ServeFault}
+use Rattle.gw_front.specs.declared.serve_fault.ServeFault.TheVariants.{Bind}
 use Rattle.gw_program.specs.Faults.{of_replay, of_serve}
 use Rattle.gw_program.specs.Outcomes.{IsTold, IsExplained}
 use Rattle.gw_program.specs.Start.{start}
@@ -105,13 +108,18 @@ pub record IsStoppedBy (told : Fault) (old : GatewayValue) (input out out′ : O
   pub replayed : IsReplay input out out′ old new (Err replay_fault)
   pub becomes : told ≡ of_replay replay_fault
 
--- a whole replay behind whose answers the tables could not be told
-pub record IsUntold (told : Fault) (old : GatewayValue) (input out : Option (List ℕ)) : Type 0 where
+-- why tables could not be told: memory was refused, and nothing of them is out, or they could not be written
+abbrev pub IsUntoldFor : Fault → (between out′ : Option (List ℕ)) → Type 0
+IsUntoldFor told between out′ = ((told ≡ why.NoMemory) × Keeps between out′) ⊎ (told ≡ why.ReplayWrite)
+
+-- a whole replay behind whose answers the tables, which were asked for, could not be told
+pub record IsUntold (audit : Bool) (told : Fault) (old : GatewayValue) (input out out′ : Option (List ℕ)) : Type 0 where
+  pub asked : audit ≡ true
   pub counts : Counts
   pub new : GatewayValue
   pub between : Option (List ℕ)
   pub replayed : IsReplay input out between old new (Ok counts)
-  pub cause : (told ≡ why.NoMemory) ⊎ (told ≡ why.ReplayWrite)
+  pub cause : IsUntoldFor told between out′
 
 -- the tables, where they are asked for
 abbrev pub told_tables : Bool → GatewayValue → List ℕ
@@ -120,7 +128,7 @@ told_tables audit gateway = if audit then audit_text gateway else []
 -- `replay`, from this gateway on
 abbrev pub IsReplayJob : Bool → GatewayValue → (input out out′ : Option (List ℕ)) → Result Unit Fault → Type 0
 IsReplayJob audit old input out out′ (Ok done) = IsToEnd (told_tables audit) old input out out′
-IsReplayJob audit old input out out′ (Err fault) = IsStoppedBy fault old input out out′ ⊎ IsUntold fault old input out
+IsReplayJob audit old input out out′ (Err fault) = IsStoppedBy fault old input out out′ ⊎ IsUntold audit fault old input out out′
 
 -- what becomes of a run below
 abbrev pub ended_by : {E : Type 0} → (E → Fault) → Result Unit E → Result Unit Fault
@@ -134,10 +142,16 @@ pub record IsAnswerJob (old : GatewayValue) (input out out′ : Option (List ℕ
   pub done : IsAnswer input out out′ old new answered
   pub becomes : ended ≡ ended_by of_replay answered
 
+-- Only an address is served: the text is one, unless nothing was bound.
+abbrev pub IsServedAt : List ℕ → Result Unit ServeFault → Type 0
+IsServedAt listen (Err Bind) = ⊤
+IsServedAt listen _ = (address : SocketAddr) × IsSocketText listen address
+
 -- controllers, served by this gateway; nothing is out where the address could not be bound, nor where memory was refused at the start
-pub record IsServeJob (most : Option ℕ) (old : GatewayValue) (out out′ : Option (List ℕ)) (ended : Result Unit Fault) : Type 0 where
+pub record IsServeJob (listen : List ℕ) (most : Option ℕ) (old : GatewayValue) (out out′ : Option (List ℕ)) (ended : Result Unit Fault) : Type 0 where
   pub served : Result Unit ServeFault
   pub new : GatewayValue
+  pub address : IsServedAt listen served
   pub serves : ServesSome most old new served
   pub begins : IfErr served (λ fault. IsAtStart fault → Keeps out out′)
   pub becomes : ended ≡ ended_by of_serve served
@@ -156,7 +170,7 @@ IsDoneWith job.BuiltIn gateway input out out′ ended = IsReplayJob false gatewa
 IsDoneWith (job.Answer file) gateway input out out′ ended = IsAnswerJob gateway input out out′ ended
 IsDoneWith (job.Check file) gateway input out out′ ended = ⊤
 IsDoneWith (job.Replay file audit) gateway input out out′ ended = IsReplayJob audit gateway input out out′ ended
-IsDoneWith (job.Serve file listen bursts) gateway input out out′ ended = IsServeJob bursts gateway out out′ ended
+IsDoneWith (job.Serve file listen bursts) gateway input out out′ ended = IsServeJob listen.now bursts gateway out out′ ended
 
 -- the fault of a job whose gateway could not be made, and nothing is out
 abbrev pub IsNotBegun : Fault → (out out′ : Option (List ℕ)) → Result Unit Fault → Type 0

@@ -7,7 +7,7 @@ ghost use Rattle.std.specs.IoError.{error_kind};
 ghost use Rattle.std.specs.Io.KnownBytes.{Appends};
 ghost use Rattle.std.specs.Option.{option_map};
 ghost use Rattle.gw_engine.specs.AuditText.{audit_text};
-ghost use Rattle.gw_program.specs.Jobs.{IsStart, IsReplayJob, IsAnswerJob, IsServeJob, IsJob, IsEnd};
+ghost use Rattle.gw_program.specs.Jobs.{IsStart, IsReplayJob, IsAnswerJob, IsServeJob, IsUntoldFor, IsJob, IsEnd};
 ghost use Rattle.gw_program.specs.Outcomes.{IsExplainedBy, IsTold, IsUnreadable, Says, status_of};
 ghost use Rattle.gw_program.specs.declared.ended.Ended.{Ended as Ending};
 
@@ -45,7 +45,7 @@ fn tell_tables<W: Write>(
     out: &mut W,
 ) -> Result<(), Fault<'static>>
     ensures told { OnOk result (Appends (W.contents out.old) (W.contents out.new) (audit_text gateway.now)) }
-    ensures fault { IfErr result (λ fault. (fault ≡ Fault.NoMemory) ⊎ (fault ≡ Fault.ReplayWrite)) }
+    ensures fault { IfErr result (λ fault. IsUntoldFor fault (W.contents out.old) (W.contents out.new)) }
 {
     let Ok(tables) = gateway.audit_tables(alloc) else {
         return Err(Fault::NoMemory);
@@ -95,7 +95,7 @@ fn serve_with<R: Net + Wait, W: Write>(
     bursts: Option<u64>,
     out: &mut W,
 ) -> Result<(), Fault<'static>>
-    ensures { IsServeJob bursts gateway.old (W.contents out.old) (W.contents out.new) result }
+    ensures { IsServeJob listen.now bursts gateway.old (W.contents out.old) (W.contents out.new) result }
 {
     let Ok(addr) = listen.parse::<SocketAddr>() else {
         return Err(Fault::ServeBind);

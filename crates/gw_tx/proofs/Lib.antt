@@ -9,4 +9,5 @@ pub mod Kept
 pub mod Parts
 pub mod RequestKeys
 pub mod Steps
+pub mod TooLong
 pub mod Unowned

@@ -1,5 +1,5 @@
 -- What one command and one action gave, as attempts among others.
-use Rattle.std.proofs.Common.{◌≡◌, ℕ, Bool, false, List, [], ◌∷◌, Option, ap, ◌∙◌}
+use Rattle.std.proofs.Common.{◌≡◌, ℕ, Bool, false, List, ◌++◌, Option, ap, ◌∙◌}
 use Rattle.std.specs.Prelude.{◌||◌}
 use Rattle.gw_base.specs.declared.ids.CtxNum.{CtxNum}
 use Rattle.gw_base.specs.declared.command_words.Rules.{Rules}
@@ -12,31 +12,57 @@ use Rattle.gw_table.proofs.Folding.{ended}
 use Rattle.gw_refusal.specs.declared.at.At.{At}
 use Rattle.gw_refusal.specs.declared.at.At.TheVariants.{Each}
 use Rattle.gw_reserve.specs.Owned.{OwnedAction}
-use Rattle.gw_tx.specs.Transactions.{attempt, commands, action_reply, in_each, action}
+use Rattle.gw_length.specs.declared.telling.Telling.{Telling}
+use Rattle.gw_length.specs.Tellings.{told_behind}
+use Rattle.gw_length.proofs.Tellings.{told_more}
+use Rattle.gw_reply.specs.Replies.{command_reply_text, action_reply_text}
+use Rattle.gw_tx.specs.declared.told.Counted.{Counted}
+use Rattle.gw_tx.specs.Told.{counted}
+use Rattle.gw_tx.specs.Transactions.{attempt, commands, replied, in_each, action}
 
 -- what one command gave, with what it owns
-pub attempt_is : (rules : Rules) (at : At) (slot : Option ℕ) (c : Command) (m after : Maps) (done : Attempts At CommandReply) (p : Option ℕ × Command) → after ≡ (attempt rules at (slot, c) m).maps → done ≡ (attempt rules at (slot, c) m).answer → slot ≡ p.0 → c ≡ p.1
-    → ended after done.next done.answers done.stopped ≡ attempt rules at p m
-attempt_is rules at slot c m after done p maps answer own same =
-    let whole : Maps → Attempts At CommandReply → Outcome (Attempts At CommandReply) = λ x y. record { maps = x; answer = y } in
-    ap (λ (d : Attempts At CommandReply). whole after d) answer
-    ∙ ap (λ (x : Maps). whole x (attempt rules at (slot, c) m).answer) maps
-    ∙ ap (λ (s : Option ℕ). attempt rules at (s, c) m) own
-    ∙ ap (λ (k : Command). attempt rules at (p.0, k) m) same
+pub attempt_is : (rules : Rules) (at : At) (slot : Option ℕ) (c : Command) (m after : Maps) (told : Telling CommandReply) (done : Counted At CommandReply) (p : Option ℕ × Command) → after ≡ (attempt rules at (slot, c) m).maps → done ≡ counted command_reply_text told (attempt rules at (slot, c) m).answer → slot ≡ p.0 → c ≡ p.1
+    → ended after done.next (attempt rules at p m).answer.answers done.stopped ≡ attempt rules at p m
+attempt_is rules at slot c m after told done p maps answer own same =
+    let whole : Maps → At → Bool → Outcome (Attempts At CommandReply) = λ x s b. ended x s (attempt rules at p m).answer.answers b in
+    let sent : Outcome (Attempts At CommandReply) = attempt rules at (slot, c) m in
+    let pair : sent ≡ attempt rules at p m = ap (λ (s : Option ℕ). attempt rules at (s, c) m) own ∙ ap (λ (k : Command). attempt rules at (p.0, k) m) same in
+    ap (λ (d : Counted At CommandReply). whole after d.next d.stopped) answer
+    ∙ ap (λ (x : Maps). whole x sent.answer.next sent.answer.stopped) maps
+    ∙ ap (λ (o : Outcome (Attempts At CommandReply)). whole o.maps o.answer.next o.answer.stopped) pair
+
+-- what is told behind it
+pub attempt_told : (rules : Rules) (at : At) (slot : Option ℕ) (c : Command) (m : Maps) (told : Telling CommandReply) (done : Counted At CommandReply) (p : Option ℕ × Command) → done ≡ counted command_reply_text told (attempt rules at (slot, c) m).answer → slot ≡ p.0 → c ≡ p.1
+    → done.told ≡ told_behind command_reply_text told (attempt rules at p m).answer.answers
+attempt_told rules at slot c m told done p answer own same =
+    ap (λ (d : Counted At CommandReply). d.told) answer
+    ∙ ap (λ (s : Option ℕ). told_behind command_reply_text told (attempt rules at (s, c) m).answer.answers) own
+    ∙ ap (λ (k : Command). told_behind command_reply_text told (attempt rules at (p.0, k) m).answer.answers) same
 
 -- what one action gave, with what it owns
-pub action_is : (rules : Rules) (a p : OwnedAction) (m after : Maps) (done : Attempts Unit ActionReply) → after ≡ (action rules tt a m).maps → done ≡ (action rules tt a m).answer → a ≡ p → ended after tt done.answers done.stopped ≡ action rules tt p m
-action_is rules a p m after done maps answer same =
-    let whole : Maps → Attempts Unit ActionReply → Outcome (Attempts Unit ActionReply) = λ x y. record { maps = x; answer = y } in
-    ap (λ (d : Attempts Unit ActionReply). whole after d) answer
-    ∙ ap (λ (x : Maps). whole x (action rules tt a m).answer) maps
-    ∙ ap (λ (q : OwnedAction). action rules tt q m) same
+pub action_is : (rules : Rules) (a p : OwnedAction) (m after : Maps) (told : Telling ActionReply) (done : Counted Unit ActionReply) → after ≡ (action rules tt a m).maps → done ≡ counted action_reply_text told (action rules tt a m).answer → a ≡ p → ended after tt (action rules tt p m).answer.answers done.stopped ≡ action rules tt p m
+action_is rules a p m after told done maps answer same =
+    let whole : Maps → Bool → Outcome (Attempts Unit ActionReply) = λ x b. ended x tt (action rules tt p m).answer.answers b in
+    ap (λ (d : Counted Unit ActionReply). whole after d.stopped) answer
+    ∙ ap (λ (x : Maps). whole x (action rules tt a m).answer.stopped) maps
+    ∙ ap (λ (q : OwnedAction). whole (action rules tt q m).maps (action rules tt q m).answer.stopped) same
+
+-- what is told behind it
+pub action_told : (rules : Rules) (a p : OwnedAction) (m : Maps) (told : Telling ActionReply) (done : Counted Unit ActionReply) → done ≡ counted action_reply_text told (action rules tt a m).answer → a ≡ p → done.told ≡ told_behind action_reply_text told (action rules tt p m).answer.answers
+action_told rules a p m told done answer same =
+    ap (λ (d : Counted Unit ActionReply). d.told) answer
+    ∙ ap (λ (q : OwnedAction). told_behind action_reply_text told (action rules tt q m).answer.answers) same
 
 -- what the commands gave in one of the contexts under *
-pub each_is : (rules : Rules) (cs : List (Option ℕ × Command)) (stopped next : Bool) (n : CtxNum) (m after : Maps) (done : Attempts At CommandReply) (reply : ActionReply) → after ≡ (commands rules (Each n) cs m).maps → done ≡ (commands rules (Each n) cs m).answer → reply ≡ action_reply done → next ≡ (stopped || done.stopped)
-    → ended after next (reply ∷ []) false ≡ in_each rules cs stopped n m
-each_is rules cs stopped next n m after done reply maps answer told goes =
-    ap (λ (r : ActionReply). ended after next (r ∷ []) false) told
-    ∙ ap (λ (b : Bool). ended after b (action_reply done ∷ []) false) goes
-    ∙ ap (λ (d : Attempts At CommandReply). ended after (stopped || d.stopped) (action_reply d ∷ []) false) answer
-    ∙ ap (λ (x : Maps). ended x (stopped || (commands rules (Each n) cs m).answer.stopped) (action_reply (commands rules (Each n) cs m).answer ∷ []) false) maps
+pub each_is : (rules : Rules) (cs : List (Option ℕ × Command)) (stopped next : Bool) (n : CtxNum) (m after : Maps) (told : Telling ActionReply) (done : Counted Unit ActionReply) → after ≡ (commands rules (Each n) cs m).maps → done ≡ counted action_reply_text told (replied (commands rules (Each n) cs m).answer) → next ≡ (stopped || done.stopped)
+    → ended after next (in_each rules cs stopped n m).answer.answers false ≡ in_each rules cs stopped n m
+each_is rules cs stopped next n m after told done maps answer goes =
+    let whole : Maps → Bool → Outcome (Attempts Bool ActionReply) = λ x b. ended x b (in_each rules cs stopped n m).answer.answers false in
+    ap (λ (b : Bool). whole after b) goes
+    ∙ ap (λ (d : Counted Unit ActionReply). whole after (stopped || d.stopped)) answer
+    ∙ ap (λ (x : Maps). whole x (stopped || (commands rules (Each n) cs m).answer.stopped)) maps
+
+-- these replies, and then those
+pub told_on : {A : Type 0} (text : A → List ℕ) (start now next : Telling A) (front more : List A) → now ≡ told_behind text start front → next ≡ told_behind text now more → next ≡ told_behind text start (front ++ more)
+told_on text start now next front more so_far behind =
+    behind ∙ ap (λ t. told_behind text t more) so_far ∙ told_more text start front more

@@ -1,4 +1,5 @@
 pub mod Footprints
+pub mod Told
 pub mod Transactions
 pub use Rattle.gw_reserve.specs.Owned
 pub use Rattle.gw_table.specs.Folds

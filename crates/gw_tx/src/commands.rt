@@ -5,17 +5,23 @@ ghost use Rattle.gw_cmd.specs.Keys.{command_keys};
 ghost use Rattle.gw_cmd.specs.Suits.{IsUnused};
 ghost use Rattle.gw_reserve.specs.Owned.{AreFreeSlots, paired_commands};
 ghost use Rattle.gw_tx.specs.Footprints.{list_keys, Covers};
-ghost use Rattle.gw_tx.specs.Transactions.{attempt, commands as all_commands};
+ghost use Rattle.gw_reply.specs.Replies.{command_reply_text, action_reply_text};
+ghost use Rattle.gw_tx.specs.Told.{counted};
+ghost use Rattle.gw_tx.specs.Transactions.{attempt, commands as all_commands, replied as action_replied};
 
 use crate::owned::next_entry;
-use gw_base::{Items, NoMemory, Rules};
-use gw_cmd::{At, command};
+use crate::replies::replied;
+use crate::told::{Counted, inside};
+use gw_base::{NoMemory, Rules};
+use gw_cmd::{At, command_told};
+use gw_length::Telling;
 use gw_msg::Command;
-use gw_reply::CommandReply;
-use gw_table::{Attempts, Part};
+use gw_reply::{ActionReply, CommandReply};
+use gw_table::Part;
 use std::alloc::Global;
 
-/// Carries one command out, with the slot that it owns. It stops where it fails and is not marked `O-`.
+/// Carries one command out, with the slot that it owns, and tells its replies behind those of the commands before it. It stops where
+/// it fails and is not marked `O-`.
 fn attempt(
     alloc: Global,
     rules: &Rules,
@@ -23,22 +29,24 @@ fn attempt(
     at: At,
     slot: Option<u16>,
     sent: &Command<'_>,
-) -> Result<Attempts<At, CommandReply>, NoMemory>
+    told: Telling<CommandReply>,
+) -> Result<Counted<At, CommandReply>, NoMemory>
     requires covered { Covers part.old (command_keys at slot sent.now part.old.maps) }
     requires unused { IsUnused slot part.old.maps }
     ensures maps { OnOk result (part.new.maps ≡ (attempt rules.now at (slot, sent.now) part.old.maps).maps) }
-    ensures answer { IfOk result (λ done. done ≡ (attempt rules.now at (slot, sent.now) part.old.maps).answer) }
+    ensures answer { IfOk result (λ done. done ≡ counted command_reply_text told (attempt rules.now at (slot, sent.now) part.old.maps).answer) }
     ensures keys { part.new.keys ≡ part.old.keys }
 {
-    let done = command(alloc, rules, part, at, slot, sent)?;
-    Ok(Attempts {
+    let done = command_told(alloc, rules, part, at, slot, sent, told)?;
+    Ok(Counted {
         next: if done.made { at.made() } else { at },
         stopped: done.failed && !sent.optional,
-        answers: done.replies,
+        told: done.told,
     })
 }
 
-/// Carries commands out in order, with the slots that they own, up to the first that stops.
+/// Carries commands out in order, with the slots that they own, up to the first that stops. Where nothing more is told, they are
+/// carried out all the same.
 pub(crate) fn commands(
     alloc: Global,
     rules: &Rules,
@@ -46,33 +54,54 @@ pub(crate) fn commands(
     at: At,
     slots: &[Option<u16>],
     asked: &[Command<'_>],
-) -> Result<Attempts<At, CommandReply>, NoMemory>
+    told: Telling<CommandReply>,
+) -> Result<Counted<At, CommandReply>, NoMemory>
     requires covered { Covers part.old (list_keys at (paired_commands slots.now asked.now) part.old.maps) }
     requires unused { AreFreeSlots part.old.maps slots.now }
     ensures maps { OnOk result (part.new.maps ≡ (all_commands rules.now at (paired_commands slots.now asked.now) part.old.maps).maps) }
-    ensures answer { IfOk result (λ done. done ≡ (all_commands rules.now at (paired_commands slots.now asked.now) part.old.maps).answer) }
+    ensures answer { IfOk result (λ done. done ≡ counted command_reply_text told (all_commands rules.now at (paired_commands slots.now asked.now) part.old.maps).answer) }
     ensures keys { part.new.keys ≡ part.old.keys }
 {
     let mut at = at;
     let mut left = slots;
-    let mut answers = Items::new(alloc);
+    let mut told = told;
     for sent in asked {
         let (slot, later) = next_entry(left);
         left = later;
-        let done = attempt(alloc, rules, part, at, slot, sent)?;
+        let done = attempt(alloc, rules, part, at, slot, sent, told)?;
         at = done.next;
-        answers.append(done.answers)?;
+        told = done.told;
         if done.stopped {
-            return Ok(Attempts {
+            return Ok(Counted {
                 next: at,
-                answers,
+                told,
                 stopped: true,
             });
         }
     }
-    Ok(Attempts {
+    Ok(Counted {
         next: at,
-        answers,
+        told,
         stopped: false,
     })
+}
+
+/// Carries the commands of an action out in one context, and tells its reply behind those of the actions before it.
+pub(crate) fn commands_in(
+    alloc: Global,
+    rules: &Rules,
+    part: &mut Part,
+    at: At,
+    slots: &[Option<u16>],
+    asked: &[Command<'_>],
+    told: Telling<ActionReply>,
+) -> Result<Counted<(), ActionReply>, NoMemory>
+    requires covered { Covers part.old (list_keys at (paired_commands slots.now asked.now) part.old.maps) }
+    requires unused { AreFreeSlots part.old.maps slots.now }
+    ensures maps { OnOk result (part.new.maps ≡ (all_commands rules.now at (paired_commands slots.now asked.now) part.old.maps).maps) }
+    ensures answer { IfOk result (λ done. done ≡ counted action_reply_text told (action_replied (all_commands rules.now at (paired_commands slots.now asked.now) part.old.maps).answer)) }
+    ensures keys { part.new.keys ≡ part.old.keys }
+{
+    let done = commands(alloc, rules, part, at, slots, asked, inside(alloc, &told))?;
+    replied(told, done)
 }

@@ -8,10 +8,12 @@ mod laws;
 mod owned;
 mod replies;
 mod requests;
+mod told;
 
 pub use laws::{
     answers_can_be_read, keys_of_requests, later_slots_stay_free,
     transactions_keep_tables_well_formed, what_others_own_stays_free,
 };
 pub use owned::{entries_behind, next_entry};
-pub use requests::transaction;
+pub use requests::{transaction, transaction_within};
+pub use told::Told;

@@ -1,13 +1,18 @@
 //! Replies of actions.
 
-ghost use Rattle.std.specs.Prelude.{◌≡◌, true, IfOk};
-ghost use Rattle.gw_tx.specs.Transactions.{answered, action_reply, one_action_reply, replied, action_error};
+ghost use Rattle.std.specs.Prelude.{◌≡◌, IfOk};
+ghost use Rattle.gw_refusal.specs.declared.at.At.{At};
+ghost use Rattle.gw_reply.specs.declared.reply.CommandReply.{CommandReply};
+ghost use Rattle.gw_reply.specs.Replies.{command_reply_text, action_reply_text};
+ghost use Rattle.gw_table.specs.declared.attempts.Attempts.{Attempts};
+ghost use Rattle.gw_tx.specs.Told.{counted, inside};
+ghost use Rattle.gw_tx.specs.Transactions.{answered, one_action_reply, replied, action_error};
 
-use gw_base::{Code, CtxRef, Items, NoMemory};
+use crate::told::Counted;
+use gw_base::{Code, CtxRef, NoMemory};
 use gw_cmd::At;
+use gw_length::Telling;
 use gw_reply::{ActionReply, CommandReply};
-use gw_table::Attempts;
-use std::alloc::Global;
 
 /// The ContextID of the reply: the number once the context was made, else as sent.
 fn answered(at: At) -> CtxRef
@@ -20,55 +25,60 @@ fn answered(at: At) -> CtxRef
     }
 }
 
-/// The reply of an action whose commands were attempted.
-pub(crate) fn action_reply(done: Attempts<At, CommandReply>) -> ActionReply
-    ensures { result ≡ action_reply done }
-{
-    ActionReply {
-        ctx: answered(done.next),
-        result: Ok(done.answers),
-    }
-}
-
-/// The only reply of an action.
+/// The only reply of an action, behind those that are told.
 fn one_action_reply(
-    alloc: Global,
+    told: Telling<ActionReply>,
     reply: ActionReply,
     stopped: bool,
-) -> Result<Attempts<(), ActionReply>, NoMemory>
-    ensures { IfOk result (λ done. done ≡ one_action_reply tt reply stopped) }
+) -> Result<Counted<(), ActionReply>, NoMemory>
+    ensures { IfOk result (λ done. done ≡ counted action_reply_text told (one_action_reply tt reply stopped)) }
 {
-    let mut answers = Items::new(alloc);
-    answers.push(reply)?;
-    Ok(Attempts {
+    Ok(Counted {
         next: (),
-        answers,
+        told: told.tell(reply)?,
         stopped,
     })
 }
 
 /// An error of the whole action, which ends the transaction.
 pub(crate) fn action_error(
-    alloc: Global,
+    told: Telling<ActionReply>,
     sent: CtxRef,
     code: Code,
-) -> Result<Attempts<(), ActionReply>, NoMemory>
-    ensures { IfOk result (λ done. done ≡ action_error sent code) }
+) -> Result<Counted<(), ActionReply>, NoMemory>
+    ensures { IfOk result (λ done. done ≡ counted action_reply_text told (action_error sent code)) }
 {
     let reply = ActionReply {
         ctx: sent,
         result: Err(code),
     };
-    one_action_reply(alloc, reply, true)
+    one_action_reply(told, reply, true)
 }
 
-/// What an action gave whose commands were attempted.
+/// What an action gave whose commands were attempted. Where they are too long, so is the action.
 pub(crate) fn replied(
-    alloc: Global,
-    done: Attempts<At, CommandReply>,
-) -> Result<Attempts<(), ActionReply>, NoMemory>
-    ensures { IfOk result (λ reply. reply ≡ replied done) }
+    told: Telling<ActionReply>,
+    done: Counted<At, CommandReply>,
+) -> Result<Counted<(), ActionReply>, NoMemory>
+    ensures { (a : Attempts At CommandReply) → done ≡ counted command_reply_text (inside told) a → IfOk result (λ reply. reply ≡ counted action_reply_text told (replied a)) }
 {
-    let stopped = done.stopped;
-    one_action_reply(alloc, action_reply(done), stopped)
+    let Counted {
+        next,
+        told: within,
+        stopped,
+    } = done;
+    match within {
+        Telling::All(replies) | Telling::Within(replies, _) => {
+            let reply = ActionReply {
+                ctx: answered(next),
+                result: Ok(replies),
+            };
+            one_action_reply(told, reply, stopped)
+        }
+        Telling::TooLong => Ok(Counted {
+            next: (),
+            told: Telling::TooLong,
+            stopped,
+        }),
+    }
 }

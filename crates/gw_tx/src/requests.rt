@@ -3,10 +3,13 @@
 ghost use Rattle.std.specs.Prelude.{◌≡◌, IfOk, OnOk};
 ghost use Rattle.gw_reserve.specs.Owned.{AreFreeSlots, paired};
 ghost use Rattle.gw_tx.specs.Footprints.{footprint_of, Covers};
+ghost use Rattle.gw_tx.specs.Told.{within};
 ghost use Rattle.gw_tx.specs.Transactions.{paired_transaction};
 
 use crate::actions::actions;
-use gw_base::{NoMemory, Rules};
+use crate::told::{Told, told_of, told_within};
+use gw_base::{Items, NoMemory, Rules};
+use gw_length::Telling;
 use gw_msg::Request;
 use gw_reply::TxReply;
 use gw_reserve::Owned;
@@ -33,16 +36,50 @@ pub fn transaction(
     ensures answer { IfOk result (λ reply. reply ≡ (paired_transaction rules.now request.now (paired request.now owned.now) part.old.maps).answer) }
     ensures keys { part.new.keys ≡ part.old.keys }
 {
-    let replies = actions(
+    let told = actions(
         alloc,
         rules,
         part,
         owned.contexts.as_slice(),
         owned.slots.as_slice(),
         request.actions.as_slice(),
+        Telling::All(Items::new(alloc)),
     )?;
-    Ok(TxReply {
-        id: request.id,
-        result: Ok(replies),
-    })
+    match told_of(request.id, told) {
+        Told::Whole(reply) => Ok(reply),
+        Told::TooLong => unreachable!(),
+    }
+}
+
+/// Carries a request out as [`transaction`] does, and tells its reply only where its text has at most `limit` bytes: the bytes from
+/// `Reply=` to the last brace, as they stand in a message. Texts are counted as the replies come. Once they are too long no reply is
+/// kept, and what is left to do is done all the same.
+///
+/// # Errors
+///
+/// Want of memory. The part is then spent: nothing is known of it but its keys.
+pub fn transaction_within(
+    alloc: Global,
+    rules: &Rules,
+    part: &mut Part,
+    request: &Request<'_>,
+    owned: &Owned,
+    limit: usize,
+) -> Result<Told, NoMemory>
+    requires covered { Covers part.old (footprint_of (paired request.now owned.now) part.old.maps) }
+    requires unused { AreFreeSlots part.old.maps owned.now.slots }
+    ensures maps { OnOk result (part.new.maps ≡ (paired_transaction rules.now request.now (paired request.now owned.now) part.old.maps).maps) }
+    ensures answer { IfOk result (λ told. told ≡ within limit (paired_transaction rules.now request.now (paired request.now owned.now) part.old.maps).answer) }
+    ensures keys { part.new.keys ≡ part.old.keys }
+{
+    let told = actions(
+        alloc,
+        rules,
+        part,
+        owned.contexts.as_slice(),
+        owned.slots.as_slice(),
+        request.actions.as_slice(),
+        told_within(alloc, request.id, limit),
+    )?;
+    Ok(told_of(request.id, told))
 }

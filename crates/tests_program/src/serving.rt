@@ -36,6 +36,9 @@ const NOT_BOUND: &[u8] = b"h248gw: serve bind\n";
 /// How many addresses are tried.
 const ATTEMPTS: u32 = 20;
 
+/// The most datagrams of a burst.
+const LARGEST_BURST: u32 = 256;
+
 /// A datagram, and the socket that sends it.
 #[derive(Clone, Copy)]
 struct Sent<'a> {
@@ -191,6 +194,39 @@ fn two_bursts(rt: HostRuntime) -> Result<(), Fail> {
     );
     served?;
     is_so(asked?, "an answer in each burst")
+}
+
+/// How many datagrams wait when one more is sent than a burst may have: all of them, or as many as a socket's buffer holds here.
+fn waiting(rt: &impl Net) -> Result<u32, Fail> {
+    let (held, sender) = (client(rt, IPV4)?, client(rt, IPV4)?);
+    let address = held.local_addr()?;
+    for _ in 0..=LARGEST_BURST {
+        sender.send_to(ASKED, address)?;
+    }
+    let mut buffer = [0u8; 1024];
+    for count in 0..=LARGEST_BURST {
+        if held.recv_from(&mut buffer).is_err() {
+            return Ok(count);
+        }
+    }
+    Ok(LARGEST_BURST + 1)
+}
+
+#[test]
+fn one_more_than_a_burst_waits(rt: HostRuntime) -> Result<(), Fail> {
+    let waiting = waiting(&rt)?;
+    let client = client(&rt, IPV4)?;
+    let sent = [Sent {
+        from: &client,
+        bytes: ASKED,
+    }; 257];
+    serves(&rt, IPV4, "1", &sent, SERVING)?;
+    has_answers(&client, waiting.min(LARGEST_BURST), ANSWERED)?;
+    if waiting > LARGEST_BURST {
+        serves(&rt, IPV4, "2", &sent, SERVING)?;
+        has_answers(&client, waiting, ANSWERED)?;
+    }
+    Ok(())
 }
 
 #[test]

@@ -14,8 +14,8 @@ on_one-requires-clause-term_key c =
 pub on_one-requires-clause-moved_key : goal.on_one-requires-clause-moved_key
 on_one-requires-clause-moved_key c = c.requires.ready.moved c.in-Name.name c.in-Name.is
 
-pub on_targets-requires-clause-term_keys : goal.on_targets-requires-clause-term_keys
-on_targets-requires-clause-term_keys c = λ t i. c.requires.ready.targets t (ap (λ (names : List (List ℕ)). is_in t names) (sym c.requires.named) ∙ i)
+pub on_all-requires-clause-term_keys : goal.on_all-requires-clause-term_keys
+on_all-requires-clause-term_keys c = λ t i. c.requires.ready.targets t (ap (λ (names : List (List ℕ)). is_in t names) (sym c.requires.named) ∙ i)
 
-pub on_targets-requires-clause-stays : goal.on_targets-requires-clause-stays
-on_targets-requires-clause-stays c = c.requires.ready.stays c.in_default.not-Name
+pub on_all-requires-clause-stays : goal.on_all-requires-clause-stays
+on_all-requires-clause-stays c = c.requires.ready.stays c.in_default.not-Name

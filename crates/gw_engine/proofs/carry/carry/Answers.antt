@@ -1,13 +1,16 @@
-use Rattle.std.proofs.Common.{◌≡◌, ℕ, ◌+◌, List, ◌∷◌, ◌++◌, map, drop, ap, refl, subst, sym, ◌∙◌}
+use Rattle.std.proofs.Common.{ℕ, ◌+◌, List, ◌++◌, map, drop, ap, refl, subst, sym, ◌∙◌}
 use Rattle.std.proofs.Math.ListN.{drop_of_length-le}
 use Rattle.gw_kept.specs.declared.entry.Entry.{Entry}
-use Rattle.gw_reply.specs.declared.reply.TxReply.{TxReply}
+use Rattle.gw_reserve.specs.Owned.{paired}
+use Rattle.gw_tx.specs.Told.{within}
+use Rattle.gw_tx.specs.Transactions.{paired_transaction}
+use Rattle.gw_engine.proofs.ToldTexts.{same_id}
 use Rattle.gw_table.proofs.Folding.{rest_of}
 use Rattle.gw_table.specs.Maps.{Maps}
 use Rattle.gw_table.specs.Stored.{maps_of}
 use Rattle.gw_table.specs.WellFormed.{AreWellFormed}
 use Rattle.gw_engine.specs.declared.reserve.Job.{Job}
-use Rattle.gw_engine.specs.Phases.{sent_of, done_by, entry_of, entries_of}
+use Rattle.gw_engine.specs.Phases.{sent_of, done_by, entries_of}
 use Rattle.gw_engine.proofs.Carrying.{next_unused, carries_on, maps_end, entries_end}
 use Rattle.gw_engine.proofs.carry.carry.Goals as goal
 
@@ -38,11 +41,11 @@ loop-job-preserved c =
     let i : ℕ = c.loop-job.job-index in
     let j : Job = c.job-item.result in
     record {
-      here = c.in_ok-reply.ensures.here;
+      here = c.in_ok-told.ensures.here;
       carries = carries_on mid rules (maps_of c.args.tables.now) jobs (drop i jobs) (drop (i + 1) jobs) j m c.loop-job.entries.items (rest_of jobs i j j c.loop-job-test.true c.job-item.is) c.loop-job.invariant.carries
           (maps_of c.carry_one.new.tables) c.in_ok-entry_of.field-0 c.push.new.self.items
-          c.in_ok-reply.ensures.maps
-          (c.in_ok-entry_of.ensures ∙ ap (λ (r : TxReply). entry_of mid (j.sent, r)) c.in_ok-reply.ensures.answer)
+          c.in_ok-told.ensures.maps
+          (c.in_ok-entry_of.ensures (paired_transaction rules j.sent.request (paired j.sent.request j.owned) m).answer (c.in_ok-told.ensures.answer ∙ ap (λ (n : ℕ). within n (paired_transaction rules j.sent.request (paired j.sent.request j.owned) m).answer) c.reply_limit-limit.ensures) (same_id rules j.sent.request (paired j.sent.request j.owned) m))
           c.in_ok-push.ensures.items;
     }
 

@@ -13,7 +13,7 @@ returns-in_err-replay g c =
 pub returns-in_err-tell_tables : goal.returns-in_err-tell_tables
 returns-in_err-tell_tables g c =
     let p = err_from_is_err_and c.from_residual-in_err-tell_tables.result c.from_residual-in_err-tell_tables.ensures.1 in
-    rw (p.1, p.2) (untold c.args.audit c.args.gateway.now c.replay.new.gateway (g.I.Read.remaining c.args.reader.now) (g.W.Write.contents c.args.out.now) (g.W.Write.contents c.replay.new.writer) (g.W.Write.contents c.tell_tables.new.out) c.in_err-tell_tables.field-0.0 c.in_ok-replay.field-0 c.in_ok-replay.ensures c.in_err-tell_tables.ensures.fault)
+    rw (p.1, p.2) (untold c.args.audit c.args.gateway.now c.replay.new.gateway (g.I.Read.remaining c.args.reader.now) (g.W.Write.contents c.args.out.now) (g.W.Write.contents c.replay.new.writer) (g.W.Write.contents c.tell_tables.new.out) c.in_err-tell_tables.field-0.0 c.in_ok-replay.field-0 c.if-audit.true c.in_ok-replay.ensures c.in_err-tell_tables.ensures.fault)
 
 pub returns : goal.returns
 returns g c = elim c.if-audit.branch [

@@ -16,8 +16,8 @@ action_for_each-requires-clause-covered c = λ n.
     let sent : Action = c.args.sent.now in
     covers_in part c.args.number c.args.slots.now sent c.as_slice-asked.result.now c.as_slice-asked.ensures c.requires.covered (Each n) (λ h. in_each part.keys part.maps (paired_commands c.args.slots.now sent.commands) sent.ctx c.args.number n c.in-All.is h)
 
-pub commands-requires-clause-covered : goal.commands-requires-clause-covered
-commands-requires-clause-covered c =
+pub commands_in-requires-clause-covered : goal.commands_in-requires-clause-covered
+commands_in-requires-clause-covered c =
     let part : Parted = c.args.part.now in
     let sent : Action = c.args.sent.now in
     let all = paired_commands c.args.slots.now sent.commands in

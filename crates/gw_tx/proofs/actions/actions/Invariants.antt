@@ -1,4 +1,7 @@
-use Rattle.std.proofs.Common.{◌≡◌, drop}
+use Rattle.std.proofs.Common.{◌≡◌, List, drop}
+use Rattle.gw_length.specs.Tellings.{told_behind}
+use Rattle.gw_reply.specs.declared.reply.ActionReply.{ActionReply}
+use Rattle.gw_reply.specs.Replies.{action_reply_text}
 use Rattle.gw_table.specs.Folds.{attempts_behind}
 use Rattle.gw_table.specs.Parts.{Holds}
 use Rattle.gw_cmd.proofs.Parted.{StaysPart}
@@ -9,10 +12,10 @@ use Rattle.gw_tx.proofs.FreeSlots.{AnySlot}
 use Rattle.gw_tx.proofs.Kept.{With}
 use Rattle.gw_tx.proofs.actions.actions.Given as goal
 
--- the replies so far, and then the rest, are those of all; the part has the keys of what is left
+-- what is told is that of some replies, which, and then the rest, are those of all; the part has the keys of what is left
 abbrev pub invariant-loop-sent : goal.invariant-loop-sent
 invariant-loop-sent l = record {
-  told : attempts_behind l.replies (actions l.rules (paired_actions l.numbers_left l.slots_left (drop l.sent-index l.asked)) l.part.maps) ≡ actions l.rules (paired_actions l.numbers l.slots l.asked) l.fn.part.maps;
+  told : (front : List ActionReply) × (l.told ≡ told_behind action_reply_text l.fn.told front) × (attempts_behind front (actions l.rules (paired_actions l.numbers_left l.slots_left (drop l.sent-index l.asked)) l.part.maps) ≡ actions l.rules (paired_actions l.numbers l.slots l.asked) l.fn.part.maps);
   held : Holds l.fn.part.keys (footprint_of (paired_actions l.numbers_left l.slots_left (drop l.sent-index l.asked)) l.fn.part.maps);
   kept : With AnySlot (StaysPart l.fn.part.keys l.fn.part.maps) l.slots_left l.part.maps;
   keys : l.part.keys ≡ l.fn.part.keys;

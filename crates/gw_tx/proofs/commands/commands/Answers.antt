@@ -1,4 +1,4 @@
-use Rattle.std.proofs.Common.{◌≡◌, ℕ, List, [], ◌∷◌, ◌++◌, ◌+◌, drop, true, Option, refl, sym, ap, subst, ◌∙◌}
+use Rattle.std.proofs.Common.{◌≡◌, ℕ, List, [], ◌∷◌, ◌++◌, ◌+◌, drop, true, false, Option, refl, sym, ap, subst, ◌∙◌}
 use Rattle.std.proofs.Math.ListN.{drop_of_length-le}
 use Rattle.gw_msg.specs.declared.message.Command.{Command}
 use Rattle.gw_reply.specs.declared.reply.CommandReply.{CommandReply}
@@ -19,12 +19,18 @@ use Rattle.gw_tx.proofs.Facts.{IsHeld, commands_keep_part}
 use Rattle.gw_tx.proofs.FreeSlots.{AnySlot, free_slot}
 use Rattle.gw_tx.proofs.Kept.{With, Oks, kept_command, all_live}
 use Rattle.gw_tx.proofs.Parts.{starts, listed, covers_command}
-use Rattle.gw_tx.proofs.Steps.{attempt_is}
+use Rattle.gw_length.proofs.Tellings.{told_none}
+use Rattle.gw_length.specs.Tellings.{told_behind}
+use Rattle.gw_length.specs.declared.telling.Telling.{Telling}
+use Rattle.gw_reply.specs.Replies.{command_reply_text}
+use Rattle.gw_tx.specs.declared.told.Counted.{Counted}
+use Rattle.gw_tx.specs.Told.{counted}
+use Rattle.gw_tx.proofs.Steps.{attempt_is, attempt_told, told_on}
 use Rattle.gw_tx.proofs.commands.commands.Goals as goal
 
 pub loop-sent-init : goal.loop-sent-init
 loop-sent-init c = record {
-  told = ap (λ (l : List CommandReply). attempts_behind l (commands c.args.rules.now c.args.at (paired_commands c.args.slots.now c.args.asked.now) c.args.part.now.maps)) c.new-answers.ensures;
+  told = ([], sym (told_none command_reply_text c.args.told), refl);
   held = listed c.args.part.now.keys c.args.part.now.maps c.args.at (paired_commands c.args.slots.now c.args.asked.now) c.requires.covered.held;
   kept = starts c.args.part.now c.args.slots.now (list_keys c.args.at (paired_commands c.args.slots.now c.args.asked.now) c.args.part.now.maps) c.requires.covered c.requires.unused;
   keys = refl;
@@ -53,14 +59,17 @@ returns-then-done c =
     let pair : Option ℕ × Command = (first_owned slots, sent) in
     let later : List (Option ℕ × Command) = paired_commands (later_owned slots) rest in
     let pairs : paired_commands slots (drop i c.args.asked.now) ≡ pair ∷ later = ap (λ (l : List Command). paired_commands slots l) split in
-    let now : Outcome (Attempts At CommandReply) = ended c.attempt.new.part.maps c.in_ok-done.done.next c.in_ok-done.done.answers c.in_ok-done.done.stopped in
+    let more : List CommandReply = (attempt c.args.rules.now c.loop-sent.at pair c.loop-sent.part.maps).answer.answers in
+    let front : List CommandReply = c.loop-sent.invariant.told.0 in
+    let now : Outcome (Attempts At CommandReply) = ended c.attempt.new.part.maps c.in_ok-done.done.next more c.in_ok-done.done.stopped in
     let did : now ≡ attempt c.args.rules.now c.loop-sent.at pair c.loop-sent.part.maps =
-    attempt_is c.args.rules.now c.loop-sent.at c.next_entry-slot.result.0 sent c.loop-sent.part.maps c.attempt.new.part.maps c.in_ok-done.done pair c.in_ok-done.ensures.maps c.in_ok-done.ensures.answer c.next_entry-slot.ensures.own refl in
+    attempt_is c.args.rules.now c.loop-sent.at c.next_entry-slot.result.0 sent c.loop-sent.part.maps c.attempt.new.part.maps c.loop-sent.told c.in_ok-done.done pair c.in_ok-done.ensures.maps c.in_ok-done.ensures.answer c.next_entry-slot.ensures.own refl in
+    let told : c.in_ok-done.done.told ≡ told_behind command_reply_text c.args.told (front ++ more) = told_on command_reply_text c.args.told c.loop-sent.told c.in_ok-done.done.told front more c.loop-sent.invariant.told.1 (attempt_told c.args.rules.now c.loop-sent.at c.next_entry-slot.result.0 sent c.loop-sent.part.maps c.loop-sent.told c.in_ok-done.done pair c.in_ok-done.ensures.answer c.next_entry-slot.ensures.own refl) in
     let whole : Outcome (Attempts At CommandReply) = commands c.args.rules.now c.args.at (paired_commands c.args.slots.now c.args.asked.now) c.args.part.now.maps in
-    let all = ap (λ (l : List CommandReply). ended now.maps now.answer.next l true) c.in_ok-append.ensures.ok ∙ stops (attempt c.args.rules.now) c.loop-sent.at pair (paired_commands slots (drop i c.args.asked.now)) later c.loop-sent.part.maps c.loop-sent.answers now whole pairs did c.if-done.true c.loop-sent.invariant.told in
+    let all = stops (attempt c.args.rules.now) c.loop-sent.at pair (paired_commands slots (drop i c.args.asked.now)) later c.loop-sent.part.maps front now whole pairs did c.if-done.true c.loop-sent.invariant.told.2 in
     record {
       maps = ap (λ (o : Outcome (Attempts At CommandReply)). o.maps) all;
-      answer = ap (λ (o : Outcome (Attempts At CommandReply)). o.answer) all;
+      answer = ap (λ (t : Telling CommandReply). let r : Counted At CommandReply = record { next = c.in_ok-done.done.next; told = t; stopped = true } in r) told ∙ ap (λ (o : Outcome (Attempts At CommandReply)). counted command_reply_text c.args.told o.answer) all;
       keys = c.in_ok-done.ensures.keys ∙ c.loop-sent.invariant.keys;
     }
 
@@ -76,9 +85,12 @@ loop-sent-preserved c =
     let pair : Option ℕ × Command = (first_owned slots, sent) in
     let later : List (Option ℕ × Command) = paired_commands (later_owned slots) rest in
     let pairs : paired_commands slots (drop i c.args.asked.now) ≡ pair ∷ later = ap (λ (l : List Command). paired_commands slots l) split in
-    let now : Outcome (Attempts At CommandReply) = ended c.attempt.new.part.maps c.in_ok-done.done.next c.in_ok-done.done.answers c.in_ok-done.done.stopped in
+    let more : List CommandReply = (attempt c.args.rules.now c.loop-sent.at pair c.loop-sent.part.maps).answer.answers in
+    let front : List CommandReply = c.loop-sent.invariant.told.0 in
+    let now : Outcome (Attempts At CommandReply) = ended c.attempt.new.part.maps c.in_ok-done.done.next more c.in_ok-done.done.stopped in
     let did : now ≡ attempt c.args.rules.now c.loop-sent.at pair c.loop-sent.part.maps =
-    attempt_is c.args.rules.now c.loop-sent.at c.next_entry-slot.result.0 sent c.loop-sent.part.maps c.attempt.new.part.maps c.in_ok-done.done pair c.in_ok-done.ensures.maps c.in_ok-done.ensures.answer c.next_entry-slot.ensures.own refl in
+    attempt_is c.args.rules.now c.loop-sent.at c.next_entry-slot.result.0 sent c.loop-sent.part.maps c.attempt.new.part.maps c.loop-sent.told c.in_ok-done.done pair c.in_ok-done.ensures.maps c.in_ok-done.ensures.answer c.next_entry-slot.ensures.own refl in
+    let told : c.in_ok-done.done.told ≡ told_behind command_reply_text c.args.told (front ++ more) = told_on command_reply_text c.args.told c.loop-sent.told c.in_ok-done.done.told front more c.loop-sent.invariant.told.1 (attempt_told c.args.rules.now c.loop-sent.at c.next_entry-slot.result.0 sent c.loop-sent.part.maps c.loop-sent.told c.in_ok-done.done pair c.in_ok-done.ensures.answer c.next_entry-slot.ensures.own refl) in
     let whole : Outcome (Attempts At CommandReply) = commands c.args.rules.now c.args.at (paired_commands c.args.slots.now c.args.asked.now) start in
     let held : Oks (IsHeld keys start) c.loop-sent.at (pair ∷ later) = subst (λ (l : List (Option ℕ × Command)). Oks (IsHeld keys start) c.loop-sent.at l) pairs c.loop-sent.invariant.held in
     let lives : Oks (IsHeld keys start) (attempt c.args.rules.now c.loop-sent.at pair c.loop-sent.part.maps).answer.next later = all_live c.args.rules.now (commands_keep_part c.args.rules.now keys start) c.loop-sent.at (command c.args.rules.now c.loop-sent.at (first_owned slots) sent c.loop-sent.part.maps).answer.made later held.1 in
@@ -86,9 +98,12 @@ loop-sent-preserved c =
     let done : attempt c.args.rules.now c.loop-sent.at pair c.loop-sent.part.maps ≡ now = sym did in
     let left : later_owned slots ≡ c.next_entry-slot.result.1.now = sym c.next_entry-slot.ensures.later in
     record {
-      told = ap (λ (l : List CommandReply). attempts_behind l (commands c.args.rules.now now.answer.next (paired_commands c.next_entry-slot.result.1.now rest) now.maps)) c.in_ok-append.ensures.ok
-          ∙ ap (λ (o : List (Option ℕ)). attempts_behind (c.loop-sent.answers ++ now.answer.answers) (commands c.args.rules.now now.answer.next (paired_commands o rest) now.maps)) c.next_entry-slot.ensures.later
-          ∙ goes_on (attempt c.args.rules.now) c.loop-sent.at pair (paired_commands slots (drop i c.args.asked.now)) later c.loop-sent.part.maps c.loop-sent.answers now whole pairs did c.if-done.false c.loop-sent.invariant.told;
+      told = (
+        front ++ more,
+        told,
+        ap (λ (o : List (Option ℕ)). attempts_behind (front ++ more) (commands c.args.rules.now now.answer.next (paired_commands o rest) now.maps)) c.next_entry-slot.ensures.later
+            ∙ goes_on (attempt c.args.rules.now) c.loop-sent.at pair (paired_commands slots (drop i c.args.asked.now)) later c.loop-sent.part.maps front now whole pairs did c.if-done.false c.loop-sent.invariant.told.2,
+      );
       held = subst (λ (o : List (Option ℕ)). Oks (IsHeld keys start) now.answer.next (paired_commands o rest)) left (subst (λ (o : Outcome (Attempts At CommandReply)). Oks (IsHeld keys start) o.answer.next later) done lives);
       kept = subst (λ (o : List (Option ℕ)). With AnySlot (StaysPart keys start) o now.maps) left (subst (λ (o : Outcome (Attempts At CommandReply)). With AnySlot (StaysPart keys start) (later_owned slots) o.maps) done kept);
       keys = c.in_ok-done.ensures.keys ∙ c.loop-sent.invariant.keys;
@@ -97,5 +112,9 @@ loop-sent-preserved c =
 pub returns : goal.returns
 returns c =
     let none : paired_commands c.loop-sent.left.now (drop c.loop-sent.sent-index c.args.asked.now) ≡ [] = ap (λ (l : List Command). paired_commands c.loop-sent.left.now l) (drop_of_length-le c.args.asked.now c.loop-sent-test.false) in
-    let all = ends (attempt c.args.rules.now) c.loop-sent.at (paired_commands c.loop-sent.left.now (drop c.loop-sent.sent-index c.args.asked.now)) c.loop-sent.part.maps c.loop-sent.answers (commands c.args.rules.now c.args.at (paired_commands c.args.slots.now c.args.asked.now) c.args.part.now.maps) none c.loop-sent.invariant.told in
-    record { maps = ap (λ (o : Outcome (Attempts At CommandReply)). o.maps) all; answer = ap (λ (o : Outcome (Attempts At CommandReply)). o.answer) all; keys = c.loop-sent.invariant.keys }
+    let all = ends (attempt c.args.rules.now) c.loop-sent.at (paired_commands c.loop-sent.left.now (drop c.loop-sent.sent-index c.args.asked.now)) c.loop-sent.part.maps c.loop-sent.invariant.told.0 (commands c.args.rules.now c.args.at (paired_commands c.args.slots.now c.args.asked.now) c.args.part.now.maps) none c.loop-sent.invariant.told.2 in
+    record {
+      maps = ap (λ (o : Outcome (Attempts At CommandReply)). o.maps) all;
+      answer = ap (λ (t : Telling CommandReply). let r : Counted At CommandReply = record { next = c.loop-sent.at; told = t; stopped = false } in r) c.loop-sent.invariant.told.1 ∙ ap (λ (o : Outcome (Attempts At CommandReply)). counted command_reply_text c.args.told o.answer) all;
+      keys = c.loop-sent.invariant.keys;
+    }

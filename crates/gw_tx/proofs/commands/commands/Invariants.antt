@@ -1,4 +1,7 @@
-use Rattle.std.proofs.Common.{◌≡◌, drop}
+use Rattle.std.proofs.Common.{◌≡◌, List, drop}
+use Rattle.gw_length.specs.Tellings.{told_behind}
+use Rattle.gw_reply.specs.declared.reply.CommandReply.{CommandReply}
+use Rattle.gw_reply.specs.Replies.{command_reply_text}
 use Rattle.gw_table.specs.Folds.{attempts_behind}
 use Rattle.gw_reserve.specs.Owned.{paired_commands}
 use Rattle.gw_cmd.proofs.Parted.{StaysPart}
@@ -8,10 +11,10 @@ use Rattle.gw_tx.proofs.FreeSlots.{AnySlot}
 use Rattle.gw_tx.proofs.Kept.{With, Oks}
 use Rattle.gw_tx.proofs.commands.commands.Given as goal
 
--- the answers so far, and then the rest, are those of all; the part has the keys of what is left
+-- what is told is that of some answers, which, and then the rest, are those of all; the part has the keys of what is left
 abbrev pub invariant-loop-sent : goal.invariant-loop-sent
 invariant-loop-sent l = record {
-  told : attempts_behind l.answers (commands l.rules l.at (paired_commands l.left (drop l.sent-index l.asked)) l.part.maps) ≡ commands l.rules l.fn.at (paired_commands l.slots l.asked) l.fn.part.maps;
+  told : (front : List CommandReply) × (l.told ≡ told_behind command_reply_text l.fn.told front) × (attempts_behind front (commands l.rules l.at (paired_commands l.left (drop l.sent-index l.asked)) l.part.maps) ≡ commands l.rules l.fn.at (paired_commands l.slots l.asked) l.fn.part.maps);
   held : Oks (IsHeld l.fn.part.keys l.fn.part.maps) l.at (paired_commands l.left (drop l.sent-index l.asked));
   kept : With AnySlot (StaysPart l.fn.part.keys l.fn.part.maps) l.left l.part.maps;
   keys : l.part.keys ≡ l.fn.part.keys;

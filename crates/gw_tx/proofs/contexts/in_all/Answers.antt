@@ -1,11 +1,10 @@
-use Rattle.std.proofs.Common.{◌≡◌, ℕ, Bool, false, List, [], ◌∷◌, ◌+◌, get_or, drop, Option, refl, sym, ap, subst, ◌∙◌}
+use Rattle.std.proofs.Common.{◌≡◌, ℕ, Bool, false, List, [], ◌∷◌, ◌++◌, ◌+◌, get_or, drop, Option, refl, sym, ap, subst, ◌∙◌}
 use Rattle.std.specs.Prelude.{◌||◌}
 use Rattle.std.proofs.Math.ListN.{drop_of_length-le}
 use Rattle.gw_base.specs.declared.ids.CtxNum.{CtxNum}
 use Rattle.gw_msg.specs.declared.message.Command.{Command}
 use Rattle.gw_reply.specs.declared.reply.ActionReply.{ActionReply}
 use Rattle.gw_table.specs.declared.attempts.Attempts.{Attempts}
-use Rattle.gw_table.specs.Folds.{attempts_behind, in_order}
 use Rattle.gw_table.specs.Maps.{Maps, Outcome, number}
 use Rattle.gw_table.specs.Parts.{Parted}
 use Rattle.gw_table.proofs.Folding.{ended, rest_of, goes_on, ends}
@@ -18,7 +17,12 @@ use Rattle.gw_tx.proofs.Facts.{commands_keep_part}
 use Rattle.gw_tx.proofs.FreeSlots.{AnySlot}
 use Rattle.gw_tx.proofs.Kept.{With, kept_in_each}
 use Rattle.gw_tx.proofs.Parts.{starts, listed, covers_list}
-use Rattle.gw_tx.proofs.Steps.{each_is}
+use Rattle.gw_length.proofs.Tellings.{told_none}
+use Rattle.gw_length.specs.declared.telling.Telling.{Telling}
+use Rattle.gw_reply.specs.Replies.{action_reply_text}
+use Rattle.gw_tx.specs.declared.told.Counted.{Counted}
+use Rattle.gw_tx.specs.Told.{counted}
+use Rattle.gw_tx.proofs.Steps.{each_is, told_on}
 use Rattle.gw_tx.proofs.contexts.in_all.Goals as goal
 use Rattle.gw_tx.proofs.contexts.in_all.Goals.{then-stopped, else-stopped}
 
@@ -26,13 +30,13 @@ pub loop-number-init : goal.loop-number-init
 loop-number-init c =
     let asked : List (Option ℕ × Command) = paired_commands c.args.slots.now c.args.asked.now in
     record {
-      told = ap (λ (l : List ActionReply). attempts_behind l (in_all c.args.rules.now asked c.args.numbers.now c.args.part.now.maps)) c.new-answers.ensures;
+      told = ([], sym (told_none action_reply_text c.args.told), refl);
       kept = starts c.args.part.now c.args.slots.now (list_keys (Each (number 0)) asked c.args.part.now.maps) (c.requires.covered (number 0)) c.requires.unused;
       keys = refl;
     }
 
-pub commands-requires-clause-covered : goal.commands-requires-clause-covered
-commands-requires-clause-covered c =
+pub commands_in-requires-clause-covered : goal.commands_in-requires-clause-covered
+commands_in-requires-clause-covered c =
     let n : CtxNum = get_or c.args.numbers.now c.loop-number.number-index (number 0) in
     covers_list c.args.part.now c.loop-number.part c.args.slots.now c.loop-number.invariant.kept c.loop-number.invariant.keys (Each n) (paired_commands c.args.slots.now c.args.asked.now) (c.requires.covered n).held
 
@@ -48,13 +52,19 @@ loop-number-preserved c =
       | then-stopped w ↦ w.stopped-is ∙ w.if-stopped.true ∙ ap (λ (b : Bool). b || c.in_ok-done.done.stopped) (sym w.if-stopped.true)
       | else-stopped w ↦ w.stopped-is ∙ ap (λ (b : Bool). b || c.in_ok-done.done.stopped) (sym w.if-stopped.false)
     ] in
-    let now : Outcome (Attempts Bool ActionReply) = ended c.commands.new.part.maps c.if-stopped.stopped (c.action_reply.result ∷ []) false in
+    let told : c.if-stopped.told ≡ c.in_ok-done.done.told = elim c.if-stopped.branch [ then-stopped w ↦ w.told-is | else-stopped w ↦ w.told-is ] in
+    let more : List ActionReply = (in_each c.args.rules.now asked c.loop-number.stopped n c.loop-number.part.maps).answer.answers in
+    let front : List ActionReply = c.loop-number.invariant.told.0 in
+    let now : Outcome (Attempts Bool ActionReply) = ended c.commands_in.new.part.maps c.if-stopped.stopped more false in
     let did : now ≡ in_each c.args.rules.now asked c.loop-number.stopped n c.loop-number.part.maps =
-    each_is c.args.rules.now asked c.loop-number.stopped c.if-stopped.stopped n c.loop-number.part.maps c.commands.new.part.maps c.in_ok-done.done c.action_reply.result c.in_ok-done.ensures.maps c.in_ok-done.ensures.answer c.action_reply.ensures stopped in
+    each_is c.args.rules.now asked c.loop-number.stopped c.if-stopped.stopped n c.loop-number.part.maps c.commands_in.new.part.maps c.loop-number.told c.in_ok-done.done c.in_ok-done.ensures.maps c.in_ok-done.ensures.answer stopped in
     let whole : Outcome (Attempts Bool ActionReply) = in_all c.args.rules.now asked c.args.numbers.now c.args.part.now.maps in
     record {
-      told = ap (λ (l : List ActionReply). attempts_behind l (in_order (in_each c.args.rules.now asked) now.answer.next rest now.maps)) c.in_ok-push.ensures.ok
-          ∙ goes_on (in_each c.args.rules.now asked) c.loop-number.stopped n (drop i c.args.numbers.now) rest c.loop-number.part.maps c.loop-number.answers now whole split did refl c.loop-number.invariant.told;
+      told = (
+        front ++ more,
+        told_on action_reply_text c.args.told c.loop-number.told c.if-stopped.told front more c.loop-number.invariant.told.1 (told ∙ ap (λ (d : Counted Unit ActionReply). d.told) c.in_ok-done.ensures.answer),
+        goes_on (in_each c.args.rules.now asked) c.loop-number.stopped n (drop i c.args.numbers.now) rest c.loop-number.part.maps front now whole split did refl c.loop-number.invariant.told.2,
+      );
       kept = subst (λ (m : Maps). With AnySlot (StaysPart start.keys start.maps) c.args.slots.now m) (sym c.in_ok-done.ensures.maps) (kept_in_each c.args.rules.now (commands_keep_part c.args.rules.now start.keys start.maps) n c.args.slots.now c.args.asked.now c.loop-number.part.maps (listed start.keys start.maps (Each n) asked (c.requires.covered n).held) c.loop-number.invariant.kept);
       keys = c.in_ok-done.ensures.keys ∙ c.loop-number.invariant.keys;
     }
@@ -63,9 +73,9 @@ pub returns : goal.returns
 returns c =
     let asked : List (Option ℕ × Command) = paired_commands c.args.slots.now c.args.asked.now in
     let none : drop c.loop-number.number-index c.args.numbers.now ≡ [] = drop_of_length-le c.args.numbers.now c.loop-number-test.false in
-    let all = ends (in_each c.args.rules.now asked) c.loop-number.stopped (drop c.loop-number.number-index c.args.numbers.now) c.loop-number.part.maps c.loop-number.answers (in_all c.args.rules.now asked c.args.numbers.now c.args.part.now.maps) none c.loop-number.invariant.told in
+    let all = ends (in_each c.args.rules.now asked) c.loop-number.stopped (drop c.loop-number.number-index c.args.numbers.now) c.loop-number.part.maps c.loop-number.invariant.told.0 (in_all c.args.rules.now asked c.args.numbers.now c.args.part.now.maps) none c.loop-number.invariant.told.2 in
     record {
       maps = ap (λ (o : Outcome (Attempts Bool ActionReply)). o.maps) all;
-      answer = ap (λ (o : Outcome (Attempts Bool ActionReply)). o.answer) all;
+      answer = ap (λ (t : Telling ActionReply). let r : Counted Bool ActionReply = record { next = c.loop-number.stopped; told = t; stopped = false } in r) c.loop-number.invariant.told.1 ∙ ap (λ (o : Outcome (Attempts Bool ActionReply)). counted action_reply_text c.args.told o.answer) all;
       keys = c.loop-number.invariant.keys;
     }

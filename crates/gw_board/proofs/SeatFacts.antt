@@ -1,0 +1,115 @@
+-- Places as they are kept.
+use Rattle.std.proofs.Common.{◌≡◌, ℕ, zero, suc, ◌<◌, Bool, true, false, cond, not, List, [], ◌∷◌, ◌++◌, map, length, Some, refl, sym, ap, ◌∙◌, arith, slice_index_or}
+use Rattle.std.specs.Prelude.{slice_get, slice_set}
+use Rattle.std.specs.List.{list_any}
+use Rattle.gw_base.proofs.Booleans.{neither}
+use Rattle.gw_reply.specs.declared.reply.TxReply.{TxReply}
+use Rattle.gw_table.specs.Parts.{Parted}
+use Rattle.gw_board.specs.BoardView.{unclosed}
+use Rattle.gw_board.specs.Boards.{is_closed, AllClosed}
+use Rattle.gw_board.specs.Carried.{Asked}
+use Rattle.gw_board.specs.Core.{Standing, Closed, Place, pending}
+use Rattle.gw_board.specs.Journal.{Original}
+use Rattle.gw_board.specs.Seats.{standing_of, place_of, original_of_part}
+use Rattle.gw_board.specs.declared.seat.Stage.{Stage}
+use Rattle.gw_board.specs.declared.seat.Stage.TheVariants as stage
+use Rattle.gw_board.specs.declared.seat.Seat.{Seat}
+
+pub seat_inside : (seats : List Seat) (i : ℕ) (p : Place) → slice_get (map place_of seats) i ≡ Some p → i < length seats
+seat_inside [] i p e = absurd cc
+seat_inside (s ∷ ss) zero p e = omega arith
+seat_inside (s ∷ ss) (suc i) p e = let h : i < length ss = seat_inside ss i p e in omega (arith, h)
+
+pub staged : (seats : List Seat) (i : ℕ) (old : Seat) (new : Stage) (p : Place) → i < length seats → old ≡ slice_index_or seats i old → slice_get (map place_of seats) i ≡ Some p
+    → map place_of (slice_set seats i (record { task = old.task; stage = new })) ≡ slice_set (map place_of seats) i (record { asked = p.asked; standing = standing_of new })
+staged [] i old new p l f e = absurd (omega arith)
+staged (s ∷ ss) zero old new p l f e =
+    let same : place_of s ≡ p = cc in
+    ap (λ (a : Asked). record { asked = a; standing = standing_of new } ∷ map place_of ss) (ap (λ (x : Seat). x.task) f ∙ ap (λ (x : Place). x.asked) same)
+staged (s ∷ ss) (suc i) old new p l f e = ap (λ (l : List Place). place_of s ∷ l) (staged ss i old new p (omega arith) f e)
+
+pub seat_place : (seats : List Seat) (i : ℕ) (s : Seat) → i < length seats → s ≡ slice_index_or seats i s → slice_get (map place_of seats) i ≡ Some (place_of s)
+seat_place [] i s l f = absurd (omega arith)
+seat_place (t ∷ ts) zero s l f = ap (λ (x : Seat). Some (place_of x)) (sym f)
+seat_place (t ∷ ts) (suc i) s l f = seat_place ts i s (omega arith) f
+
+pub one_more_original : (parts : List Parted) (p : Parted) → map original_of_part (parts ++ p ∷ []) ≡ map original_of_part parts ++ original_of_part p ∷ []
+one_more_original [] p = refl
+one_more_original (q ∷ qs) p = ap (λ (l : List Original). original_of_part q ∷ l) (one_more_original qs p)
+
+-- ---- how many are not closed
+
+pub unclosed-pending : (asked : List Asked) → unclosed (map pending asked) ≡ length asked
+unclosed-pending [] = refl
+unclosed-pending (a ∷ more) = let h : unclosed (map pending more) ≡ length more = unclosed-pending more in omega (arith, h)
+
+pub length-places : (seats : List Seat) → length (map place_of seats) ≡ length seats
+length-places [] = refl
+length-places (s ∷ ss) = let h : length (map place_of ss) ≡ length ss = length-places ss in omega (arith, h)
+
+pub length-pending : (asked : List Asked) → length (map pending asked) ≡ length asked
+length-pending [] = refl
+length-pending (a ∷ more) = let h : length (map pending more) ≡ length more = length-pending more in omega (arith, h)
+
+module _ (a b : ℕ) where
+  both_open : (x y : Bool) → x ≡ false → y ≡ false → a ≡ b → cond x a (suc a) ≡ cond y b (suc b)
+  both_open true y e f g = absurd cc
+  both_open false true e f g = absurd cc
+  both_open false false e f g = ap suc g
+
+  either_way : (x : Bool) → a ≡ b → cond x a (suc a) ≡ cond x b (suc b)
+  either_way true g = g
+  either_way false g = ap suc g
+
+  one_less : (x y : Bool) → x ≡ true → y ≡ false → a ≡ b → suc (cond x a (suc a)) ≡ cond y b (suc b)
+  one_less false y e f g = absurd cc
+  one_less true true e f g = absurd cc
+  one_less true false e f g = ap suc g
+
+  one_less_later : (x : Bool) → suc a ≡ b → suc (cond x a (suc a)) ≡ cond x b (suc b)
+  one_less_later true g = g
+  one_less_later false g = ap suc g
+
+pub unclosed-stays : (places : List Place) (i : ℕ) (p new : Place) → slice_get places i ≡ Some p → is_closed p.standing ≡ false → is_closed new.standing ≡ false → unclosed (slice_set places i new) ≡ unclosed places
+unclosed-stays [] i p new e f g = absurd cc
+unclosed-stays (q ∷ qs) zero p new e f g =
+    let same : q ≡ p = cc in
+    both_open (unclosed qs) (unclosed qs) (is_closed new.standing) (is_closed q.standing) g (ap (λ (x : Place). is_closed x.standing) same ∙ f) refl
+unclosed-stays (q ∷ qs) (suc i) p new e f g = either_way (unclosed (slice_set qs i new)) (unclosed qs) (is_closed q.standing) (unclosed-stays qs i p new e f g)
+
+pub unclosed-less : (places : List Place) (i : ℕ) (p new : Place) → slice_get places i ≡ Some p → is_closed p.standing ≡ false → is_closed new.standing ≡ true → suc (unclosed (slice_set places i new)) ≡ unclosed places
+unclosed-less [] i p new e f g = absurd cc
+unclosed-less (q ∷ qs) zero p new e f g =
+    let same : q ≡ p = cc in
+    one_less (unclosed qs) (unclosed qs) (is_closed new.standing) (is_closed q.standing) g (ap (λ (x : Place). is_closed x.standing) same ∙ f) refl
+unclosed-less (q ∷ qs) (suc i) p new e f g = one_less_later (unclosed (slice_set qs i new)) (unclosed qs) (is_closed q.standing) (unclosed-less qs i p new e f g)
+
+-- ---- where all are closed
+
+pub closed_front : (s : Seat) (ss : List Seat) → AllClosed (map place_of (s ∷ ss)) → (is_closed (standing_of s.stage) ≡ true) × AllClosed (map place_of ss)
+closed_front s ss h = let both = neither (not (is_closed (standing_of s.stage))) (list_any (λ p. not (is_closed p.standing)) (map place_of ss)) h in (by (is_closed (standing_of s.stage)) both.0, both.1)
+  where
+    by : (b : Bool) → not b ≡ false → b ≡ true
+    by true e = refl
+    by false e = absurd cc
+
+pub closed_reply : (x : Stage) → is_closed (standing_of x) ≡ true → ((r : TxReply) → x ≡ stage.Closed r → ⊥) → ⊥
+closed_reply stage.Pending h f = cc
+closed_reply (stage.Opened keys part) h f = cc
+closed_reply (stage.Closed r) h f = f r refl
+
+-- replies so far, and the places that are left
+abbrev pub told_as : List TxReply → List Seat → List Standing
+told_as replies seats = map Closed replies ++ map (λ p. p.standing) (map place_of seats)
+
+pub told_more : (replies : List TxReply) (r : TxReply) (s : Seat) (ss : List Seat) → s.stage ≡ stage.Closed r → told_as (replies ++ r ∷ []) ss ≡ told_as replies (s ∷ ss)
+told_more [] r s ss e = ap (λ (x : Stage). standing_of x ∷ map (λ p. p.standing) (map place_of ss)) (sym e)
+told_more (q ∷ qs) r s ss e = ap (λ (l : List Standing). Closed q ∷ l) (told_more qs r s ss e)
+
+pub told_all : (replies : List TxReply) → told_as replies [] ≡ map Closed replies
+told_all [] = refl
+told_all (r ∷ rs) = ap (λ (l : List Standing). Closed r ∷ l) (told_all rs)
+
+pub nil_of : {X : Type 0} (xs : List X) → length xs ≡ 0 → xs ≡ []
+nil_of [] e = refl
+nil_of (x ∷ xs) e = absurd (omega arith)

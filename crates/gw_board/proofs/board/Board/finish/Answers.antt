@@ -1,0 +1,93 @@
+use Rattle.std.proofs.Common.{◌≡◌, List, [], ◌∷◌, map, length, sym, ap, subst, ◌∙◌, arith}
+use Rattle.gw_reply.specs.declared.reply.TxReply.{TxReply}
+use Rattle.gw_table.specs.Maps.{Outcome}
+use Rattle.gw_board.specs.BoardView.{value_of}
+use Rattle.gw_board.specs.Boards.{Seen, core_of, asked_of, AllClosed}
+use Rattle.gw_board.specs.Carried.{carried}
+use Rattle.gw_board.specs.Results.{AreClosed}
+use Rattle.gw_board.specs.Seats.{place_of}
+use Rattle.gw_board.specs.declared.seat.Seat.{Seat}
+use Rattle.gw_board.proofs.Comes.{all_closed, closed_ones}
+use Rattle.gw_board.proofs.KeptIn.{none_out}
+use Rattle.gw_board.proofs.OnTheWay.{gives_the_fold}
+use Rattle.gw_board.proofs.SeatFacts.{closed_front, closed_reply, told_as, told_more, told_all, nil_of}
+use Rattle.gw_board.proofs.board.Board.finish.Goals as goal
+use Rattle.gw_board.proofs.board.Board.finish.Goals.{After-drop-self-inside-2}
+
+pub loop-seat-init : goal.loop-seat-init
+loop-seat-init c =
+    let rest = c.into_iter-seat-iterator.result.rest in
+    let all : rest.items ≡ c.self.inside.seats.items = c.into_iter-seat-iterator.ensures.into_iter_gives.0 in
+    let count : length rest.items ≡ length c.self.inside.seats.items = ap length all in
+    let none : length c.self.inside.replies.items ≡ 0 = ap length c.self.invariant.room.no_replies in
+    let room = c.self.invariant.room.replies in
+    let n = c.self.inside.replies.ok.0 in
+    let m = c.self.inside.seats.ok.0 in
+    let closed : AllClosed (map place_of c.self.inside.seats.items) = subst (λ (x : Seen). AllClosed x.places) (sym c.self.view_is) c.requires in
+    record {
+      told = ap (λ (l : List TxReply). told_as l rest.items) c.self.invariant.room.no_replies;
+      closed = subst (λ (l : List Seat). AllClosed (map place_of l)) (sym all) closed;
+      room = omega arith;
+    }
+
+pub unreachable-requires : goal.unreachable-requires
+unreachable-requires c =
+    closed_reply c.in-Some.seat.stage
+    (closed_front c.in-Some.seat c.next.new.self.rest.items (subst (λ (l : List Seat). AllClosed (map place_of l)) c.in-Some.ensures.steps.0 c.loop-seat.invariant.closed)).0
+    c.in_default.not-Closed
+
+pub loop-seat-preserved : goal.loop-seat-preserved
+loop-seat-preserved c =
+    let split = c.in-Some.ensures.steps.0 in
+    let count : length c.loop-seat.seat-iterator.rest.items ≡ length (c.in-Some.seat ∷ c.next.new.self.rest.items) = ap length split in
+    let more = c.in-Ok.ensures.len in
+    let space = c.in-Ok.ensures.capacity in
+    let room = c.loop-seat.invariant.room in
+    record {
+      told =
+          ap (λ (l : List TxReply). told_as l c.next.new.self.rest.items) c.in-Ok.ensures.items
+          ∙ told_more c.loop-seat.replies.items c.in-Closed.reply c.in-Some.seat c.next.new.self.rest.items c.in-Closed.is
+          ∙ ap (told_as c.loop-seat.replies.items) (sym split)
+          ∙ c.loop-seat.invariant.told;
+      closed = (closed_front c.in-Some.seat c.next.new.self.rest.items (subst (λ (l : List Seat). AllClosed (map place_of l)) split c.loop-seat.invariant.closed)).1;
+      room = omega arith;
+    }
+
+pub unreachable-requires-in_default-push : goal.unreachable-requires-in_default-push
+unreachable-requires-in_default-push c =
+    let count : length c.loop-seat.seat-iterator.rest.items ≡ length (c.in-Some.seat ∷ c.next.new.self.rest.items) = ap length c.in-Some.ensures.steps.0 in
+    let room = c.loop-seat.invariant.room in
+    let full = c.in_default-push.ensures.full in
+    omega arith
+
+module _ (c : After-drop-self-inside-2) where
+  abbrev b : Seen
+  b = value_of c.self.inside
+
+  abbrev replies : List TxReply
+  replies = c.loop-seat.replies.items
+
+  abbrev ended : Outcome (List TxReply)
+  ended = record { maps = b.maps; answer = replies }
+
+  none_left : c.loop-seat.seat-iterator.rest.items ≡ []
+  none_left = nil_of c.loop-seat.seat-iterator.rest.items (let n = c.in-None.ensures.steps.0 in let o = c.loop-seat.seat-iterator.rest.ok.0 in omega arith)
+
+  are_closed : AreClosed b.places replies
+  are_closed =
+      ap (λ (l : List Seat). told_as [] l) (sym c.into_iter-seat-iterator.ensures.into_iter_gives.0)
+      ∙ sym c.loop-seat.invariant.told
+      ∙ ap (told_as replies) none_left
+      ∙ told_all replies
+
+  comes_to : ended ≡ carried b.rules (asked_of b.places) b.begun
+  comes_to = sym (all_closed b.rules (core_of b) replies are_closed) ∙ gives_the_fold b c.self.invariant.on_the_way
+
+pub returns-clause-maps : goal.returns-clause-maps
+returns-clause-maps c = ap (λ (o : Outcome (List TxReply)). o.maps) (comes_to c) ∙ ap (λ (x : Seen). (carried x.rules (asked_of x.places) x.begun).maps) c.self.view_is
+
+pub returns-clause-replies : goal.returns-clause-replies
+returns-clause-replies c = ap (λ (o : Outcome (List TxReply)). o.answer) (comes_to c) ∙ ap (λ (x : Seen). (carried x.rules (asked_of x.places) x.begun).answer) c.self.view_is
+
+pub returns-clause-here : goal.returns-clause-here
+returns-clause-here c = none_out (b c) c.self.inside.tables c.self.invariant.kept (closed_ones (b c).places (replies c) (are_closed c))

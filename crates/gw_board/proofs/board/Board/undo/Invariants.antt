@@ -1,0 +1,17 @@
+use Rattle.std.proofs.Common.{◌≡◌, map, vec_len}
+use Rattle.gw_table.specs.Stored.{maps_of, NoneIsOut, AreReady}
+use Rattle.gw_board.specs.Fitting.{Each}
+use Rattle.gw_board.specs.Journal.{undone}
+use Rattle.gw_board.specs.Seats.{original_of_part}
+use Rattle.gw_board.proofs.board.Board.undo.Given as goal
+
+-- the originals that are left, laid over the maps, give those of the start
+abbrev pub invariant-loop-part : goal.invariant-loop-part
+invariant-loop-part l = record {
+  here : NoneIsOut l.tables;
+  ready : Each (λ o. AreReady o.keys l.tables) (map original_of_part l.originals.items);
+  back : undone (map original_of_part l.originals.items) (maps_of l.tables) ≡ l.fn.self.begun;
+}
+
+abbrev pub decreases-loop-part : goal.decreases-loop-part
+decreases-loop-part l = vec_len l.originals

@@ -1,0 +1,89 @@
+//! The board: the tables of a burst that is carried out, and how its places stand.
+
+ghost use Rattle.std.specs.Prelude.{◌≡◌, [], IfOk, IfErr, length};
+ghost use Rattle.gw_table.specs.Stored.{maps_of, NoneIsOut};
+ghost use Rattle.gw_table.specs.Unused.{AreUnused};
+ghost use Rattle.gw_table.specs.WellFormed.{AreWellFormed};
+ghost use Rattle.gw_board.specs.Boards.{begun_board, GivesTheFold};
+ghost use Rattle.gw_board.specs.Refused.{HandsBack};
+ghost use Rattle.gw_board.specs.Results.{slots_of};
+
+use crate::asked::Asked;
+use crate::fault::BoardFault;
+use crate::seat::{Seat, seats_of};
+use gw_base::Rules;
+use gw_reply::TxReply;
+use gw_table::{Part, Tables};
+use std::alloc::Global;
+use std::marker::Model;
+use std::snapshot::Snapshot;
+
+/// Tables, and the places of a burst: which requests are pending, open or closed. A place is the number of a request in the burst,
+/// from 0. The entries that an open job may touch are out of the tables. Contracts see the maps, the places, and the way back to the
+/// maps that the board was given.
+#[derive(Drop)]
+pub struct Board<'b, 'h, 'a> {
+    pub(crate) tables: Tables,
+    pub(crate) rules: Rules,
+    pub(crate) seats: Vec<Seat<'b, 'h, 'a>>,
+    pub(crate) originals: Vec<Part>,
+    pub(crate) replies: Vec<TxReply>,
+    pub(crate) start: Snapshot<Tables>,
+}
+
+impl<'b, 'h, 'a> Model for Board<'b, 'h, 'a> {
+    ghost use Rattle.std.specs.Coded.{codes};
+    ghost use Rattle.gw_table.specs.Maps.{coded_maps};
+    ghost use Rattle.gw_board.specs.Boards.{Seen};
+
+    ghost Value = { Seen };
+
+    ghost coded = { Prim.hlevel (codes, coded_maps) };
+
+    ghost use Rattle.gw_board.specs.BoardView.{value_of, IsBoard};
+
+    ghost view = { value_of };
+
+    ghost invariant = { IsBoard };
+}
+
+impl<'b, 'h, 'a> Board<'b, 'h, 'a> {
+    /// A board on which every request is pending. The caller knows that the tables are well-formed, that nothing is out, and that the
+    /// slots that the requests own are distinct and unused. Room for the replies and for the originals is made here.
+    ///
+    /// # Errors
+    ///
+    /// Want of memory. The tables come back as they were.
+    pub fn new(
+        alloc: Global,
+        tables: Tables,
+        rules: Rules,
+        asked: &'b [Asked<'h, 'a>],
+    ) -> Result<Board<'b, 'h, 'a>, BoardFault>
+        requires whole { AreWellFormed rules.members (maps_of tables) }
+        requires here { NoneIsOut tables }
+        requires unused { AreUnused (maps_of tables) [] (slots_of asked.now) }
+        ensures board { IfOk result (λ board. board ≡ begun_board rules asked.now (maps_of tables)) }
+        ensures outcome { IfOk result GivesTheFold }
+        ensures fault { IfErr result (HandsBack tables) }
+    {
+        let Ok(seats) = seats_of(alloc, asked) else {
+            return Err(BoardFault::NoMemory(tables));
+        };
+        let Ok(originals) = Vec::with_capacity(alloc, asked.len()) else {
+            return Err(BoardFault::NoMemory(tables));
+        };
+        let Ok(replies) = Vec::with_capacity(alloc, asked.len()) else {
+            return Err(BoardFault::NoMemory(tables));
+        };
+        let start = Snapshot::of(&tables);
+        Ok(Board {
+            tables,
+            rules,
+            seats,
+            originals,
+            replies,
+            start,
+        })
+    }
+}

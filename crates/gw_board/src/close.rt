@@ -1,0 +1,117 @@
+//! Closing a job, and the end of a board. Nothing here takes memory.
+
+ghost use Rattle.std.specs.Prelude.{◌≡◌};
+ghost use Rattle.gw_table.specs.Stored.{maps_of, NoneIsOut};
+ghost use Rattle.gw_board.specs.Boards.{asked_of, after_end, AllClosed, core_of, GivesTheFold, HasOpen, outcome_of, unchanged, with_result};
+ghost use Rattle.gw_board.specs.Carried.{carried};
+ghost use Rattle.gw_board.specs.Jobs.{new_part};
+ghost use Rattle.gw_board.specs.Results.{NothingIsOpen};
+
+use crate::board::Board;
+use crate::job::{Done, Job};
+use crate::seat::{Seat, Stage, set_stage};
+use gw_reply::TxReply;
+use gw_table::{Part, Tables};
+
+impl<'b, 'h, 'a> Board<'b, 'h, 'a> {
+    /// The job's new entries go into the tables, and its reply stands at its place. The part that it had goes to the journal.
+    fn close_with(&mut self, job: Job<'_, '_, '_>, part: Part, reply: TxReply)
+        requires open { HasOpen self.old job }
+        requires part { part ≡ new_part job }
+        requires reply { reply ≡ (outcome_of job).answer }
+        ensures board { self.new ≡ with_result self.old job.entry }
+        ensures outcome { GivesTheFold self.new }
+    {
+        let Job {
+            place,
+            rules: _,
+            task: _,
+            part: original,
+        } = job;
+        self.tables.put_back(part);
+        set_stage(&mut self.seats, place, Stage::Closed(reply));
+        let Ok(()) = self.originals.push(original) else {
+            unreachable!()
+        };
+    }
+
+    /// The job's entries go back as they were, and its place is pending again.
+    fn take_back(&mut self, job: Job<'_, '_, '_>)
+        requires { HasOpen self.old job }
+        ensures board { self.new ≡ unchanged self.old job.entry }
+        ensures outcome { GivesTheFold self.new }
+    {
+        let Job {
+            place,
+            rules: _,
+            task: _,
+            part,
+        } = job;
+        self.tables.put_back(part);
+        set_stage(&mut self.seats, place, Stage::Pending);
+    }
+
+    /// Closes a job. With its result, its new entries go into the tables, its reply stands at its place, and the part that it had goes
+    /// to the board's journal; unchanged, its entries go back and its place is pending again. The caller knows that this board has the
+    /// job open. The work is two look-ups for each of its keys.
+    pub fn close(&mut self, done: Done<'_, '_, '_>)
+        requires { HasOpen self.old done.job }
+        ensures board { self.new ≡ after_end self.old done.entry }
+        ensures outcome { GivesTheFold self.new }
+    {
+        let Done { job, result_of_job } = done;
+        match result_of_job {
+            Some((part, reply)) => self.close_with(job, part, reply),
+            None => self.take_back(job),
+        }
+    }
+
+    /// The tables as they were when the board was made: the parts of the journal go back, the last one first. The caller knows that
+    /// nothing is open. The work is two look-ups for each key of the journal.
+    pub fn undo(self) -> Tables
+        requires { NothingIsOpen (core_of self) }
+        ensures maps { maps_of result ≡ self.entry.begun }
+        ensures here { NoneIsOut result }
+    {
+        let Board {
+            mut tables,
+            rules: _,
+            seats: _,
+            mut originals,
+            replies: _,
+            start: _,
+        } = self;
+        while let Some(part) = originals.pop() {
+            tables.replace(part);
+        }
+        tables
+    }
+
+    /// The tables, and the replies in the order of the places: what carrying the requests out one after another gives, on the tables
+    /// that the board was made with. The caller knows that every place is closed with a reply.
+    pub fn finish(self) -> (Tables, Vec<TxReply>)
+        requires { AllClosed self.places }
+        ensures maps { maps_of result.0 ≡ (carried self.entry.rules (asked_of self.entry.places) self.entry.begun).maps }
+        ensures replies { result.1.items ≡ (carried self.entry.rules (asked_of self.entry.places) self.entry.begun).answer }
+        ensures here { NoneIsOut result.0 }
+    {
+        let Board {
+            tables,
+            rules: _,
+            seats,
+            originals: _,
+            mut replies,
+            start: _,
+        } = self;
+        for seat in seats {
+            let Seat { task: _, stage } = seat;
+            let Stage::Closed(reply) = stage else {
+                unreachable!()
+            };
+            let Ok(()) = replies.push(reply) else {
+                unreachable!()
+            };
+        }
+        (tables, replies)
+    }
+}

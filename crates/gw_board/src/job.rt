@@ -1,0 +1,112 @@
+//! Jobs: pending requests that are handed out, each with the entries that it may touch.
+
+ghost use Rattle.std.specs.Prelude.{◌≡◌, IfOk, true, false};
+ghost use Rattle.gw_board.specs.Boards.{outcome_of};
+ghost use Rattle.gw_board.specs.Jobs.{new_part};
+
+use crate::asked::Task;
+use gw_base::{NoMemory, Rules};
+use gw_reply::TxReply;
+use gw_table::Part;
+use gw_tx::transaction;
+use std::alloc::Global;
+use std::marker::Model;
+
+/// A request of an open place, with the entries that it may touch, which are out of the tables meanwhile. It may be carried out
+/// wherever its holder likes.
+#[derive(Drop)]
+pub struct Job<'b, 'h, 'a> {
+    pub(crate) place: usize,
+    pub(crate) rules: Rules,
+    pub(crate) task: Task<'b, 'h, 'a>,
+    pub(crate) part: Part,
+}
+
+impl<'b, 'h, 'a> Model for Job<'b, 'h, 'a> {
+    ghost use Rattle.std.specs.Prelude.{◌≡◌};
+    ghost use Rattle.std.specs.Coded.{codes};
+    ghost use Rattle.gw_table.specs.Maps.{coded_maps};
+    ghost use Rattle.gw_table.specs.Parts.{Only, list_of};
+    ghost use Rattle.gw_board.specs.Boards.{Handed};
+    ghost use Rattle.gw_board.specs.Jobs.{IsJob};
+
+    ghost Value = { Handed };
+
+    ghost coded = { Prim.hlevel (codes, coded_maps) };
+
+    ghost view = { λ a. record { rules = a.rules; place = a.place; asked = a.task; keys = list_of a.part.keys; part = a.part.maps } };
+
+    ghost invariant = { λ a. (a.part.keys ≡ Only (list_of a.part.keys)) × IsJob (record { rules = a.rules; place = a.place; asked = a.task; keys = list_of a.part.keys; part = a.part.maps }) };
+}
+
+impl Job<'_, '_, '_> {
+    /// The place that was opened.
+    pub fn place(&self) -> usize
+        ensures { result ≡ self.now.place }
+    {
+        self.place
+    }
+}
+
+/// Carries a job's request out on a copy of its part; the job stays as it is. The work is that of the copy and of the commands.
+///
+/// # Errors
+///
+/// Want of memory.
+pub fn carry(alloc: Global, job: &Job<'_, '_, '_>) -> Result<(Part, TxReply), NoMemory>
+    ensures part { IfOk result (λ new. new.0 ≡ new_part job.now) }
+    ensures reply { IfOk result (λ new. new.1 ≡ (outcome_of job.now).answer) }
+{
+    let mut part = job.part.copy()?;
+    let asked = job.task.get();
+    let request = asked.request.get();
+    let reply = transaction(alloc, &job.rules, &mut part, request, &asked.owned)?;
+    Ok((part, reply))
+}
+
+/// A job that is over: with its result, or unchanged.
+#[derive(Drop)]
+pub struct Done<'b, 'h, 'a> {
+    pub(crate) job: Job<'b, 'h, 'a>,
+    pub(crate) result_of_job: Option<(Part, TxReply)>,
+}
+
+impl<'b, 'h, 'a> Model for Done<'b, 'h, 'a> {
+    ghost use Rattle.std.specs.Prelude.{is_some};
+    ghost use Rattle.std.specs.Coded.{codes};
+    ghost use Rattle.gw_table.specs.Maps.{coded_maps};
+    ghost use Rattle.gw_board.specs.Boards.{Ended};
+    ghost use Rattle.gw_board.specs.Jobs.{AreOfJob};
+
+    ghost Value = { Ended };
+
+    ghost coded = { Prim.hlevel (codes, coded_maps) };
+
+    ghost view = { λ a. record { job = a.job; is_carried = is_some a.result_of_job } };
+
+    ghost invariant = { λ a. AreOfJob a.job a.result_of_job };
+}
+
+impl<'b, 'h, 'a> Done<'b, 'h, 'a> {
+    /// The job with its result. The caller knows that part and reply are what its request does on its part, as `carry` answers them.
+    pub fn new(job: Job<'b, 'h, 'a>, part: Part, reply: TxReply) -> Self
+        requires part { part ≡ new_part job }
+        requires reply { reply ≡ (outcome_of job).answer }
+        ensures { result ≡ record { job = job.entry; is_carried = true } }
+    {
+        Done {
+            job,
+            result_of_job: Some((part, reply)),
+        }
+    }
+
+    /// The job as if it had not been opened.
+    pub fn unchanged(job: Job<'b, 'h, 'a>) -> Self
+        ensures { result ≡ record { job = job.entry; is_carried = false } }
+    {
+        Done {
+            job,
+            result_of_job: None,
+        }
+    }
+}

@@ -1,0 +1,60 @@
+//! The places of a burst, as they are kept.
+
+ghost use Rattle.std.specs.Prelude.{◌≡◌, ◌<◌, IfOk, length, map, Some, slice_get, slice_set, vec_len};
+ghost use Rattle.gw_board.specs.Core.{Place as PlaceOf, pending};
+ghost use Rattle.gw_board.specs.Seats.{standing_of, place_of};
+
+use crate::asked::{Asked, Task};
+use gw_base::{Key, NoMemory};
+use gw_reply::TxReply;
+use gw_table::Part;
+use std::alloc::Global;
+use std::snapshot::Snapshot;
+
+/// How a place stands.
+#[derive(Drop)]
+pub(crate) enum Stage {
+    /// Its request waits.
+    Pending,
+    /// Its job is out: the job's keys, and its part, which contracts alone see.
+    Opened {
+        keys: Vec<Key>,
+        part: Snapshot<Part>,
+    },
+    /// Its request was carried out, with this reply.
+    Closed(TxReply),
+}
+
+/// A place of a burst: what it asks, and how it stands.
+#[derive(Drop)]
+pub(crate) struct Seat<'b, 'h, 'a> {
+    pub(crate) task: Task<'b, 'h, 'a>,
+    pub(crate) stage: Stage,
+}
+
+/// A place for each request, all pending.
+pub(crate) fn seats_of<'b, 'h, 'a>(
+    alloc: Global,
+    asked: &'b [Asked<'h, 'a>],
+) -> Result<Vec<Seat<'b, 'h, 'a>>, NoMemory>
+    ensures { IfOk result (λ seats. map place_of seats.items ≡ map pending asked.now) }
+{
+    let mut seats = Vec::with_capacity(alloc, asked.len())?;
+    for one in asked {
+        seats.push(Seat {
+            task: Task::new(one),
+            stage: Stage::Pending,
+        })?;
+    }
+    Ok(seats)
+}
+
+/// A place stands otherwise from now on.
+pub(crate) fn set_stage(seats: &mut Vec<Seat<'_, '_, '_>>, place: usize, stage: Stage)
+    requires { place < length seats.old.items }
+    ensures places { (p : PlaceOf) → slice_get (map place_of seats.old.items) place ≡ Some p → map place_of seats.new.items ≡ slice_set (map place_of seats.old.items) place (record { asked = p.asked; standing = standing_of stage }) }
+    ensures len { vec_len seats.new ≡ vec_len seats.old }
+{
+    let seat = &mut seats[place];
+    seat.stage = stage;
+}

@@ -1,0 +1,15 @@
+-- Replies that are told as they come, within a limit on their text (own).
+use Rattle.std.specs.Prelude.{ℕ, ◌-◌, nat_le, if◌then◌else◌, List, ◌++◌, length}
+use Rattle.gw_reply.specs.Lists.{later}
+use Rattle.gw_length.specs.declared.telling.Telling.{Telling}
+use Rattle.gw_length.specs.declared.telling.Telling.TheVariants.{All, Within, TooLong}
+
+-- these behind those that are told, where there is room for their text with a comma before each
+abbrev pub told_within : {T : Type 0} → List T → List T → (room taken : ℕ) → Telling T
+told_within front more room taken = if nat_le taken room then Within (front ++ more) (room - taken) else TooLong
+
+-- what is told once these have come too
+abbrev pub told_behind : {T : Type 0} → (T → List ℕ) → Telling T → List T → Telling T
+told_behind text (All front) more = All (front ++ more)
+told_behind text (Within front room) more = told_within front more room (length (later text more))
+told_behind text TooLong more = TooLong

@@ -1,0 +1,62 @@
+//! How long replies to commands and actions are.
+
+ghost use Rattle.std.specs.Prelude.{◌≡◌, ℕ, length};
+ghost use Rattle.gw_length.specs.Rooms.{Leaves};
+ghost use Rattle.gw_reply.specs.Replies.{body_text, command_reply_text, replies_text};
+
+use crate::room::{Length, behind, behind_joined};
+use crate::words::verb_length;
+use gw_base::{Code, Items};
+use gw_reply::{ActionReply, CommandReply, ReplyPart};
+
+/// Behind what follows the TerminationID.
+fn behind_body(room: usize, outcome: &Result<Items<ReplyPart>, Code>) -> Option<usize>
+    ensures { Leaves result room (length (body_text outcome.now)) }
+{
+    match outcome {
+        Ok(parts) if parts.is_empty() => Some(room),
+        Ok(parts) => {
+            let left = behind(room, b"{}".len())?;
+            behind_joined(left, parts.as_slice())
+        }
+        Err(code) => {
+            let left = behind(room, b"{}".len())?;
+            code.room_behind(left)
+        }
+    }
+}
+
+impl Length for CommandReply {
+    ghost use Rattle.gw_reply.specs.Replies.{command_reply_text};
+
+    ghost text = { command_reply_text };
+
+    fn room_behind(&self, room: usize) -> Option<usize> {
+        let left = behind(room, verb_length(self.verb))?;
+        let left = behind(left, b"=".len())?;
+        let left = self.term.room_behind(left)?;
+        behind_body(left, &self.result)
+    }
+}
+
+/// Behind the replies of an action, or the error that stands for all of them.
+fn behind_commands(room: usize, outcome: &Result<Items<CommandReply>, Code>) -> Option<usize>
+    ensures { Leaves result room (length (replies_text command_reply_text outcome.now)) }
+{
+    match outcome {
+        Ok(replies) => behind_joined(room, replies.as_slice()),
+        Err(code) => code.room_behind(room),
+    }
+}
+
+impl Length for ActionReply {
+    ghost use Rattle.gw_reply.specs.Replies.{action_reply_text};
+
+    ghost text = { action_reply_text };
+
+    fn room_behind(&self, room: usize) -> Option<usize> {
+        let left = behind(room, b"Context={}".len())?;
+        let left = self.ctx.room_behind(left)?;
+        behind_commands(left, &self.result)
+    }
+}

@@ -1,0 +1,78 @@
+//! Replies that are told as they come, within a limit on their text.
+
+ghost use Rattle.std.specs.Prelude.{◌≡◌, ◌∷◌, [], length, IfOk};
+ghost use Rattle.gw_reply.specs.Lists.{later};
+ghost use Rattle.gw_length.specs.Rooms.{Leaves};
+ghost use Rattle.gw_length.specs.Tellings.{told_behind};
+
+use crate::room::{Length, behind, behind_later};
+use gw_base::{Items, NoMemory};
+
+/// Replies that are told as they come. What is kept of them is never longer, as text, than the room that there was at first.
+#[derive(Drop)]
+pub enum Telling<T> {
+    /// All of them, however long.
+    All(Items<T>),
+    /// All of them so far, and for how many bytes more there is room. Each reply takes its text and a comma.
+    Within(Items<T>, usize),
+    /// There was no room for all of them: none is kept, and nothing more need be told.
+    TooLong,
+}
+
+/// The room that is left behind a comma and the reply.
+fn behind_one<T: Length>(room: usize, reply: &T) -> Option<usize>
+    ensures { Leaves result room (length (later T.text (reply.now ∷ []))) }
+{
+    let left = behind(room, 1)?;
+    reply.room_behind(left)
+}
+
+impl<T: Length + Drop> Telling<T> {
+    /// One reply more, behind those that are told. The work is linear in the parts of the reply that there is room for.
+    ///
+    /// # Errors
+    ///
+    /// Want of memory.
+    pub fn tell(self, reply: T) -> Result<Telling<T>, NoMemory>
+        ensures { IfOk result (λ told. told ≡ told_behind T.text self (reply ∷ [])) }
+    {
+        match self {
+            Telling::All(mut replies) => {
+                replies.push(reply)?;
+                Ok(Telling::All(replies))
+            }
+            Telling::Within(mut replies, room) => {
+                let Some(left) = behind_one(room, &reply) else {
+                    return Ok(Telling::TooLong);
+                };
+                replies.push(reply)?;
+                Ok(Telling::Within(replies, left))
+            }
+            Telling::TooLong => Ok(Telling::TooLong),
+        }
+    }
+
+    /// More replies, behind those that are told. The work is linear in the parts of the replies that there is room for.
+    ///
+    /// # Errors
+    ///
+    /// Want of memory.
+    pub fn tell_all(self, more: Items<T>) -> Result<Telling<T>, NoMemory>
+        ensures { IfOk result (λ told. told ≡ told_behind T.text self more) }
+    {
+        match self {
+            Telling::All(mut replies) => {
+                replies.append(more)?;
+                Ok(Telling::All(replies))
+            }
+            Telling::Within(mut replies, room) => {
+                let Some(left) = behind_later(room, more.as_slice()) else {
+                    return Ok(Telling::TooLong);
+                };
+                replies.append(more)?;
+                Ok(Telling::Within(replies, left))
+            }
+            Telling::TooLong => Ok(Telling::TooLong),
+        }
+    }
+}

@@ -1,0 +1,116 @@
+//! How long the words and the identifiers of a reply are.
+
+ghost use Rattle.std.specs.Prelude.{◌≡◌, length};
+ghost use Rattle.gw_reply.specs.Commands.{command_word};
+ghost use Rattle.gw_reply.specs.Contexts.{context_text};
+ghost use Rattle.gw_reply.specs.Errors.{error_text};
+ghost use Rattle.gw_reply.specs.Parts.{mode_word, service_word, kind_word, item_word};
+ghost use Rattle.gw_reply.specs.Terminations.{term_text};
+
+use crate::room::{Length, behind, behind_number};
+use gw_base::{Code, CtxNum, CtxRef, Service, TermRef, Verb};
+use gw_desc::{AuditItem, KeptKind, Mode};
+
+pub(crate) fn mode_length(mode: Mode) -> usize
+    ensures { result ≡ length (mode_word mode) }
+{
+    match mode {
+        Mode::SendOnly => b"SendOnly".len(),
+        Mode::ReceiveOnly => b"ReceiveOnly".len(),
+        Mode::SendReceive => b"SendReceive".len(),
+        Mode::Inactive => b"Inactive".len(),
+        Mode::Loopback => b"Loopback".len(),
+    }
+}
+
+pub(crate) fn service_length(service: Service) -> usize
+    ensures { result ≡ length (service_word service) }
+{
+    match service {
+        Service::Test => b"Test".len(),
+        Service::OutOfService => b"OutOfService".len(),
+        Service::InService => b"InService".len(),
+    }
+}
+
+pub(crate) fn kind_length(kind: KeptKind) -> usize
+    ensures { result ≡ length (kind_word kind) }
+{
+    match kind {
+        KeptKind::Events => b"Events".len(),
+        KeptKind::Signals => b"Signals".len(),
+        KeptKind::DigitMap => b"DigitMap".len(),
+        KeptKind::EventBuffer => b"EventBuffer".len(),
+    }
+}
+
+pub(crate) fn item_length(item: AuditItem) -> usize
+    ensures { result ≡ length (item_word item) }
+{
+    match item {
+        AuditItem::Media => b"Media".len(),
+        AuditItem::Kept(kind) => kind_length(kind),
+        AuditItem::Statistics => b"Statistics".len(),
+        AuditItem::ObservedEvents => b"ObservedEvents".len(),
+        AuditItem::Packages => b"Packages".len(),
+    }
+}
+
+pub(crate) fn verb_length(verb: Verb) -> usize
+    ensures { result ≡ length (command_word verb) }
+{
+    match verb {
+        Verb::Add => b"Add".len(),
+        Verb::Modify => b"Modify".len(),
+        Verb::Move => b"Move".len(),
+        Verb::Subtract => b"Subtract".len(),
+        Verb::AuditValue => b"AuditValue".len(),
+        Verb::AuditCapability => b"AuditCapability".len(),
+        Verb::Notify => b"Notify".len(),
+        Verb::ServiceChange => b"ServiceChange".len(),
+    }
+}
+
+impl Length for Code {
+    ghost use Rattle.gw_reply.specs.Errors.{error_text};
+
+    ghost text = { error_text };
+
+    fn room_behind(&self, room: usize) -> Option<usize> {
+        let left = behind(room, b"Error={\"\"}".len())?;
+        let left = behind_number(left, u32::from(self.number()))?;
+        behind(left, self.text().len())
+    }
+}
+
+impl Length for CtxRef {
+    ghost use Rattle.gw_reply.specs.Contexts.{context_text};
+
+    ghost text = { context_text };
+
+    fn room_behind(&self, room: usize) -> Option<usize> {
+        match self {
+            CtxRef::Null | CtxRef::All | CtxRef::Choose => behind(room, 1),
+            CtxRef::Num(CtxNum(number)) => behind_number(room, *number),
+        }
+    }
+}
+
+impl Length for TermRef {
+    ghost use Rattle.gw_reply.specs.Terminations.{term_text};
+
+    ghost text = { term_text };
+
+    fn room_behind(&self, room: usize) -> Option<usize> {
+        match self {
+            TermRef::Root => behind(room, b"ROOT".len()),
+            TermRef::All | TermRef::Choose => behind(room, 1),
+            TermRef::Under(prefix) => {
+                let left = behind(room, 1)?;
+                behind(left, prefix.as_bytes().len())
+            }
+            TermRef::Name(name) => behind(room, name.as_bytes().len()),
+            TermRef::Other(pattern) => behind(room, pattern.as_bytes().len()),
+        }
+    }
+}

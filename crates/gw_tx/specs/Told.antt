@@ -1,0 +1,34 @@
+-- What is told of a transaction within a limit (own): its whole reply, or that its text is longer.
+use Rattle.std.specs.Prelude.{ℕ, nat_le, if◌then◌else◌, List, [], length, Ok}
+use Rattle.gw_base.specs.declared.ids.TxId.{TxId}
+use Rattle.gw_length.specs.declared.telling.Telling.{Telling}
+use Rattle.gw_length.specs.declared.telling.Telling.TheVariants as telling
+use Rattle.gw_length.specs.Tellings.{told_behind}
+use Rattle.gw_reply.specs.declared.reply.ActionReply.{ActionReply}
+use Rattle.gw_reply.specs.declared.reply.CommandReply.{CommandReply}
+use Rattle.gw_reply.specs.declared.reply.TxReply.{TxReply}
+use Rattle.gw_reply.specs.Replies.{transaction_reply_text}
+use Rattle.gw_table.specs.declared.attempts.Attempts.{Attempts}
+use Rattle.gw_tx.specs.declared.told.Counted.{Counted}
+use Rattle.gw_tx.specs.declared.told.Told.{Told}
+use Rattle.gw_tx.specs.declared.told.Told.TheVariants.{Whole, TooLong}
+
+-- the reply, where its text has so many bytes at most
+abbrev pub within : ℕ → TxReply → Told
+within limit reply = if nat_le (length (transaction_reply_text reply)) limit then Whole reply else TooLong
+
+-- what attempts came to, told behind what was told before them
+abbrev pub counted : {S A : Type 0} → (A → List ℕ) → Telling A → Attempts S A → Counted S A
+counted text told done = record { next = done.next; told = told_behind text told done.answers; stopped = done.stopped }
+
+-- of the commands of an action no more is told than of the action
+abbrev pub inside : Telling ActionReply → Telling CommandReply
+inside (telling.All replies) = telling.All []
+inside (telling.Within replies room) = telling.Within [] room
+inside telling.TooLong = telling.TooLong
+
+-- behind the last action
+abbrev pub told_of : TxId → Telling ActionReply → Told
+told_of id (telling.All replies) = Whole (record { id = id; result = Ok replies })
+told_of id (telling.Within replies room) = Whole (record { id = id; result = Ok replies })
+told_of id telling.TooLong = TooLong

@@ -1,0 +1,76 @@
+//! What is told of a transaction: its replies as they come, within a limit or without.
+
+ghost use Rattle.std.specs.Prelude.{◌≡◌, ◌+◌, List, length, decimal, Ok as Replies};
+ghost use Rattle.gw_length.specs.Rooms.{Leaves};
+ghost use Rattle.gw_length.specs.Tellings.{told_behind};
+ghost use Rattle.gw_reply.specs.declared.reply.ActionReply.{ActionReply};
+ghost use Rattle.gw_reply.specs.Replies.{action_reply_text};
+ghost use Rattle.gw_tx.specs.Told.{inside, told_of, within};
+
+use gw_base::{Items, TxId};
+use gw_length::{Telling, behind, behind_number};
+use gw_reply::{ActionReply, CommandReply, TxReply};
+use std::alloc::Global;
+
+/// What attempts came to that are told as they come.
+#[derive(Drop)]
+pub(crate) struct Counted<S, A> {
+    /// From where later items go on.
+    pub next: S,
+    /// What is told.
+    pub told: Telling<A>,
+    /// Whether nothing more is attempted.
+    pub stopped: bool,
+}
+
+/// What is told of a transaction within a limit.
+#[derive(Drop)]
+pub enum Told {
+    /// Its whole reply, whose text is not longer than the limit.
+    Whole(TxReply),
+    /// The text of its reply is longer than the limit: no reply was kept.
+    TooLong,
+}
+
+/// What may be told of the commands of an action: no more than of the action.
+pub(crate) fn inside(alloc: Global, told: &Telling<ActionReply>) -> Telling<CommandReply>
+    ensures { result ≡ inside told.now }
+{
+    match told {
+        Telling::All(_) => Telling::All(Items::new(alloc)),
+        Telling::Within(_, room) => Telling::Within(Items::new(alloc), *room),
+        Telling::TooLong => Telling::TooLong,
+    }
+}
+
+/// The room between the braces of a reply of this number, whose text has so many bytes at most.
+fn room_in_braces(id: TxId, limit: usize) -> Option<usize>
+    ensures { Leaves result limit (length (decimal id.0) + 8) }
+{
+    let left = behind(limit, b"Reply={}".len())?;
+    behind_number(left, id.0)
+}
+
+/// What is told of a transaction before its first action, where its text has so many bytes at most. The first action has no comma
+/// before it, so there is room for one more.
+pub(crate) fn told_within(alloc: Global, id: TxId, limit: usize) -> Telling<ActionReply>
+    ensures { (replies : List ActionReply) → told_of id (told_behind action_reply_text result replies) ≡ within limit (record { id = id; result = Replies replies }) }
+{
+    match room_in_braces(id, limit) {
+        Some(left) => Telling::Within(Items::new(alloc), left + 1),
+        None => Telling::TooLong,
+    }
+}
+
+/// What is told of a transaction behind its last action.
+pub(crate) fn told_of(id: TxId, told: Telling<ActionReply>) -> Told
+    ensures { result ≡ told_of id told }
+{
+    match told {
+        Telling::All(replies) | Telling::Within(replies, _) => Told::Whole(TxReply {
+            id,
+            result: Ok(replies),
+        }),
+        Telling::TooLong => Told::TooLong,
+    }
+}
