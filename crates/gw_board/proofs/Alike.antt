@@ -61,13 +61,13 @@ take-take [] (suc i) (suc j) l = refl
 take-take (x ∷ xs) (suc i) zero l = refl
 take-take (x ∷ xs) (suc i) (suc j) l = ap (λ k. x ∷ k) (take-take xs i j (omega arith))
 
-get-take : {X : Type 0} (xs : List X) (i j : ℕ) → j < i → slice_get (take i xs) j ≡ slice_get xs j
+pub get-take : {X : Type 0} (xs : List X) (i j : ℕ) → j < i → slice_get (take i xs) j ≡ slice_get xs j
 get-take xs zero j l = absurd (omega arith)
 get-take [] (suc i) j l = refl
 get-take (x ∷ xs) (suc i) zero l = refl
 get-take (x ∷ xs) (suc i) (suc j) l = get-take xs i j (omega arith)
 
-below-take : {X : Type 0} (xs : List X) (i j : ℕ) → j < length (take i xs) → j < i
+pub below-take : {X : Type 0} (xs : List X) (i j : ℕ) → j < length (take i xs) → j < i
 below-take xs zero j l = absurd (omega arith)
 below-take [] (suc i) j l = absurd (omega arith)
 below-take (x ∷ xs) (suc i) zero l = omega arith

@@ -1,4 +1,5 @@
 pub mod Alike
+pub mod Behind
 pub mod Closing
 pub mod Comes
 pub mod Drawing
@@ -8,10 +9,12 @@ pub mod FirstOfAll
 pub mod KeptIn
 pub mod Leading
 pub mod LeftOut
+pub mod Naming
 pub mod OnTheWay
 pub mod Opening
 pub mod Orders
 pub mod Outs
+pub mod Planned
 pub mod Planning
 pub mod Requests
 pub mod SeatFacts

@@ -17,7 +17,7 @@ or_false : (b : Bool) → (b || false) ≡ b
 or_false true = refl
 or_false false = refl
 
-or_group : (a b c : Bool) → (a || (b || c)) ≡ ((a || b) || c)
+pub or_group : (a b c : Bool) → (a || (b || c)) ≡ ((a || b) || c)
 or_group true b c = refl
 or_group false b c = refl
 
@@ -33,8 +33,11 @@ range_more n = sym (map-id (range_with_len 0 (n + 1))) ∙ (map-range_with_len_m
 abbrev pub free_at : Core → ℕ → Bool
 free_at s i = is_free s.maps (take i s.places) (slice_get s.places i)
 
+pub filter_more : (f : ℕ → Bool) (n : ℕ) → filter f (range_with_len 0 (n + 1)) ≡ filter f (range_with_len 0 n) ++ cond (f n) (n ∷ []) []
+filter_more f n = ap (filter f) (range_more n) ∙ filter-append f (range_with_len 0 n) (n ∷ [])
+
 pub wave_more : (s : Core) (n : ℕ) → filter (free_at s) (range_with_len 0 (n + 1)) ≡ filter (free_at s) (range_with_len 0 n) ++ cond (free_at s n) (n ∷ []) []
-wave_more s n = ap (filter (free_at s)) (range_more n) ∙ filter-append (free_at s) (range_with_len 0 n) (n ∷ [])
+wave_more s n = filter_more (free_at s) n
 
 -- the keys of those that wait are those of the earlier pending places
 abbrev pub AreThose : Core → ℕ → List (List Key) → Type 0

@@ -1,10 +1,11 @@
 -- Places as they are kept.
-use Rattle.std.proofs.Common.{◌≡◌, ℕ, zero, suc, ◌<◌, Bool, true, false, cond, not, List, [], ◌∷◌, ◌++◌, map, length, Some, refl, sym, ap, ◌∙◌, arith, slice_index_or}
+use Rattle.std.proofs.Common.{◌≡◌, ℕ, zero, suc, ◌<◌, ◌≤◌, Bool, true, false, cond, not, List, [], ◌∷◌, ◌++◌, map, length, take, Some, refl, sym, ap, ◌∙◌, arith, slice_index_or}
 use Rattle.std.specs.Prelude.{slice_get, slice_set}
 use Rattle.std.specs.List.{list_any}
 use Rattle.gw_base.proofs.Booleans.{neither}
 use Rattle.gw_reply.specs.declared.reply.TxReply.{TxReply}
 use Rattle.gw_table.specs.Parts.{Parted}
+use Rattle.gw_board.proofs.Alike.{take-map, get-take, below-take}
 use Rattle.gw_board.specs.BoardView.{unclosed}
 use Rattle.gw_board.specs.Boards.{is_closed, AllClosed}
 use Rattle.gw_board.specs.Carried.{Asked}
@@ -32,6 +33,18 @@ pub seat_place : (seats : List Seat) (i : ℕ) (s : Seat) → i < length seats �
 seat_place [] i s l f = absurd (omega arith)
 seat_place (t ∷ ts) zero s l f = ap (λ (x : Seat). Some (place_of x)) (sym f)
 seat_place (t ∷ ts) (suc i) s l f = seat_place ts i s (omega arith) f
+
+-- the same of the places up to one
+pub front_place : (seats : List Seat) (e i : ℕ) (s : Seat) → i < length (take e seats) → s ≡ slice_index_or (take e seats) i s → slice_get (map place_of seats) i ≡ Some (place_of s)
+front_place seats e i s l f =
+    sym (get-take (map place_of seats) e i (below-take seats e i l))
+    ∙ ap (λ (ps : List Place). slice_get ps i) (sym (take-map place_of seats e))
+    ∙ seat_place (take e seats) i s l f
+
+pub length-take-within : {X : Type 0} (xs : List X) (e : ℕ) → e ≤ length xs → length (take e xs) ≡ e
+length-take-within xs zero l = refl
+length-take-within [] (suc e) l = absurd (omega arith)
+length-take-within (x ∷ xs) (suc e) l = let h : length (take e xs) ≡ e = length-take-within xs e (omega arith) in omega (arith, h)
 
 pub one_more_original : (parts : List Parted) (p : Parted) → map original_of_part (parts ++ p ∷ []) ≡ map original_of_part parts ++ original_of_part p ∷ []
 one_more_original [] p = refl

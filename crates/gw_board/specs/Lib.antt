@@ -7,6 +7,8 @@ pub mod Fitting
 pub mod Jobs
 pub mod Journal
 pub mod Met
+pub mod Named
+pub mod Planned
 pub mod Refused
 pub mod Results
 pub mod Seats

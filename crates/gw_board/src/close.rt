@@ -45,9 +45,9 @@ impl<'b, 'h, 'a> Board<'b, 'h, 'a> {
             place,
             rules: _,
             task: _,
-            part,
+            part: back,
         } = job;
-        self.tables.put_back(part);
+        self.tables.put_back(back);
         set_stage(&mut self.seats, place, Stage::Pending);
     }
 

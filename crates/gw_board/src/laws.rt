@@ -1,17 +1,22 @@
 //! What follows from the definitions alone.
 
-ghost use Rattle.std.specs.Prelude.{◌≡◌, ℕ, ◌<◌, nat_eq, Bool, length, true, false, List, [], Some, take, slice_get};
+ghost use Rattle.std.specs.Prelude.{◌≡◌, ℕ, ◌<◌, nat_eq, Bool, length, true, false, List, [], ◌∷◌, Some, take, slice_get};
 ghost use Rattle.std.specs.List.{list_any};
 ghost use Rattle.gw_base.specs.declared.command_words.Rules.{Rules};
 ghost use Rattle.gw_reply.specs.declared.reply.TxReply.{TxReply};
 ghost use Rattle.gw_table.specs.Maps.{Maps};
 ghost use Rattle.gw_table.specs.Unused.{AreUnused};
 ghost use Rattle.gw_table.specs.WellFormed.{AreWellFormed};
+ghost use Rattle.gw_board.specs.Boards.{Seen, Handed, core_of, Opens};
 ghost use Rattle.gw_board.specs.Carried.{Asked, keys_of, carried};
 ghost use Rattle.gw_board.specs.Core.{Core, Job, Event, Events, MayDraw, start, pending, undrawn_at};
 ghost use Rattle.gw_board.specs.Endings.{all_ended};
 ghost use Rattle.gw_board.specs.Fitting.{FitsTogether};
 ghost use Rattle.gw_board.specs.Journal.{journal, undone};
+ghost use Rattle.gw_board.specs.Met.{IsRefused};
+ghost use Rattle.gw_board.specs.Planned.{MayOpenEach};
+ghost use Rattle.gw_board.specs.declared.fault.OpenFault.{OpenFault};
+ghost use Rattle.gw_board.specs.declared.fault.OpenFault.TheVariants.{NoMemory};
 ghost use Rattle.gw_board.specs.Results.{is_open_at, NothingIsOpen, AreClosed, carried_on, result_of, slots_of};
 ghost use Rattle.gw_board.specs.Waves.{wave, is_pending, IsMet, MayOpenAll};
 
@@ -57,4 +62,12 @@ pub fn waves_may_be_opened()
 /// first, give the maps of the start.
 pub fn originals_give_the_tables_back()
     ensures { (rules : Rules) (workers : ℕ) (asked : List Asked) (m : Maps) (s : Core) → AreWellFormed rules.members m → AreUnused m [] (slots_of asked) → (events : Events rules (start workers asked m) s) → NothingIsOpen s → undone (journal events) s.maps ≡ m }
+{}
+
+/// While nothing is open on a board, the places of its wave may be opened one after another: so they still may after each of them was,
+/// and `open` refuses none of them but for want of memory.
+pub fn planned_places_are_opened()
+    ensures wave { (b : Seen) → NothingIsOpen (core_of b) → MayOpenEach b (wave (core_of b)) }
+    ensures next { (b c : Seen) (i : ℕ) (later : List ℕ) (h : Handed) → MayOpenEach b (i ∷ later) → Opens b i h c → MayOpenEach c later }
+    ensures refused { (b : Seen) (i : ℕ) (later : List ℕ) (fault : OpenFault) → MayOpenEach b (i ∷ later) → IsRefused b i fault → fault ≡ NoMemory }
 {}

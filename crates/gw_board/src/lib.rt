@@ -7,6 +7,7 @@ mod close;
 mod fault;
 mod job;
 mod laws;
+mod named;
 mod open;
 mod plan;
 mod seat;
@@ -17,5 +18,6 @@ pub use fault::{BoardFault, OpenFault};
 pub use job::{Done, Job, carry};
 pub use laws::{
     events_leave_what_a_state_comes_to, lawful_events_give_the_fold, open_jobs_may_be_drawn,
-    originals_give_the_tables_back, waves_may_be_opened, what_is_open_may_be_closed,
+    originals_give_the_tables_back, planned_places_are_opened, waves_may_be_opened,
+    what_is_open_may_be_closed,
 };

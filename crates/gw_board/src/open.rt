@@ -54,7 +54,7 @@ fn has_key(keys: &[Key], key: &Key) -> bool
 }
 
 /// Whether a key is in both lists.
-fn share_a_key(a: &[Key], b: &[Key]) -> bool
+pub(crate) fn share_a_key(a: &[Key], b: &[Key]) -> bool
     ensures { result ≡ list_any (has a.now) b.now }
 {
     b.iter().any(|key| has_key(a, key))
@@ -78,7 +78,7 @@ fn does_meet(
 {
     match &seat.stage {
         Stage::Pending => {
-            let theirs = keys_of(alloc, tables, &seat.task)?;
+            let theirs = keys_of(alloc, tables, seat.task.task())?;
             Ok(meets(&theirs, keys))
         }
         Stage::Opened { keys: theirs, .. } => Ok(lists_meet(theirs, keys.list())),
@@ -110,7 +110,7 @@ impl<'b, 'h, 'a> Board<'b, 'h, 'a> {
     {
         let seat = self.seats.get(place)?;
         match seat.stage {
-            Stage::Pending => Some(seat.task.again()),
+            Stage::Pending => Some(seat.task.task().again()),
             _ => None,
         }
     }

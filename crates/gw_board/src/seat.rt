@@ -4,7 +4,8 @@ ghost use Rattle.std.specs.Prelude.{◌≡◌, ◌<◌, IfOk, length, map, Some,
 ghost use Rattle.gw_board.specs.Core.{Place as PlaceOf, pending};
 ghost use Rattle.gw_board.specs.Seats.{standing_of, place_of};
 
-use crate::asked::{Asked, Task};
+use crate::asked::Asked;
+use crate::named::Named;
 use gw_base::{Key, NoMemory};
 use gw_reply::TxReply;
 use gw_table::Part;
@@ -28,7 +29,7 @@ pub(crate) enum Stage {
 /// A place of a burst: what it asks, and how it stands.
 #[derive(Drop)]
 pub(crate) struct Seat<'b, 'h, 'a> {
-    pub(crate) task: Task<'b, 'h, 'a>,
+    pub(crate) task: Named<'b, 'h, 'a>,
     pub(crate) stage: Stage,
 }
 
@@ -42,7 +43,7 @@ pub(crate) fn seats_of<'b, 'h, 'a>(
     let mut seats = Vec::with_capacity(alloc, asked.len())?;
     for one in asked {
         seats.push(Seat {
-            task: Task::new(one),
+            task: Named::new(alloc, one)?,
             stage: Stage::Pending,
         })?;
     }

@@ -1,0 +1,48 @@
+-- What a request names by itself (own): the contexts that its actions are for by number, and the terminations that its commands are for
+-- by name. They are keys of it, whatever the maps are.
+use Rattle.std.specs.Prelude.{◌≡◌, ℕ, Bool, false, ◌||◌, List, take, slice_get}
+use Rattle.std.specs.List.{list_any}
+use Rattle.gw_base.specs.declared.command_words.CtxRef.{CtxRef}
+use Rattle.gw_base.specs.declared.command_words.CtxRef.TheVariants as ref
+use Rattle.gw_base.specs.declared.key.Key.{Key}
+use Rattle.gw_base.specs.declared.key.Key.TheVariants.{Term, Ctx}
+use Rattle.gw_base.specs.declared.term_ref.TermRef.{TermRef}
+use Rattle.gw_base.specs.declared.term_ref.TermRef.TheVariants as term
+use Rattle.gw_base.specs.Keys.{has, same_key}
+use Rattle.gw_msg.specs.declared.message.Action.{Action}
+use Rattle.gw_msg.specs.declared.message.Command.{Command}
+use Rattle.gw_msg.specs.declared.message.Request.{Request}
+use Rattle.gw_table.specs.Maps.{Maps}
+use Rattle.gw_board.specs.Core.{Place}
+use Rattle.gw_board.specs.Waves.{is_free}
+
+abbrev pub names_term : Key → TermRef → Bool
+names_term k (term.Name t) = same_key k (Term t)
+names_term k term.All = false
+names_term k (term.Under prefix) = false
+names_term k term.Choose = false
+names_term k term.Root = false
+names_term k (term.Other text) = false
+
+abbrev pub names_context : Key → CtxRef → Bool
+names_context k (ref.Num n) = same_key k (Ctx n)
+names_context k ref.Null = false
+names_context k ref.All = false
+names_context k ref.Choose = false
+
+abbrev pub names_in_commands : Key → List Command → Bool
+names_in_commands k cs = list_any (λ c. names_term k c.term) cs
+
+abbrev pub names_in : Key → Action → Bool
+names_in k a = names_context k a.ctx || names_in_commands k a.commands
+
+abbrev pub is_named : Request → Key → Bool
+is_named r k = list_any (names_in k) r.actions
+
+-- these and no others
+abbrev pub AreNamed : Request → List Key → Type 0
+AreNamed r keys = (k : Key) → has keys k ≡ is_named r k
+
+-- whatever the maps are, the place is in no wave
+abbrev pub WaitsAlways : List Place → ℕ → Type 0
+WaitsAlways places i = (m : Maps) → is_free m (take i places) (slice_get places i) ≡ false
