@@ -1,3 +1,4 @@
+pub mod Celled
 pub mod Exchanged
 pub mod Folding
 pub mod Frames
@@ -13,4 +14,5 @@ pub mod Places
 pub mod Prepared
 pub mod Provisioning
 pub mod Shown
+pub mod Searched
 pub mod SlotNames

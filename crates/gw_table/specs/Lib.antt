@@ -1,4 +1,5 @@
 pub mod Accesses
+pub mod Cells
 pub mod Folds
 pub mod KeyLists
 pub mod Locality

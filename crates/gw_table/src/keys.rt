@@ -3,8 +3,8 @@
 ghost use Rattle.std.specs.Prelude.{◌≡◌, IfOk};
 ghost use Rattle.gw_table.specs.KeyLists.{IsInOrder, IsListOf};
 
+use crate::cell::{Cell, empty_cells};
 use crate::key_list::put_in_order;
-use crate::tables::Tables;
 use gw_base::{Key, NoMemory};
 use std::alloc::Global;
 use std::marker::Model;
@@ -14,13 +14,14 @@ use std::marker::Model;
 #[derive(Drop)]
 pub struct Keys {
     pub(crate) list: Vec<Key>,
-    pub(crate) places: Tables,
+    pub(crate) cells: Vec<Cell>,
 }
 
 impl Model for Keys {
-    ghost use Rattle.std.specs.Prelude.{List};
+    ghost use Rattle.std.specs.Prelude.{◌≡◌, List, length};
     ghost use Rattle.std.specs.Coded.{coded_list};
     ghost use Rattle.gw_base.specs.declared.key.Key.{Key};
+    ghost use Rattle.gw_table.specs.Cells.{celled};
     ghost use Rattle.gw_table.specs.KeyLists.{IsInOrder};
     ghost use Rattle.gw_table.specs.Parts.{coded_key};
     ghost use Rattle.gw_table.specs.Stored.{AreBlank};
@@ -31,7 +32,7 @@ impl Model for Keys {
 
     ghost view = { λ a. a.list.items };
 
-    ghost invariant = { λ a. IsInOrder a.list.items × AreBlank a.list.items a.places };
+    ghost invariant = { λ a. IsInOrder a.list.items × (length a.cells.items ≡ length a.list.items) × AreBlank a.list.items (celled a.list.items a.cells.items) };
 }
 
 impl Keys {
@@ -44,9 +45,8 @@ impl Keys {
         requires { IsInOrder list.items }
         ensures { IfOk result (λ keys. keys ≡ list.items) }
     {
-        let mut places = Tables::new(alloc);
-        places.reserve_slots(&list)?;
-        Ok(Keys { list, places })
+        let cells = empty_cells(alloc, &list)?;
+        Ok(Keys { list, cells })
     }
 
     /// The given keys and no other. The work is n log n in the keys.
@@ -69,7 +69,7 @@ impl Keys {
         ensures order { IsInOrder self.now }
     {
         // No effect at run time. The proof reads here that the keys are in order.
-        let _ = &self.places;
+        let _ = &self.cells;
         &self.list
     }
 }

@@ -2,6 +2,7 @@
 #![tactic(auto)]
 
 mod attempts;
+mod cell;
 mod key_list;
 mod key_order;
 mod keys;

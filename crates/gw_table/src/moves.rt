@@ -1,14 +1,16 @@
 //! Entries that go from tables to a part, and back. Nothing here takes memory.
 
-ghost use Rattle.std.specs.Prelude.{◌≡◌, Some, [], true, List};
+ghost use Rattle.std.specs.Prelude.{◌≡◌, Some, [], true, List, length};
 ghost use Rattle.std.specs.FinMap as finite;
 ghost use Rattle.gw_base.specs.declared.key.Key.{Key};
 ghost use Rattle.gw_base.specs.declared.key.Key.TheVariants.{Term, Ctx};
 ghost use Rattle.gw_base.specs.Keys.{has};
+ghost use Rattle.gw_table.specs.Cells.{celled, cell_from, out_cell, with_cell};
 ghost use Rattle.gw_table.specs.KeyLists.{IsInOrder};
 ghost use Rattle.gw_table.specs.Parts.{Only, list_of, restricted, cut, overlaid};
-ghost use Rattle.gw_table.specs.Stored.{maps_of, is_ready, put_term_place, put_ctx_place, with_out, with_place_of, AreMoved, AreReady, AreIn, AreOut, AreAsReady, AreAsOut, WentOut, CameBack};
+ghost use Rattle.gw_table.specs.Stored.{maps_of, is_ready, put_term_place, put_ctx_place, with_out, AreMoved, AreReady, AreIn, AreOut, AreAsReady, AreAsOut, WentOut, CameBack};
 
+use crate::cell::Cell;
 use crate::keys::Keys;
 use crate::part::Part;
 use crate::place::Place;
@@ -51,40 +53,65 @@ impl Tables {
         }
     }
 
-    /// Moves what stands at a key.
-    fn move_to(&mut self, key: &Key, to: &mut Tables)
-        requires from { is_ready self.old key.now ≡ true }
-        requires to { is_ready to.old key.now ≡ true }
+    /// Takes what stands at a key out, into its cell.
+    fn take_one(&mut self, key: &Key, cell: &mut Cell)
+        requires { is_ready self.old key.now ≡ true }
         ensures left { self.new ≡ with_out self.old key.now }
-        ensures full { to.new ≡ with_place_of self.old key.now to.old }
+        ensures full { cell.new ≡ cell_from self.old key.now }
+    {
+        *cell = match key {
+            Key::Term(name) => Cell::OfTerm(self.exchange_term(name, Place::Out)),
+            Key::Ctx(number) => Cell::OfCtx(self.exchange_ctx(*number, Place::Out)),
+            Key::Whole => Cell::OfWhole,
+        };
+    }
+
+    /// Takes what stands at each of the keys out, into its cell.
+    fn take_each(&mut self, keys: &[Key], cells: &mut [Cell])
+        requires order { IsInOrder keys.now }
+        requires as_many { length cells.old ≡ length keys.now }
+        requires ready { AreReady keys.now self.old }
+        ensures moved { AreMoved keys.now self.old (celled keys.now cells.old) self.new (celled keys.now cells.new) }
+        ensures as_many { length cells.new ≡ length keys.now }
+    {
+        for (i, key) in keys.iter().enumerate() {
+            self.take_one(key, &mut cells[i]);
+        }
+    }
+
+    /// Puts what is in the cell of a key there.
+    fn put_one(&mut self, key: &Key, cell: &mut Cell)
+        requires { is_ready self.old key.now ≡ true }
+        ensures left { cell.new ≡ out_cell key.now cell.old }
+        ensures full { self.new ≡ with_cell key.now cell.old self.old }
     {
         match key {
             Key::Term(name) => {
-                let place = self.exchange_term(name, Place::Out);
-                to.exchange_term(name, place);
+                let place = mem::replace(cell, Cell::OfTerm(Place::Out)).into_term();
+                self.exchange_term(name, place);
             }
             Key::Ctx(number) => {
-                let place = self.exchange_ctx(*number, Place::Out);
-                to.exchange_ctx(*number, place);
+                let place = mem::replace(cell, Cell::OfCtx(Place::Out)).into_ctx();
+                self.exchange_ctx(*number, place);
             }
             Key::Whole => {}
         }
     }
 
-    /// Moves what stands at each of the keys.
-    fn move_each(&mut self, keys: &[Key], to: &mut Tables)
+    /// Puts what is in the cell of each of the keys there.
+    fn put_each(&mut self, keys: &[Key], cells: &mut [Cell])
         requires order { IsInOrder keys.now }
-        requires from { AreReady keys.now self.old }
-        requires to { AreReady keys.now to.old }
-        ensures { AreMoved keys.now self.old to.old self.new to.new }
+        requires as_many { length cells.old ≡ length keys.now }
+        requires ready { AreReady keys.now self.old }
+        ensures { AreMoved keys.now (celled keys.now cells.old) self.old (celled keys.now cells.new) self.new }
     {
-        for key in keys {
-            self.move_to(key, to);
+        for (i, key) in keys.iter().enumerate() {
+            self.put_one(key, &mut cells[i]);
         }
     }
 
     /// Takes the entries of the keys out, as a part. The caller knows that each key is prepared and none is out. Of `Whole` nothing
-    /// is asked but that every entry's key is listed, and then the part has every entry. A key takes two look-ups.
+    /// is asked but that every entry's key is listed, and then the part has every entry. A key takes one look-up.
     pub fn take_out(&mut self, keys: Keys) -> Part
         requires ready { AreReady keys self.old }
         requires here { AreIn keys self.old }
@@ -94,9 +121,9 @@ impl Tables {
         ensures out { WentOut keys self.old self.new }
         ensures ready { AreAsReady self.old self.new }
     {
-        let Keys { list, mut places } = keys;
-        self.move_each(&list, &mut places);
-        Part { keys: list, places }
+        let Keys { list, mut cells } = keys;
+        self.take_each(&list, &mut cells);
+        Part { keys: list, cells }
     }
 
     /// Lays the entries of a part over those that are here.
@@ -106,12 +133,12 @@ impl Tables {
         ensures out { CameBack (list_of part.keys) self.old self.new }
         ensures ready { AreAsReady self.old self.new }
     {
-        let Part { keys, mut places } = part;
-        places.move_each(&keys, self);
+        let Part { keys, mut cells } = part;
+        self.put_each(&keys, &mut cells);
     }
 
     /// Puts the entries of a part back: each of its keys has the part's entry then, or none where the part has none. The caller
-    /// knows that its keys are out. A key takes two look-ups.
+    /// knows that its keys are out. A key takes one look-up.
     pub fn put_back(&mut self, part: Part)
         requires { AreOut (list_of part.keys) self.old }
         ensures maps { maps_of self.new ≡ overlaid (list_of part.keys) part.maps (maps_of self.old) }
@@ -122,7 +149,7 @@ impl Tables {
     }
 
     /// Puts the entries of a part in place of those that are here: each of its keys has the part's entry then, or none where the
-    /// part has none. The caller knows that its keys are prepared and none is out. A key takes two look-ups.
+    /// part has none. The caller knows that its keys are prepared and none is out. A key takes one look-up.
     pub fn replace(&mut self, part: Part)
         requires ready { AreReady (list_of part.keys) self.old }
         requires here { AreIn (list_of part.keys) self.old }

@@ -8,8 +8,10 @@ ghost use Rattle.gw_table.specs.Maps.{term, ctx, put_term, put_ctx, names, numbe
 ghost use Rattle.gw_table.specs.Members.{put_service, with_member, without_member};
 ghost use Rattle.gw_table.specs.Parts.{holds};
 
+use crate::cell::{
+    Cell, copy_cells, exchange_ctx_cell, exchange_term_cell, find_name, find_number,
+};
 use crate::place::Place;
-use crate::tables::Tables;
 use gw_base::{CtxNum, Held, Key, NoMemory, Service, TermName};
 use gw_ctx::{Context, JoinFault};
 use gw_term::Termination;
@@ -20,10 +22,12 @@ use std::marker::Model;
 #[derive(Drop)]
 pub struct Part {
     pub(crate) keys: Vec<Key>,
-    pub(crate) places: Tables,
+    pub(crate) cells: Vec<Cell>,
 }
 
 impl Model for Part {
+    ghost use Rattle.std.specs.Prelude.{◌≡◌, length};
+    ghost use Rattle.gw_table.specs.Cells.{celled};
     ghost use Rattle.gw_table.specs.KeyLists.{IsInOrder};
     ghost use Rattle.gw_table.specs.Parts.{Parted, Only, coded_part};
     ghost use Rattle.gw_table.specs.Stored.{maps_of, ArePacked};
@@ -32,9 +36,9 @@ impl Model for Part {
 
     ghost coded = { coded_part };
 
-    ghost view = { λ a. record { keys = Only a.keys.items; maps = maps_of a.places } };
+    ghost view = { λ a. record { keys = Only a.keys.items; maps = maps_of (celled a.keys.items a.cells.items) } };
 
-    ghost invariant = { λ a. IsInOrder a.keys.items × ArePacked a.keys.items a.places };
+    ghost invariant = { λ a. IsInOrder a.keys.items × (length a.cells.items ≡ length a.keys.items) × ArePacked a.keys.items (celled a.keys.items a.cells.items) };
 }
 
 /// The name joins the context as its last member. The caller knows that there is room.
@@ -61,7 +65,7 @@ impl Part {
     {
         Ok(Part {
             keys: self.keys.clone()?,
-            places: self.places.copy()?,
+            cells: copy_cells(*self.keys.allocator(), &self.cells)?,
         })
     }
 
@@ -69,14 +73,20 @@ impl Part {
     pub fn term(&self, name: &TermName) -> Option<&Termination>
         ensures { option_copied result ≡ term self.now.maps name.now }
     {
-        self.places.find_term(name)
+        match find_name(&self.keys, name) {
+            Some(i) => self.cells[i].term(),
+            None => None,
+        }
     }
 
     /// The context with a number.
     pub fn ctx(&self, number: CtxNum) -> Option<&Context>
         ensures { option_copied result ≡ ctx self.now.maps number }
     {
-        self.places.find_ctx(number)
+        match find_number(&self.keys, number) {
+            Some(i) => self.cells[i].ctx(),
+            None => None,
+        }
     }
 
     /// Sets the termination of a name, and hands back the one before. The caller knows that the name is one of the part's keys.
@@ -90,9 +100,7 @@ impl Part {
         ensures maps { self.new.maps ≡ put_term self.old.maps name entry }
         ensures keys { self.new.keys ≡ self.old.keys }
     {
-        self.places
-            .exchange_term(&name, Place::of(entry))
-            .into_entry()
+        exchange_term_cell(&self.keys, &mut self.cells, &name, Place::of(entry)).into_entry()
     }
 
     /// Sets the context with a number, and hands back the one before. The caller knows that the number is one of the part's keys.
@@ -102,9 +110,7 @@ impl Part {
         ensures maps { self.new.maps ≡ put_ctx self.old.maps number entry }
         ensures keys { self.new.keys ≡ self.old.keys }
     {
-        self.places
-            .exchange_ctx(number, Place::of(entry))
-            .into_entry()
+        exchange_ctx_cell(&self.keys, &mut self.cells, number, Place::of(entry)).into_entry()
     }
 
     /// The termination of a name has another service state, if there is one. The caller knows that the name is one of the part's
@@ -181,7 +187,15 @@ impl Part {
     pub fn names(&self, alloc: Global) -> Result<Vec<TermName>, NoMemory>
         ensures { IfOk result (λ list. list.items ≡ names self.now.maps) }
     {
-        self.places.names(alloc)
+        let mut names = Vec::with_capacity(alloc, self.keys.len())?;
+        for (i, key) in self.keys.iter().enumerate() {
+            if let Key::Term(name) = key {
+                if self.cells[i].term().is_some() {
+                    names.push(*name)?;
+                }
+            }
+        }
+        Ok(names)
     }
 
     /// The numbers of all contexts that the part shows, rising.
@@ -192,6 +206,14 @@ impl Part {
     pub fn numbers(&self, alloc: Global) -> Result<Vec<CtxNum>, NoMemory>
         ensures { IfOk result (λ list. list.items ≡ numbers self.now.maps) }
     {
-        self.places.numbers(alloc)
+        let mut numbers = Vec::with_capacity(alloc, self.keys.len())?;
+        for (i, key) in self.keys.iter().enumerate() {
+            if let Key::Ctx(number) = key {
+                if self.cells[i].ctx().is_some() {
+                    numbers.push(*number)?;
+                }
+            }
+        }
+        Ok(numbers)
     }
 }

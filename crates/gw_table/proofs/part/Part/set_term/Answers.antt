@@ -1,26 +1,51 @@
-use Rattle.std.proofs.Common.{◌≡◌, true, subst, sym, ap, ◌∙◌}
+use Rattle.std.proofs.Common.{◌≡◌, true, List, ◌++◌, length, take, drop, subst, sym, ap, ◌∙◌}
+use Rattle.std.specs.FinMap as finite
 use Rattle.gw_base.specs.Keys.{has}
+use Rattle.gw_base.specs.declared.key.Key.{Key}
 use Rattle.gw_base.specs.declared.key.Key.TheVariants.{Term}
-use Rattle.gw_term.specs.declared.record.Termination.{Termination}
-use Rattle.gw_table.specs.declared.place.Place.{Place}
+use Rattle.gw_table.specs.declared.cell.Cell.{Cell}
+use Rattle.gw_table.specs.Cells.{celled}
 use Rattle.gw_table.specs.Maps.{term, put_term}
 use Rattle.gw_table.specs.Parts.{Parted, holds}
 use Rattle.gw_table.specs.Stored.{Stored, shown, placed, maps_of, put_term_place, ArePacked}
+use Rattle.gw_table.proofs.Celled.{written_back}
 use Rattle.gw_table.proofs.Places.{term-maps_of, maps-put_term_place, shown_placed, packed-put_term}
 use Rattle.gw_table.proofs.part.Part.set_term.Goals as goal
 
+abbrev before : (c : goal.After-into_entry) → Stored
+before c = celled c.self.inside.keys.items c.self.inside.cells.items
+
+-- the cells that the slice of them wrote back
+abbrev cells : (c : goal.After-into_entry) → List Cell
+cells c = take c.self.inside.cells.len (c.exchange_term_cell.new.cells ++ drop (length c.exchange_term_cell.new.cells) c.self.inside.cells.items)
+
+as_many : (c : goal.After-into_entry) → length c.exchange_term_cell.new.cells ≡ length c.self.inside.keys.items
+as_many c = c.exchange_term_cell.ensures.as_many ∙ ap (λ (l : List Key). length l) c.deref.ensures.value
+
+cells_are : (c : goal.After-into_entry) → cells c ≡ c.exchange_term_cell.new.cells
+cells_are c =
+    let room : length c.self.inside.cells.items ≡ c.self.inside.cells.len = ap (λ (l : List Cell). length l) (sym c.deref_mut.ensures.value) ∙ c.deref_mut.ensures.len in
+    written_back c.exchange_term_cell.new.cells c.self.inside.cells.items c.self.inside.cells.len (as_many c ∙ sym c.self.invariant.1 ∙ room) room
+
+after : (c : goal.After-into_entry) → celled c.self.inside.keys.items (cells c) ≡ put_term_place (before c) c.args.name (placed c.args.entry)
+after c =
+    ap (λ l. celled c.self.inside.keys.items l) (cells_are c) ∙ ap (λ (l : List Key). celled l c.exchange_term_cell.new.cells) (sym c.deref.ensures.value) ∙ c.exchange_term_cell.ensures.after
+    ∙ (λ i. put_term_place (celled (c.deref.ensures.value i) (c.deref_mut.ensures.value i)) c.args.name (c.of.ensures i))
+
 pub invariant_of-self : goal.invariant_of-self
 invariant_of-self c =
-    let held : has c.self.inside.keys.items (Term c.args.name) ≡ true = ap (λ (p : Parted). holds p.keys (Term c.args.name)) c.self.view_is ∙ c.requires in
-    let new = c.exchange_term.ensures.after ∙ ap (λ (p : Place Termination). put_term_place c.self.inside.places c.args.name p) c.of.ensures in
-    (c.self.invariant.0, subst (λ (s : Stored). ArePacked c.self.inside.keys.items s) (sym new) (packed-put_term c.self.inside.keys.items c.self.inside.places c.args.name c.args.entry held c.self.invariant.1))
+    let held : has c.self.inside.keys.items (Term c.args.name) ≡ true = ap (λ (p : Parted). holds p.keys (Term c.args.name)) c.self.view_is ∙ c.requires in (
+      c.self.invariant.0,
+      ap (λ (l : List Cell). length l) (cells_are c) ∙ as_many c,
+      subst (λ (s : Stored). ArePacked c.self.inside.keys.items s) (sym (after c)) (packed-put_term c.self.inside.keys.items (before c) c.args.name c.args.entry held c.self.invariant.2),
+    )
 
 pub returns-clause-before : goal.returns-clause-before
 returns-clause-before c =
-    c.into_entry.ensures ∙ ap (λ o. shown o) c.exchange_term.ensures.before ∙ sym (term-maps_of c.self.inside.places c.args.name) ∙ ap (λ (p : Parted). term p.maps c.args.name) c.self.view_is
+    c.into_entry.ensures ∙ ap (λ o. shown o) (c.exchange_term_cell.ensures.before ∙ (λ i. finite.get (celled (c.deref.ensures.value i) (c.deref_mut.ensures.value i)).terms c.args.name))
+    ∙ sym (term-maps_of (before c) c.args.name) ∙ ap (λ (p : Parted). term p.maps c.args.name) c.self.view_is
 
 pub returns-clause-maps : goal.returns-clause-maps
 returns-clause-maps c =
-    ap (λ s. maps_of s) (c.exchange_term.ensures.after ∙ ap (λ (p : Place Termination). put_term_place c.self.inside.places c.args.name p) c.of.ensures)
-    ∙ maps-put_term_place c.self.inside.places c.args.name (placed c.args.entry) ∙ ap (λ o. put_term (maps_of c.self.inside.places) c.args.name o) (shown_placed c.args.entry)
+    ap (λ s. maps_of s) (after c) ∙ maps-put_term_place (before c) c.args.name (placed c.args.entry) ∙ ap (λ o. put_term (maps_of (before c)) c.args.name o) (shown_placed c.args.entry)
     ∙ ap (λ (p : Parted). put_term p.maps c.args.name c.args.entry) c.self.view_is

@@ -1,0 +1,191 @@
+//! What stands at the keys of a part: a cell for each, found by a search among the keys in order.
+
+ghost use Rattle.std.specs.Prelude.{◌≡◌, ◌≤◌, List, Some, true, length, map, IfOk, option_copied};
+ghost use Rattle.std.specs.FinMap as finite;
+ghost use Rattle.gw_base.specs.declared.key.Key.{Key};
+ghost use Rattle.gw_base.specs.declared.key.Key.TheVariants.{Term, Ctx};
+ghost use Rattle.gw_base.specs.Keys.{has};
+ghost use Rattle.gw_table.specs.Cells.{cell_term, cell_ctx, empty_cell, celled, IsFound};
+ghost use Rattle.gw_table.specs.KeyLists.{key_cmp, IsInOrder};
+ghost use Rattle.gw_table.specs.Stored.{shown, put_term_place, put_ctx_place};
+
+use crate::place::{Place, entry_at};
+use gw_base::{CtxNum, Held, Key, NoMemory, TermName};
+use gw_ctx::Context;
+use gw_term::Termination;
+use std::alloc::Global;
+use std::cmp::Ordering;
+use std::mem;
+
+/// The place of a key of a part, by the kind of the key. Of `Whole` there is none.
+#[derive(Drop)]
+pub enum Cell {
+    /// The place of a termination.
+    OfTerm(Place<Held<Termination>>),
+    /// The place of a context.
+    OfCtx(Place<Held<Context>>),
+    /// No place.
+    OfWhole,
+}
+
+impl Cell {
+    /// The cell of a key, with no entry.
+    fn empty(key: &Key) -> Cell
+        ensures { result ≡ empty_cell key.now }
+    {
+        match key {
+            Key::Term(_) => Cell::OfTerm(Place::Empty),
+            Key::Ctx(_) => Cell::OfCtx(Place::Empty),
+            Key::Whole => Cell::OfWhole,
+        }
+    }
+
+    /// The place of a termination.
+    pub(crate) fn into_term(self) -> Place<Held<Termination>>
+        ensures { result ≡ cell_term self }
+    {
+        match self {
+            Cell::OfTerm(place) => place,
+            Cell::OfCtx(_) | Cell::OfWhole => Place::Empty,
+        }
+    }
+
+    /// The place of a context.
+    pub(crate) fn into_ctx(self) -> Place<Held<Context>>
+        ensures { result ≡ cell_ctx self }
+    {
+        match self {
+            Cell::OfCtx(place) => place,
+            Cell::OfTerm(_) | Cell::OfWhole => Place::Empty,
+        }
+    }
+
+    /// An equal cell.
+    fn copy(&self) -> Result<Cell, NoMemory>
+        ensures { IfOk result (λ copy. copy ≡ self.now) }
+    {
+        match self {
+            Cell::OfTerm(place) => Ok(Cell::OfTerm(place.clone()?)),
+            Cell::OfCtx(place) => Ok(Cell::OfCtx(place.clone()?)),
+            Cell::OfWhole => Ok(Cell::OfWhole),
+        }
+    }
+
+    /// The termination that stands here.
+    pub(crate) fn term(&self) -> Option<&Termination>
+        ensures { option_copied result ≡ shown (Some (cell_term self.now)) }
+    {
+        match self {
+            Cell::OfTerm(place) => entry_at(Some(place)),
+            Cell::OfCtx(_) | Cell::OfWhole => None,
+        }
+    }
+
+    /// The context that stands here.
+    pub(crate) fn ctx(&self) -> Option<&Context>
+        ensures { option_copied result ≡ shown (Some (cell_ctx self.now)) }
+    {
+        match self {
+            Cell::OfCtx(place) => entry_at(Some(place)),
+            Cell::OfTerm(_) | Cell::OfWhole => None,
+        }
+    }
+}
+
+/// A cell for each key, with no entry.
+pub(crate) fn empty_cells(alloc: Global, keys: &[Key]) -> Result<Vec<Cell>, NoMemory>
+    ensures { IfOk result (λ cells. cells.items ≡ map empty_cell keys.now) }
+{
+    let mut cells = Vec::with_capacity(alloc, keys.len())?;
+    for key in keys {
+        cells.push(Cell::empty(key))?;
+    }
+    Ok(cells)
+}
+
+fn compare_to_name(key: &Key, name: &TermName) -> Ordering
+    ensures { result ≡ key_cmp key.now (Term name.now) }
+{
+    match key {
+        Key::Term(own) => own.cmp(name),
+        Key::Ctx(_) | Key::Whole => Ordering::Greater,
+    }
+}
+
+fn compare_to_number(key: &Key, number: CtxNum) -> Ordering
+    ensures { result ≡ key_cmp key.now (Ctx number) }
+{
+    match key {
+        Key::Term(_) => Ordering::Less,
+        Key::Ctx(own) => own.0.cmp(&number.0),
+        Key::Whole => Ordering::Greater,
+    }
+}
+
+/// Where a name stands among keys in order.
+pub(crate) fn find_name(keys: &[Key], name: &TermName) -> Option<usize>
+    requires { IsInOrder keys.now }
+    ensures { IsFound keys.now (Term name.now) result }
+{
+    keys.binary_search_by(|key| compare_to_name(key, name)).ok()
+}
+
+/// Where the number of a context stands among keys in order.
+pub(crate) fn find_number(keys: &[Key], number: CtxNum) -> Option<usize>
+    requires { IsInOrder keys.now }
+    ensures { IsFound keys.now (Ctx number) result }
+{
+    keys.binary_search_by(|key| compare_to_number(key, number))
+        .ok()
+}
+
+/// Puts something else in the place of a termination, and answers what stood there. The caller knows that the name is one of the keys.
+pub(crate) fn exchange_term_cell(
+    keys: &[Key],
+    cells: &mut [Cell],
+    name: &TermName,
+    new: Place<Held<Termination>>,
+) -> Place<Held<Termination>>
+    requires order { IsInOrder keys.now }
+    requires as_many { length cells.old ≡ length keys.now }
+    requires key { has keys.now (Term name.now) ≡ true }
+    ensures before { Some result ≡ finite.get (celled keys.now cells.old).terms name.now }
+    ensures after { celled keys.now cells.new ≡ put_term_place (celled keys.now cells.old) name.now new }
+    ensures as_many { length cells.new ≡ length keys.now }
+{
+    match find_name(keys, name) {
+        Some(i) => mem::replace(&mut cells[i], Cell::OfTerm(new)).into_term(),
+        None => unreachable!(),
+    }
+}
+
+/// Puts something else in the place of a context, and answers what stood there. The caller knows that the number is one of the keys.
+pub(crate) fn exchange_ctx_cell(
+    keys: &[Key],
+    cells: &mut [Cell],
+    number: CtxNum,
+    new: Place<Held<Context>>,
+) -> Place<Held<Context>>
+    requires order { IsInOrder keys.now }
+    requires as_many { length cells.old ≡ length keys.now }
+    requires key { has keys.now (Ctx number) ≡ true }
+    ensures before { Some result ≡ finite.get (celled keys.now cells.old).contexts number.0 }
+    ensures after { celled keys.now cells.new ≡ put_ctx_place (celled keys.now cells.old) number new }
+    ensures as_many { length cells.new ≡ length keys.now }
+{
+    match find_number(keys, number) {
+        Some(i) => mem::replace(&mut cells[i], Cell::OfCtx(new)).into_ctx(),
+        None => unreachable!(),
+    }
+}
+
+/// Equal cells.
+pub(crate) fn copy_cells(alloc: Global, cells: &[Cell]) -> Result<Vec<Cell>, NoMemory>
+    ensures { IfOk result (λ copy. copy.items ≡ cells.now) }
+{
+    let mut copy = Vec::with_capacity(alloc, cells.len())?;
+    for cell in cells {
+        copy.push(cell.copy()?)?;
+    }
+    Ok(copy)
+}
