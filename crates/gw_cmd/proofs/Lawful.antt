@@ -47,7 +47,7 @@ same_there (Some a) (Some b) h = ap (λ k. Some k) (same_number a b h)
 
 -- ---- refusals that do not come
 
-elsewhere_none : (place there : Option CtxNum) → refusal_elsewhere place there ≡ None → there ≡ place
+pub elsewhere_none : (place there : Option CtxNum) → refusal_elsewhere place there ≡ None → there ≡ place
 elsewhere_none place there h = at (same_place there place) refl h
   where
     at : (b : Bool) → same_place there place ≡ b → (if b then None else Some NotInContext) ≡ None → there ≡ place

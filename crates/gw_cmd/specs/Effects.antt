@@ -6,6 +6,7 @@ use Rattle.gw_base.specs.declared.code.Code.{Code}
 use Rattle.gw_base.specs.declared.code.Code.TheVariants.{IllegalCombination, AlreadyInContext, ContextFull, NotInContext, InsufficientResources, UnknownCommand, UnknownTermination}
 use Rattle.gw_base.specs.declared.ids.CtxNum.{CtxNum}
 use Rattle.gw_base.specs.declared.command_words.Rules.{Rules}
+use Rattle.gw_base.specs.declared.command_words.Service.{Service}
 use Rattle.gw_base.specs.declared.command_words.Verb.{Verb}
 use Rattle.gw_base.specs.declared.command_words.Verb.TheVariants.{Add, Modify, Move, Subtract, AuditValue, AuditCapability, Notify, ServiceChange}
 use Rattle.gw_desc.specs.declared.descriptor.Descriptor.{Descriptor}
@@ -18,6 +19,7 @@ use Rattle.gw_term.specs.Record.{placed, serviced, reset}
 use Rattle.gw_term.specs.Merge.{merged, filled_by}
 use Rattle.gw_term.specs.Audit.{audit_parts}
 use Rattle.gw_table.specs.Maps.{Maps, Outcome, term, ctx, members_of}
+use Rattle.gw_table.specs.Members.{put_service}
 use Rattle.gw_refusal.specs.Asked.{audited, asks_media, is_some_list, service_asked}
 use Rattle.gw_cmd.specs.declared.change.Change.TheVariants.{Stays, Becomes, Joins, Crosses, Leaves}
 use Rattle.gw_cmd.specs.declared.change.Decided.{Decided}
@@ -166,3 +168,15 @@ on_found rules place c t (Some r) m = on_record rules place c t r m
 -- on the termination of a name
 abbrev pub on_name : Rules → Option CtxNum → Command → List ℕ → Maps → Outcome (Result (List ReplyPart) Code)
 on_name rules place c t m = on_found rules place c t (term m t) m
+
+-- ---- what needs no new record
+
+-- of a termination that is left as it is nothing is told, unless it is refused
+abbrev pub nothing_told : Option Code → Result (List ReplyPart) Code
+nothing_told (Some code) = Err code
+nothing_told None = Ok []
+
+-- another service state, unless it is refused
+abbrev pub after_service : Option Code → Service → List ℕ → Maps → Outcome (Result (List ReplyPart) Code)
+after_service (Some code) s t m = record { maps = m; answer = Err code }
+after_service None s t m = record { maps = put_service s t m (term m t); answer = Ok [] }

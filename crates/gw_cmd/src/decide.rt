@@ -51,7 +51,7 @@ fn refusal_to_move(full: bool, number: CtxNum, place: Option<CtxNum>) -> Option<
 }
 
 /// Why nothing is done to a termination that is elsewhere.
-fn refusal_elsewhere(place: Option<CtxNum>, there: Option<CtxNum>) -> Option<Code>
+pub(crate) fn refusal_elsewhere(place: Option<CtxNum>, there: Option<CtxNum>) -> Option<Code>
     ensures { result ≡ refusal_elsewhere place there }
 {
     if is_same_place(there, place) {

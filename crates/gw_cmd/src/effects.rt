@@ -7,17 +7,18 @@ ghost use Rattle.gw_table.specs.Parts.{holds, HoldsPlace};
 ghost use Rattle.gw_table.specs.Reserved.{slot_name};
 ghost use Rattle.gw_table.specs.WellFormed.{IsSound};
 ghost use Rattle.gw_term.specs.Record.{ephemeral};
-ghost use Rattle.gw_cmd.specs.Effects.{decided as decided_by, done, on_record, on_name};
+ghost use Rattle.gw_cmd.specs.Effects.{refusal_elsewhere, nothing_told, after_service, decided as decided_by, done, on_record, on_name};
 ghost use Rattle.gw_cmd.specs.Changes.{changed};
 ghost use Rattle.gw_cmd.specs.Refused.{Answers, Tells};
 ghost use Rattle.gw_cmd.specs.Suits.{Suits, HoldsMoved, HoldsFound};
 
 use crate::change::{Change, Decided};
-use crate::decide::{decided_in, decided_in_null};
+use crate::decide::{decided_in, decided_in_null, refusal_elsewhere};
 use crate::members::is_full;
 use crate::refusal::Refusal;
-use gw_base::{Code, CtxNum, Held, Items, NoMemory, Rules, TermName};
+use gw_base::{Code, CtxNum, Held, Items, NoMemory, Rules, Service, TermName, Verb};
 use gw_msg::Command;
+use gw_refusal::service_asked;
 use gw_reply::ReplyPart;
 use gw_table::{Part, slot_name};
 use gw_term::Termination;
@@ -104,6 +105,40 @@ fn decided(
     }
 }
 
+/// What is told of a termination that a merge of nothing leaves as it is, without a copy of its record.
+fn unchanged(
+    alloc: Global,
+    place: Option<CtxNum>,
+    old: &Termination,
+) -> Result<Items<ReplyPart>, Refusal>
+    ensures { Answers result (nothing_told (refusal_elsewhere place old.now.place)) }
+{
+    match refusal_elsewhere(place, old.place()) {
+        Some(code) => Err(Refusal::Code(code)),
+        None => Ok(Items::new(alloc)),
+    }
+}
+
+/// Changes the service state of a termination where it lies.
+fn serviced(
+    alloc: Global,
+    part: &mut Part,
+    place: Option<CtxNum>,
+    name: TermName,
+    there: Option<CtxNum>,
+    service: Service,
+) -> Result<Items<ReplyPart>, Refusal>
+    requires { holds part.old.keys (Term name) ≡ true }
+    ensures told { Tells result part.new.maps (after_service (refusal_elsewhere place there) service name part.old.maps) }
+    ensures keys { part.new.keys ≡ part.old.keys }
+{
+    if let Some(code) = refusal_elsewhere(place, there) {
+        return Err(Refusal::Code(code));
+    }
+    part.set_service(&name, service);
+    Ok(Items::new(alloc))
+}
+
 /// Carries the command out on the termination of a name.
 #[tactic(auto, unfolding(crate::specs::Effects::on_record))]
 pub(crate) fn on_name(
@@ -124,8 +159,18 @@ pub(crate) fn on_name(
     let Some(old) = part.term(&name) else {
         return Err(Refusal::Code(Code::UnknownTermination));
     };
-    let decided = decided(alloc, rules, part, place, command, old)?;
-    done(alloc, rules, part, name, decided)
+    match command.verb {
+        Verb::Modify if command.descriptors.is_empty() => unchanged(alloc, place, old),
+        Verb::ServiceChange => {
+            let there = old.place();
+            let service = service_asked(command.descriptors.as_slice()).unwrap_or(old.service());
+            serviced(alloc, part, place, name, there, service)
+        }
+        _ => {
+            let decided = decided(alloc, rules, part, place, command, old)?;
+            done(alloc, rules, part, name, decided)
+        }
+    }
 }
 
 /// What is decided of a termination that is about to be made in a slot.

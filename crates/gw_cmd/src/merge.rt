@@ -82,7 +82,7 @@ fn in_place(
 }
 
 /// The record after the descriptors, in its place, unless that is refused; a list that would hold too many properties is
-/// refused first.
+/// refused first, so where there is nothing to merge the refusal needs no merge.
 #[tactic(auto, unfolding(crate::specs::Effects::merging))]
 pub(crate) fn merging(
     alloc: Global,
@@ -94,6 +94,11 @@ pub(crate) fn merging(
 ) -> Result<Merged, Refusal>
     ensures { Answers result (merging rules.now descriptors.now old.now place refused) }
 {
+    if descriptors.is_empty() {
+        if let Some(code) = refused {
+            return Err(Refusal::Code(code));
+        }
+    }
     let applied = old.merged(alloc, rules, descriptors)?;
     if let Some(code) = refused {
         return Err(Refusal::Code(code));
