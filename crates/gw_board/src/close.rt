@@ -53,7 +53,7 @@ impl<'b, 'h, 'a> Board<'b, 'h, 'a> {
 
     /// Closes a job. With its result, its new entries go into the tables, its reply stands at its place, and the part that it had goes
     /// to the board's journal; unchanged, its entries go back and its place is pending again. The caller knows that this board has the
-    /// job open. The work is two look-ups for each of its keys.
+    /// job open. The work is a look-up for each of its keys.
     pub fn close(&mut self, done: Done<'_, '_, '_>)
         requires { HasOpen self.old done.job }
         ensures board { self.new ≡ after_end self.old done.entry }
@@ -67,7 +67,7 @@ impl<'b, 'h, 'a> Board<'b, 'h, 'a> {
     }
 
     /// The tables as they were when the board was made: the parts of the journal go back, the last one first. The caller knows that
-    /// nothing is open. The work is two look-ups for each key of the journal.
+    /// nothing is open. The work is a look-up for each key of the journal.
     pub fn undo(self) -> Tables
         requires { NothingIsOpen (core_of self) }
         ensures maps { maps_of result ≡ self.entry.begun }
