@@ -1,11 +1,11 @@
 -- An open job is drawn, goes back as it was, or is closed with its result.
 use Rattle.std.proofs.Common.{◌≡◌, Bool, true, false, cond, List, ◌∷◌, ◌++◌, Option, None, Some, refl, sym, ap, ◌∙◌}
 use Rattle.std.specs.Prelude.{◌||◌}
-use Rattle.gw_base.specs.declared.command_words.Rules.{Rules}
+use Rattle.gw_board.specs.declared.manner.Manner.{Manner}
 use Rattle.gw_base.specs.declared.key.Key.{Key}
 use Rattle.gw_base.specs.declared.key.Key.TheVariants.{Term, Ctx}
 use Rattle.gw_base.specs.Keys.{has, AreApart}
-use Rattle.gw_reply.specs.declared.reply.TxReply.{TxReply}
+use Rattle.gw_board.specs.Texts.{Text}
 use Rattle.gw_table.specs.Locality.{KeepsTo}
 use Rattle.gw_table.specs.Maps.{Maps, Outcome, term, ctx}
 use Rattle.gw_table.specs.Parts.{restricted, cut, overlaid}
@@ -35,19 +35,19 @@ laid_back k m = same_maps (overlaid k (restricted k m) m) m
     (λ q. term-overlaid k (restricted k m) m q ∙ ap (λ x. cond (has k (Term q)) x (term m q)) (term-restricted k m q) ∙ both (has k (Term q)) (term m q))
     (λ q. ctx-overlaid k (restricted k m) m q ∙ ap (λ x. cond (has k (Ctx q)) x (ctx m q)) (ctx-restricted k m q) ∙ both (has k (Ctx q)) (ctx m q))
 
-module _ (rules : Rules) (m : Maps) (a : Asked) (j : Job) (before after : List Place) (h : Stand rules m (before ++ open_with a j ∷ after)) where
-  pub job_here : AreFreeSlots m a.owned.slots × IsJobOf rules a m j
-  job_here = (behind_in (Stands rules m) (Beside m) before (open_with a j ∷ after) h).0
+module _ (manner : Manner) (m : Maps) (a : Asked) (j : Job) (before after : List Place) (h : Stand manner m (before ++ open_with a j ∷ after)) where
+  pub job_here : AreFreeSlots m a.owned.slots × IsJobOf manner a m j
+  job_here = (behind_in (Stands manner m) (Beside m) before (open_with a j ∷ after) h).0
 
-  job : IsJobOf rules a m j
+  job : IsJobOf manner a m j
   job = job_here.1
 
   beside_before : Each (λ y. Beside m y (open_with a j)) before
-  beside_before = earlier_in (Stands rules m) (Beside m) before after (open_with a j) h
+  beside_before = earlier_in (Stands manner m) (Beside m) before after (open_with a j) h
 
   -- nothing else that is out is the job's
   pub clear_of_others : Clear j.keys (out (before ++ after))
-  clear_of_others = clear_out j.keys (before ++ after) (each_joined (ApartFromOpen j.keys) before after (apart_before rules m a j job.keys before after h) (apart_behind rules m a j job.keys before after h))
+  clear_of_others = clear_out j.keys (before ++ after) (each_joined (ApartFromOpen j.keys) before after (apart_before manner m a j job.keys before after h) (apart_behind manner m a j job.keys before after h))
 
   -- entries laid over the maps, while others are out
   pub laid_over : (part : Maps) (new : Place) → ((q : Key) → has (out (before ++ after)) q ≡ has (out (before ++ new ∷ after)) q)
@@ -58,20 +58,20 @@ module _ (rules : Rules) (m : Maps) (a : Asked) (j : Job) (before after : List P
 
   -- ---- it is drawn
 
-  pub drawn_stand : Stand rules m (before ++ open_with a (drawn rules a j) ∷ after)
+  pub drawn_stand : Stand manner m (before ++ open_with a (drawn manner a j) ∷ after)
   drawn_stand =
-      replaced (Stands rules m) (Stands rules m) (Beside m) (Beside m) Any (λ y u f. f) (λ y z u v r. r) (open_with a j) (open_with a (drawn rules a j))
+      replaced (Stands manner m) (Stands manner m) (Beside m) (Beside m) Any (λ y u f. f) (λ y z u v r. r) (open_with a j) (open_with a (drawn manner a j))
       (job_here.0, record { keys = job.keys; part = job.part; result = λ o e. cc })
-      (λ y u r. record { differ = r.differ; apart = apart_as a m (Opened j) (Opened (drawn rules a j)) (λ T t. t) y.standing r.apart })
+      (λ y u r. record { differ = r.differ; apart = apart_as a m (Opened j) (Opened (drawn manner a j)) (λ T t. t) y.standing r.apart })
       before after (each_any before) (each_any after)
-      (each_map {P = λ y. Beside m y (open_with a j)} {Q = λ y. Beside m y (open_with a (drawn rules a j))} (λ y r. record { differ = r.differ; apart = r.apart }) before beside_before)
+      (each_map {P = λ y. Beside m y (open_with a j)} {Q = λ y. Beside m y (open_with a (drawn manner a j))} (λ y r. record { differ = r.differ; apart = r.apart }) before beside_before)
       h
 
   -- ---- it goes back
 
-  pub back_stand : Stand rules m (before ++ pending a ∷ after)
+  pub back_stand : Stand manner m (before ++ pending a ∷ after)
   back_stand =
-      replaced (Stands rules m) (Stands rules m) (Beside m) (Beside m) Any (λ y u f. f) (λ y z u v r. r) (open_with a j) (pending a)
+      replaced (Stands manner m) (Stands manner m) (Beside m) (Beside m) Any (λ y u f. f) (λ y z u v r. r) (open_with a j) (pending a)
       job_here.0
       (λ y u r. record { differ = r.differ; apart = apart_as a m (Opened j) Pending (λ T t. t) y.standing r.apart })
       before after (each_any before) (each_any after)
@@ -85,9 +85,9 @@ module _ (rules : Rules) (m : Maps) (a : Asked) (j : Job) (before after : List P
 
   -- ---- it is closed with its result
 
-  module _ (w : AreWellFormed rules.members m) where
+  module _ (w : AreWellFormed manner.rules.members m) where
     abbrev new : Maps
-    new = (done rules a m).maps
+    new = (done manner a m).maps
 
     record IsOther (y : Place) : Type 0 where
       others : OwnOthers a.owned.slots y.asked.owned.slots
@@ -96,24 +96,24 @@ module _ (rules : Rules) (m : Maps) (a : Asked) (j : Job) (before after : List P
     others_before : Each IsOther before
     others_before = each_both {P = λ y. Beside m y (open_with a j)} {Q = ApartFromOpen j.keys} {S = IsOther}
         (λ y r p. record { others = λ k d l i e n same. r.differ i e n k d l (sym same); apart = p })
-        before beside_before (apart_before rules m a j job.keys before after h)
+        before beside_before (apart_before manner m a j job.keys before after h)
 
     others_behind : Each IsOther after
     others_behind = each_both {P = Beside m (open_with a j)} {Q = ApartFromOpen j.keys} {S = IsOther} (λ y r p. record { others = r.differ; apart = p })
-        after (behind_in (Stands rules m) (Beside m) before (open_with a j ∷ after) h).1 (apart_behind rules m a j job.keys before after h)
+        after (behind_in (Stands manner m) (Beside m) before (open_with a j ∷ after) h).1 (apart_behind manner m a j job.keys before after h)
 
     rest : Apart (keys_of a m) m new
-    rest = let k : KeepsTo (keys_of a m) (done rules a) m = keeps rules a m w job_here.0 in record { terms = k.terms; contexts = k.contexts }
+    rest = let k : KeepsTo (keys_of a m) (done manner a) m = keeps manner a m w job_here.0 in record { terms = k.terms; contexts = k.contexts }
 
     apart_of : (k : Job) → AreApart j.keys k.keys → AreApart (keys_of a m) k.keys
     apart_of k p = apart_left j.keys (keys_of a m) k.keys job.keys p
 
-    fits_still : (b : Asked) (y : Standing) → OwnOthers a.owned.slots b.owned.slots → ApartAt j.keys y → Fits rules b m y → Fits rules b new y
-    fits_still b Pending o p f = stays_free rules a m w job_here.0 b f o
+    fits_still : (b : Asked) (y : Standing) → OwnOthers a.owned.slots b.owned.slots → ApartAt j.keys y → Fits manner b m y → Fits manner b new y
+    fits_still b Pending o p f = stays_free manner a m w job_here.0 b f o
     fits_still b (Opened k) o p f = (
-      stays_free rules a m w job_here.0 b f.0 o,
+      stays_free manner a m w job_here.0 b f.0 o,
       record {
-        keys = λ q. f.1.keys q ∙ ap (λ (l : List Key). has l q) (sym (keys_stay rules a m w job_here.0 b (apart_right (keys_of a m) k.keys (keys_of b m) f.1.keys (apart_of k p))));
+        keys = λ q. f.1.keys q ∙ ap (λ (l : List Key). has l q) (sym (keys_stay manner a m w job_here.0 b (apart_right (keys_of a m) k.keys (keys_of b m) f.1.keys (apart_of k p))));
         part = f.1.part ∙ restricted_alike k.keys m new (agree-apart (keys_of a m) k.keys m new (apart_of k p) rest);
         result = f.1.result;
       },
@@ -127,12 +127,12 @@ module _ (rules : Rules) (m : Maps) (a : Asked) (j : Job) (before after : List P
 
     apart_still : (b : Asked) (x y : Standing) → ApartAt j.keys y → KeepsApart b m x y → KeepsApart b new x y
     apart_still b x Pending p g = tt
-    apart_still b x (Opened k) p g = unless_on {T = AreApart (keys_of b m) k.keys} {U = AreApart (keys_of b new) k.keys} x (apart_after rules a b k.keys m w job_here.0 (apart_of k p)) g
+    apart_still b x (Opened k) p g = unless_on {T = AreApart (keys_of b m) k.keys} {U = AreApart (keys_of b new) k.keys} x (apart_after manner a b k.keys m w job_here.0 (apart_of k p)) g
     apart_still b x (Closed reply) p g = tt
 
-    pub closed_stand : (reply : TxReply) → Stand rules new (before ++ closed_with a reply ∷ after)
+    pub closed_stand : (reply : Text) → Stand manner new (before ++ closed_with a reply ∷ after)
     closed_stand reply =
-        replaced (Stands rules m) (Stands rules new) (Beside m) (Beside new) IsOther
+        replaced (Stands manner m) (Stands manner new) (Beside m) (Beside new) IsOther
         (λ y o f. fits_still y.asked y.standing o.others o.apart f)
         (λ y z o p r. record { differ = r.differ; apart = apart_still y.asked y.standing z.standing p.apart r.apart })
         (open_with a j) (closed_with a reply) tt
@@ -141,32 +141,32 @@ module _ (rules : Rules) (m : Maps) (a : Asked) (j : Job) (before after : List P
         (each_map {P = λ y. Beside m y (open_with a j)} {Q = λ y. Beside new y (closed_with a reply)} (λ y r. record { differ = r.differ; apart = tt }) before beside_before)
         h
 
-    module _ (o : Outcome TxReply) (e : j.result ≡ Some o) where
-      kept : KeepsTo j.keys (done rules a) m
-      kept = keeps_same (keys_of a m) j.keys (done rules a) m (λ q. sym (job.keys q)) (keeps rules a m w job_here.0)
+    module _ (o : Outcome Text) (e : j.result ≡ Some o) where
+      kept : KeepsTo j.keys (done manner a) m
+      kept = keeps_same (keys_of a m) j.keys (done manner a) m (λ q. sym (job.keys q)) (keeps manner a m w job_here.0)
 
-      result : o ≡ done rules a (restricted j.keys m)
-      result = job.result o e ∙ ap (done rules a) job.part
+      result : o ≡ done manner a (restricted j.keys m)
+      result = job.result o e ∙ ap (done manner a) job.part
 
-      pub closed_answer : o.answer ≡ (done rules a m).answer
-      closed_answer = ap (λ (x : Outcome TxReply). x.answer) result ∙ kept.answer
+      pub closed_answer : o.answer ≡ (done manner a m).answer
+      closed_answer = ap (λ (x : Outcome Text). x.answer) result ∙ kept.answer
 
       pub closed_maps : overlaid j.keys o.maps (cut (out (before ++ open_with a j ∷ after)) m) ≡ cut (out (before ++ closed_with a o.answer ∷ after)) new
       closed_maps =
           laid_over o.maps (closed_with a o.answer) (λ q. sym (out-place before after (closed_with a o.answer) q))
-          ∙ ap (cut (out (before ++ closed_with a o.answer ∷ after))) (ap (λ (x : Outcome TxReply). overlaid j.keys x.maps m) result ∙ kept.maps)
+          ∙ ap (cut (out (before ++ closed_with a o.answer ∷ after))) (ap (λ (x : Outcome Text). overlaid j.keys x.maps m) result ∙ kept.maps)
 
   -- and its original laid over that gives what was
 
-  module _ (w : AreWellFormed rules.members m) where
+  module _ (w : AreWellFormed manner.rules.members m) where
     again : {X : Type 0} (b : Bool) (x y : Option X) → (b ≡ false → y ≡ x) → cond b (cond b x None) y ≡ x
     again true x y f = refl
     again false x y f = f refl
 
-    pub closed_back : overlaid j.keys j.part (done rules a m).maps ≡ m
+    pub closed_back : overlaid j.keys j.part (done manner a m).maps ≡ m
     closed_back =
-        let k : KeepsTo j.keys (done rules a) m = keeps_same (keys_of a m) j.keys (done rules a) m (λ q. sym (job.keys q)) (keeps rules a m w job_here.0) in
-        let after_it : Maps = (done rules a m).maps in
+        let k : KeepsTo j.keys (done manner a) m = keeps_same (keys_of a m) j.keys (done manner a) m (λ q. sym (job.keys q)) (keeps manner a m w job_here.0) in
+        let after_it : Maps = (done manner a m).maps in
         ap (λ (p : Maps). overlaid j.keys p after_it) job.part
         ∙ same_maps (overlaid j.keys (restricted j.keys m) after_it) m
         (λ q. term-overlaid j.keys (restricted j.keys m) after_it q ∙ ap (λ x. cond (has j.keys (Term q)) x (term after_it q)) (term-restricted j.keys m q) ∙ again (has j.keys (Term q)) (term m q) (term after_it q) (k.terms q))

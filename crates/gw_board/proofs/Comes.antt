@@ -3,12 +3,12 @@ use Rattle.std.proofs.Common.{◌≡◌, ℕ, Bool, true, false, cond, List, [],
 use Rattle.std.specs.Prelude.{◌||◌}
 use Rattle.std.specs.List.{list_any}
 use Rattle.gw_base.specs.declared.ids.CtxNum.{CtxNum}
-use Rattle.gw_base.specs.declared.command_words.Rules.{Rules}
+use Rattle.gw_board.specs.declared.manner.Manner.{Manner}
 use Rattle.gw_base.specs.declared.key.Key.{Key}
 use Rattle.gw_base.specs.declared.key.Key.TheVariants.{Term, Ctx}
 use Rattle.gw_base.specs.Keys.{has, same_key}
 use Rattle.gw_base.proofs.Booleans.{neither}
-use Rattle.gw_reply.specs.declared.reply.TxReply.{TxReply}
+use Rattle.gw_board.specs.Texts.{Text}
 use Rattle.gw_table.specs.Maps.{Maps, Outcome, term, ctx}
 use Rattle.gw_table.specs.Parts.{cut}
 use Rattle.gw_table.specs.Unused.{AreUnused}
@@ -34,9 +34,9 @@ module _ {X : Type 0} where
   all_put true x = refl
   all_put false x = refl
 
-module _ (rules : Rules) (m n : Maps) where
+module _ (manner : Manner) (m n : Maps) where
   -- what is read at a key, by whether it was out
-  terms_at : (a : Asked) (x : Standing) (o : List Key) (later : Maps) → Fits rules a m x → ((q : List ℕ) → term later q ≡ cond (has o (Term q)) (term m q) (term n q)) → (q : List ℕ) → term (part_back x later) q ≡ cond (has (out_at x ++ o) (Term q)) (term m q) (term n q)
+  terms_at : (a : Asked) (x : Standing) (o : List Key) (later : Maps) → Fits manner a m x → ((q : List ℕ) → term later q ≡ cond (has o (Term q)) (term m q) (term n q)) → (q : List ℕ) → term (part_back x later) q ≡ cond (has (out_at x ++ o) (Term q)) (term m q) (term n q)
   terms_at a Pending o later f h q = h q
   terms_at a (Closed reply) o later f h q = h q
   terms_at a (Opened j) o later f h q =
@@ -46,7 +46,7 @@ module _ (rules : Rules) (m n : Maps) where
       ∙ put (has j.keys (Term q)) (has o (Term q)) (term m q) (term n q)
       ∙ ap (λ b. cond b (term m q) (term n q)) (sym (any-append (same_key (Term q)) j.keys o))
 
-  ctxs_at : (a : Asked) (x : Standing) (o : List Key) (later : Maps) → Fits rules a m x → ((q : CtxNum) → ctx later q ≡ cond (has o (Ctx q)) (ctx m q) (ctx n q)) → (q : CtxNum) → ctx (part_back x later) q ≡ cond (has (out_at x ++ o) (Ctx q)) (ctx m q) (ctx n q)
+  ctxs_at : (a : Asked) (x : Standing) (o : List Key) (later : Maps) → Fits manner a m x → ((q : CtxNum) → ctx later q ≡ cond (has o (Ctx q)) (ctx m q) (ctx n q)) → (q : CtxNum) → ctx (part_back x later) q ≡ cond (has (out_at x ++ o) (Ctx q)) (ctx m q) (ctx n q)
   ctxs_at a Pending o later f h q = h q
   ctxs_at a (Closed reply) o later f h q = h q
   ctxs_at a (Opened j) o later f h q =
@@ -56,28 +56,28 @@ module _ (rules : Rules) (m n : Maps) where
       ∙ put (has j.keys (Ctx q)) (has o (Ctx q)) (ctx m q) (ctx n q)
       ∙ ap (λ b. cond b (ctx m q) (ctx n q)) (sym (any-append (same_key (Ctx q)) j.keys o))
 
-  terms_back : (places : List Place) → Each (Stands rules m) places → (q : List ℕ) → term (all_back places n) q ≡ cond (has (out places) (Term q)) (term m q) (term n q)
+  terms_back : (places : List Place) → Each (Stands manner m) places → (q : List ℕ) → term (all_back places n) q ≡ cond (has (out places) (Term q)) (term m q) (term n q)
   terms_back [] h q = refl
   terms_back (p ∷ ps) h q = terms_at p.asked p.standing (out ps) (all_back ps n) h.0 (terms_back ps h.1) q
 
-  ctxs_back : (places : List Place) → Each (Stands rules m) places → (q : CtxNum) → ctx (all_back places n) q ≡ cond (has (out places) (Ctx q)) (ctx m q) (ctx n q)
+  ctxs_back : (places : List Place) → Each (Stands manner m) places → (q : CtxNum) → ctx (all_back places n) q ≡ cond (has (out places) (Ctx q)) (ctx m q) (ctx n q)
   ctxs_back [] h q = refl
   ctxs_back (p ∷ ps) h q = ctxs_at p.asked p.standing (out ps) (all_back ps n) h.0 (ctxs_back ps h.1) q
 
-whole_back : (rules : Rules) (places : List Place) (m : Maps) → Each (Stands rules m) places → all_back places (cut (out places) m) ≡ m
-whole_back rules places m h = same_maps (all_back places (cut (out places) m)) m
-    (λ q. terms_back rules m (cut (out places) m) places h q ∙ ap (cond (has (out places) (Term q)) (term m q)) (term-cut (out places) m q) ∙ all_put (has (out places) (Term q)) (term m q))
-    (λ q. ctxs_back rules m (cut (out places) m) places h q ∙ ap (cond (has (out places) (Ctx q)) (ctx m q)) (ctx-cut (out places) m q) ∙ all_put (has (out places) (Ctx q)) (ctx m q))
+whole_back : (manner : Manner) (places : List Place) (m : Maps) → Each (Stands manner m) places → all_back places (cut (out places) m) ≡ m
+whole_back manner places m h = same_maps (all_back places (cut (out places) m)) m
+    (λ q. terms_back manner m (cut (out places) m) places h q ∙ ap (cond (has (out places) (Term q)) (term m q)) (term-cut (out places) m q) ∙ all_put (has (out places) (Term q)) (term m q))
+    (λ q. ctxs_back manner m (cut (out places) m) places h q ∙ ap (cond (has (out places) (Ctx q)) (ctx m q)) (ctx-cut (out places) m q) ∙ all_put (has (out places) (Ctx q)) (ctx m q))
 
-pub result_kept : (rules : Rules) (s : Core) (k : FitsTogether rules s) → result_of rules s ≡ carried_on rules s.places k.whole
-result_kept rules s k =
-    ap (carried_on rules s.places) (ap (all_back s.places) k.maps ∙ whole_back rules s.places k.whole (each_in (Stands rules k.whole) (Beside k.whole) s.places k.stand))
+pub result_kept : (manner : Manner) (s : Core) (k : FitsTogether manner s) → result_of manner s ≡ carried_on manner s.places k.whole
+result_kept manner s k =
+    ap (carried_on manner s.places) (ap (all_back s.places) k.maps ∙ whole_back manner s.places k.whole (each_in (Stands manner k.whole) (Beside k.whole) s.places k.stand))
 
-pub results_are : (rules : Rules) (workers : ℕ) (asked : List Asked) (m : Maps) (s : Core) → AreWellFormed rules.members m → AreUnused m [] (slots_of asked) → Events rules (start workers asked m) s → result_of rules s ≡ carried rules asked m
-results_are rules workers asked m s w u events =
-    let k : FitsTogether rules (start workers asked m) = kept_start rules workers asked m w u in
-    let l : Leaves rules (start workers asked m) s k (journal events) = steps_leave rules (start workers asked m) s k events in
-    result_kept rules s l.kept ∙ l.same ∙ carried_start rules asked m
+pub results_are : (manner : Manner) (workers : ℕ) (asked : List Asked) (m : Maps) (s : Core) → AreWellFormed manner.rules.members m → AreUnused m [] (slots_of asked) → Events manner (start workers asked m) s → result_of manner s ≡ carried manner asked m
+results_are manner workers asked m s w u events =
+    let k : FitsTogether manner (start workers asked m) = kept_start manner workers asked m w u in
+    let l : Leaves manner (start workers asked m) s k (journal events) = steps_leave manner (start workers asked m) s k events in
+    result_kept manner s l.kept ∙ l.same ∙ carried_start manner asked m
 
 -- ---- where nothing is open
 
@@ -90,12 +90,12 @@ nothing_back : (places : List Place) (m : Maps) → list_any (λ p. is_open p.st
 nothing_back [] m h = refl
 nothing_back (p ∷ ps) m h = let both = neither (is_open p.standing) (list_any (λ p. is_open p.standing) ps) h in back_at p.standing (all_back ps m) both.0 ∙ nothing_back ps m both.1
 
-pub nothing_open : (rules : Rules) (s : Core) → NothingIsOpen s → result_of rules s ≡ carried_on rules s.places s.maps
-nothing_open rules s h = ap (carried_on rules s.places) (nothing_back s.places s.maps h)
+pub nothing_open : (manner : Manner) (s : Core) → NothingIsOpen s → result_of manner s ≡ carried_on manner s.places s.maps
+nothing_open manner s h = ap (carried_on manner s.places) (nothing_back s.places s.maps h)
 
 -- ---- where every place is closed
 
-pub closed_ones : (places : List Place) (replies : List TxReply) → AreClosed places replies → list_any (λ p. is_open p.standing) places ≡ false
+pub closed_ones : (places : List Place) (replies : List Text) → AreClosed places replies → list_any (λ p. is_open p.standing) places ≡ false
 closed_ones [] replies e = refl
 closed_ones (p ∷ ps) [] e = absurd cc
 closed_ones (p ∷ ps) (r ∷ rs) e =
@@ -103,18 +103,18 @@ closed_ones (p ∷ ps) (r ∷ rs) e =
     let later : AreClosed ps rs = cc in
     ap (λ (x : Standing). is_open x || list_any (λ p. is_open p.standing) ps) first ∙ closed_ones ps rs later
 
-closed_on : (rules : Rules) (places : List Place) (replies : List TxReply) (m : Maps) → AreClosed places replies → carried_on rules places m ≡ record { maps = m; answer = replies }
-closed_on rules [] [] m e = refl
-closed_on rules [] (r ∷ rs) m e = absurd cc
-closed_on rules (p ∷ ps) [] m e = absurd cc
-closed_on rules (p ∷ ps) (r ∷ rs) m e =
+closed_on : (manner : Manner) (places : List Place) (replies : List Text) (m : Maps) → AreClosed places replies → carried_on manner places m ≡ record { maps = m; answer = replies }
+closed_on manner [] [] m e = refl
+closed_on manner [] (r ∷ rs) m e = absurd cc
+closed_on manner (p ∷ ps) [] m e = absurd cc
+closed_on manner (p ∷ ps) (r ∷ rs) m e =
     let first : p.standing ≡ Closed r = cc in
     let later : AreClosed ps rs = cc in
-    ap (λ (x : Standing). let now : Outcome TxReply = carried_at rules p.asked x m in let rest : Outcome (List TxReply) = carried_on rules ps now.maps in record { maps = rest.maps; answer = now.answer ∷ rest.answer }) first
-    ∙ ap (λ (o : Outcome (List TxReply)). record { maps = o.maps; answer = r ∷ o.answer }) (closed_on rules ps rs m later)
+    ap (λ (x : Standing). let now : Outcome Text = carried_at manner p.asked x m in let rest : Outcome (List Text) = carried_on manner ps now.maps in record { maps = rest.maps; answer = now.answer ∷ rest.answer }) first
+    ∙ ap (λ (o : Outcome (List Text)). record { maps = o.maps; answer = r ∷ o.answer }) (closed_on manner ps rs m later)
 
-pub all_closed : (rules : Rules) (s : Core) (replies : List TxReply) → AreClosed s.places replies → result_of rules s ≡ record { maps = s.maps; answer = replies }
-all_closed rules s replies e = nothing_open rules s (closed_ones s.places replies e) ∙ closed_on rules s.places replies s.maps e
+pub all_closed : (manner : Manner) (s : Core) (replies : List Text) → AreClosed s.places replies → result_of manner s ≡ record { maps = s.maps; answer = replies }
+all_closed manner s replies e = nothing_open manner s (closed_ones s.places replies e) ∙ closed_on manner s.places replies s.maps e
 
 -- ---- the way back
 
@@ -129,18 +129,18 @@ out_of_none (p ∷ ps) h q =
     by (Opened j) e = absurd cc
     by (Closed reply) e = refl
 
-pub undone_is : (rules : Rules) (workers : ℕ) (asked : List Asked) (m : Maps) (s : Core) → AreWellFormed rules.members m → AreUnused m [] (slots_of asked) → (events : Events rules (start workers asked m) s) → NothingIsOpen s → undone (journal events) s.maps ≡ m
-undone_is rules workers asked m s w u events h =
-    let k : FitsTogether rules (start workers asked m) = kept_start rules workers asked m w u in
-    let l : Leaves rules (start workers asked m) s k (journal events) = steps_leave rules (start workers asked m) s k events in
+pub undone_is : (manner : Manner) (workers : ℕ) (asked : List Asked) (m : Maps) (s : Core) → AreWellFormed manner.rules.members m → AreUnused m [] (slots_of asked) → (events : Events manner (start workers asked m) s) → NothingIsOpen s → undone (journal events) s.maps ≡ m
+undone_is manner workers asked m s w u events h =
+    let k : FitsTogether manner (start workers asked m) = kept_start manner workers asked m w u in
+    let l : Leaves manner (start workers asked m) s k (journal events) = steps_leave manner (start workers asked m) s k events in
     ap (undone (journal events)) (l.kept.maps ∙ cut_none (out s.places) l.kept.whole (out_of_none s.places h)) ∙ l.back
 
 -- ---- one event
 
-pub fits_on : (rules : Rules) (s t : Core) → FitsTogether rules s → Event rules s t → FitsTogether rules t
-fits_on rules s t k event = (step_leaves rules s t k event).kept
+pub fits_on : (manner : Manner) (s t : Core) → FitsTogether manner s → Event manner s t → FitsTogether manner t
+fits_on manner s t k event = (step_leaves manner s t k event).kept
 
-pub comes_to_the_same : (rules : Rules) (s t : Core) → FitsTogether rules s → Event rules s t → result_of rules t ≡ result_of rules s
-comes_to_the_same rules s t k event =
-    let l : Leaves rules s t k (original_of event) = step_leaves rules s t k event in
-    result_kept rules t l.kept ∙ l.same ∙ sym (result_kept rules s k)
+pub comes_to_the_same : (manner : Manner) (s t : Core) → FitsTogether manner s → Event manner s t → result_of manner t ≡ result_of manner s
+comes_to_the_same manner s t k event =
+    let l : Leaves manner s t k (original_of event) = step_leaves manner s t k event in
+    result_kept manner t l.kept ∙ l.same ∙ sym (result_kept manner s k)

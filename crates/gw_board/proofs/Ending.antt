@@ -3,8 +3,8 @@ use Rattle.std.proofs.Common.{◌≡◌, ℕ, ◌+◌, Bool, true, false, List, 
 use Rattle.std.specs.Prelude.{◌||◌, slice_get, slice_set}
 use Rattle.std.specs.List.{list_any, range_with_len}
 use Rattle.std.proofs.lemmas.List.{length-append}
-use Rattle.gw_base.specs.declared.command_words.Rules.{Rules}
-use Rattle.gw_reply.specs.declared.reply.TxReply.{TxReply}
+use Rattle.gw_board.specs.declared.manner.Manner.{Manner}
+use Rattle.gw_board.specs.Texts.{Text}
 use Rattle.gw_table.specs.Maps.{Outcome}
 use Rattle.gw_board.specs.Carried.{Asked}
 use Rattle.gw_board.specs.Core.{Standing, Pending, Opened, Closed, Place, Job, Core, pending, open_with, closed_with, after_close, after_return, Close, Return, Events, none, more}
@@ -24,17 +24,17 @@ shut_more (q ∷ qs) p h e = by (is_open q.standing) h (λ g. shut_more qs p g e
     by false i f = f i
 
 -- some events, after which nothing is open
-pub record Ends (rules : Rules) (s t : Core) : Type 0 where
-  pub events : Events rules s t
+pub record Ends (manner : Manner) (s t : Core) : Type 0 where
+  pub events : Events manner s t
   pub shut : NothingIsOpen t
 
-module _ (rules : Rules) where
+module _ (manner : Manner) where
   -- a place is past: at most one event, and it is not open
   record Passes (s u : Core) (front rest : List Place) : Type 0 where
     new : Place
     shut : is_open new.standing ≡ false
     places : u.places ≡ front ++ new ∷ rest
-    then : {t : Core} → Events rules u t → Events rules s t
+    then : {t : Core} → Events manner u t → Events manner s t
 
   module _ (s : Core) (front rest : List Place) (i : ℕ) (a : Asked) (j : Job) (n : length front ≡ i) (e : s.places ≡ front ++ open_with a j ∷ rest) where
     stands : slice_get s.places i ≡ Some (open_with a j)
@@ -46,10 +46,10 @@ module _ (rules : Rules) where
     returns : Passes s (after_return s i a j) front rest
     returns = record { new = pending a; shut = refl; places = replaced (pending a); then = λ later. more (Return i a j (record { stands = stands }) refl) later }
 
-    closes : (result : Outcome TxReply) → j.result ≡ Some result → Passes s (after_close s i a j result) front rest
+    closes : (result : Outcome Text) → j.result ≡ Some result → Passes s (after_close s i a j result) front rest
     closes result d = record { new = closed_with a result.answer; shut = refl; places = replaced (closed_with a result.answer); then = λ later. more (Close i a j result (record { stands = stands; drawn = d }) refl) later }
 
-    job_passes : (chosen : Bool) (o : Option (Outcome TxReply)) → j.result ≡ o → Passes s (job_ended s i a j chosen o) front rest
+    job_passes : (chosen : Bool) (o : Option (Outcome Text)) → j.result ≡ o → Passes s (job_ended s i a j chosen o) front rest
     job_passes chosen None d = returns
     job_passes true (Some result) d = closes result d
     job_passes false (Some result) d = returns
@@ -64,22 +64,22 @@ module _ (rules : Rules) where
   passes s front rest i p n e chosen (Closed reply) f = stays s front rest p e (ap (λ (x : Standing). is_open x) f)
 
   module _ (choice : ℕ → Bool) where
-    rest_ends : (rest front : List Place) (i : ℕ) (s : Core) → length front ≡ i → s.places ≡ front ++ rest → IsShut front → Ends rules s (places_ended choice (range_with_len i (length rest)) s)
+    rest_ends : (rest front : List Place) (i : ℕ) (s : Core) → length front ≡ i → s.places ≡ front ++ rest → IsShut front → Ends manner s (places_ended choice (range_with_len i (length rest)) s)
     rest_ends [] front i s n e h = record { events = none; shut = subst IsShut (sym (e ∙ append-nil front)) h }
     rest_ends (p ∷ ps) front i s n e h =
         let here : slice_get s.places i ≡ Some p = (λ k. slice_get (e k) (sym n k)) ∙ item_at front ps p in
         let u : Core = place_ended s i (choice i) (Some p) in
         let one : Passes s u front ps = passes s front ps i p n e (choice i) p.standing refl in
         let count : length (front ++ one.new ∷ []) ≡ i + 1 = omega (arith, length-append front (one.new ∷ []), n) in
-        let later : Ends rules u (places_ended choice (range_with_len (i + 1) (length ps)) u) =
+        let later : Ends manner u (places_ended choice (range_with_len (i + 1) (length ps)) u) =
         rest_ends ps (front ++ one.new ∷ []) (i + 1) u count (one.places ∙ one_more front ps one.new) (shut_more front one.new h one.shut) in
-        subst (λ (o : Option Place). Ends rules s (places_ended choice (range_with_len (i + 1) (length ps)) (place_ended s i (choice i) o))) (sym here)
+        subst (λ (o : Option Place). Ends manner s (places_ended choice (range_with_len (i + 1) (length ps)) (place_ended s i (choice i) o))) (sym here)
         (record { events = one.then later.events; shut = later.shut })
 
-    pub all_end : (s : Core) → Ends rules s (all_ended choice s)
+    pub all_end : (s : Core) → Ends manner s (all_ended choice s)
     all_end s = rest_ends s.places [] 0 s refl refl refl
 
 -- some events, and then others
-pub joined : {rules : Rules} {s t u : Core} → Events rules s t → Events rules t u → Events rules s u
+pub joined : {manner : Manner} {s t u : Core} → Events manner s t → Events manner t u → Events manner s u
 joined none later = later
 joined (more event rest) later = more event (joined rest later)

@@ -1,7 +1,6 @@
 -- A job is closed: what the fields of the board are then.
 use Rattle.std.proofs.Common.{◌≡◌, suc, refl}
-use Rattle.gw_board.specs.BoardView.{unclosed}
-use Rattle.gw_board.specs.Boards.{Seen, Handed, HasOpen, job_of, outcome_of, with_result, unchanged}
+use Rattle.gw_board.specs.Boards.{Seen, Handed, HasOpen, job_of, outcome_of, with_result, unchanged, unclosed}
 use Rattle.gw_board.specs.Core.{pending, open_with, closed_with}
 use Rattle.gw_board.proofs.SeatFacts.{unclosed-stays, unclosed-less}
 

@@ -1,13 +1,13 @@
 -- A request that keeps apart from all that are before it may go first.
 use Rattle.std.proofs.Common.{◌≡◌, true, false, List, [], ◌∷◌, ◌++◌, refl, sym, ap, subst, ◌∙◌}
-use Rattle.gw_base.specs.declared.command_words.Rules.{Rules}
+use Rattle.gw_board.specs.declared.manner.Manner.{Manner}
 use Rattle.gw_base.specs.declared.key.Key.{Key}
 use Rattle.gw_base.specs.declared.key.Key.TheVariants.{Whole}
 use Rattle.gw_base.specs.Keys.{has, same_key, AreApart}
 use Rattle.gw_base.proofs.Booleans.{refuted}
 use Rattle.gw_base.proofs.KeyTests.{any-append_cases}
 use Rattle.gw_base.proofs.NamesInLists.{either}
-use Rattle.gw_reply.specs.declared.reply.TxReply.{TxReply}
+use Rattle.gw_board.specs.Texts.{Text}
 use Rattle.gw_table.specs.Locality.{ChangePlaces}
 use Rattle.gw_table.specs.Maps.{Maps, Outcome}
 use Rattle.gw_table.specs.WellFormed.{AreWellFormed}
@@ -21,10 +21,10 @@ use Rattle.gw_board.proofs.Requests.{well_after, keys_grow, keys_stay, change, s
 use Rattle.gw_board.specs.Fitting.{Each, InOrder, Differ, UnlessClosed}
 
 -- keys of another that both keep apart from
-pub apart_after : (rules : Rules) (q r : Asked) (keys : List Key) (m : Maps) → AreWellFormed rules.members m → AreFreeSlots m q.owned.slots → AreApart (keys_of q m) keys → AreApart (keys_of r m) keys → AreApart (keys_of r (done rules q m).maps) keys
-apart_after rules q r keys m w f a b = record {
-  keys = λ k h. either (any-append_cases (same_key k) (keys_of q m) (keys_of r m) (keys_grow rules q m w f r k h)) (λ i. a.keys k i) (λ i. b.keys k i);
-  whole_a = refuted (has (keys_of r (done rules q m).maps) Whole) (λ h. either (any-append_cases (same_key Whole) (keys_of q m) (keys_of r m) (keys_grow rules q m w f r Whole h))
+pub apart_after : (manner : Manner) (q r : Asked) (keys : List Key) (m : Maps) → AreWellFormed manner.rules.members m → AreFreeSlots m q.owned.slots → AreApart (keys_of q m) keys → AreApart (keys_of r m) keys → AreApart (keys_of r (done manner q m).maps) keys
+apart_after manner q r keys m w f a b = record {
+  keys = λ k h. either (any-append_cases (same_key k) (keys_of q m) (keys_of r m) (keys_grow manner q m w f r k h)) (λ i. a.keys k i) (λ i. b.keys k i);
+  whole_a = refuted (has (keys_of r (done manner q m).maps) Whole) (λ h. either (any-append_cases (same_key Whole) (keys_of q m) (keys_of r m) (keys_grow manner q m w f r Whole h))
       (λ i. let clash : true ≡ false = sym i ∙ a.whole_a in cc) (λ i. let clash : true ≡ false = sym i ∙ b.whole_a in cc));
   whole_b = a.whole_b;
 }
@@ -39,45 +39,45 @@ abbrev pub Waits : Asked → Maps → Place → Type 0
 Waits r m p = UnlessClosed p.standing (MayWait r m p.asked)
 
 -- so it may after another one that may
-module _ (rules : Rules) (r q : Asked) (m : Maps) (w : AreWellFormed rules.members m) (h : MayWait r m q) (a : Asked) (differ : OwnOthers q.owned.slots a.owned.slots) where
-  may_still : MayWait r m a → MayWait r (done rules q m).maps a
+module _ (manner : Manner) (r q : Asked) (m : Maps) (w : AreWellFormed manner.rules.members m) (h : MayWait r m q) (a : Asked) (differ : OwnOthers q.owned.slots a.owned.slots) where
+  may_still : MayWait r m a → MayWait r (done manner q m).maps a
   may_still g = record {
-    free = stays_free rules q m w h.free a g.free differ;
+    free = stays_free manner q m w h.free a g.free differ;
     others = g.others;
-    apart = subst (λ (k : List Key). AreApart (keys_of a (done rules q m).maps) k) (sym (keys_stay rules q m w h.free r h.apart)) (apart_after rules q a (keys_of r m) m w h.free h.apart g.apart);
+    apart = subst (λ (k : List Key). AreApart (keys_of a (done manner q m).maps) k) (sym (keys_stay manner q m w h.free r h.apart)) (apart_after manner q a (keys_of r m) m w h.free h.apart g.apart);
   }
 
-  waits_on : (x : Standing) → UnlessClosed x (MayWait r m a) → UnlessClosed x (MayWait r (done rules q m).maps a)
+  waits_on : (x : Standing) → UnlessClosed x (MayWait r m a) → UnlessClosed x (MayWait r (done manner q m).maps a)
   waits_on Pending g = may_still g
   waits_on (Opened j) g = may_still g
   waits_on (Closed reply) g = tt
 
-abbrev behind : TxReply → Outcome (List TxReply) → Outcome (List TxReply)
+abbrev behind : Text → Outcome (List Text) → Outcome (List Text)
 behind reply o = record { maps = o.maps; answer = reply ∷ o.answer }
 
-module _ (rules : Rules) (r : Asked) (after : List Place) where
+module _ (manner : Manner) (r : Asked) (after : List Place) where
   -- carried out in its place, and carried out before all
-  abbrev in_place : List Place → Maps → Outcome (List TxReply)
-  in_place before m = carried_on rules (before ++ pending r ∷ after) m
+  abbrev in_place : List Place → Maps → Outcome (List Text)
+  in_place before m = carried_on manner (before ++ pending r ∷ after) m
 
-  abbrev at_once : List Place → Maps → Outcome (List TxReply)
-  at_once before m = carried_on rules (before ++ closed_with r (done rules r m).answer ∷ after) (done rules r m).maps
+  abbrev at_once : List Place → Maps → Outcome (List Text)
+  at_once before m = carried_on manner (before ++ closed_with r (done manner r m).answer ∷ after) (done manner r m).maps
 
   abbrev MayGoFirst : List Place → Type 0
-  MayGoFirst before = (m : Maps) → AreWellFormed rules.members m → AreFreeSlots m r.owned.slots → InOrder (Waits r m) Differ before → in_place before m ≡ at_once before m
+  MayGoFirst before = (m : Maps) → AreWellFormed manner.rules.members m → AreFreeSlots m r.owned.slots → InOrder (Waits r m) Differ before → in_place before m ≡ at_once before m
 
-  past : (p : Place) (ps : List Place) (m : Maps) → AreWellFormed rules.members m → AreFreeSlots m r.owned.slots → MayWait r m p.asked → Each (Differ p) ps → InOrder (Waits r m) Differ ps → MayGoFirst ps
-      → behind (done rules p.asked m).answer (in_place ps (done rules p.asked m).maps) ≡ behind (done rules p.asked (done rules r m).maps).answer (carried_on rules (ps ++ closed_with r (done rules r m).answer ∷ after) (done rules p.asked (done rules r m).maps).maps)
+  past : (p : Place) (ps : List Place) (m : Maps) → AreWellFormed manner.rules.members m → AreFreeSlots m r.owned.slots → MayWait r m p.asked → Each (Differ p) ps → InOrder (Waits r m) Differ ps → MayGoFirst ps
+      → behind (done manner p.asked m).answer (in_place ps (done manner p.asked m).maps) ≡ behind (done manner p.asked (done manner r m).maps).answer (carried_on manner (ps ++ closed_with r (done manner r m).answer ∷ after) (done manner p.asked (done manner r m).maps).maps)
   past p ps m w f h d o ih =
       let q : Asked = p.asked in
-      let n : Maps = (done rules q m).maps in
-      let e : ChangePlaces (done rules q) (done rules r) m = change rules q m w h.free r f h.apart in
-      let on : InOrder (Waits r n) Differ ps = in_order_on (Waits r m) (Waits r n) Differ Differ (Differ p) (λ y c g. waits_on rules r q m w h y.asked c y.standing g) (λ y z c c' g. g) ps d o in
-      ap (behind (done rules q m).answer) (ih n (well_after rules q m w h.free) (stays_free rules q m w h.free r f h.others) on)
-      ∙ (λ i. behind (sym e.first i) (carried_on rules (ps ++ closed_with r (e.second i) ∷ after) (e.maps i)))
+      let n : Maps = (done manner q m).maps in
+      let e : ChangePlaces (done manner q) (done manner r) m = change manner q m w h.free r f h.apart in
+      let on : InOrder (Waits r n) Differ ps = in_order_on (Waits r m) (Waits r n) Differ Differ (Differ p) (λ y c g. waits_on manner r q m w h y.asked c y.standing g) (λ y z c c' g. g) ps d o in
+      ap (behind (done manner q m).answer) (ih n (well_after manner q m w h.free) (stays_free manner q m w h.free r f h.others) on)
+      ∙ (λ i. behind (sym e.first i) (carried_on manner (ps ++ closed_with r (e.second i) ∷ after) (e.maps i)))
 
-  step : (p : Place) (ps : List Place) (x : Standing) (m : Maps) → AreWellFormed rules.members m → AreFreeSlots m r.owned.slots → UnlessClosed x (MayWait r m p.asked) → Each (Differ p) ps → InOrder (Waits r m) Differ ps → MayGoFirst ps
-      → behind (carried_at rules p.asked x m).answer (in_place ps (carried_at rules p.asked x m).maps) ≡ behind (carried_at rules p.asked x (done rules r m).maps).answer (carried_on rules (ps ++ closed_with r (done rules r m).answer ∷ after) (carried_at rules p.asked x (done rules r m).maps).maps)
+  step : (p : Place) (ps : List Place) (x : Standing) (m : Maps) → AreWellFormed manner.rules.members m → AreFreeSlots m r.owned.slots → UnlessClosed x (MayWait r m p.asked) → Each (Differ p) ps → InOrder (Waits r m) Differ ps → MayGoFirst ps
+      → behind (carried_at manner p.asked x m).answer (in_place ps (carried_at manner p.asked x m).maps) ≡ behind (carried_at manner p.asked x (done manner r m).maps).answer (carried_on manner (ps ++ closed_with r (done manner r m).answer ∷ after) (carried_at manner p.asked x (done manner r m).maps).maps)
   step p ps Pending m w f h d o ih = past p ps m w f h d o ih
   step p ps (Opened j) m w f h d o ih = past p ps m w f h d o ih
   step p ps (Closed reply) m w f h d o ih = ap (behind reply) (ih m w f o)

@@ -70,13 +70,13 @@ module _ (places : List Place) (i : ℕ) (x : Place) (e : slice_get places i ≡
 
 -- ---- at the start
 
-pub begun_kept : (rules : _) (asked : List Asked) (m : _) (s : Stored) → NoneIsOut s → IsKeptIn s (begun_board rules asked m)
-begun_kept rules asked m s h = record { out = λ k. h k ∙ ap (λ b. b && names_entry k) (sym (nothing_out asked k)); ready = tt }
+pub begun_kept : (manner : _) (asked : List Asked) (m : _) (s : Stored) → NoneIsOut s → IsKeptIn s (begun_board manner asked m)
+begun_kept manner asked m s h = record { out = λ k. h k ∙ ap (λ b. b && names_entry k) (sym (nothing_out asked k)); ready = tt }
 
 -- ---- a place is opened
 
 pub open_in : (b : Seen) (i : ℕ) (a : Asked) (keys : List Key) (s : Stored) → IsOnTheWay b → MayOpen (core_of b) i a keys → ((k : Key) → is_out s k ≡ (has (out b.places) k && names_entry k)) → AreIn keys s
-open_in b i a keys s w may is k h = is k ∙ ap (λ o. o && names_entry k) ((open_clear b.rules (core_of b) w.fits i a keys may).none k h)
+open_in b i a keys s w may is k h = is k ∙ ap (λ o. o && names_entry k) ((open_clear b.manner (core_of b) w.fits i a keys may).none k h)
 
 pub open_kept : (b : Seen) (i : ℕ) (a : Asked) (keys : List Key) (s t : Stored) → IsKeptIn s b → slice_get b.places i ≡ Some (pending a) → WentOut keys s t → KeepReady s t → IsKeptIn t (with_open b i a keys)
 open_kept b i a keys s t kept e went ready = record {
@@ -98,7 +98,7 @@ module _ (b : Seen) (w : IsOnTheWay b) (h : Handed) (o : HasOpen b h) (s : Store
   open_out k i n = kept.out k ∙ (λ j. was_out b.places h.place x o.stands k j && n j) ∙ (λ j. (i j || has (out (others b.places h.place x o.stands)) k) && true)
 
   not_others : (k : Key) → has h.keys k ≡ true → has (out (others b.places h.place x o.stands)) k ≡ false
-  not_others k i = (clear_of_others b.rules w.fits.whole h.asked (job_of h) _ _ (here_stand b.rules (core_of b) w.fits h.place h.asked (job_of h) o.stands)).none k i
+  not_others k i = (clear_of_others b.manner w.fits.whole h.asked (job_of h) _ _ (here_stand b.manner (core_of b) w.fits h.place h.asked (job_of h) o.stands)).none k i
 
   module _ (t : Stored) (back : CameBack h.keys s t) (ready : KeepReady s t) where
     out_now : (new : Place) → out_at new.standing ≡ [] → (k : Key) → is_out t k ≡ (has (out (slice_set b.places h.place new)) k && names_entry k)

@@ -23,4 +23,6 @@ pub mod Started
 pub mod States
 pub mod Steps
 pub mod Together
+pub mod ToldTexts
 pub mod Untold
+pub mod WaveJobs

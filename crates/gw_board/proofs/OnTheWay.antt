@@ -1,9 +1,9 @@
 -- Each call of a board leaves it on the way to what its requests come to.
 use Rattle.std.proofs.Common.{◌≡◌, ℕ, zero, suc, List, [], ◌∷◌, ◌++◌, map, Some, None, refl, sym, ap, subst, ◌∙◌}
 use Rattle.std.specs.Prelude.{slice_get, slice_set}
-use Rattle.gw_base.specs.declared.command_words.Rules.{Rules}
+use Rattle.gw_board.specs.declared.manner.Manner.{Manner}
 use Rattle.gw_base.specs.declared.key.Key.{Key}
-use Rattle.gw_reply.specs.declared.reply.TxReply.{TxReply}
+use Rattle.gw_board.specs.Texts.{Text}
 use Rattle.gw_reserve.specs.Owned.{paired, AreFreeSlots}
 use Rattle.gw_table.specs.Maps.{Maps, Outcome}
 use Rattle.gw_table.specs.Parts.{Only, restricted}
@@ -29,7 +29,7 @@ use Rattle.gw_board.proofs.Steps.{Leaves, made_of, undone-append, open_leaves, d
 
 -- ---- what is asked stays
 
-asked-set : (places : List Place) (i : ℕ) (p new : Place) → slice_get places i ≡ Some p → new.asked ≡ p.asked → asked_of (slice_set places i new) ≡ asked_of places
+pub asked-set : (places : List Place) (i : ℕ) (p new : Place) → slice_get places i ≡ Some p → new.asked ≡ p.asked → asked_of (slice_set places i new) ≡ asked_of places
 asked-set [] i p new e f = absurd cc
 asked-set (q ∷ qs) zero p new e f = let same : q ≡ p = cc in ap (λ (a : Asked). a ∷ asked_of qs) (f ∙ ap (λ (x : Place). x.asked) (sym same))
 asked-set (q ∷ qs) (suc i) p new e f = ap (λ (l : List Asked). q.asked ∷ l) (asked-set qs i p new e f)
@@ -45,50 +45,50 @@ set_twice (z ∷ zs) (suc i) x y = ap (λ l. z ∷ l) (set_twice zs i x y)
 
 -- ---- at the start
 
-pub begun_way : (rules : Rules) (asked : List Asked) (m : Maps) → AreWellFormed rules.members m → AreUnused m [] (slots_of asked) → IsOnTheWay (begun_board rules asked m)
-begun_way rules asked m w u = record {
-  fits = kept_start rules 0 asked m w u;
-  outcome = carried_start rules asked m ∙ ap (λ (l : List Asked). carried rules l m) (sym (asked-pending asked));
+pub begun_way : (manner : Manner) (asked : List Asked) (m : Maps) → AreWellFormed manner.rules.members m → AreUnused m [] (slots_of asked) → IsOnTheWay (begun_board manner asked m)
+begun_way manner asked m w u = record {
+  fits = kept_start manner 0 asked m w u;
+  outcome = carried_start manner asked m ∙ ap (λ (l : List Asked). carried manner l m) (sym (asked-pending asked));
   back = refl;
 }
 
 pub gives_the_fold : (b : Seen) → IsOnTheWay b → GivesTheFold b
-gives_the_fold b w = result_kept b.rules (core_of b) w.fits ∙ w.outcome
+gives_the_fold b w = result_kept b.manner (core_of b) w.fits ∙ w.outcome
 
 module _ (b : Seen) (w : IsOnTheWay b) (i : ℕ) (a : Asked) where
-  abbrev rules : Rules
-  rules = b.rules
+  abbrev manner : Manner
+  manner = b.manner
 
   abbrev s : Core
   s = core_of b
 
   -- the requests that are carried out are the same
-  still : (places : List Place) → asked_of places ≡ asked_of b.places → carried rules (asked_of b.places) b.begun ≡ carried rules (asked_of places) b.begun
-  still places e = ap (λ (l : List Asked). carried rules l b.begun) (sym e)
+  still : (places : List Place) → asked_of places ≡ asked_of b.places → carried manner (asked_of b.places) b.begun ≡ carried manner (asked_of places) b.begun
+  still places e = ap (λ (l : List Asked). carried manner l b.begun) (sym e)
 
   -- ---- a place is opened
 
   pub open_way : (keys : List Key) → MayOpen s i a keys → IsOnTheWay (with_open b i a keys)
   open_way keys may =
       let t : Core = after_open s i a keys in
-      let l : Leaves rules s t w.fits [] = open_leaves rules s w.fits i a keys may in
+      let l : Leaves manner s t w.fits [] = open_leaves manner s w.fits i a keys may in
       record {
         fits = record { whole = l.kept.whole; well = l.kept.well; maps = l.kept.maps; stand = l.kept.stand };
         outcome = l.same ∙ w.outcome ∙ still t.places (asked-set b.places i (pending a) (open_with a (record { keys = keys; part = restricted keys b.maps; result = None })) may.pends refl);
         back = ap (undone b.originals) l.back ∙ w.back;
       }
 
-  pub open_job : (keys : List Key) → MayOpen s i a keys → IsJob (record { rules = rules; place = i; asked = a; keys = keys; part = restricted keys b.maps })
+  pub open_job : (keys : List Key) → MayOpen s i a keys → IsJob (record { manner = manner; place = i; asked = a; keys = keys; part = restricted keys b.maps })
   open_job keys may =
       let j : Job = record { keys = keys; part = restricted keys b.maps; result = None } in
       let t : Core = after_open s i a keys in
-      let k : FitsTogether rules t = (open_leaves rules s w.fits i a keys may).kept in
+      let k : FitsTogether manner t = (open_leaves manner s w.fits i a keys may).kept in
       let there : slice_get t.places i ≡ Some (open_with a j) = set_here b.places i (pending a) (open_with a j) may.pends in
-      let is = job_here rules k.whole a j _ _ (here_stand rules t k i a j there) in
+      let is = job_here manner k.whole a j _ _ (here_stand manner t k i a j there) in
       let part : restricted keys b.maps ≡ restricted keys k.whole = is.1.part in
       record {
         covers = subst (λ (p : Maps). Covers (record { keys = Only keys; maps = p }) (footprint_of (paired a.request a.owned) p)) (sym part)
-            (part_covers keys (paired a.request a.owned) k.whole (sound_whole rules.members k.whole k.well) (λ q h. is.1.keys q ∙ h));
+            (part_covers keys (paired a.request a.owned) k.whole (sound_whole manner.rules.members k.whole k.well) (λ q h. is.1.keys q ∙ h));
         unused = subst (λ (p : Maps). AreFreeSlots p a.owned.slots) (sym part) (part_unused keys a.owned.slots k.whole is.0);
       }
 
@@ -98,14 +98,14 @@ module _ (b : Seen) (w : IsOnTheWay b) (i : ℕ) (a : Asked) where
     return_way : IsOnTheWay (record b { maps = (after_return s i a j).maps; places = (after_return s i a j).places })
     return_way =
         let t : Core = after_return s i a j in
-        let l : Leaves rules s t w.fits [] = return_leaves rules s w.fits i a j e in
+        let l : Leaves manner s t w.fits [] = return_leaves manner s w.fits i a j e in
         record {
           fits = record { whole = l.kept.whole; well = l.kept.well; maps = l.kept.maps; stand = l.kept.stand };
           outcome = l.same ∙ w.outcome ∙ still t.places (asked-set b.places i (open_with a j) (pending a) e refl);
           back = ap (undone b.originals) l.back ∙ w.back;
         }
 
-    abbrev closed_as : Rules → Seen
+    abbrev closed_as : Manner → Seen
     closed_as r = record b {
       maps = (after_close s i a j (done r a j.part)).maps;
       places = (after_close s i a j (done r a j.part)).places;
@@ -113,30 +113,30 @@ module _ (b : Seen) (w : IsOnTheWay b) (i : ℕ) (a : Asked) where
     }
 
     -- it is drawn, and then closed with what that gave
-    close_way : IsOnTheWay (closed_as rules)
+    close_way : IsOnTheWay (closed_as manner)
     close_way =
-        let o : Outcome TxReply = done rules a j.part in
-        let c : Seen = closed_as rules in
-        let s1 : Core = after_draw rules s 0 i a j in
-        let l1 : Leaves rules s s1 w.fits [] = draw_leaves rules s w.fits i a j e 0 in
-        let e1 : slice_get s1.places i ≡ Some (open_with a (drawn rules a j)) = set_here b.places i (open_with a j) (open_with a (drawn rules a j)) e in
-        let s2 : Core = after_close s1 i a (drawn rules a j) o in
-        let l2 : Leaves rules s1 s2 l1.kept (record { keys = j.keys; part = j.part } ∷ []) = close_leaves rules s1 l1.kept i a (drawn rules a j) e1 o refl in
-        let same : c.places ≡ s2.places = sym (set_twice b.places i (open_with a (drawn rules a j)) (closed_with a o.answer)) in
+        let o : Outcome Text = done manner a j.part in
+        let c : Seen = closed_as manner in
+        let s1 : Core = after_draw manner s 0 i a j in
+        let l1 : Leaves manner s s1 w.fits [] = draw_leaves manner s w.fits i a j e 0 in
+        let e1 : slice_get s1.places i ≡ Some (open_with a (drawn manner a j)) = set_here b.places i (open_with a j) (open_with a (drawn manner a j)) e in
+        let s2 : Core = after_close s1 i a (drawn manner a j) o in
+        let l2 : Leaves manner s1 s2 l1.kept (record { keys = j.keys; part = j.part } ∷ []) = close_leaves manner s1 l1.kept i a (drawn manner a j) e1 o refl in
+        let same : c.places ≡ s2.places = sym (set_twice b.places i (open_with a (drawn manner a j)) (closed_with a o.answer)) in
         record {
-          fits = made_of rules (core_of c) l2.kept.whole s2.places l2.kept.well same l2.kept.maps l2.kept.stand;
+          fits = made_of manner (core_of c) l2.kept.whole s2.places l2.kept.well same l2.kept.maps l2.kept.stand;
           outcome =
-              ap (λ (l : List Place). carried_on rules l l2.kept.whole) same
+              ap (λ (l : List Place). carried_on manner l l2.kept.whole) same
               ∙ l2.same ∙ l1.same ∙ w.outcome
               ∙ still c.places (asked-set b.places i (open_with a j) (closed_with a o.answer) e refl);
           back = undone-append b.originals (record { keys = j.keys; part = j.part } ∷ []) l2.kept.whole ∙ ap (undone b.originals) (l2.back ∙ l1.back) ∙ w.back;
         }
 
-    close_way_as : (r : Rules) → r ≡ rules → IsOnTheWay (closed_as r)
-    close_way_as r f = subst (λ (x : Rules). IsOnTheWay (closed_as x)) (sym f) close_way
+    close_way_as : (r : Manner) → r ≡ manner → IsOnTheWay (closed_as r)
+    close_way_as r f = subst (λ (x : Manner). IsOnTheWay (closed_as x)) (sym f) close_way
 
 pub result_way : (b : Seen) (h : Handed) → IsOnTheWay b → HasOpen b h → IsOnTheWay (with_result b h)
-result_way b h w o = close_way_as b w h.place h.asked (job_of h) o.stands h.rules o.rules
+result_way b h w o = close_way_as b w h.place h.asked (job_of h) o.stands h.manner o.manner
 
 pub unchanged_way : (b : Seen) (h : Handed) → IsOnTheWay b → HasOpen b h → IsOnTheWay (unchanged b h)
 unchanged_way b h w o = return_way b w h.place h.asked (job_of h) o.stands

@@ -1,7 +1,7 @@
 -- A place is opened.
 use Rattle.std.proofs.Common.{◌≡◌, false, List, [], ◌∷◌, ◌++◌, None, sym, ap, subst, ◌∙◌}
 use Rattle.std.specs.Prelude.{◌||◌}
-use Rattle.gw_base.specs.declared.command_words.Rules.{Rules}
+use Rattle.gw_board.specs.declared.manner.Manner.{Manner}
 use Rattle.gw_base.specs.declared.key.Key.{Key}
 use Rattle.gw_base.specs.declared.key.Key.TheVariants.{Term, Ctx}
 use Rattle.gw_base.specs.Keys.{has, same_key, AreApart}
@@ -25,13 +25,13 @@ use Rattle.gw_board.specs.Fitting.{Each, out_at, out, IsJobOf, Fits, Stands, Unl
 
 -- ---- a key that is out, and where it leads
 
-module _ (rules : Rules) (m : Maps) (w : AreWellFormed rules.members m) where
-  leads_at : (a : Asked) (x : Standing) → Fits rules a m x → Leads (out_at x) m
+module _ (manner : Manner) (m : Maps) (w : AreWellFormed manner.rules.members m) where
+  leads_at : (a : Asked) (x : Standing) → Fits manner a m x → Leads (out_at x) m
   leads_at a Pending f = λ t c h e. absurd cc
-  leads_at a (Opened j) f = λ t c h e. f.1.keys (Ctx c) ∙ keys_lead rules.members a m w f.0 t c (sym (f.1.keys (Term t)) ∙ h) e
+  leads_at a (Opened j) f = λ t c h e. f.1.keys (Ctx c) ∙ keys_lead manner.rules.members a m w f.0 t c (sym (f.1.keys (Term t)) ∙ h) e
   leads_at a (Closed reply) f = λ t c h e. absurd cc
 
-  leads_out : (places : List Place) → Each (Stands rules m) places → Leads (out places) m
+  leads_out : (places : List Place) → Each (Stands manner m) places → Leads (out places) m
   leads_out [] f t c h e = absurd cc
   leads_out (p ∷ ps) f t c h e =
       either (any-append_cases (same_key (Term t)) (out_at p.standing) (out ps) h)
@@ -52,7 +52,7 @@ apart_at keys m a Pending h = tt
 apart_at keys m a (Opened j) h = apart_turned j.keys keys (apart_if j.keys keys h)
 apart_at keys m a (Closed reply) h = tt
 
-module _ (rules : Rules) (m : Maps) (w : AreWellFormed rules.members m) (a : Asked) (before after : List Place) (h : Stand rules m (before ++ pending a ∷ after)) where
+module _ (manner : Manner) (m : Maps) (w : AreWellFormed manner.rules.members m) (a : Asked) (before after : List Place) (h : Stand manner m (before ++ pending a ∷ after)) where
   abbrev all_out : List Key
   all_out = out (before ++ pending a ∷ after)
 
@@ -61,7 +61,7 @@ module _ (rules : Rules) (m : Maps) (w : AreWellFormed rules.members m) (a : Ask
   now = cut all_out m
 
   free_here : AreFreeSlots m a.owned.slots
-  free_here = (behind_in (Stands rules m) (Beside m) before (pending a ∷ after) h).0
+  free_here = (behind_in (Stands manner m) (Beside m) before (pending a ∷ after) h).0
 
   later_open : (y : Standing) → KeepsApart a m Pending y → ApartAt (keys_of a m) y
   later_open Pending g = tt
@@ -69,7 +69,7 @@ module _ (rules : Rules) (m : Maps) (w : AreWellFormed rules.members m) (a : Ask
   later_open (Closed reply) g = tt
 
   apart_behind : Each (ApartFromOpen (keys_of a m)) after
-  apart_behind = each_map {P = Beside m (pending a)} {Q = ApartFromOpen (keys_of a m)} (λ y r. later_open y.standing r.apart) after (behind_in (Stands rules m) (Beside m) before (pending a ∷ after) h).1
+  apart_behind = each_map {P = Beside m (pending a)} {Q = ApartFromOpen (keys_of a m)} (λ y r. later_open y.standing r.apart) after (behind_in (Stands manner m) (Beside m) before (pending a ∷ after) h).1
 
   module _ (free : meets_any (keys_of a now) now before ≡ false) where
     abbrev keys : List Key
@@ -104,13 +104,13 @@ module _ (rules : Rules) (m : Maps) (w : AreWellFormed rules.members m) (a : Ask
         (tt, subst (λ (l : List Key). Each (ApartFromOpen l) after) (sym same) apart_behind))
 
     lead_here : Leads keys m
-    lead_here = subst (λ (l : List Key). Leads l m) (sym same) (keys_lead rules.members a m w free_here)
+    lead_here = subst (λ (l : List Key). Leads l m) (sym same) (keys_lead manner.rules.members a m w free_here)
 
     lead_out : Leads all_out m
-    lead_out = leads_out rules m w (before ++ pending a ∷ after) (each_in (Stands rules m) (Beside m) (before ++ pending a ∷ after) h)
+    lead_out = leads_out manner m w (before ++ pending a ∷ after) (each_in (Stands manner m) (Beside m) (before ++ pending a ∷ after) h)
 
-    apart_told : (b : Asked) (y : Standing) → Fits rules b m y → meets_at keys now b y ≡ false → UnlessClosed y (AreApart (keys_of b m) keys)
-    apart_told b Pending f g = still_apart rules.members b keys all_out m w lead_here lead_out clear (apart_if (keys_of b now) keys g)
+    apart_told : (b : Asked) (y : Standing) → Fits manner b m y → meets_at keys now b y ≡ false → UnlessClosed y (AreApart (keys_of b m) keys)
+    apart_told b Pending f g = still_apart manner.rules.members b keys all_out m w lead_here lead_out clear (apart_if (keys_of b now) keys g)
     apart_told b (Opened j) f g = apart_left j.keys (keys_of b m) keys f.1.keys (apart_if j.keys keys g)
     apart_told b (Closed reply) f g = tt
 
@@ -119,7 +119,7 @@ module _ (rules : Rules) (m : Maps) (w : AreWellFormed rules.members m) (a : Ask
       abbrev pub job : Job
       job = record { keys = listed; part = restricted listed now; result = None }
 
-      is_job : IsJobOf rules a m job
+      is_job : IsJobOf manner a m job
       is_job = record {
         keys = λ q. is q ∙ ap (λ (l : List Key). has l q) same;
         part = restricted_alike listed now m (agree_clear listed all_out m (clear_same keys listed all_out (λ q. sym (is q)) clear));
@@ -137,13 +137,13 @@ module _ (rules : Rules) (m : Maps) (w : AreWellFormed rules.members m) (a : Ask
       beside_now : Each (λ y. Beside m y (open_with a job)) before
       beside_now =
           each_both {P = λ y. KeepsApart y.asked m y.standing (Opened job)} {Q = λ y. Beside m y (pending a)} {S = λ y. Beside m y (open_with a job)} (λ y g r. record { differ = r.differ; apart = g }) before
-          (each_both {P = Stands rules m} {Q = MeetsNot keys now} {S = λ y. KeepsApart y.asked m y.standing (Opened job)} (λ y f g. apart_now y.asked y.standing (apart_told y.asked y.standing f g)) before
-          (each_in (Stands rules m) (Beside m) before (front_in (Stands rules m) (Beside m) before (pending a ∷ after) h)) met_not)
-          (earlier_in (Stands rules m) (Beside m) before after (pending a) h)
+          (each_both {P = Stands manner m} {Q = MeetsNot keys now} {S = λ y. KeepsApart y.asked m y.standing (Opened job)} (λ y f g. apart_now y.asked y.standing (apart_told y.asked y.standing f g)) before
+          (each_in (Stands manner m) (Beside m) before (front_in (Stands manner m) (Beside m) before (pending a ∷ after) h)) met_not)
+          (earlier_in (Stands manner m) (Beside m) before after (pending a) h)
 
-      pub open_stand : Stand rules m (before ++ open_with a job ∷ after)
+      pub open_stand : Stand manner m (before ++ open_with a job ∷ after)
       open_stand =
-          replaced (Stands rules m) (Stands rules m) (Beside m) (Beside m) Any (λ y u f. f) (λ y z u v r. r) (pending a) (open_with a job)
+          replaced (Stands manner m) (Stands manner m) (Beside m) (Beside m) Any (λ y u f. f) (λ y z u v r. r) (pending a) (open_with a job)
           (free_here, is_job)
           (λ y u r. record { differ = r.differ; apart = apart_as a m Pending (Opened job) (λ T t. t) y.standing r.apart })
           before after (each_any before) (each_any after) beside_now h

@@ -1,8 +1,9 @@
 -- One request, and another one after it.
-use Rattle.std.proofs.Common.{◌≡◌, ℕ, ◌<◌, List, ◌++◌, None, get_or, arith}
+use Rattle.std.proofs.Common.{◌≡◌, ℕ, ◌<◌, List, ◌++◌, None, ap, get_or, arith}
 use Rattle.std.specs.Prelude.{All}
-use Rattle.gw_base.specs.declared.command_words.Rules.{Rules}
+use Rattle.gw_board.specs.declared.manner.Manner.{Manner}
 use Rattle.gw_base.specs.Keys.{Among, AreApart}
+use Rattle.gw_reply.specs.Messages.{reply_text}
 use Rattle.gw_table.specs.Locality.{KeepsTo, ChangePlaces}
 use Rattle.gw_table.specs.Maps.{Maps, term}
 use Rattle.gw_table.specs.Reserved.{slot_name}
@@ -21,31 +22,41 @@ use Rattle.gw_board.specs.Carried.{Asked, keys_of, done}
 own : (a : Asked) (m : Maps) → AreFreeSlots m a.owned.slots → OwnsUnused m a.request (paired a.request a.owned)
 own a m f = foot.entries_unused a.request a.owned m f
 
-module _ (rules : Rules) (a : Asked) (m : Maps) (w : AreWellFormed rules.members m) (f : AreFreeSlots m a.owned.slots) where
+module _ (manner : Manner) (a : Asked) (m : Maps) (w : AreWellFormed manner.rules.members m) (f : AreFreeSlots m a.owned.slots) where
   abbrev owners : List OwnedAction
   owners = paired a.request a.owned
 
-  pub keeps : KeepsTo (keys_of a m) (done rules a) m
-  keeps = foot.request_keeps rules a.request owners m w (own a m f)
+  keeps_told : KeepsTo (keys_of a m) (paired_transaction manner.rules a.request owners) m
+  keeps_told = foot.request_keeps manner.rules a.request owners m w (own a m f)
 
-  pub well_after : AreWellFormed rules.members (done rules a m).maps
-  well_after = foot.request_whole rules a.request owners m w (own a m f)
+  pub keeps : KeepsTo (keys_of a m) (done manner a) m
+  keeps = record {
+    answer = ap (reply_text manner.mid) keeps_told.answer;
+    maps = keeps_told.maps;
+    terms = keeps_told.terms;
+    contexts = keeps_told.contexts;
+  }
 
-  pub keys_grow : (b : Asked) → Among (keys_of b (done rules a m).maps) (keys_of a m ++ keys_of b m)
-  keys_grow b = foot.keys_after rules a.request owners m w (own a m f) (paired b.request b.owned)
+  pub well_after : AreWellFormed manner.rules.members (done manner a m).maps
+  well_after = foot.request_whole manner.rules a.request owners m w (own a m f)
 
-  pub keys_stay : (b : Asked) → AreApart (keys_of a m) (keys_of b m) → keys_of b (done rules a m).maps ≡ keys_of b m
-  keys_stay b h = foot.keys_stay rules a.request owners m w (own a m f) (paired b.request b.owned) h
+  pub keys_grow : (b : Asked) → Among (keys_of b (done manner a m).maps) (keys_of a m ++ keys_of b m)
+  keys_grow b = foot.keys_after manner.rules a.request owners m w (own a m f) (paired b.request b.owned)
 
-  pub change : (b : Asked) → AreFreeSlots m b.owned.slots → AreApart (keys_of a m) (keys_of b m) → ChangePlaces (done rules a) (done rules b) m
-  change b g h = foot.requests_change rules m a.request owners b.request (paired b.request b.owned) w (own a m f) (own b m g) h
+  pub keys_stay : (b : Asked) → AreApart (keys_of a m) (keys_of b m) → keys_of b (done manner a m).maps ≡ keys_of b m
+  keys_stay b h = foot.keys_stay manner.rules a.request owners m w (own a m f) (paired b.request b.owned) h
+
+  pub change : (b : Asked) → AreFreeSlots m b.owned.slots → AreApart (keys_of a m) (keys_of b m) → ChangePlaces (done manner a) (done manner b) m
+  change b g h =
+      let told = foot.requests_change manner.rules m a.request owners b.request (paired b.request b.owned) w (own a m f) (own b m g) h in
+      record { first = ap (reply_text manner.mid) told.first; second = ap (reply_text manner.mid) told.second; maps = told.maps }
 
   -- a slot with another name than each of its own
-  named_free : (t : ℕ) → All (IsNamedOtherThan t) (owned a.owned.slots) → term m (slot_name t) ≡ None → term (done rules a m).maps (slot_name t) ≡ None
+  named_free : (t : ℕ) → All (IsNamedOtherThan t) (owned a.owned.slots) → term m (slot_name t) ≡ None → term (done manner a m).maps (slot_name t) ≡ None
   unfolding paired_transaction
-  named_free t other none = kept_actions rules (commands_keep_free rules t) a.owned.contexts a.owned.slots a.request.actions m (any_of owners) (record { kept = none; free = f; kind = other })
+  named_free t other none = kept_actions manner.rules (commands_keep_free manner.rules t) a.owned.contexts a.owned.slots a.request.actions m (any_of owners) (record { kept = none; free = f; kind = other })
 
-  pub stays_free : (b : Asked) → AreFreeSlots m b.owned.slots → OwnOthers a.owned.slots b.owned.slots → AreFreeSlots (done rules a m).maps b.owned.slots
+  pub stays_free : (b : Asked) → AreFreeSlots m b.owned.slots → OwnOthers a.owned.slots b.owned.slots → AreFreeSlots (done manner a m).maps b.owned.slots
   stays_free b g differ = record {
     numbers_apart = g.numbers_apart;
     no_contexts = λ k d h. absurd (omega arith);

@@ -3,11 +3,10 @@ use Rattle.std.proofs.Common.{◌≡◌, ℕ, zero, suc, ◌<◌, ◌≤◌, Boo
 use Rattle.std.specs.Prelude.{slice_get, slice_set}
 use Rattle.std.specs.List.{list_any}
 use Rattle.gw_base.proofs.Booleans.{neither}
-use Rattle.gw_reply.specs.declared.reply.TxReply.{TxReply}
+use Rattle.gw_board.specs.Texts.{Text}
 use Rattle.gw_table.specs.Parts.{Parted}
 use Rattle.gw_board.proofs.Alike.{take-map, get-take, below-take}
-use Rattle.gw_board.specs.BoardView.{unclosed}
-use Rattle.gw_board.specs.Boards.{is_closed, AllClosed}
+use Rattle.gw_board.specs.Boards.{is_closed, AllClosed, unclosed}
 use Rattle.gw_board.specs.Carried.{Asked}
 use Rattle.gw_board.specs.Core.{Standing, Closed, Place, pending}
 use Rattle.gw_board.specs.Journal.{Original}
@@ -106,20 +105,20 @@ closed_front s ss h = let both = neither (not (is_closed (standing_of s.stage)))
     by true e = refl
     by false e = absurd cc
 
-pub closed_reply : (x : Stage) → is_closed (standing_of x) ≡ true → ((r : TxReply) → x ≡ stage.Closed r → ⊥) → ⊥
+pub closed_reply : (x : Stage) → is_closed (standing_of x) ≡ true → ((r : Text) → x ≡ stage.Closed r → ⊥) → ⊥
 closed_reply stage.Pending h f = cc
 closed_reply (stage.Opened keys part) h f = cc
 closed_reply (stage.Closed r) h f = f r refl
 
 -- replies so far, and the places that are left
-abbrev pub told_as : List TxReply → List Seat → List Standing
+abbrev pub told_as : List Text → List Seat → List Standing
 told_as replies seats = map Closed replies ++ map (λ p. p.standing) (map place_of seats)
 
-pub told_more : (replies : List TxReply) (r : TxReply) (s : Seat) (ss : List Seat) → s.stage ≡ stage.Closed r → told_as (replies ++ r ∷ []) ss ≡ told_as replies (s ∷ ss)
+pub told_more : (replies : List Text) (r : Text) (s : Seat) (ss : List Seat) → s.stage ≡ stage.Closed r → told_as (replies ++ r ∷ []) ss ≡ told_as replies (s ∷ ss)
 told_more [] r s ss e = ap (λ (x : Stage). standing_of x ∷ map (λ p. p.standing) (map place_of ss)) (sym e)
 told_more (q ∷ qs) r s ss e = ap (λ (l : List Standing). Closed q ∷ l) (told_more qs r s ss e)
 
-pub told_all : (replies : List TxReply) → told_as replies [] ≡ map Closed replies
+pub told_all : (replies : List Text) → told_as replies [] ≡ map Closed replies
 told_all [] = refl
 told_all (r ∷ rs) = ap (λ (l : List Standing). Closed r ∷ l) (told_all rs)
 

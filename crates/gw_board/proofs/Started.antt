@@ -2,10 +2,10 @@
 use Rattle.std.proofs.Common.{◌≡◌, ℕ, ◌+◌, ◌<◌, false, List, [], ◌∷◌, ◌++◌, map, None, length, refl, sym, ap, subst, ◌∙◌, arith, get_or-append-add}
 use Rattle.std.specs.Prelude.{◌≢◌, All, AllPairs}
 use Rattle.std.proofs.lemmas.List.{length-append, get_or_append_left, get_or_default}
-use Rattle.gw_base.specs.declared.command_words.Rules.{Rules}
+use Rattle.gw_board.specs.declared.manner.Manner.{Manner}
 use Rattle.gw_base.specs.declared.key.Key.{Key}
 use Rattle.gw_base.specs.Keys.{has}
-use Rattle.gw_reply.specs.declared.reply.TxReply.{TxReply}
+use Rattle.gw_board.specs.Texts.{Text}
 use Rattle.gw_table.specs.Maps.{Maps, term, Outcome}
 use Rattle.gw_table.specs.Parts.{cut}
 use Rattle.gw_table.specs.Reserved.{slot_name}
@@ -57,12 +57,12 @@ each_pending m a (b ∷ more) h = (record { differ = h.0; apart = tt }, each_pen
 
 -- ---- the start
 
-pub stand_start : (rules : Rules) (m : Maps) (asked : List Asked) → AreUnused m [] (slots_of asked) → Stand rules m (map pending asked)
-stand_start rules m [] u = tt
-stand_start rules m (a ∷ more) u =
+pub stand_start : (manner : Manner) (m : Maps) (asked : List Asked) → AreUnused m [] (slots_of asked) → Stand manner m (map pending asked)
+stand_start manner m [] u = tt
+stand_start manner m (a ∷ more) u =
     let mine : List ℕ = owned a.owned.slots in
     let theirs : List ℕ = slots_of more in
-    (front_unused m mine theirs u, each_pending m a more (each_other mine more (others_behind mine theirs u.slots_apart)), stand_start rules m more (behind_unused m mine theirs u))
+    (front_unused m mine theirs u, each_pending m a more (each_other mine more (others_behind mine theirs u.slots_apart)), stand_start manner m more (behind_unused m mine theirs u))
 
 pub nothing_out : (asked : List Asked) (q : Key) → has (out (map pending asked)) q ≡ false
 nothing_out [] q = refl
@@ -71,6 +71,6 @@ nothing_out (a ∷ more) q = nothing_out more q
 pub start_maps : (asked : List Asked) (m : Maps) → m ≡ cut (out (map pending asked)) m
 start_maps asked m = sym (cut_none (out (map pending asked)) m (nothing_out asked))
 
-pub carried_start : (rules : Rules) (asked : List Asked) (m : Maps) → carried_on rules (map pending asked) m ≡ carried rules asked m
-carried_start rules [] m = refl
-carried_start rules (a ∷ more) m = ap (λ (o : Outcome (List TxReply)). record { maps = o.maps; answer = (done rules a m).answer ∷ o.answer }) (carried_start rules more (done rules a m).maps)
+pub carried_start : (manner : Manner) (asked : List Asked) (m : Maps) → carried_on manner (map pending asked) m ≡ carried manner asked m
+carried_start manner [] m = refl
+carried_start manner (a ∷ more) m = ap (λ (o : Outcome (List Text)). record { maps = o.maps; answer = (done manner a m).answer ∷ o.answer }) (carried_start manner more (done manner a m).maps)

@@ -1,6 +1,6 @@
 -- What lawful events keep: there are whole maps, of which the maps are without what is out.
 use Rattle.std.proofs.Common.{List, [], ◌∷◌, ◌++◌, sym}
-use Rattle.gw_base.specs.declared.command_words.Rules.{Rules}
+use Rattle.gw_board.specs.declared.manner.Manner.{Manner}
 use Rattle.gw_base.specs.Keys.{AreApart}
 use Rattle.gw_base.proofs.KeyTests.{apart_turned}
 use Rattle.gw_table.specs.Maps.{Maps}
@@ -26,23 +26,23 @@ each_any (p ∷ ps) = (tt, each_any ps)
 
 -- ---- an open job is apart from all others that are open
 
-module _ (rules : Rules) (m : Maps) (a : Asked) (j : Job) (same : SameKeys j.keys (keys_of a m)) where
+module _ (manner : Manner) (m : Maps) (a : Asked) (j : Job) (same : SameKeys j.keys (keys_of a m)) where
   apart_later : (y : Standing) → KeepsApart a m (Opened j) y → ApartAt j.keys y
   apart_later Pending h = tt
   apart_later (Opened k) h = apart_left (keys_of a m) j.keys k.keys (λ q. sym (same q)) h
   apart_later (Closed reply) h = tt
 
-  apart_earlier : (b : Asked) (y : Standing) → Fits rules b m y → KeepsApart b m y (Opened j) → ApartAt j.keys y
+  apart_earlier : (b : Asked) (y : Standing) → Fits manner b m y → KeepsApart b m y (Opened j) → ApartAt j.keys y
   apart_earlier b Pending f h = tt
   apart_earlier b (Opened k) f h = apart_turned k.keys j.keys (apart_left (keys_of b m) k.keys j.keys (λ q. sym (f.1.keys q)) h)
   apart_earlier b (Closed reply) f h = tt
 
-  module _ (before after : List Place) (h : Stand rules m (before ++ open_with a j ∷ after)) where
+  module _ (before after : List Place) (h : Stand manner m (before ++ open_with a j ∷ after)) where
     pub apart_before : Each (ApartFromOpen j.keys) before
     apart_before =
-        each_both {P = Stands rules m} {Q = λ y. Beside m y (open_with a j)} {S = ApartFromOpen j.keys} (λ y f r. apart_earlier y.asked y.standing f r.apart) before
-        (each_in (Stands rules m) (Beside m) before (front_in (Stands rules m) (Beside m) before (open_with a j ∷ after) h))
-        (earlier_in (Stands rules m) (Beside m) before after (open_with a j) h)
+        each_both {P = Stands manner m} {Q = λ y. Beside m y (open_with a j)} {S = ApartFromOpen j.keys} (λ y f r. apart_earlier y.asked y.standing f r.apart) before
+        (each_in (Stands manner m) (Beside m) before (front_in (Stands manner m) (Beside m) before (open_with a j ∷ after) h))
+        (earlier_in (Stands manner m) (Beside m) before after (open_with a j) h)
 
     pub apart_behind : Each (ApartFromOpen j.keys) after
-    apart_behind = each_map {P = Beside m (open_with a j)} {Q = ApartFromOpen j.keys} (λ y r. apart_later y.standing r.apart) after (behind_in (Stands rules m) (Beside m) before (open_with a j ∷ after) h).1
+    apart_behind = each_map {P = Beside m (open_with a j)} {Q = ApartFromOpen j.keys} (λ y r. apart_later y.standing r.apart) after (behind_in (Stands manner m) (Beside m) before (open_with a j ∷ after) h).1

@@ -1,12 +1,11 @@
 -- How the fields of a board are seen, and what holds of them (own).
-use Rattle.std.specs.Prelude.{◌≡◌, ℕ, suc, ◌+◌, ◌≤◌, ◌&&◌, cond, List, [], ◌∷◌, map, vec_len, vec_capacity}
+use Rattle.std.specs.Prelude.{◌≡◌, ◌+◌, ◌≤◌, ◌&&◌, [], map, vec_len, vec_capacity}
 use Rattle.gw_base.specs.declared.key.Key.{Key}
 use Rattle.gw_base.specs.Keys.{has}
 use Rattle.gw_table.specs.Stored.{Stored, maps_of, is_out, names_entry, AreReady}
 use Rattle.gw_board.specs.declared.board.Board.TheInside.{Inside}
-use Rattle.gw_board.specs.Boards.{Seen, core_of, asked_of, is_closed}
+use Rattle.gw_board.specs.Boards.{Seen, core_of, asked_of, unclosed}
 use Rattle.gw_board.specs.Carried.{carried}
-use Rattle.gw_board.specs.Core.{Place}
 use Rattle.gw_board.specs.Fitting.{Each, out, FitsTogether}
 use Rattle.gw_board.specs.Journal.{undone}
 use Rattle.gw_board.specs.Results.{carried_on}
@@ -14,7 +13,7 @@ use Rattle.gw_board.specs.Seats.{place_of, original_of_part}
 
 abbrev pub value_of : Inside → Seen
 value_of a = record {
-  rules = a.rules;
+  manner = a.manner;
   begun = maps_of a.start.value;
   maps = maps_of a.tables;
   places = map place_of a.seats.items;
@@ -24,19 +23,14 @@ value_of a = record {
 -- There are whole maps from which what is out is missing; carrying out on them what is not closed comes to what the requests come to
 -- on the maps that the board was given; and the originals, laid over them, give those maps.
 pub record IsOnTheWay (b : Seen) : Type 0 where
-  pub fits : FitsTogether b.rules (core_of b)
-  pub outcome : carried_on b.rules b.places fits.whole ≡ carried b.rules (asked_of b.places) b.begun
+  pub fits : FitsTogether b.manner (core_of b)
+  pub outcome : carried_on b.manner b.places fits.whole ≡ carried b.manner (asked_of b.places) b.begun
   pub back : undone b.originals fits.whole ≡ b.begun
 
 -- the entries that are out are those of open jobs, and there are places for all originals
 pub record IsKeptIn (tables : Stored) (b : Seen) : Type 0 where
   pub out : (k : Key) → is_out tables k ≡ (has (out b.places) k && names_entry k)
   pub ready : Each (λ o. AreReady o.keys tables) b.originals
-
--- how many places are not closed
-abbrev pub unclosed : List Place → ℕ
-unclosed [] = 0
-unclosed (p ∷ ps) = cond (is_closed p.standing) (unclosed ps) (suc (unclosed ps))
 
 -- there is room for an original of each place that is not closed, and for a reply of each place
 pub record HasRoom (a : Inside) : Type 0 where

@@ -1,9 +1,9 @@
 -- A board as contracts see it (own): what it was given, how the places of its burst stand, and the way back.
-use Rattle.std.specs.Prelude.{◌≡◌, ℕ, ◌<◌, Bool, true, false, cond, not, List, [], ◌∷◌, ◌++◌, map, take, slice_get, Option, None, Some}
+use Rattle.std.specs.Prelude.{◌≡◌, ℕ, suc, ◌<◌, Bool, true, false, cond, not, List, [], ◌∷◌, ◌++◌, map, take, slice_get, Option, None, Some}
 use Rattle.std.specs.List.{list_any}
-use Rattle.gw_base.specs.declared.command_words.Rules.{Rules}
+use Rattle.gw_board.specs.declared.manner.Manner.{Manner}
 use Rattle.gw_base.specs.declared.key.Key.{Key}
-use Rattle.gw_reply.specs.declared.reply.TxReply.{TxReply}
+use Rattle.gw_board.specs.Texts.{Text}
 use Rattle.gw_table.specs.Maps.{Maps, Outcome}
 use Rattle.gw_table.specs.Parts.{restricted}
 use Rattle.gw_board.specs.Carried.{Asked, keys_of, done, carried}
@@ -12,10 +12,10 @@ use Rattle.gw_board.specs.Journal.{Original}
 use Rattle.gw_board.specs.Results.{result_of}
 use Rattle.gw_board.specs.Waves.{is_pending}
 
--- The rules, and the maps that it was given; the maps as they are, without the entries that are out; the places, from 0; and of each
+-- The manner, and the maps that it was given; the maps as they are, without the entries that are out; the places, from 0; and of each
 -- job that was closed with its result, in the order of closing, the keys and the part that their entries were taken out into.
 pub record Seen : Type 0 where
-  pub rules : Rules
+  pub manner : Manner
   pub begun : Maps
   pub maps : Maps
   pub places : List Place
@@ -30,19 +30,19 @@ abbrev pub asked_of : List Place → List Asked
 asked_of places = map (λ p. p.asked) places
 
 -- nothing is carried out
-abbrev pub begun_board : Rules → List Asked → Maps → Seen
-begun_board rules asked m = record { rules = rules; begun = m; maps = m; places = map pending asked; originals = [] }
+abbrev pub begun_board : Manner → List Asked → Maps → Seen
+begun_board manner asked m = record { manner = manner; begun = m; maps = m; places = map pending asked; originals = [] }
 
 -- what is open is put back, and what is not closed carried out, one place after another: that gives the maps and replies of carrying
 -- out all requests, one after another, on the maps that the board was given
 abbrev pub GivesTheFold : Seen → Type 0
-GivesTheFold b = result_of b.rules (core_of b) ≡ carried b.rules (asked_of b.places) b.begun
+GivesTheFold b = result_of b.manner (core_of b) ≡ carried b.manner (asked_of b.places) b.begun
 
 -- ---- jobs
 
 -- a job as it is handed out: its place, its request, its keys, and the part that has their entries
 pub record Handed : Type 0 where
-  pub rules : Rules
+  pub manner : Manner
   pub place : ℕ
   pub asked : Asked
   pub keys : List Key
@@ -52,12 +52,12 @@ abbrev pub job_of : Handed → Job
 job_of h = record { keys = h.keys; part = h.part; result = None }
 
 -- what its request does on its part
-abbrev pub outcome_of : Handed → Outcome TxReply
-outcome_of h = done h.rules h.asked h.part
+abbrev pub outcome_of : Handed → Outcome Text
+outcome_of h = done h.manner h.asked h.part
 
 -- this board has handed it out, and it is not closed
 pub record HasOpen (b : Seen) (h : Handed) : Type 0 where
-  pub rules : h.rules ≡ b.rules
+  pub manner : h.manner ≡ b.manner
   pub stands : slice_get b.places h.place ≡ Some (open_with h.asked (job_of h))
 
 -- a job that is over: with its result, or unchanged
@@ -73,7 +73,7 @@ with_open b i a keys = record b { maps = (after_open (core_of b) i a keys).maps;
 -- the place was opened, and its job handed out
 pub record Opens (b : Seen) (i : ℕ) (h : Handed) (c : Seen) : Type 0 where
   pub may : MayOpen (core_of b) i h.asked h.keys
-  pub job : h ≡ record { rules = b.rules; place = i; asked = h.asked; keys = h.keys; part = restricted h.keys b.maps }
+  pub job : h ≡ record { manner = b.manner; place = i; asked = h.asked; keys = h.keys; part = restricted h.keys b.maps }
   pub board : c ≡ with_open b i h.asked h.keys
 
 abbrev pub is_pending_at : Option Place → Bool
@@ -126,3 +126,18 @@ is_closed (Closed reply) = true
 -- every place is closed
 abbrev pub AllClosed : List Place → Type 0
 AllClosed places = list_any (λ p. not (is_closed p.standing)) places ≡ false
+
+-- how many places are not closed
+abbrev pub unclosed : List Place → ℕ
+unclosed [] = 0
+unclosed (p ∷ ps) = cond (is_closed p.standing) (unclosed ps) (suc (unclosed ps))
+
+-- the text of the reply that stands there
+abbrev pub reply_of : Standing → Option Text
+reply_of Pending = None
+reply_of (Opened j) = None
+reply_of (Closed reply) = Some reply
+
+abbrev pub reply_at : Option Place → Option Text
+reply_at None = None
+reply_at (Some p) = reply_of p.standing

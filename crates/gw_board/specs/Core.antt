@@ -1,10 +1,10 @@
 -- Transactions side by side (own): how the places of a burst stand, which entries are out of the maps, and what may happen.
 use Rattle.std.specs.Prelude.{◌≡◌, ℕ, ◌<◌, nat_eq, Bool, false, not, List, [], ◌∷◌, ◌++◌, map, length, take, slice_get, slice_set, slice_index_or, replicate, filter, find, Option, None, Some, is_none}
 use Rattle.std.specs.List.{list_any}
-use Rattle.gw_base.specs.declared.command_words.Rules.{Rules}
+use Rattle.gw_board.specs.declared.manner.Manner.{Manner}
 use Rattle.gw_base.specs.declared.key.Key.{Key}
 use Rattle.gw_base.specs.Keys.{has}
-use Rattle.gw_reply.specs.declared.reply.TxReply.{TxReply}
+use Rattle.gw_board.specs.Texts.{Text}
 use Rattle.gw_table.specs.Maps.{Maps, Outcome}
 use Rattle.gw_table.specs.Parts.{restricted, cut, overlaid}
 use Rattle.gw_foot.specs.Meets.{meets}
@@ -16,12 +16,12 @@ use Rattle.gw_board.specs.Carried.{Asked, keys_of, done}
 pub record Job : Type 0 where
   pub keys : List Key
   pub part : Maps
-  pub result : Option (Outcome TxReply)
+  pub result : Option (Outcome Text)
 
 pub data Standing : Type 0 where
   Pending : Standing
   Opened : Job → Standing
-  Closed : TxReply → Standing
+  Closed : Text → Standing
 
 -- a place of a burst: its request, and how it stands
 pub record Place : Type 0 where
@@ -42,7 +42,7 @@ pending a = record { asked = a; standing = Pending }
 abbrev pub open_with : Asked → Job → Place
 open_with a j = record { asked = a; standing = Opened j }
 
-abbrev pub closed_with : Asked → TxReply → Place
+abbrev pub closed_with : Asked → Text → Place
 closed_with a reply = record { asked = a; standing = Closed reply }
 
 -- nothing is out, and every place is pending
@@ -100,13 +100,13 @@ pub record MayDraw (s : Core) (worker i : ℕ) (a : Asked) (j : Job) : Type 0 wh
   pub stands : slice_get s.places i ≡ Some (open_with a j)
 
 -- it is carried out on its part
-abbrev pub drawn : Rules → Asked → Job → Job
-drawn rules a j = record { keys = j.keys; part = j.part; result = Some (done rules a j.part) }
+abbrev pub drawn : Manner → Asked → Job → Job
+drawn manner a j = record { keys = j.keys; part = j.part; result = Some (done manner a j.part) }
 
-abbrev pub after_draw : Rules → Core → (worker : ℕ) → ℕ → Asked → Job → Core
-after_draw rules s worker i a j = record {
+abbrev pub after_draw : Manner → Core → (worker : ℕ) → ℕ → Asked → Job → Core
+after_draw manner s worker i a j = record {
   maps = s.maps;
-  places = slice_set s.places i (open_with a (drawn rules a j));
+  places = slice_set s.places i (open_with a (drawn manner a j));
   opened = s.opened;
   lists = slice_set s.lists worker (slice_index_or s.lists worker [] ++ i ∷ []);
 }
@@ -117,11 +117,11 @@ abbrev pub without_place : ℕ → List ℕ → List ℕ
 without_place i opened = filter (λ k. not (nat_eq i k)) opened
 
 -- with the result: the new part is laid over the maps, and the reply stands at the place
-pub record MayClose (s : Core) (i : ℕ) (a : Asked) (j : Job) (result : Outcome TxReply) : Type 0 where
+pub record MayClose (s : Core) (i : ℕ) (a : Asked) (j : Job) (result : Outcome Text) : Type 0 where
   pub stands : slice_get s.places i ≡ Some (open_with a j)
   pub drawn : j.result ≡ Some result
 
-abbrev pub after_close : Core → ℕ → Asked → Job → Outcome TxReply → Core
+abbrev pub after_close : Core → ℕ → Asked → Job → Outcome Text → Core
 after_close s i a j result = record {
   maps = overlaid j.keys result.maps s.maps;
   places = slice_set s.places i (closed_with a result.answer);
@@ -144,13 +144,13 @@ after_return s i a j = record {
 -- ---- events
 
 -- a lawful event leads from one state to another
-pub data Event (rules : Rules) (s t : Core) : Type 0 where
-  Open : (i : ℕ) (a : Asked) (keys : List Key) → MayOpen s i a keys → t ≡ after_open s i a keys → Event rules s t
-  Draw : (worker i : ℕ) (a : Asked) (j : Job) → MayDraw s worker i a j → t ≡ after_draw rules s worker i a j → Event rules s t
-  Close : (i : ℕ) (a : Asked) (j : Job) (result : Outcome TxReply) → MayClose s i a j result → t ≡ after_close s i a j result → Event rules s t
-  Return : (i : ℕ) (a : Asked) (j : Job) → MayReturn s i a j → t ≡ after_return s i a j → Event rules s t
+pub data Event (manner : Manner) (s t : Core) : Type 0 where
+  Open : (i : ℕ) (a : Asked) (keys : List Key) → MayOpen s i a keys → t ≡ after_open s i a keys → Event manner s t
+  Draw : (worker i : ℕ) (a : Asked) (j : Job) → MayDraw s worker i a j → t ≡ after_draw manner s worker i a j → Event manner s t
+  Close : (i : ℕ) (a : Asked) (j : Job) (result : Outcome Text) → MayClose s i a j result → t ≡ after_close s i a j result → Event manner s t
+  Return : (i : ℕ) (a : Asked) (j : Job) → MayReturn s i a j → t ≡ after_return s i a j → Event manner s t
 
 -- lawful events, one after another
-pub data Events (rules : Rules) : Core → Core → Type 0 where
-  none : {s : Core} → Events rules s s
-  more : {s : Core} {t : Core} {u : Core} → Event rules s t → Events rules t u → Events rules s u
+pub data Events (manner : Manner) : Core → Core → Type 0 where
+  none : {s : Core} → Events manner s s
+  more : {s : Core} {t : Core} {u : Core} → Event manner s t → Events manner t u → Events manner s u

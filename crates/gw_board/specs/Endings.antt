@@ -1,13 +1,13 @@
 -- Closing all that is open (own), as the choice at each place has it.
 use Rattle.std.specs.Prelude.{ℕ, Bool, true, false, List, [], ◌∷◌, length, slice_get, Option, None, Some}
 use Rattle.std.specs.List.{range_with_len}
-use Rattle.gw_reply.specs.declared.reply.TxReply.{TxReply}
+use Rattle.gw_board.specs.Texts.{Text}
 use Rattle.gw_table.specs.Maps.{Outcome}
 use Rattle.gw_board.specs.Carried.{Asked}
 use Rattle.gw_board.specs.Core.{Standing, Pending, Opened, Closed, Place, Job, Core, after_close, after_return}
 
 -- a job that is drawn is closed with its result, where it is so chosen; else, and where it is not drawn, unchanged
-abbrev pub job_ended : Core → ℕ → Asked → Job → (chosen : Bool) → Option (Outcome TxReply) → Core
+abbrev pub job_ended : Core → ℕ → Asked → Job → (chosen : Bool) → Option (Outcome Text) → Core
 job_ended s i a j chosen None = after_return s i a j
 job_ended s i a j true (Some result) = after_close s i a j result
 job_ended s i a j false (Some result) = after_return s i a j

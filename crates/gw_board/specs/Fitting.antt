@@ -1,10 +1,10 @@
 -- States that fit together (own): there are whole maps, from which what is out is missing, and no open job is in the way of an earlier
 -- place that is not closed.
 use Rattle.std.specs.Prelude.{◌≡◌, List, [], ◌∷◌, flat_map, Some}
-use Rattle.gw_base.specs.declared.command_words.Rules.{Rules}
+use Rattle.gw_board.specs.declared.manner.Manner.{Manner}
 use Rattle.gw_base.specs.declared.key.Key.{Key}
 use Rattle.gw_base.specs.Keys.{AreApart}
-use Rattle.gw_reply.specs.declared.reply.TxReply.{TxReply}
+use Rattle.gw_board.specs.Texts.{Text}
 use Rattle.gw_table.specs.Maps.{Maps, Outcome}
 use Rattle.gw_table.specs.Parts.{restricted, cut}
 use Rattle.gw_table.specs.WellFormed.{AreWellFormed}
@@ -38,19 +38,19 @@ out places = flat_map (λ p. out_at p.standing) places
 -- ---- a place
 
 -- the job of a request, as it is in the whole maps
-pub record IsJobOf (rules : Rules) (a : Asked) (m : Maps) (j : Job) : Type 0 where
+pub record IsJobOf (manner : Manner) (a : Asked) (m : Maps) (j : Job) : Type 0 where
   pub keys : AreKeysOf a m j.keys
   pub part : j.part ≡ restricted j.keys m
-  pub result : (o : Outcome TxReply) → j.result ≡ Some o → o ≡ done rules a j.part
+  pub result : (o : Outcome Text) → j.result ≡ Some o → o ≡ done manner a j.part
 
 -- what a request owns is unused until its place is closed
-abbrev pub Fits : Rules → Asked → Maps → Standing → Type 0
-Fits rules a m Pending = AreFreeSlots m a.owned.slots
-Fits rules a m (Opened j) = AreFreeSlots m a.owned.slots × IsJobOf rules a m j
-Fits rules a m (Closed reply) = Unit {0}
+abbrev pub Fits : Manner → Asked → Maps → Standing → Type 0
+Fits manner a m Pending = AreFreeSlots m a.owned.slots
+Fits manner a m (Opened j) = AreFreeSlots m a.owned.slots × IsJobOf manner a m j
+Fits manner a m (Closed reply) = Unit {0}
 
-abbrev pub Stands : Rules → Maps → Place → Type 0
-Stands rules m p = Fits rules p.asked m p.standing
+abbrev pub Stands : Manner → Maps → Place → Type 0
+Stands manner m p = Fits manner p.asked m p.standing
 
 -- ---- and a later one
 
@@ -74,13 +74,13 @@ pub record Beside (m : Maps) (p q : Place) : Type 0 where
   pub differ : Differ p q
   pub apart : KeepsApart p.asked m p.standing q.standing
 
-abbrev pub Stand : Rules → Maps → List Place → Type 0
-Stand rules m places = InOrder (Stands rules m) (Beside m) places
+abbrev pub Stand : Manner → Maps → List Place → Type 0
+Stand manner m places = InOrder (Stands manner m) (Beside m) places
 
 -- ---- a state
 
-pub record FitsTogether (rules : Rules) (s : Core) : Type 0 where
+pub record FitsTogether (manner : Manner) (s : Core) : Type 0 where
   pub whole : Maps
-  pub well : AreWellFormed rules.members whole
+  pub well : AreWellFormed manner.rules.members whole
   pub maps : s.maps ≡ cut (out s.places) whole
-  pub stand : Stand rules whole s.places
+  pub stand : Stand manner whole s.places

@@ -1,6 +1,6 @@
 -- Jobs that are handed out, and what came of them (own).
 use Rattle.std.specs.Prelude.{◌≡◌, Option, None, Some}
-use Rattle.gw_reply.specs.declared.reply.TxReply.{TxReply}
+use Rattle.gw_board.specs.Texts.{Text}
 use Rattle.gw_reserve.specs.Owned.{paired, AreFreeSlots}
 use Rattle.gw_table.specs.Parts.{Parted, Only}
 use Rattle.gw_tx.specs.Footprints.{footprint_of, Covers}
@@ -19,10 +19,10 @@ abbrev pub new_part : Handed → Parted
 new_part h = record { keys = Only h.keys; maps = (outcome_of h).maps }
 
 -- what became of it is what its request does on its part
-pub record IsResult (h : Handed) (new : Parted) (answer : TxReply) : Type 0 where
+pub record IsResult (h : Handed) (new : Parted) (answer : Text) : Type 0 where
   pub part : new ≡ new_part h
   pub reply : answer ≡ (outcome_of h).answer
 
-abbrev pub AreOfJob : Handed → Option (Parted × TxReply) → Type 0
+abbrev pub AreOfJob : Handed → Option (Parted × Text) → Type 0
 AreOfJob h None = Unit {0}
 AreOfJob h (Some new) = IsResult h new.0 new.1

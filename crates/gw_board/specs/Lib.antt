@@ -6,10 +6,13 @@ pub mod Endings
 pub mod Fitting
 pub mod Jobs
 pub mod Journal
+pub mod Limits
 pub mod Met
 pub mod Named
+pub mod OpenJobs
 pub mod Planned
 pub mod Refused
 pub mod Results
 pub mod Seats
+pub mod Texts
 pub mod Waves

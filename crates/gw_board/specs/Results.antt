@@ -1,8 +1,8 @@
 -- What a state comes to (own): what is open goes back as it was, and what is not closed is carried out, one place after another.
 use Rattle.std.specs.Prelude.{◌≡◌, ℕ, Bool, true, false, List, [], ◌∷◌, map, flat_map, Option, None, Some}
 use Rattle.std.specs.List.{list_any}
-use Rattle.gw_base.specs.declared.command_words.Rules.{Rules}
-use Rattle.gw_reply.specs.declared.reply.TxReply.{TxReply}
+use Rattle.gw_board.specs.declared.manner.Manner.{Manner}
+use Rattle.gw_board.specs.Texts.{Text}
 use Rattle.gw_table.specs.Maps.{Maps, Outcome}
 use Rattle.gw_table.specs.Parts.{overlaid}
 use Rattle.gw_table.specs.Unused.{owned}
@@ -32,23 +32,23 @@ all_back [] m = m
 all_back (p ∷ ps) m = part_back p.standing (all_back ps m)
 
 -- at a closed place its reply stands, and elsewhere the request is carried out
-abbrev pub carried_at : Rules → Asked → Standing → Maps → Outcome TxReply
-carried_at rules a Pending m = done rules a m
-carried_at rules a (Opened j) m = done rules a m
-carried_at rules a (Closed reply) m = record { maps = m; answer = reply }
+abbrev pub carried_at : Manner → Asked → Standing → Maps → Outcome Text
+carried_at manner a Pending m = done manner a m
+carried_at manner a (Opened j) m = done manner a m
+carried_at manner a (Closed reply) m = record { maps = m; answer = reply }
 
-abbrev pub carried_on : Rules → List Place → Maps → Outcome (List TxReply)
-carried_on rules [] m = record { maps = m; answer = [] }
-carried_on rules (p ∷ ps) m =
-    let now = carried_at rules p.asked p.standing m in
-    let later = carried_on rules ps now.maps in
+abbrev pub carried_on : Manner → List Place → Maps → Outcome (List Text)
+carried_on manner [] m = record { maps = m; answer = [] }
+carried_on manner (p ∷ ps) m =
+    let now = carried_at manner p.asked p.standing m in
+    let later = carried_on manner ps now.maps in
     record { maps = later.maps; answer = now.answer ∷ later.answer }
 
-abbrev pub result_of : Rules → Core → Outcome (List TxReply)
-result_of rules s = carried_on rules s.places (all_back s.places s.maps)
+abbrev pub result_of : Manner → Core → Outcome (List Text)
+result_of manner s = carried_on manner s.places (all_back s.places s.maps)
 
 -- every place is closed, with these replies
-abbrev pub AreClosed : List Place → List TxReply → Type 0
+abbrev pub AreClosed : List Place → List Text → Type 0
 AreClosed places replies = map (λ p. p.standing) places ≡ map Closed replies
 
 -- the slots that requests own

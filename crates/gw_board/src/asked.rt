@@ -2,6 +2,7 @@
 
 ghost use Rattle.std.specs.Prelude.{◌≡◌};
 
+use gw_base::Mid;
 use gw_msg::Request;
 use gw_reserve::Owned;
 use std::marker::Model;
@@ -39,6 +40,8 @@ impl<'h, 'a> Lent<'h, 'a> {
 /// A request that is to be carried out, with what it owns.
 #[derive(Drop)]
 pub struct Asked<'h, 'a> {
+    /// The sender.
+    pub mid: Mid,
     /// The request.
     pub request: Lent<'h, 'a>,
     /// What it owns: an entry for each of its actions, and for each of its commands.

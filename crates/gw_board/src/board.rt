@@ -10,9 +10,9 @@ ghost use Rattle.gw_board.specs.Results.{slots_of};
 
 use crate::asked::Asked;
 use crate::fault::BoardFault;
+use crate::manner::Manner;
 use crate::seat::{Seat, seats_of};
-use gw_base::Rules;
-use gw_reply::TxReply;
+use gw_base::Items;
 use gw_table::{Part, Tables};
 use std::alloc::Global;
 use std::marker::Model;
@@ -24,10 +24,10 @@ use std::snapshot::Snapshot;
 #[derive(Drop)]
 pub struct Board<'b, 'h, 'a> {
     pub(crate) tables: Tables,
-    pub(crate) rules: Rules,
+    pub(crate) manner: Manner,
     pub(crate) seats: Vec<Seat<'b, 'h, 'a>>,
     pub(crate) originals: Vec<Part>,
-    pub(crate) replies: Vec<TxReply>,
+    pub(crate) replies: Vec<Items<u8>>,
     pub(crate) start: Snapshot<Tables>,
 }
 
@@ -57,13 +57,13 @@ impl<'b, 'h, 'a> Board<'b, 'h, 'a> {
     pub fn new(
         alloc: Global,
         tables: Tables,
-        rules: Rules,
+        manner: Manner,
         asked: &'b [Asked<'h, 'a>],
     ) -> Result<Board<'b, 'h, 'a>, BoardFault>
-        requires whole { AreWellFormed rules.members (maps_of tables) }
+        requires whole { AreWellFormed manner.rules.members (maps_of tables) }
         requires here { NoneIsOut tables }
         requires unused { AreUnused (maps_of tables) [] (slots_of asked.now) }
-        ensures board { IfOk result (λ board. board ≡ begun_board rules asked.now (maps_of tables)) }
+        ensures board { IfOk result (λ board. board ≡ begun_board manner asked.now (maps_of tables)) }
         ensures outcome { IfOk result GivesTheFold }
         ensures fault { IfErr result (HandsBack tables) }
     {
@@ -79,7 +79,7 @@ impl<'b, 'h, 'a> Board<'b, 'h, 'a> {
         let start = Snapshot::of(&tables);
         Ok(Board {
             tables,
-            rules,
+            manner,
             seats,
             originals,
             replies,

@@ -10,12 +10,12 @@ ghost use Rattle.gw_board.specs.Results.{NothingIsOpen};
 use crate::board::Board;
 use crate::job::{Done, Job};
 use crate::seat::{Seat, Stage, set_stage};
-use gw_reply::TxReply;
+use gw_base::Items;
 use gw_table::{Part, Tables};
 
 impl<'b, 'h, 'a> Board<'b, 'h, 'a> {
     /// The job's new entries go into the tables, and its reply stands at its place. The part that it had goes to the journal.
-    fn close_with(&mut self, job: Job<'_, '_, '_>, part: Part, reply: TxReply)
+    fn close_with(&mut self, job: Job<'_, '_, '_>, part: Part, reply: Items<u8>)
         requires open { HasOpen self.old job }
         requires part { part ≡ new_part job }
         requires reply { reply ≡ (outcome_of job).answer }
@@ -24,7 +24,7 @@ impl<'b, 'h, 'a> Board<'b, 'h, 'a> {
     {
         let Job {
             place,
-            rules: _,
+            manner: _,
             task: _,
             part: original,
         } = job;
@@ -43,7 +43,7 @@ impl<'b, 'h, 'a> Board<'b, 'h, 'a> {
     {
         let Job {
             place,
-            rules: _,
+            manner: _,
             task: _,
             part: back,
         } = job;
@@ -75,7 +75,7 @@ impl<'b, 'h, 'a> Board<'b, 'h, 'a> {
     {
         let Board {
             mut tables,
-            rules: _,
+            manner: _,
             seats: _,
             mut originals,
             replies: _,
@@ -87,17 +87,17 @@ impl<'b, 'h, 'a> Board<'b, 'h, 'a> {
         tables
     }
 
-    /// The tables, and the replies in the order of the places: what carrying the requests out one after another gives, on the tables
+    /// The tables, and the texts of the replies in the order of the places: what carrying the requests out one after another gives, on the tables
     /// that the board was made with. The caller knows that every place is closed with a reply.
-    pub fn finish(self) -> (Tables, Vec<TxReply>)
+    pub fn finish(self) -> (Tables, Vec<Items<u8>>)
         requires { AllClosed self.places }
-        ensures maps { maps_of result.0 ≡ (carried self.entry.rules (asked_of self.entry.places) self.entry.begun).maps }
-        ensures replies { result.1.items ≡ (carried self.entry.rules (asked_of self.entry.places) self.entry.begun).answer }
+        ensures maps { maps_of result.0 ≡ (carried self.entry.manner (asked_of self.entry.places) self.entry.begun).maps }
+        ensures replies { result.1.items ≡ (carried self.entry.manner (asked_of self.entry.places) self.entry.begun).answer }
         ensures here { NoneIsOut result.0 }
     {
         let Board {
             tables,
-            rules: _,
+            manner: _,
             seats,
             originals: _,
             mut replies,

@@ -5,10 +5,11 @@ ghost use Rattle.gw_board.specs.Boards.{outcome_of};
 ghost use Rattle.gw_board.specs.Jobs.{new_part};
 
 use crate::asked::Task;
-use gw_base::{NoMemory, Rules};
-use gw_reply::TxReply;
+use crate::manner::Manner;
+use crate::reply::{reply_limit, text_told};
+use gw_base::{Items, NoMemory};
 use gw_table::Part;
-use gw_tx::transaction;
+use gw_tx::transaction_within;
 use std::alloc::Global;
 use std::marker::Model;
 
@@ -17,7 +18,7 @@ use std::marker::Model;
 #[derive(Drop)]
 pub struct Job<'b, 'h, 'a> {
     pub(crate) place: usize,
-    pub(crate) rules: Rules,
+    pub(crate) manner: Manner,
     pub(crate) task: Task<'b, 'h, 'a>,
     pub(crate) part: Part,
 }
@@ -34,9 +35,9 @@ impl<'b, 'h, 'a> Model for Job<'b, 'h, 'a> {
 
     ghost coded = { Prim.hlevel (codes, coded_maps) };
 
-    ghost view = { λ a. record { rules = a.rules; place = a.place; asked = a.task; keys = list_of a.part.keys; part = a.part.maps } };
+    ghost view = { λ a. record { manner = a.manner; place = a.place; asked = a.task; keys = list_of a.part.keys; part = a.part.maps } };
 
-    ghost invariant = { λ a. (a.part.keys ≡ Only (list_of a.part.keys)) × IsJob (record { rules = a.rules; place = a.place; asked = a.task; keys = list_of a.part.keys; part = a.part.maps }) };
+    ghost invariant = { λ a. (a.part.keys ≡ Only (list_of a.part.keys)) × IsJob (record { manner = a.manner; place = a.place; asked = a.task; keys = list_of a.part.keys; part = a.part.maps }) };
 }
 
 impl Job<'_, '_, '_> {
@@ -48,27 +49,32 @@ impl Job<'_, '_, '_> {
     }
 }
 
-/// Carries a job's request out on a copy of its part; the job stays as it is. The work is that of the copy and of the commands.
+/// Carries a job's request out on a copy of its part, and writes the reply; the job stays as it is. The work is that of the copy and of
+/// the commands. What is behind the limit of a reply is carried out, and not told.
 ///
 /// # Errors
 ///
 /// Want of memory.
-pub fn carry(alloc: Global, job: &Job<'_, '_, '_>) -> Result<(Part, TxReply), NoMemory>
+pub fn carry(alloc: Global, job: &Job<'_, '_, '_>) -> Result<(Part, Items<u8>), NoMemory>
     ensures part { IfOk result (λ new. new.0 ≡ new_part job.now) }
     ensures reply { IfOk result (λ new. new.1 ≡ (outcome_of job.now).answer) }
 {
     let mut part = job.part.copy()?;
     let asked = job.task.get();
     let request = asked.request.get();
-    let reply = transaction(alloc, &job.rules, &mut part, request, &asked.owned)?;
-    Ok((part, reply))
+    let mid = &job.manner.mid;
+    let limit = reply_limit(mid);
+    let rules = &job.manner.rules;
+    let told = transaction_within(alloc, rules, &mut part, request, &asked.owned, limit)?;
+    let text = text_told(alloc, mid, request.id, &told)?;
+    Ok((part, text))
 }
 
 /// A job that is over: with its result, or unchanged.
 #[derive(Drop)]
 pub struct Done<'b, 'h, 'a> {
     pub(crate) job: Job<'b, 'h, 'a>,
-    pub(crate) result_of_job: Option<(Part, TxReply)>,
+    pub(crate) result_of_job: Option<(Part, Items<u8>)>,
 }
 
 impl<'b, 'h, 'a> Model for Done<'b, 'h, 'a> {
@@ -88,8 +94,8 @@ impl<'b, 'h, 'a> Model for Done<'b, 'h, 'a> {
 }
 
 impl<'b, 'h, 'a> Done<'b, 'h, 'a> {
-    /// The job with its result. The caller knows that part and reply are what its request does on its part, as `carry` answers them.
-    pub fn new(job: Job<'b, 'h, 'a>, part: Part, reply: TxReply) -> Self
+    /// The job with its result. The caller knows that part and text are what its request does on its part, as `carry` answers them.
+    pub fn new(job: Job<'b, 'h, 'a>, part: Part, reply: Items<u8>) -> Self
         requires part { part ≡ new_part job }
         requires reply { reply ≡ (outcome_of job).answer }
         ensures { result ≡ record { job = job.entry; is_carried = true } }

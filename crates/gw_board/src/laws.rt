@@ -2,8 +2,8 @@
 
 ghost use Rattle.std.specs.Prelude.{◌≡◌, ℕ, ◌<◌, nat_eq, Bool, length, true, false, List, [], ◌∷◌, Some, take, slice_get};
 ghost use Rattle.std.specs.List.{list_any};
-ghost use Rattle.gw_base.specs.declared.command_words.Rules.{Rules};
-ghost use Rattle.gw_reply.specs.declared.reply.TxReply.{TxReply};
+ghost use Rattle.gw_board.specs.declared.manner.Manner.{Manner};
+ghost use Rattle.gw_board.specs.Texts.{Text};
 ghost use Rattle.gw_table.specs.Maps.{Maps};
 ghost use Rattle.gw_table.specs.Unused.{AreUnused};
 ghost use Rattle.gw_table.specs.WellFormed.{AreWellFormed};
@@ -25,29 +25,29 @@ ghost use Rattle.gw_board.specs.Waves.{wave, is_pending, IsMet, MayOpenAll};
 /// them, and once every place is closed they are there. It does not matter which drawn jobs are closed with their results and which
 /// unchanged.
 pub fn lawful_events_give_the_fold()
-    ensures results { (rules : Rules) (workers : ℕ) (asked : List Asked) (m : Maps) (s : Core) → AreWellFormed rules.members m → AreUnused m [] (slots_of asked) → Events rules (start workers asked m) s → result_of rules s ≡ carried rules asked m }
-    ensures nothing_open { (rules : Rules) (workers : ℕ) (asked : List Asked) (m : Maps) (s : Core) → AreWellFormed rules.members m → AreUnused m [] (slots_of asked) → Events rules (start workers asked m) s → NothingIsOpen s → carried_on rules s.places s.maps ≡ carried rules asked m }
-    ensures all_ended { (rules : Rules) (workers : ℕ) (asked : List Asked) (m : Maps) (s : Core) → AreWellFormed rules.members m → AreUnused m [] (slots_of asked) → Events rules (start workers asked m) s → (choice : ℕ → Bool) → let end : Core = all_ended choice s in carried_on rules end.places end.maps ≡ carried rules asked m }
-    ensures all_closed { (rules : Rules) (workers : ℕ) (asked : List Asked) (m : Maps) (s : Core) → AreWellFormed rules.members m → AreUnused m [] (slots_of asked) → Events rules (start workers asked m) s → (replies : List TxReply) → AreClosed s.places replies → record { maps = s.maps; answer = replies } ≡ carried rules asked m }
+    ensures results { (manner : Manner) (workers : ℕ) (asked : List Asked) (m : Maps) (s : Core) → AreWellFormed manner.rules.members m → AreUnused m [] (slots_of asked) → Events manner (start workers asked m) s → result_of manner s ≡ carried manner asked m }
+    ensures nothing_open { (manner : Manner) (workers : ℕ) (asked : List Asked) (m : Maps) (s : Core) → AreWellFormed manner.rules.members m → AreUnused m [] (slots_of asked) → Events manner (start workers asked m) s → NothingIsOpen s → carried_on manner s.places s.maps ≡ carried manner asked m }
+    ensures all_ended { (manner : Manner) (workers : ℕ) (asked : List Asked) (m : Maps) (s : Core) → AreWellFormed manner.rules.members m → AreUnused m [] (slots_of asked) → Events manner (start workers asked m) s → (choice : ℕ → Bool) → let end : Core = all_ended choice s in carried_on manner end.places end.maps ≡ carried manner asked m }
+    ensures all_closed { (manner : Manner) (workers : ℕ) (asked : List Asked) (m : Maps) (s : Core) → AreWellFormed manner.rules.members m → AreUnused m [] (slots_of asked) → Events manner (start workers asked m) s → (replies : List Text) → AreClosed s.places replies → record { maps = s.maps; answer = replies } ≡ carried manner asked m }
 {}
 
 /// The state at the start fits together; a lawful event leads from such a state to such a state, and leaves what it comes to.
 pub fn events_leave_what_a_state_comes_to()
-    ensures start { (rules : Rules) (workers : ℕ) (asked : List Asked) (m : Maps) → AreWellFormed rules.members m → AreUnused m [] (slots_of asked) → FitsTogether rules (start workers asked m) }
-    ensures fits { (rules : Rules) (s t : Core) → FitsTogether rules s → Event rules s t → FitsTogether rules t }
-    ensures result { (rules : Rules) (s t : Core) → FitsTogether rules s → Event rules s t → result_of rules t ≡ result_of rules s }
+    ensures start { (manner : Manner) (workers : ℕ) (asked : List Asked) (m : Maps) → AreWellFormed manner.rules.members m → AreUnused m [] (slots_of asked) → FitsTogether manner (start workers asked m) }
+    ensures fits { (manner : Manner) (s t : Core) → FitsTogether manner s → Event manner s t → FitsTogether manner t }
+    ensures result { (manner : Manner) (s t : Core) → FitsTogether manner s → Event manner s t → result_of manner t ≡ result_of manner s }
 {}
 
 /// The open places are those that are listed in the order of opening. So while a job is open that is not drawn, each worker may draw
 /// one.
 pub fn open_jobs_may_be_drawn()
-    ensures listed { (rules : Rules) (workers : ℕ) (asked : List Asked) (m : Maps) (s : Core) → Events rules (start workers asked m) s → (i : ℕ) → list_any (nat_eq i) s.opened ≡ is_open_at (slice_get s.places i) }
-    ensures drawn { (rules : Rules) (workers : ℕ) (asked : List Asked) (m : Maps) (s : Core) → Events rules (start workers asked m) s → (worker i : ℕ) → worker < length s.lists → undrawn_at (slice_get s.places i) ≡ true → (k : ℕ) × (a : Asked) × (j : Job) × MayDraw s worker k a j }
+    ensures listed { (manner : Manner) (workers : ℕ) (asked : List Asked) (m : Maps) (s : Core) → Events manner (start workers asked m) s → (i : ℕ) → list_any (nat_eq i) s.opened ≡ is_open_at (slice_get s.places i) }
+    ensures drawn { (manner : Manner) (workers : ℕ) (asked : List Asked) (m : Maps) (s : Core) → Events manner (start workers asked m) s → (worker i : ℕ) → worker < length s.lists → undrawn_at (slice_get s.places i) ≡ true → (k : ℕ) × (a : Asked) × (j : Job) × MayDraw s worker k a j }
 {}
 
 /// All that is open may be closed, each drawn job with its result or unchanged, as one likes.
 pub fn what_is_open_may_be_closed()
-    ensures { (rules : Rules) (choice : ℕ → Bool) (s : Core) → Events rules s (all_ended choice s) × NothingIsOpen (all_ended choice s) }
+    ensures { (manner : Manner) (choice : ℕ → Bool) (s : Core) → Events manner s (all_ended choice s) × NothingIsOpen (all_ended choice s) }
 {}
 
 /// While nothing is open, the places of a wave may be opened in its order. A pending place that is left out meets an earlier one that
@@ -61,7 +61,7 @@ pub fn waves_may_be_opened()
 /// Whatever was opened, drawn and closed: once nothing is open, the originals of the closed jobs, laid over the maps with the last one
 /// first, give the maps of the start.
 pub fn originals_give_the_tables_back()
-    ensures { (rules : Rules) (workers : ℕ) (asked : List Asked) (m : Maps) (s : Core) → AreWellFormed rules.members m → AreUnused m [] (slots_of asked) → (events : Events rules (start workers asked m) s) → NothingIsOpen s → undone (journal events) s.maps ≡ m }
+    ensures { (manner : Manner) (workers : ℕ) (asked : List Asked) (m : Maps) (s : Core) → AreWellFormed manner.rules.members m → AreUnused m [] (slots_of asked) → (events : Events manner (start workers asked m) s) → NothingIsOpen s → undone (journal events) s.maps ≡ m }
 {}
 
 /// While nothing is open on a board, the places of its wave may be opened one after another: so they still may after each of them was,

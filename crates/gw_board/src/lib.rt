@@ -7,10 +7,13 @@ mod close;
 mod fault;
 mod job;
 mod laws;
+mod manner;
 mod named;
 mod open;
 mod plan;
+mod reply;
 mod seat;
+mod wave;
 
 pub use asked::{Asked, Lent};
 pub use board::Board;
@@ -21,3 +24,4 @@ pub use laws::{
     originals_give_the_tables_back, planned_places_are_opened, waves_may_be_opened,
     what_is_open_may_be_closed,
 };
+pub use manner::Manner;

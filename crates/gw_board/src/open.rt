@@ -150,7 +150,7 @@ impl<'b, 'h, 'a> Board<'b, 'h, 'a> {
         self.tables.reserve_slots(&listed)?;
         let part = self.tables.take_out(keys);
         let shown = Snapshot::of(&part);
-        let rules = self.rules;
+        let manner = self.manner;
         set_stage(
             &mut self.seats,
             place,
@@ -161,7 +161,7 @@ impl<'b, 'h, 'a> Board<'b, 'h, 'a> {
         );
         Ok(Job {
             place,
-            rules,
+            manner,
             task,
             part,
         })

@@ -6,8 +6,7 @@ ghost use Rattle.gw_board.specs.Seats.{standing_of, place_of};
 
 use crate::asked::Asked;
 use crate::named::Named;
-use gw_base::{Key, NoMemory};
-use gw_reply::TxReply;
+use gw_base::{Items, Key, NoMemory};
 use gw_table::Part;
 use std::alloc::Global;
 use std::snapshot::Snapshot;
@@ -22,8 +21,8 @@ pub(crate) enum Stage {
         keys: Vec<Key>,
         part: Snapshot<Part>,
     },
-    /// Its request was carried out, with this reply.
-    Closed(TxReply),
+    /// Its request was carried out; the text of the reply.
+    Closed(Items<u8>),
 }
 
 /// A place of a burst: what it asks, and how it stands.

@@ -6,8 +6,6 @@ pub mod RepliesKept
 pub mod ErrorsRead
 pub mod Cursors
 pub mod Phases
-pub mod ToldTexts
-pub mod Turns
 pub mod Zipped
 pub mod Classifying
 pub mod Reserving

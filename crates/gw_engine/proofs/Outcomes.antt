@@ -19,7 +19,7 @@ use Rattle.gw_engine.specs.declared.asked.Sent.{Sent}
 use Rattle.gw_engine.specs.declared.classify.Task.{Task}
 use Rattle.gw_engine.specs.declared.datagram.Datagram.{Datagram}
 use Rattle.gw_engine.specs.declared.heard.Heard.{Heard}
-use Rattle.gw_engine.specs.declared.reserve.Job.{Job}
+use Rattle.gw_board.specs.declared.asked.Asked.{Asked}
 use Rattle.gw_engine.specs.Bursts.{cursors_of, burst_outcome}
 use Rattle.gw_engine.specs.Carried.{carried}
 use Rattle.gw_engine.specs.Forms.{AreInForm}
@@ -31,7 +31,7 @@ use Rattle.gw_engine.proofs.Phases.{phased_answers, phased_state, phased_new}
 
 -- ---- what jobs own is unused at the burst's start
 
-pub jobs_unused : (g : GatewayValue) (new : List Sent) (jobs : List Job) → AreJobs new (ids_in g new) jobs → IsWellFormed g.settings g.state → g.settings.slots ≤ 4096 → AreUnused g.state.maps [] (slots_of jobs)
+pub jobs_unused : (g : GatewayValue) (new : List Sent) (jobs : List Asked) → AreJobs new (ids_in g new) jobs → IsWellFormed g.settings g.state → g.settings.slots ≤ 4096 → AreUnused g.state.maps [] (slots_of jobs)
 unfolding owners
 jobs_unused g new jobs are w small =
     let m = g.state.maps in
@@ -42,7 +42,7 @@ jobs_unused g new jobs are w small =
 
 -- ---- what the phases gave
 
-pub record ComesOf (g : GatewayValue) (heard : List Heard) (tasks : List Task) (jobs : List Job) (cursors : Cursors) (m : Maps) (entries : List Entry) (answers : List Datagram) : Type 0 where
+pub record ComesOf (g : GatewayValue) (heard : List Heard) (tasks : List Task) (jobs : List Asked) (cursors : Cursors) (m : Maps) (entries : List Entry) (answers : List Datagram) : Type 0 where
   pub tasks_are : tasks ≡ tasks_in 0 (told g.state.kept (asks_of heard))
   pub jobs_are : AreJobs (new_of g heard) (ids_in g (new_of g heard)) jobs
   pub cursors_are : cursors ≡ cursors_behind g heard
@@ -52,7 +52,7 @@ pub record ComesOf (g : GatewayValue) (heard : List Heard) (tasks : List Task) (
   pub whole : AreWellFormed g.settings.rules.members m
   pub within : AreWithin g.settings.contexts g.settings.slots cursors
 
-pub outcome : (g : GatewayValue) (heard : List Heard) (tasks : List Task) (jobs : List Job) (cursors : Cursors) (m : Maps) (entries : List Entry) (answers : List Datagram) → IsWellFormed g.settings g.state → g.settings.slots ≤ 4096 → AreInForm heard → ComesOf g heard tasks jobs cursors m entries answers
+pub outcome : (g : GatewayValue) (heard : List Heard) (tasks : List Task) (jobs : List Asked) (cursors : Cursors) (m : Maps) (entries : List Entry) (answers : List Datagram) → IsWellFormed g.settings g.state → g.settings.slots ≤ 4096 → AreInForm heard → ComesOf g heard tasks jobs cursors m entries answers
     → IsOutcome g heard answers m cursors entries
 unfolding phased
 outcome g heard tasks jobs cursors m entries answers w small forms c =

@@ -1,11 +1,13 @@
 -- A burst in phases (own), each over the whole burst before the next begins: what is asked; the classes, from the keys alone; who
 -- owns which identifiers; the transactions; their texts, kept and answered.
-use Rattle.std.specs.Prelude.{◌≡◌, ◌+◌, ◌-◌, ℕ, List, [], ◌∷◌, ◌++◌, map, length, flat_map, Option, None, Some, Result, Ok, Err}
+use Rattle.std.specs.Prelude.{◌≡◌, ◌+◌, ℕ, List, [], ◌∷◌, ◌++◌, map, length, flat_map, Option, None, Some, Result, Ok, Err}
 use Rattle.std.specs.List.{zip, AllZip}
 use Rattle.gw_base.specs.declared.code.Code.{Code}
 use Rattle.gw_base.specs.declared.code.Code.TheVariants.{InsufficientResources}
 use Rattle.gw_base.specs.declared.command_words.Rules.{Rules}
 use Rattle.gw_base.specs.declared.ids.TxId.{TxId}
+use Rattle.gw_board.specs.Results.{slots_of}
+use Rattle.gw_board.specs.declared.asked.Asked.{Asked}
 use Rattle.gw_kept.specs.Classes.{classes_of}
 use Rattle.gw_kept.specs.Pairs.{KeptList, kept_after, AreNew}
 use Rattle.gw_kept.specs.Repeats.{bytes_of}
@@ -18,14 +20,13 @@ use Rattle.gw_msg.specs.declared.message.Item.{Item}
 use Rattle.gw_msg.specs.declared.message.Item.TheVariants as item
 use Rattle.gw_msg.specs.declared.message.Message.{Message}
 use Rattle.gw_msg.specs.declared.message.Request.{Request}
-use Rattle.gw_reply.specs.Messages.{longest_message, reply_text, fault_text}
+use Rattle.gw_reply.specs.Messages.{reply_text, fault_text}
 use Rattle.gw_reply.specs.declared.reply.TxReply.{TxReply}
 use Rattle.gw_reserve.specs.Ids.{Ids}
 use Rattle.gw_reserve.specs.Owned.{OwnedAction, with_ids, paired}
 use Rattle.gw_reserve.specs.Owners.{owners, owned_slots, new_cursors}
 use Rattle.gw_reserve.specs.declared.owners.Cursors.{Cursors}
 use Rattle.gw_table.specs.Maps.{Maps, Outcome}
-use Rattle.gw_table.specs.Unused.{owned}
 use Rattle.gw_engine.specs.declared.asked.Ask.{Ask}
 use Rattle.gw_engine.specs.declared.asked.Sent.{Sent}
 use Rattle.gw_engine.specs.declared.classify.Task.{Task}
@@ -33,7 +34,6 @@ use Rattle.gw_engine.specs.declared.classify.Work.{Work}
 use Rattle.gw_engine.specs.declared.classify.Work.TheVariants as work
 use Rattle.gw_engine.specs.declared.datagram.Datagram.{Datagram}
 use Rattle.gw_engine.specs.declared.heard.Heard.{Heard}
-use Rattle.gw_engine.specs.declared.reserve.Job.{Job}
 use Rattle.gw_engine.specs.Bursts.{cursors_of, entry_for, key_of_request, burst_outcome}
 use Rattle.gw_engine.specs.Carried.{carried}
 use Rattle.gw_engine.specs.Readable.{IsAnswerTo, questions}
@@ -116,32 +116,24 @@ paired_requests new ids = map paired_request (zip new ids)
 
 -- ---- jobs
 
-abbrev pub sent_of : Job → Sent
-sent_of j = j.sent
+abbrev pub sent_of : Asked → Sent
+sent_of j = record { mid = j.mid; request = j.request }
 
 -- a job, whose entries pair its request
-abbrev pub paired_job : Job → Request × List OwnedAction
-paired_job j = (j.sent.request, paired j.sent.request j.owned)
-
--- the slots that jobs own
-abbrev pub slots_of : List Job → List ℕ
-slots_of jobs = flat_map (λ j. owned j.owned.slots) jobs
+abbrev pub paired_job : Asked → Request × List OwnedAction
+paired_job j = (j.request, paired j.request j.owned)
 
 -- Jobs for these requests, each paired with what it owns, and with its slots and no others.
-pub record AreJobs (new : List Sent) (ids : List Ids) (jobs : List Job) : Type 0 where
+pub record AreJobs (new : List Sent) (ids : List Ids) (jobs : List Asked) : Type 0 where
   pub sent : map sent_of jobs ≡ new
   pub pairs : map paired_job jobs ≡ paired_requests new ids
   pub slots : slots_of jobs ≡ owned_slots ids
 
 -- their transactions, one after another
-abbrev pub done_by : Rules → List Job → Maps → Outcome (List TxReply)
+abbrev pub done_by : Rules → List Asked → Maps → Outcome (List TxReply)
 done_by rules jobs m = carried rules (map paired_job jobs) m
 
 -- ---- what is kept, and what is answered
-
--- how many bytes a reply may have in a message from this mId
-abbrev pub reply_limit : List ℕ → ℕ
-reply_limit mid = longest_message - (length mid + 10)
 
 -- the pair of a request and its reply
 abbrev pub entry_of : List ℕ → Sent × TxReply → Entry
@@ -182,7 +174,7 @@ abbrev pub cursors_behind : GatewayValue → List Heard → Cursors
 cursors_behind g heard = new_cursors (cursors_of g.state) (ids_in g (new_of g heard))
 
 -- what is kept of jobs that are carried out on the tables of the gateway
-abbrev pub kept_of : GatewayValue → List Job → List Entry
+abbrev pub kept_of : GatewayValue → List Asked → List Entry
 kept_of g jobs = entries_of g.settings.mid (map sent_of jobs) (done_by g.settings.rules jobs g.state.maps).answer
 
 -- what comes of the phases

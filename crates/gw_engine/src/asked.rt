@@ -5,38 +5,10 @@ ghost use Rattle.gw_engine.specs.Phases.{asks_from, asks_of, key_asked, keys_ask
 
 use crate::heard::Heard;
 use gw_base::{Code, Items, Mid, NoMemory};
+use gw_board::Lent;
 use gw_kept::RequestKey;
-use gw_msg::{Item, Request};
+use gw_msg::Item;
 use std::alloc::Global;
-use std::marker::Model;
-
-/// A request, lent by the message that it came in. Contracts see the request itself.
-#[derive(Drop)]
-pub(crate) struct Lent<'h, 'a> {
-    request: &'h Request<'a>,
-}
-
-impl<'h, 'a> Model for Lent<'h, 'a> {
-    ghost use Rattle.gw_msg.specs.declared.message.Request.{Request as Whole};
-
-    ghost Value = { Whole };
-
-    ghost view = { λ a. a.request.now };
-}
-
-impl<'h, 'a> Lent<'h, 'a> {
-    fn new(request: &'h Request<'a>) -> Self
-        ensures { result ≡ request.now }
-    {
-        Lent { request }
-    }
-
-    pub(crate) fn get(&self) -> &'h Request<'a>
-        ensures { result.now ≡ self.now }
-    {
-        self.request
-    }
-}
 
 /// A request, and who sent it.
 #[derive(Drop)]

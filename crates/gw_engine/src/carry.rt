@@ -1,123 +1,155 @@
-//! Carrying out the new requests of a burst, and writing their replies.
+//! Carrying out the new requests of a burst, in waves.
 
-ghost use Rattle.std.specs.Prelude.{◌≡◌, [], map, OnOk, IfOk};
-ghost use Rattle.gw_reserve.specs.Owned.{AreFreeSlots, paired};
+ghost use Rattle.std.specs.Prelude.{◌≡◌, [], map, IfOk, IfErr, OnOk, OnErr, List, length, vec_len, vec_capacity, ◌≤◌, ◌+◌};
+ghost use Rattle.gw_board.specs.Boards.{core_of, AllClosed};
+ghost use Rattle.gw_board.specs.OpenJobs.{AreAnswers, IsSameBurst};
+ghost use Rattle.gw_board.specs.Results.{NothingIsOpen, slots_of};
+ghost use Rattle.gw_kept.specs.declared.entry.Entry.{Entry as Pair};
 ghost use Rattle.gw_table.specs.Stored.{maps_of, NoneIsOut};
 ghost use Rattle.gw_table.specs.Unused.{AreUnused};
 ghost use Rattle.gw_table.specs.WellFormed.{AreWellFormed};
-ghost use Rattle.gw_reply.specs.Messages.{reply_text};
-ghost use Rattle.gw_reply.specs.declared.reply.TxReply.{TxReply};
-ghost use Rattle.gw_tx.specs.Told.{within};
-ghost use Rattle.gw_tx.specs.Transactions.{paired_transaction};
-ghost use Rattle.gw_engine.specs.Phases.{reply_limit, sent_of, slots_of, done_by, entry_of, entries_of};
+ghost use Rattle.gw_engine.specs.Phases.{sent_of, done_by, entries_of, answers_of};
+ghost use Rattle.gw_engine.specs.Replies.{AreTold, entries_with};
 
-use crate::answer::text_of;
-use crate::reserve::Job;
-use gw_base::{Code, Items, Mid, NoMemory, Rules, TxId};
-use gw_foot::footprint;
-use gw_kept::Entry;
-use gw_reply::TxReply;
-use gw_table::Tables;
-use gw_tx::{Told, transaction_within};
+use crate::answer::answers;
+use crate::classify::Task;
+use crate::datagram::Datagram;
+use gw_base::{Items, NoMemory};
+use gw_board::{Asked, Board, BoardFault, Job, Manner, carry};
+use gw_kept::{Entry, Kept};
+use gw_table::{Part, Tables};
 use std::alloc::Global;
 
-/// How many bytes a message with a reply may have.
-const LONGEST_MESSAGE: usize = 16_384;
-
-/// How many bytes the reply itself may have in a message from this mId.
-fn reply_limit(mid: &Mid) -> usize
-    ensures { result ≡ reply_limit mid.now }
-{
-    LONGEST_MESSAGE - b"MEGACO/1 \n".len() - mid.as_bytes().len()
+/// What came of a burst: all that takes memory is done.
+#[derive(Drop)]
+pub(crate) struct Done {
+    pub(crate) tables: Tables,
+    /// What is to be kept of the new requests.
+    pub(crate) entries: Vec<Entry>,
+    pub(crate) answers: Items<Datagram>,
 }
 
-/// The text of the reply to the transaction of this number, of which this was told within the limit: where it is too long, that of
-/// error 533 in its place.
-fn text_told(alloc: Global, mid: &Mid, id: TxId, told: &Told) -> Result<Items<u8>, NoMemory>
-    ensures { (reply : TxReply) → told.now ≡ within (reply_limit mid.now) reply → reply.id ≡ id → IfOk result (λ text. text ≡ reply_text mid.now reply) }
-{
-    match told {
-        Told::Whole(reply) => text_of(alloc, reply, mid),
-        Told::TooLong => {
-            let short = TxReply {
-                id,
-                result: Err(Code::ReplyTooLong),
-            };
-            text_of(alloc, &short, mid)
-        }
-    }
-}
-
-/// What is kept of a job of whose reply this was told.
-fn entry_of(alloc: Global, mid: &Mid, job: &Job<'_, '_>, told: &Told) -> Result<Entry, NoMemory>
-    ensures { (reply : TxReply) → told.now ≡ within (reply_limit mid.now) reply → reply.id ≡ job.now.sent.request.id → IfOk result (λ entry. entry ≡ entry_of mid.now (job.now.sent, reply)) }
-{
-    let id = job.sent.request.get().id;
-    let bytes = text_told(alloc, mid, id, told)?;
-    Ok(Entry {
-        mid: job.sent.mid,
-        id,
-        bytes,
-    })
-}
-
-/// Carries a job out on the entries that it may touch, which leave the tables for that time, and tells its reply unless it is longer
-/// than the limit. The caller knows that the tables are
-/// well-formed, that nothing is out, and that the slots that are owned are unused.
-///
-/// # Errors
-///
-/// Want of memory. Nothing is then known of the tables.
-fn carry_one(
+/// An answer for each job: its new entries, and the text of its reply.
+fn answers_to(
     alloc: Global,
-    rules: &Rules,
-    tables: &mut Tables,
-    job: &Job<'_, '_>,
-    limit: usize,
-) -> Result<Told, NoMemory>
-    requires whole { AreWellFormed rules.now.members (maps_of tables.old) }
-    requires here { NoneIsOut tables.old }
-    requires unused { AreFreeSlots (maps_of tables.old) job.now.owned.slots }
-    ensures maps { OnOk result (maps_of tables.new ≡ (paired_transaction rules.now job.now.sent.request (paired job.now.sent.request job.now.owned) (maps_of tables.old)).maps) }
-    ensures answer { IfOk result (λ told. told ≡ within limit (paired_transaction rules.now job.now.sent.request (paired job.now.sent.request job.now.owned) (maps_of tables.old)).answer) }
-    ensures here { OnOk result (NoneIsOut tables.new) }
+    jobs: &[Job<'_, '_, '_>],
+) -> Result<Vec<Result<(Part, Items<u8>), NoMemory>>, NoMemory>
+    ensures { IfOk result (λ answers. AreAnswers jobs.now answers.items) }
 {
-    let request = job.sent.request.get();
-    let keys = footprint(alloc, tables, request, &job.owned)?;
-    tables.reserve_slots(keys.list())?;
-    let mut part = tables.take_out(keys);
-    let told = transaction_within(alloc, rules, &mut part, request, &job.owned, limit)?;
-    tables.put_back(part);
-    Ok(told)
-}
-
-/// Carries jobs out, one after another, and answers what is kept of them. Each reply is written as soon as it is there, so that its
-/// tree can go. The caller knows that the tables are well-formed, that nothing is out, and that the slots that are owned are unused.
-///
-/// # Errors
-///
-/// Want of memory. Nothing is then known of the tables.
-pub(crate) fn carry(
-    alloc: Global,
-    mid: &Mid,
-    rules: &Rules,
-    tables: &mut Tables,
-    jobs: &[Job<'_, '_>],
-) -> Result<Vec<Entry>, NoMemory>
-    requires whole { AreWellFormed rules.now.members (maps_of tables.old) }
-    requires here { NoneIsOut tables.old }
-    requires unused { AreUnused (maps_of tables.old) [] (slots_of jobs.now) }
-    ensures maps { OnOk result (maps_of tables.new ≡ (done_by rules.now jobs.now (maps_of tables.old)).maps) }
-    ensures entries { IfOk result (λ entries. entries.items ≡ entries_of mid.now (map sent_of jobs.now) (done_by rules.now jobs.now (maps_of tables.old)).answer) }
-    ensures whole { OnOk result (AreWellFormed rules.now.members (maps_of tables.new)) }
-    ensures here { OnOk result (NoneIsOut tables.new) }
-{
-    let limit = reply_limit(mid);
-    let mut entries = Vec::with_capacity(alloc, jobs.len())?;
+    let mut answers = Vec::with_capacity(alloc, jobs.len())?;
     for job in jobs {
-        let told = carry_one(alloc, rules, tables, job, limit)?;
-        entries.push(entry_of(alloc, mid, job, &told)?)?;
+        answers.push(carry(alloc, job))?;
     }
-    tables.sweep();
-    Ok(entries)
+    Ok(answers)
+}
+
+/// Carries out what is pending on the board, wave after wave: a wave is all that may be carried out side by side. The caller knows
+/// that nothing is open. There are at most as many waves as requests.
+///
+/// # Errors
+///
+/// Want of memory. Nothing is open then.
+fn carry_all(alloc: Global, board: &mut Board<'_, '_, '_>) -> Result<(), NoMemory>
+    requires { NothingIsOpen (core_of board.old) }
+    ensures ok { OnOk result (AllClosed board.new.places) }
+    ensures err { OnErr result (NothingIsOpen (core_of board.new)) }
+    ensures same { IsSameBurst board.old board.new }
+{
+    loop {
+        let jobs = board.open_wave(alloc)?;
+        if jobs.is_empty() {
+            return Ok(());
+        }
+        let Ok(answers) = answers_to(alloc, &jobs) else {
+            board.close_unchanged(jobs);
+            return Err(NoMemory);
+        };
+        board.close_wave(jobs, answers)?;
+    }
+}
+
+/// Carries out what is pending on the board, and writes the answers.
+fn answered(
+    alloc: Global,
+    manner: &Manner,
+    kept: &Kept,
+    tasks: &[Task],
+    board: &mut Board<'_, '_, '_>,
+) -> Result<Items<Datagram>, NoMemory>
+    requires { NothingIsOpen (core_of board.old) }
+    ensures closed { OnOk result (AllClosed board.new.places) }
+    ensures answers { (entries : List Pair) → AreTold board.new entries → IfOk result (λ answers. answers ≡ answers_of manner.now.mid kept.now entries tasks.now) }
+    ensures err { OnErr result (NothingIsOpen (core_of board.new)) }
+    ensures same { IsSameBurst board.old board.new }
+{
+    carry_all(alloc, board)?;
+    answers(alloc, &manner.mid, kept, board, tasks)
+}
+
+/// The pair of each request and its text. The caller knows that there is room for all, and none yet.
+fn with_texts(
+    mut entries: Vec<Entry>,
+    jobs: &[Asked<'_, '_>],
+    texts: Vec<Items<u8>>,
+) -> Vec<Entry>
+    requires none { entries.items ≡ [] }
+    requires room { length jobs.now ≤ vec_capacity entries }
+    requires each { length texts.items ≡ length jobs.now }
+    ensures { result.items ≡ entries_with jobs.now texts.items }
+{
+    for bytes in texts {
+        let job = &jobs[entries.len()];
+        let Ok(()) = entries.push(Entry {
+            mid: job.mid,
+            id: job.request.get().id,
+            bytes,
+        }) else {
+            unreachable!()
+        };
+    }
+    entries
+}
+
+/// Carries requests out and writes the answers of a burst, with a board that has the tables for that time. The caller knows that the
+/// tables are well-formed, that nothing is out, and that the slots that are owned are unused.
+///
+/// # Errors
+///
+/// Want of memory, which hands the tables back as they were.
+pub(crate) fn carried_out(
+    alloc: Global,
+    tables: Tables,
+    manner: Manner,
+    kept: &Kept,
+    tasks: &[Task],
+    jobs: &[Asked<'_, '_>],
+) -> Result<Done, Tables>
+    requires whole { AreWellFormed manner.rules.members (maps_of tables) }
+    requires here { NoneIsOut tables }
+    requires unused { AreUnused (maps_of tables) [] (slots_of jobs.now) }
+    ensures tables { IfOk result (λ done. maps_of done.tables ≡ (done_by manner.rules jobs.now (maps_of tables)).maps) }
+    ensures entries { IfOk result (λ done. done.entries.items ≡ entries_of manner.mid (map sent_of jobs.now) (done_by manner.rules jobs.now (maps_of tables)).answer) }
+    ensures answers { IfOk result (λ done. done.answers ≡ answers_of manner.mid kept.now done.entries.items tasks.now) }
+    ensures here { IfOk result (λ done. NoneIsOut done.tables) }
+    ensures back { IfErr result (λ back. maps_of back ≡ maps_of tables) }
+    ensures back_here { IfErr result (λ back. NoneIsOut back) }
+{
+    let Ok(entries) = Vec::with_capacity(alloc, jobs.len()) else {
+        return Err(tables);
+    };
+    let mut board = match Board::new(alloc, tables, manner, jobs) {
+        Ok(board) => board,
+        Err(BoardFault::NoMemory(tables)) => return Err(tables),
+    };
+    match answered(alloc, &manner, kept, tasks, &mut board) {
+        Ok(answers) => {
+            let (tables, texts) = board.finish();
+            Ok(Done {
+                tables,
+                entries: with_texts(entries, jobs, texts),
+                answers,
+            })
+        }
+        Err(NoMemory) => Err(board.undo()),
+    }
 }

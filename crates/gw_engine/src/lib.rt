@@ -1,7 +1,6 @@
 //! The gateway: its state, and what it answers.
 #![tactic(auto)]
 
-mod adopt;
 mod answer;
 mod asked;
 mod audit;

@@ -8,20 +8,14 @@ ghost use Rattle.gw_engine.specs.Phases.{ids_in, AreJobs};
 use crate::asked::Sent;
 use crate::gateway::Gateway;
 use gw_base::{Items, NoMemory};
-use gw_reserve::{Cursors, Owned, Reservation};
+use gw_board::{Asked, Lent};
+use gw_reserve::{Cursors, Reservation};
 use std::alloc::Global;
 
-/// A request that is carried out, with what it owns.
-#[derive(Drop)]
-pub(crate) struct Job<'h, 'a> {
-    pub(crate) sent: Sent<'h, 'a>,
-    pub(crate) owned: Owned,
-}
-
-/// The jobs of a burst, and where the next burst's search for identifiers begins.
+/// The requests that a burst carries out, each with what it owns, and where the next burst's search for identifiers begins.
 #[derive(Drop)]
 pub(crate) struct Reserved<'h, 'a> {
-    pub(crate) jobs: Items<Job<'h, 'a>>,
+    pub(crate) jobs: Items<Asked<'h, 'a>>,
     pub(crate) cursors: Cursors,
 }
 
@@ -40,8 +34,9 @@ impl Gateway {
         let mut jobs = Items::from(Vec::with_capacity(alloc, new.len())?);
         for sent in new {
             let owned = reservation.own(alloc, &self.tables, sent.request.get())?;
-            jobs.push(Job {
-                sent: sent.again(),
+            jobs.push(Asked {
+                mid: sent.mid,
+                request: Lent::new(sent.request.get()),
                 owned,
             })?;
         }

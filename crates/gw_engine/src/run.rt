@@ -1,35 +1,33 @@
 //! Answering bursts of datagrams.
 
-ghost use Rattle.std.specs.Prelude.{◌≡◌, [], IfOk, OnErr};
+ghost use Rattle.std.specs.Prelude.{◌≡◌, [], IfOk, OnOk, OnErr};
+ghost use Rattle.gw_board.specs.Results.{slots_of};
+ghost use Rattle.gw_kept.specs.Pairs.{AreNew};
 ghost use Rattle.gw_reserve.specs.Owners.{AreWithin};
-ghost use Rattle.gw_table.specs.Stored.{maps_of, NoneIsOut};
 ghost use Rattle.gw_table.specs.Unused.{AreUnused};
-ghost use Rattle.gw_table.specs.WellFormed.{AreWellFormed};
 ghost use Rattle.gw_engine.specs.Bursts.{AnswersBurst};
-ghost use Rattle.gw_engine.specs.Forms.{AreInForm};
-ghost use Rattle.gw_engine.specs.Phases.{asks_of, told, new_of, ids_in, tasks_in, AreJobs, slots_of, cursors_behind, done_by, kept_of, IsOutcome};
+ghost use Rattle.gw_engine.specs.Phases.{asks_of, told, new_of, ids_in, tasks_in, AreJobs, cursors_behind, done_by, kept_of, answers_of, adopted};
 ghost use Rattle.gw_engine.specs.Readable.{CanBeRead};
 ghost use Rattle.gw_engine.specs.State.{IsWellFormed};
 
-use crate::adopt::Done;
 use crate::asked::asks_of;
-use crate::carry::carry;
+use crate::carry::{Done, carried_out};
 use crate::classify::{Task, classify};
 use crate::datagram::Datagram;
 use crate::gateway::Gateway;
 use crate::heard::{Heard, hear};
-use crate::reserve::Job;
 use gw_base::{Items, NoMemory};
-use gw_kept::Entry;
+use gw_board::{Asked, Manner};
 use gw_reserve::Cursors;
 use gw_table::Tables;
 use std::alloc::Global;
+use std::mem;
 
 /// What is to be carried out of a burst, and how all is answered.
 #[derive(Drop)]
 struct Plan<'h, 'a> {
     tasks: Items<Task>,
-    jobs: Items<Job<'h, 'a>>,
+    jobs: Items<Asked<'h, 'a>>,
     cursors: Cursors,
 }
 
@@ -51,36 +49,49 @@ impl Gateway {
         })
     }
 
-    /// Carries jobs out on a copy of the tables; answers the copy, and what is to be kept.
-    fn perform(&self, alloc: Global, jobs: &[Job<'_, '_>]) -> Result<(Tables, Vec<Entry>), NoMemory>
-        requires { AreUnused self.now.state.maps [] (slots_of jobs.now) }
-        ensures tables { IfOk result (λ done. maps_of done.0 ≡ (done_by self.now.settings.rules jobs.now self.now.state.maps).maps) }
-        ensures entries { IfOk result (λ done. done.1.items ≡ kept_of self.now jobs.now) }
-        ensures whole { IfOk result (λ done. AreWellFormed self.now.settings.rules.members (maps_of done.0)) }
-        ensures here { IfOk result (λ done. NoneIsOut done.0) }
+    /// Carries out what is planned, and makes what comes of it the gateway's state. The tables leave the gateway for that time. The
+    /// caller knows that the slots that are owned are unused, that each new pair's key is new at its turn, and that the new state is
+    /// well-formed.
+    ///
+    /// # Errors
+    ///
+    /// Want of memory. The gateway is as it was.
+    fn perform(&mut self, alloc: Global, plan: Plan<'_, '_>) -> Result<Items<Datagram>, NoMemory>
+        requires unused { AreUnused self.old.state.maps [] (slots_of plan.jobs) }
+        requires new { AreNew self.old.state.kept (kept_of self.old plan.jobs) }
+        requires fits { IsWellFormed self.old.settings (adopted self.old.state (done_by self.old.settings.rules plan.jobs self.old.state.maps).maps plan.cursors (kept_of self.old plan.jobs)) }
+        ensures answers { IfOk result (λ answers. answers ≡ answers_of self.old.settings.mid self.old.state.kept (kept_of self.old plan.jobs) plan.tasks) }
+        ensures settings { self.new.settings ≡ self.old.settings }
+        ensures state { OnOk result (self.new.state ≡ adopted self.old.state (done_by self.old.settings.rules plan.jobs self.old.state.maps).maps plan.cursors (kept_of self.old plan.jobs)) }
+        ensures err { OnErr result (self.new ≡ self.old) }
     {
-        let mut tables = self.tables.copy()?;
-        let entries = carry(alloc, &self.mid, &self.rules, &mut tables, jobs)?;
-        Ok((tables, entries))
-    }
-
-    /// What comes of a burst, in phases: each is over for the whole burst before the next begins.
-    fn carry_out(&self, alloc: Global, heard: &[Heard<'_>]) -> Result<Done, NoMemory>
-        requires { AreInForm heard.now }
-        ensures outcome { IfOk result (λ done. IsOutcome self.now heard.now done.answers (maps_of done.tables) done.cursors done.entries.items) }
-        ensures here { IfOk result (λ done. NoneIsOut done.tables) }
-    {
-        // No effect at run time. The proof reads here that the state is well-formed.
-        let _ = &self.tables;
-        let plan = self.plan(alloc, heard)?;
-        let (tables, entries) = self.perform(alloc, plan.jobs.as_slice())?;
-        let answers = self.answers(alloc, entries.as_slice(), plan.tasks.as_slice())?;
-        Ok(Done {
-            tables,
-            cursors: plan.cursors,
-            entries,
-            answers,
-        })
+        let manner = Manner {
+            rules: self.rules,
+            mid: self.mid,
+        };
+        let Plan {
+            tasks,
+            jobs,
+            cursors,
+        } = plan;
+        let tables = mem::replace(&mut self.tables, Tables::new(alloc));
+        match carried_out(alloc, tables, manner, &self.kept, tasks.as_slice(), jobs.as_slice()) {
+            Ok(done) => {
+                let Done {
+                    tables,
+                    entries,
+                    answers,
+                } = done;
+                self.tables = tables;
+                self.cursors = cursors;
+                self.kept.push_all(entries);
+                Ok(answers)
+            }
+            Err(tables) => {
+                self.tables = tables;
+                Err(NoMemory)
+            }
+        }
     }
 
     /// Answers a burst: its items in order of arrival, one after another. A text that is no message is answered with error 406 or
@@ -88,8 +99,8 @@ impl Gateway {
     /// those behind 1,024 new ones, which get error 510. Nothing else is answered. Each answer is for the peer of the datagram that
     /// asked, and is a message of the grammar. The burst may have any number of datagrams, each of any length.
     ///
-    /// The tables are copied once; beyond that the work is linear in the datagrams and in what the commands do, but for a look-up
-    /// of each request's key.
+    /// Requests are carried out in waves, each of them all whose footprints meet no earlier one's that waits. The tables are not
+    /// copied: what a request may touch leaves them while it is carried out on a copy, and the originals are kept until the burst is over.
     ///
     /// # Errors
     ///
@@ -103,7 +114,7 @@ impl Gateway {
         // No effect at run time. The proof reads here that the state is well-formed.
         let _ = &self.tables;
         let heard = hear(alloc, burst)?;
-        let done = self.carry_out(alloc, heard.as_slice())?;
-        Ok(self.adopt(done))
+        let plan = self.plan(alloc, heard.as_slice())?;
+        self.perform(alloc, plan)
     }
 }

@@ -2,8 +2,8 @@ use Rattle.std.proofs.Common.{◌≡◌, ℕ, suc, List, ◌∷◌, ◌++◌, []
 use Rattle.std.specs.Prelude.{slice_get, slice_set}
 use Rattle.gw_table.specs.Parts.{Parted, list_of, overlaid}
 use Rattle.gw_table.specs.Stored.{maps_of, AreOut, CameBack}
-use Rattle.gw_board.specs.BoardView.{value_of, IsOnTheWay, IsKeptIn, unclosed}
-use Rattle.gw_board.specs.Boards.{Seen, Handed, HasOpen, job_of, original_in, with_result}
+use Rattle.gw_board.specs.BoardView.{value_of, IsOnTheWay, IsKeptIn}
+use Rattle.gw_board.specs.Boards.{Seen, Handed, HasOpen, job_of, original_in, with_result, unclosed}
 use Rattle.gw_board.specs.Core.{Place, Closed, open_with}
 use Rattle.gw_board.specs.Seats.{place_of, original_of_part}
 use Rattle.gw_board.proofs.Ends.{fewer_unclosed}
@@ -66,10 +66,10 @@ module _ (c : In-Ok) where
       ∙ ap (λ (x : Handed). b.originals ++ original_in x ∷ []) c.job.view_is
 
   abbrev new : Seen
-  new = record { rules = b.rules; begun = b.begun; maps = maps_of c.put_back.new.self; places = map place_of c.set_stage.new.seats.items; originals = map original_of_part c.push.new.self.items }
+  new = record { manner = b.manner; begun = b.begun; maps = maps_of c.put_back.new.self; places = map place_of c.set_stage.new.seats.items; originals = map original_of_part c.push.new.self.items }
 
   is_new : new ≡ with_result b h
-  is_new = λ j. record { rules = b.rules; begun = b.begun; maps = maps_are j; places = places_are j; originals = originals_are j }
+  is_new = λ j. record { manner = b.manner; begun = b.begun; maps = maps_are j; places = places_are j; originals = originals_are j }
 
 pub invariant_of-self : goal.invariant_of-self
 invariant_of-self c =

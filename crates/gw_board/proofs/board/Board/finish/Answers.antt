@@ -1,5 +1,5 @@
 use Rattle.std.proofs.Common.{◌≡◌, List, [], ◌∷◌, map, length, sym, ap, subst, ◌∙◌, arith}
-use Rattle.gw_reply.specs.declared.reply.TxReply.{TxReply}
+use Rattle.gw_board.specs.Texts.{Text}
 use Rattle.gw_table.specs.Maps.{Outcome}
 use Rattle.gw_board.specs.BoardView.{value_of}
 use Rattle.gw_board.specs.Boards.{Seen, core_of, asked_of, AllClosed}
@@ -25,7 +25,7 @@ loop-seat-init c =
     let m = c.self.inside.seats.ok.0 in
     let closed : AllClosed (map place_of c.self.inside.seats.items) = subst (λ (x : Seen). AllClosed x.places) (sym c.self.view_is) c.requires in
     record {
-      told = ap (λ (l : List TxReply). told_as l rest.items) c.self.invariant.room.no_replies;
+      told = ap (λ (l : List Text). told_as l rest.items) c.self.invariant.room.no_replies;
       closed = subst (λ (l : List Seat). AllClosed (map place_of l)) (sym all) closed;
       room = omega arith;
     }
@@ -45,7 +45,7 @@ loop-seat-preserved c =
     let room = c.loop-seat.invariant.room in
     record {
       told =
-          ap (λ (l : List TxReply). told_as l c.next.new.self.rest.items) c.in-Ok.ensures.items
+          ap (λ (l : List Text). told_as l c.next.new.self.rest.items) c.in-Ok.ensures.items
           ∙ told_more c.loop-seat.replies.items c.in-Closed.reply c.in-Some.seat c.next.new.self.rest.items c.in-Closed.is
           ∙ ap (told_as c.loop-seat.replies.items) (sym split)
           ∙ c.loop-seat.invariant.told;
@@ -64,10 +64,10 @@ module _ (c : After-drop-self-inside-2) where
   abbrev b : Seen
   b = value_of c.self.inside
 
-  abbrev replies : List TxReply
+  abbrev replies : List Text
   replies = c.loop-seat.replies.items
 
-  abbrev ended : Outcome (List TxReply)
+  abbrev ended : Outcome (List Text)
   ended = record { maps = b.maps; answer = replies }
 
   none_left : c.loop-seat.seat-iterator.rest.items ≡ []
@@ -80,14 +80,14 @@ module _ (c : After-drop-self-inside-2) where
       ∙ ap (told_as replies) none_left
       ∙ told_all replies
 
-  comes_to : ended ≡ carried b.rules (asked_of b.places) b.begun
-  comes_to = sym (all_closed b.rules (core_of b) replies are_closed) ∙ gives_the_fold b c.self.invariant.on_the_way
+  comes_to : ended ≡ carried b.manner (asked_of b.places) b.begun
+  comes_to = sym (all_closed b.manner (core_of b) replies are_closed) ∙ gives_the_fold b c.self.invariant.on_the_way
 
 pub returns-clause-maps : goal.returns-clause-maps
-returns-clause-maps c = ap (λ (o : Outcome (List TxReply)). o.maps) (comes_to c) ∙ ap (λ (x : Seen). (carried x.rules (asked_of x.places) x.begun).maps) c.self.view_is
+returns-clause-maps c = ap (λ (o : Outcome (List Text)). o.maps) (comes_to c) ∙ ap (λ (x : Seen). (carried x.manner (asked_of x.places) x.begun).maps) c.self.view_is
 
 pub returns-clause-replies : goal.returns-clause-replies
-returns-clause-replies c = ap (λ (o : Outcome (List TxReply)). o.answer) (comes_to c) ∙ ap (λ (x : Seen). (carried x.rules (asked_of x.places) x.begun).answer) c.self.view_is
+returns-clause-replies c = ap (λ (o : Outcome (List Text)). o.answer) (comes_to c) ∙ ap (λ (x : Seen). (carried x.manner (asked_of x.places) x.begun).answer) c.self.view_is
 
 pub returns-clause-here : goal.returns-clause-here
 returns-clause-here c = none_out (b c) c.self.inside.tables c.self.invariant.kept (closed_ones (b c).places (replies c) (are_closed c))

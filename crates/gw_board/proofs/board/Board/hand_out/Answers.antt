@@ -5,8 +5,8 @@ use Rattle.gw_base.specs.declared.key.Key.{Key}
 use Rattle.gw_table.specs.Maps.{Maps}
 use Rattle.gw_table.specs.Parts.{Only, list_of, restricted, cut}
 use Rattle.gw_table.specs.Stored.{maps_of, names_entry}
-use Rattle.gw_board.specs.BoardView.{value_of, IsOnTheWay, IsKeptIn, unclosed}
-use Rattle.gw_board.specs.Boards.{Seen, Handed, core_of, Opens, with_open}
+use Rattle.gw_board.specs.BoardView.{value_of, IsOnTheWay, IsKeptIn}
+use Rattle.gw_board.specs.Boards.{Seen, Handed, core_of, Opens, with_open, unclosed}
 use Rattle.gw_board.specs.Carried.{Asked}
 use Rattle.gw_board.specs.Core.{Opened, pending, open_with, MayOpen}
 use Rattle.gw_board.specs.Jobs.{IsJob}
@@ -49,10 +49,10 @@ module _ (c : After-set_stage) where
   part_keys = ap list_of c.take_out-part.ensures.keys
 
   abbrev handed : Handed
-  handed = record { rules = c.self.inside.rules; place = i; asked = a; keys = list_of c.take_out-part.result.keys; part = c.take_out-part.result.maps }
+  handed = record { manner = c.self.inside.manner; place = i; asked = a; keys = list_of c.take_out-part.result.keys; part = c.take_out-part.result.maps }
 
-  is_handed : handed ≡ record { rules = b.rules; place = i; asked = a; keys = keys; part = restricted keys b.maps }
-  is_handed = λ j. record { rules = b.rules; place = i; asked = a; keys = part_keys j; part = part_maps j }
+  is_handed : handed ≡ record { manner = b.manner; place = i; asked = a; keys = keys; part = restricted keys b.maps }
+  is_handed = λ j. record { manner = b.manner; place = i; asked = a; keys = part_keys j; part = part_maps j }
 
   places_are : map place_of c.set_stage.new.seats.items ≡ (with_open b i a keys).places
   places_are =
@@ -69,10 +69,10 @@ module _ (c : After-set_stage) where
   maps_are = c.take_out-part.ensures.maps ∙ ap (λ (m : Maps). cut keys m) c.in_ok-reserve_slots.ensures.maps
 
   abbrev new : Seen
-  new = record { rules = b.rules; begun = b.begun; maps = maps_of c.take_out-part.new.self; places = map place_of c.set_stage.new.seats.items; originals = b.originals }
+  new = record { manner = b.manner; begun = b.begun; maps = maps_of c.take_out-part.new.self; places = map place_of c.set_stage.new.seats.items; originals = b.originals }
 
   is_new : new ≡ with_open b i a keys
-  is_new = λ j. record { rules = b.rules; begun = b.begun; maps = maps_are j; places = places_are j; originals = b.originals }
+  is_new = λ j. record { manner = b.manner; begun = b.begun; maps = maps_are j; places = places_are j; originals = b.originals }
 
 pub invariant_of-result : goal.invariant_of-result
 invariant_of-result c = (
@@ -98,13 +98,13 @@ invariant_of-self-2 c =
 
 pub returns-clause-job : goal.returns-clause-job
 returns-clause-job c =
-    let there : Opens c.args.self.now c.args.place (record { rules = c.args.self.now.rules; place = c.args.place; asked = c.args.task; keys = c.args.keys; part = restricted c.args.keys c.args.self.now.maps }) (new c) = record {
+    let there : Opens c.args.self.now c.args.place (record { manner = c.args.self.now.manner; place = c.args.place; asked = c.args.task; keys = c.args.keys; part = restricted c.args.keys c.args.self.now.maps }) (new c) = record {
       may = c.requires;
       job = refl;
       board = is_new c ∙ ap (λ (x : Seen). with_open x c.args.place c.args.task c.args.keys) c.self.view_is;
     } in
     subst (λ (h : Handed). Opens c.args.self.now c.args.place h (new c))
-    (sym (is_handed c ∙ ap (λ (x : Seen). record { rules = x.rules; place = c.args.place; asked = c.args.task; keys = c.args.keys; part = restricted c.args.keys x.maps }) c.self.view_is))
+    (sym (is_handed c ∙ ap (λ (x : Seen). record { manner = x.manner; place = c.args.place; asked = c.args.task; keys = c.args.keys; part = restricted c.args.keys x.maps }) c.self.view_is))
     there
 
 pub returns-clause-outcome : goal.returns-clause-outcome

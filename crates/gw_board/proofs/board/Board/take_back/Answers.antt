@@ -2,8 +2,8 @@ use Rattle.std.proofs.Common.{◌≡◌, ℕ, map, Some, sym, ap, subst, ◌∙�
 use Rattle.std.specs.Prelude.{slice_get, slice_set}
 use Rattle.gw_table.specs.Parts.{overlaid}
 use Rattle.gw_table.specs.Stored.{maps_of, AreOut, CameBack}
-use Rattle.gw_board.specs.BoardView.{value_of, IsOnTheWay, IsKeptIn, unclosed}
-use Rattle.gw_board.specs.Boards.{Seen, Handed, HasOpen, job_of, unchanged}
+use Rattle.gw_board.specs.BoardView.{value_of, IsOnTheWay, IsKeptIn}
+use Rattle.gw_board.specs.Boards.{Seen, Handed, HasOpen, job_of, unchanged, unclosed}
 use Rattle.gw_board.specs.Core.{Pending, open_with}
 use Rattle.gw_board.specs.Seats.{place_of}
 use Rattle.gw_board.proofs.Ends.{as_many_unclosed}
@@ -51,10 +51,10 @@ module _ (c : After-set_stage) where
       ∙ (λ j. slice_set b.places ((c.job.view_is j).place) (record { asked = h.asked; standing = Pending }))
 
   abbrev new : Seen
-  new = record { rules = b.rules; begun = b.begun; maps = maps_of c.put_back.new.self; places = map place_of c.set_stage.new.seats.items; originals = b.originals }
+  new = record { manner = b.manner; begun = b.begun; maps = maps_of c.put_back.new.self; places = map place_of c.set_stage.new.seats.items; originals = b.originals }
 
   is_new : new ≡ unchanged b h
-  is_new = λ j. record { rules = b.rules; begun = b.begun; maps = maps_are j; places = places_are j; originals = b.originals }
+  is_new = λ j. record { manner = b.manner; begun = b.begun; maps = maps_are j; places = places_are j; originals = b.originals }
 
 pub invariant_of-self : goal.invariant_of-self
 invariant_of-self c =

@@ -15,7 +15,7 @@ use Rattle.gw_tx.specs.declared.told.Told.{Told}
 use Rattle.gw_tx.specs.declared.told.Told.TheVariants.{Whole, TooLong}
 use Rattle.gw_tx.specs.Told.{within}
 use Rattle.gw_tx.specs.Transactions.{paired_transaction}
-use Rattle.gw_engine.specs.Phases.{reply_limit}
+use Rattle.gw_board.specs.Limits.{reply_limit}
 
 pub same_id : (rules : Rules) (r : Request) (owners : List OwnedAction) (m : Maps) → (paired_transaction rules r owners m).answer.id ≡ r.id
 unfolding paired_transaction

@@ -1,0 +1,12 @@
+//! How requests are carried out and answered.
+
+use gw_base::{Mid, Rules};
+
+/// The rules by which commands are carried out, and the mId that replies are sent from.
+#[derive(Clone, Copy)]
+pub struct Manner {
+    /// The rules of commands.
+    pub rules: Rules,
+    /// The gateway's own mId.
+    pub mid: Mid,
+}

@@ -1,0 +1,73 @@
+//! The texts of replies.
+
+ghost use Rattle.std.specs.Prelude.{◌≡◌, IfOk, option_copied, slice_get};
+ghost use Rattle.gw_reply.specs.Messages.{reply_text};
+ghost use Rattle.gw_reply.specs.declared.reply.TxReply.{TxReply};
+ghost use Rattle.gw_tx.specs.Told.{within};
+ghost use Rattle.gw_board.specs.Boards.{AllClosed, asked_of, reply_of, reply_at};
+ghost use Rattle.gw_board.specs.Carried.{carried};
+ghost use Rattle.gw_board.specs.Limits.{reply_limit};
+ghost use Rattle.gw_board.specs.Seats.{standing_of};
+
+use crate::board::Board;
+use crate::seat::Stage;
+use gw_base::{Code, Items, Mid, NoMemory, TxId};
+use gw_reply::{TxReply, write_reply};
+use gw_tx::Told;
+use std::alloc::Global;
+
+/// How many bytes a message with a reply may have.
+const LONGEST_MESSAGE: usize = 16_384;
+
+/// How many bytes the reply itself may have in a message from this mId.
+pub(crate) fn reply_limit(mid: &Mid) -> usize
+    ensures { result ≡ reply_limit mid.now }
+{
+    LONGEST_MESSAGE - b"MEGACO/1 \n".len() - mid.as_bytes().len()
+}
+
+/// The text of the reply to the transaction of this number, of which this was told within the limit: where it is too long, that of
+/// error 533 in its place.
+pub(crate) fn text_told(
+    alloc: Global,
+    mid: &Mid,
+    id: TxId,
+    told: &Told,
+) -> Result<Items<u8>, NoMemory>
+    ensures { (reply : TxReply) → told.now ≡ within (reply_limit mid.now) reply → reply.id ≡ id → IfOk result (λ text. text ≡ reply_text mid.now reply) }
+{
+    match told {
+        Told::Whole(reply) => Ok(Items::from(write_reply(alloc, reply, mid)?)),
+        Told::TooLong => {
+            let short = TxReply {
+                id,
+                result: Err(Code::ReplyTooLong),
+            };
+            Ok(Items::from(write_reply(alloc, &short, mid)?))
+        }
+    }
+}
+
+/// The text that a place is closed with.
+fn text_in(stage: &Stage) -> Option<&[u8]>
+    ensures { option_copied result ≡ reply_of (standing_of stage.now) }
+{
+    match stage {
+        Stage::Closed(reply) => Some(reply.as_slice()),
+        _ => None,
+    }
+}
+
+impl Board<'_, '_, '_> {
+    /// The text of the reply at a place that was closed with its result. Where every place is closed, that is what carrying out all
+    /// requests one after another answers there.
+    pub fn reply_at(&self, place: usize) -> Option<&[u8]>
+        ensures reply { option_copied result ≡ reply_at (slice_get self.now.places place) }
+        ensures all { AllClosed self.now.places → option_copied result ≡ slice_get (carried self.now.manner (asked_of self.now.places) self.now.begun).answer place }
+    {
+        match self.seats.get(place) {
+            Some(seat) => text_in(&seat.stage),
+            None => None,
+        }
+    }
+}

@@ -1,0 +1,99 @@
+//! The waves of a burst: the jobs of one are opened together, and closed together.
+
+ghost use Rattle.std.specs.Prelude.{◌≡◌, ◌+◌, ◌∷◌, [], length, IfOk, OnErr, OnOk};
+ghost use Rattle.gw_board.specs.Boards.{core_of, AllClosed, Opens, unclosed};
+ghost use Rattle.gw_board.specs.OpenJobs.{AreOpen, AreAnswers, IsSameBurst};
+ghost use Rattle.gw_board.specs.Planned.{MayOpenEach};
+ghost use Rattle.gw_board.specs.Results.{NothingIsOpen};
+
+use crate::board::Board;
+use crate::fault::OpenFault;
+use crate::job::{Done, Job};
+use gw_base::{Items, NoMemory};
+use gw_table::Part;
+use std::alloc::Global;
+
+impl<'b, 'h, 'a> Board<'b, 'h, 'a> {
+    /// Opens a place of a planned wave.
+    fn open_next(&mut self, alloc: Global, place: usize) -> Result<Job<'b, 'h, 'a>, NoMemory>
+        requires { MayOpenEach self.old (place ∷ []) }
+        ensures job { IfOk result (λ job. Opens self.old place job self.new) }
+        ensures err { OnErr result (self.new ≡ self.old) }
+    {
+        match self.open(alloc, place) {
+            Ok(job) => Ok(job),
+            Err(OpenFault::NoMemory) => Err(NoMemory),
+            Err(OpenFault::NotPending | OpenFault::Meets(_)) => unreachable!(),
+        }
+    }
+
+    /// Plans the next wave, and opens its places: the jobs are all that is open then. There are none only where every place is closed.
+    /// The caller knows that nothing is open.
+    ///
+    /// # Errors
+    ///
+    /// Want of memory. Nothing is open then.
+    pub fn open_wave(&mut self, alloc: Global) -> Result<Vec<Job<'b, 'h, 'a>>, NoMemory>
+        requires { NothingIsOpen (core_of self.old) }
+        ensures open { IfOk result (λ jobs. AreOpen self.new jobs.items) }
+        ensures all { IfOk result (λ jobs. jobs.items ≡ [] → AllClosed self.new.places) }
+        ensures none { OnErr result (NothingIsOpen (core_of self.new)) }
+        ensures left { unclosed self.new.places ≡ unclosed self.old.places }
+        ensures same { IsSameBurst self.old self.new }
+    {
+        let wave = self.plan(alloc)?;
+        let mut jobs = Vec::with_capacity(alloc, wave.len())?;
+        for place in wave {
+            let Ok(job) = self.open_next(alloc, place) else {
+                self.close_unchanged(jobs);
+                return Err(NoMemory);
+            };
+            let Ok(()) = jobs.push(job) else {
+                unreachable!()
+            };
+        }
+        Ok(jobs)
+    }
+
+    /// Closes all jobs as if they had not been opened. The caller knows that they are all that is open. It takes no memory.
+    pub fn close_unchanged(&mut self, mut jobs: Vec<Job<'b, 'h, 'a>>)
+        requires { AreOpen self.old jobs.entry.items }
+        ensures none { NothingIsOpen (core_of self.new) }
+        ensures left { unclosed self.new.places ≡ unclosed self.old.places }
+        ensures same { IsSameBurst self.old self.new }
+    {
+        while let Some(job) = jobs.pop() {
+            self.close(Done::unchanged(job));
+        }
+    }
+
+    /// Closes all jobs with their results, if all have one, and else as if they had not been opened. The caller knows that they are all
+    /// that is open, and that each answer is that of its job, as `carry` gives it. It takes no memory.
+    ///
+    /// # Errors
+    ///
+    /// Want of memory, where an answer is that.
+    pub fn close_wave(
+        &mut self,
+        mut jobs: Vec<Job<'b, 'h, 'a>>,
+        mut answers: Vec<Result<(Part, Items<u8>), NoMemory>>,
+    ) -> Result<(), NoMemory>
+        requires open { AreOpen self.old jobs.entry.items }
+        requires answers { AreAnswers jobs.entry.items answers.entry.items }
+        ensures none { NothingIsOpen (core_of self.new) }
+        ensures left { OnOk result (unclosed self.new.places + length jobs.entry.items ≡ unclosed self.old.places) }
+        ensures same { IsSameBurst self.old self.new }
+    {
+        if !answers.iter().all(|answer| answer.is_ok()) {
+            self.close_unchanged(jobs);
+            return Err(NoMemory);
+        }
+        while let Some(job) = jobs.pop() {
+            let Some(Ok((part, reply))) = answers.pop() else {
+                unreachable!()
+            };
+            self.close(Done::new(job, part, reply));
+        }
+        Ok(())
+    }
+}

@@ -1,0 +1,21 @@
+-- Where the replies to the new requests of a burst are (own): on the board, until they are kept.
+use Rattle.std.specs.Prelude.{◌≡◌, List, [], ◌∷◌, map}
+use Rattle.gw_board.specs.Boards.{Seen, asked_of}
+use Rattle.gw_board.specs.Carried.{carried}
+use Rattle.gw_board.specs.Texts.{Text}
+use Rattle.gw_board.specs.declared.asked.Asked.{Asked}
+use Rattle.gw_kept.specs.declared.entry.Entry.{Entry}
+
+-- the texts that all requests of a board come to
+abbrev pub texts_of : Seen → List Text
+texts_of b = (carried b.manner (asked_of b.places) b.begun).answer
+
+-- what is kept holds these texts
+abbrev pub AreTold : Seen → List Entry → Type 0
+AreTold b entries = map (λ e. e.bytes) entries ≡ texts_of b
+
+-- the pair of each request and its text
+abbrev pub entries_with : List Asked → List Text → List Entry
+entries_with [] texts = []
+entries_with (a ∷ more) [] = []
+entries_with (a ∷ more) (t ∷ texts) = record { mid = a.mid; id = a.request.id; bytes = t } ∷ entries_with more texts
