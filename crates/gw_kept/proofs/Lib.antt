@@ -1,5 +1,8 @@
 pub mod Places
-pub mod Indexes
-pub mod Bursts
+pub mod Lists
+pub mod Circle
 pub mod Last
 pub mod Repeats
+pub mod Orders
+pub mod Indexes
+pub mod Bursts

@@ -2,5 +2,6 @@ pub use Rattle.gw_msg.specs.Grammar
 pub use Rattle.circular_buffer.specs.Buffer
 pub mod Pairs
 pub mod Classes
+pub mod Order
 pub mod Index
 pub mod Repeats

@@ -6,6 +6,7 @@ mod entry;
 mod index;
 mod kept;
 mod laws;
+mod order;
 
 pub use class::{Class, Source};
 pub use entry::{Entry, RequestKey};
