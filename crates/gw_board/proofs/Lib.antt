@@ -23,6 +23,7 @@ pub mod Started
 pub mod States
 pub mod Steps
 pub mod Together
+pub mod Told
 pub mod ToldTexts
 pub mod Untold
 pub mod WaveJobs

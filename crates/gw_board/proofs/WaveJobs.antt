@@ -1,16 +1,21 @@
 -- The jobs of a wave are opened one after another, and closed one after another.
-use Rattle.std.proofs.Common.{nat_eq, ◌≡◌, ℕ, zero, suc, ◌+◌, ◌<◌, ◌≤◌, Bool, true, false, cond, not, List, [], ◌∷◌, ◌++◌, length, take, Option, None, Some, refl, sym, ap, subst, ◌∙◌, arith, eqb-true, eq-eqb}
-use Rattle.std.specs.Prelude.{slice_get, slice_set}
-use Rattle.std.specs.List.{All, AllZip, list_any}
+use Rattle.std.proofs.Common.{nat_eq, ◌≡◌, ℕ, zero, suc, Bool, true, false, cond, not, List, [], ◌∷◌, ◌++◌, take, Option, None, Some, Result, Ok, is_ok, refl, sym, ap, subst, ◌∙◌, arith, eqb-true, eq-eqb}
+use Rattle.std.specs.Prelude.{◌||◌, ◌&&◌, slice_get, slice_set, IsOk, IsSomeAnd, MatchOption}
+use Rattle.std.specs.List.{All, AllZip, list_any, list_all}
+use Rattle.std.specs.Option.{option_to_list}
 use Rattle.std.proofs.lemmas.List.Elements.{All-nil, All-cons, All-head, All-tail, All-append}
-use Rattle.gw_base.proofs.Booleans.{neither}
-use Rattle.gw_table.specs.Parts.{restricted}
-use Rattle.gw_board.specs.Boards.{Seen, Handed, HasOpen, Opens, core_of, asked_of, job_of, with_open, is_closed, AllClosed, unclosed}
+use Rattle.gw_base.proofs.Booleans.{neither, both as each_of}
+use Rattle.gw_base.specs.declared.fault.NoMemory.{NoMemory}
+use Rattle.gw_table.specs.Parts.{Parted}
+use Rattle.gw_board.specs.Boards.{Seen, Handed, HasOpen, Opens, core_of, asked_of, job_of, outcome_of, unchanged, with_result, is_closed, AllClosed, unclosed}
 use Rattle.gw_board.specs.Carried.{Asked}
-use Rattle.gw_board.specs.Core.{Standing, Pending, Opened, Closed, Place, Job, Core, pending, open_with}
-use Rattle.gw_board.specs.OpenJobs.{count_at, AreOpen, IsSameBurst}
+use Rattle.gw_board.specs.Core.{Standing, Pending, Opened, Closed, Place, pending, open_with, closed_with}
+use Rattle.gw_board.specs.Jobs.{IsResult}
+use Rattle.gw_board.specs.OpenJobs.{count_at, AreOpen, IsAnswer, AreAnswers, IsSameBurst}
 use Rattle.gw_board.specs.Results.{is_open, is_open_at, NothingIsOpen}
+use Rattle.gw_board.specs.Texts.{Text}
 use Rattle.gw_board.specs.Waves.{is_pending, wave}
+use Rattle.gw_board.proofs.Ends.{as_many_unclosed, fewer_unclosed}
 use Rattle.gw_board.proofs.LeftOut.{first_is_in}
 use Rattle.gw_board.proofs.OnTheWay.{asked-set}
 use Rattle.gw_board.proofs.SeatFacts.{unclosed-stays}
@@ -23,12 +28,15 @@ module _ {X : Type 0} where
   set_here (z ∷ zs) zero x y e = refl
   set_here (z ∷ zs) (suc i) x y e = set_here zs i x y e
 
+  set_other : (xs : List X) (i j : ℕ) (y : X) → (j ≡ i → ⊥) → slice_get (slice_set xs i y) j ≡ slice_get xs j
+  set_other [] i j y e = refl
+  set_other (z ∷ zs) zero zero y e = absurd (e refl)
+  set_other (z ∷ zs) zero (suc j) y e = refl
+  set_other (z ∷ zs) (suc i) zero y e = refl
+  set_other (z ∷ zs) (suc i) (suc j) y e = set_other zs i j y (λ s. e (ap suc s))
+
   set_elsewhere : (xs : List X) (i j : ℕ) (y : X) → nat_eq j i ≡ false → slice_get (slice_set xs i y) j ≡ slice_get xs j
-  set_elsewhere [] i j y e = refl
-  set_elsewhere (z ∷ zs) zero zero y e = absurd cc
-  set_elsewhere (z ∷ zs) zero (suc j) y e = refl
-  set_elsewhere (z ∷ zs) (suc i) zero y e = refl
-  set_elsewhere (z ∷ zs) (suc i) (suc j) y e = set_elsewhere zs i j y e
+  set_elsewhere xs i j y e = set_other xs i j y (λ s. let clash : true ≡ false = sym (eq-eqb j i s) ∙ e in cc)
 
 -- ---- how many jobs have a place
 
@@ -43,22 +51,22 @@ count_last i (g ∷ gs) h = by (nat_eq i g.place) (nat_eq i h.place) (count_last
     by false true e = e
     by false false e = e
 
+apart : (i k : ℕ) → nat_eq i k ≡ false → nat_eq k i ≡ false
+apart i k f = other (nat_eq k i) refl
+  where
+    other : (c : Bool) → nat_eq k i ≡ c → nat_eq k i ≡ false
+    other false g = g
+    other true g = absurd (let clash : true ≡ false = sym (eq-eqb i k (sym (eqb-true k i g))) ∙ f in cc)
+
 -- a job at a place that none of these has
 module _ (P Q : Handed → Type 0) (i : ℕ) (on : (h : Handed) → nat_eq h.place i ≡ false → P h → Q h) where
   all_on : (jobs : List Handed) → count_at i jobs ≡ 0 → All P jobs → All Q jobs
   all_on [] none all = All-nil Q
-  all_on (h ∷ hs) none all = by (nat_eq i h.place) refl none
+  all_on (h ∷ hs) none all = by (nat_eq i h.place) refl none (λ zero_is. all_on hs zero_is (All-tail P h hs all))
     where
-      by : (b : Bool) → nat_eq i h.place ≡ b → cond b (suc (count_at i hs)) (count_at i hs) ≡ 0 → All Q (h ∷ hs)
-      by true e zero_is = absurd (omega arith)
-      by false e zero_is = All-cons Q h hs (on h (apart e) (All-head P h hs all)) (all_on hs zero_is (All-tail P h hs all))
-        where
-          apart : nat_eq i h.place ≡ false → nat_eq h.place i ≡ false
-          apart f = other (nat_eq h.place i) refl
-            where
-              other : (c : Bool) → nat_eq h.place i ≡ c → nat_eq h.place i ≡ false
-              other false g = g
-              other true g = absurd (let clash : true ≡ false = sym (eq-eqb i h.place (sym (eqb-true h.place i g))) ∙ f in cc)
+      by : (b : Bool) → nat_eq i h.place ≡ b → cond b (suc (count_at i hs)) (count_at i hs) ≡ 0 → (count_at i hs ≡ 0 → All Q hs) → All Q (h ∷ hs)
+      by true e zero_is later = absurd (omega arith)
+      by false e zero_is later = All-cons Q h hs (on h (apart i h.place e) (All-head P h hs all)) (later zero_is)
 
 same_place : (n : ℕ) → nat_eq n n ≡ true
 same_place n = eq-eqb n n refl
@@ -131,8 +139,8 @@ module _ (b c : Seen) (h : Handed) (new : Place) (manner : c.manner ≡ b.manner
   one_closed front a =
       let mine : HasOpen b h = All-head (HasOpen b) h [] (behind front a.each) in
       let alone : suc (count_at h.place front) ≡ 1 =
-          ap (λ (x : Bool). cond x (suc (count_at h.place front)) (count_at h.place front)) (sym (same_place h.place))
-          ∙ sym (count_last h.place front h) ∙ a.one h.place ∙ ap (λ (p : Option Place). cond (is_open_at p) 1 0) mine.stands in
+      ap (λ (x : Bool). cond x (suc (count_at h.place front)) (count_at h.place front)) (sym (same_place h.place))
+      ∙ sym (count_last h.place front h) ∙ a.one h.place ∙ ap (λ (p : Option Place). cond (is_open_at p) 1 0) mine.stands in
       let none : count_at h.place front ≡ 0 = omega (arith, alone) in
       record {
         each = all_on (HasOpen b) (HasOpen c) h.place left_open front none (before front a.each);
@@ -159,6 +167,12 @@ module _ (b c : Seen) (h : Handed) (new : Place) (manner : c.manner ≡ b.manner
           ap (λ (x : Bool). cond x (suc (count_at k front)) (count_at k front)) (sym e) ∙ sym (count_last k front h) ∙ a.one k
           ∙ sym (ap (λ (l : List Place). cond (is_open_at (slice_get l k)) 1 0) places ∙ ap (λ (p : Option Place). cond (is_open_at p) 1 0) (set_elsewhere b.places h.place k new e))
 
+-- ---- what is left of a wave when one of its jobs was closed
+
+pub record IsClosed (b d : Seen) (front : List Handed) : Type 0 where
+  pub open_still : AreOpen d front
+  pub same : IsSameBurst b d
+
 -- the last job is open
 pub last_open : (b : Seen) (front : List Handed) (h : Handed) → AreOpen b (front ++ h ∷ []) → HasOpen b h
 last_open b front h a = at front a.each
@@ -167,20 +181,50 @@ last_open b front h a = at front a.each
     at [] all = All-head (HasOpen b) h [] all
     at (g ∷ gs) all = at gs (All-tail (HasOpen b) g (gs ++ h ∷ []) all)
 
+module _ (b d : Seen) (front : List Handed) (h : Handed) (a : AreOpen b (front ++ h ∷ [])) where
+  mine : HasOpen b h
+  mine = last_open b front h a
+
+  pub was_unchanged : d ≡ unchanged b h → IsClosed b d front
+  was_unchanged is = record {
+    open_still = one_closed b d h (pending h.asked) (ap (λ (x : Seen). x.manner) is) (ap (λ (x : Seen). x.places) is) refl front a;
+    same = record {
+      manner = ap (λ (x : Seen). x.manner) is;
+      begun = ap (λ (x : Seen). x.begun) is;
+      asked = ap (λ (x : Seen). asked_of x.places) is ∙ asked-set b.places h.place (open_with h.asked (job_of h)) (pending h.asked) mine.stands refl;
+    };
+  }
+
+  pub left_unchanged : d ≡ unchanged b h → unclosed d.places ≡ unclosed b.places
+  left_unchanged is = ap (λ (x : Seen). unclosed x.places) is ∙ as_many_unclosed b h mine
+
+  pub had_result : d ≡ with_result b h → IsClosed b d front
+  had_result is = record {
+    open_still = one_closed b d h (closed_with h.asked (outcome_of h).answer) (ap (λ (x : Seen). x.manner) is) (ap (λ (x : Seen). x.places) is) refl front a;
+    same = record {
+      manner = ap (λ (x : Seen). x.manner) is;
+      begun = ap (λ (x : Seen). x.begun) is;
+      asked = ap (λ (x : Seen). asked_of x.places) is ∙ asked-set b.places h.place (open_with h.asked (job_of h)) (closed_with h.asked (outcome_of h).answer) mine.stands refl;
+    };
+  }
+
+  pub left_with_result : d ≡ with_result b h → suc (unclosed d.places) ≡ unclosed b.places
+  left_with_result is = ap (λ (x : Seen). suc (unclosed x.places)) is ∙ fewer_unclosed b h mine
+
 -- ---- no job
 
 each_shut : (places : List Place) → ((i : ℕ) → is_open_at (slice_get places i) ≡ false) → list_any (λ p. is_open p.standing) places ≡ false
 each_shut [] f = refl
-each_shut (p ∷ ps) f = by (is_open p.standing) (f 0)
+each_shut (p ∷ ps) f = by (is_open p.standing) (f 0) (each_shut ps (λ i. f (suc i)))
   where
-    by : (x : Bool) → x ≡ false → cond x true (list_any (λ q. is_open q.standing) ps) ≡ false
-    by true e = absurd cc
-    by false e = each_shut ps (λ i. f (suc i))
+    by : (x : Bool) → x ≡ false → list_any (λ q. is_open q.standing) ps ≡ false → (x || list_any (λ q. is_open q.standing) ps) ≡ false
+    by true e later = absurd cc
+    by false e later = later
 
 pub none_open : (b : Seen) → AreOpen b [] → NothingIsOpen (core_of b)
 none_open b a = each_shut b.places (λ i. by (is_open_at (slice_get b.places i)) (a.one i))
   where
-    by : (x : Bool) → 0 ≡ cond x 1 0 → x ≡ false
+    by : (x : Bool) → ◌≡◌ {A = ℕ} 0 (cond x 1 0) → x ≡ false
     by true e = absurd (omega arith)
     by false e = refl
 
@@ -203,18 +247,18 @@ record IsFirstPending (places : List Place) : Type 0 where
 -- where nothing is open, a place is closed, or there is a first one that pends
 closed_or : (places : List Place) → list_any (λ p. is_open p.standing) places ≡ false → (AllClosed places → ⊥) → IsFirstPending places
 closed_or [] h f = absurd (f refl)
-closed_or (p ∷ ps) h f = by p.standing refl (neither (is_open p.standing) (list_any (λ q. is_open q.standing) ps) h)
+closed_or (p ∷ ps) h f = by p.standing refl (neither (is_open p.standing) (list_any (λ q. is_open q.standing) ps) h) (closed_or ps)
   where
-    by : (x : Standing) → p.standing ≡ x → (is_open p.standing ≡ false) × (list_any (λ q. is_open q.standing) ps ≡ false) → IsFirstPending (p ∷ ps)
-    by Pending e both = record { place = 0; asked = p.asked; pends = λ k. Some (record { asked = p.asked; standing = e k }); first = refl }
-    by (Opened j) e both = absurd (let clash : true ≡ false = ap is_open (sym e) ∙ both.0 in cc)
-    by (Closed reply) e both =
-        let later : IsFirstPending ps = closed_or ps both.1 (λ all. f (ap (λ (x : Standing). cond (not (is_closed x)) true (list_any (λ q. not (is_closed q.standing)) ps)) e ∙ all)) in
+    by : (x : Standing) → p.standing ≡ x → (is_open p.standing ≡ false) × (list_any (λ q. is_open q.standing) ps ≡ false) → (list_any (λ q. is_open q.standing) ps ≡ false → (AllClosed ps → ⊥) → IsFirstPending ps) → IsFirstPending (p ∷ ps)
+    by Pending e both more = record { place = 0; asked = p.asked; pends = λ k. Some (record { asked = p.asked; standing = e k }); first = refl }
+    by (Opened j) e both more = absurd (let clash : true ≡ false = ap is_open (sym e) ∙ both.0 in cc)
+    by (Closed reply) e both more =
+        let later : IsFirstPending ps = more both.1 (λ all. f (ap (λ (x : Standing). not (is_closed x) || list_any (λ q. not (is_closed q.standing)) ps) e ∙ all)) in
         record {
           place = suc later.place;
           asked = later.asked;
           pends = later.pends;
-          first = ap (λ (x : Standing). cond (is_pending x) true (list_any (λ q. is_pending q.standing) (take later.place ps))) e ∙ later.first;
+          first = ap (λ (x : Standing). is_pending x || list_any (λ q. is_pending q.standing) (take later.place ps)) e ∙ later.first;
         }
 
 pub all_are_closed : (b : Seen) → NothingIsOpen (core_of b) → wave (core_of b) ≡ [] → AllClosed b.places
@@ -235,6 +279,20 @@ same_still b c d s t = record { manner = t.manner ∙ s.manner; begun = t.begun 
 pub same_itself : (b : Seen) → IsSameBurst b b
 same_itself b = record { manner = refl; begun = refl; asked = refl }
 
+-- ---- nothing was taken
+
+pub nothing_left : {X : Type 0} (o : Option X) (P : Type 0) (Q : X → Type 0) → MatchOption o P Q → ((x : X) → o ≡ Some x → ⊥) → P
+nothing_left None P Q m f = m
+nothing_left (Some x) P Q m f = absurd (f x refl)
+
+pub emptied : {X : Type 0} (o : Option X) (P : Type 0) (Q : X → Type 0) → MatchOption o P Q → o ≡ None → P
+emptied None P Q m e = m
+emptied (Some x) P Q m e = absurd cc
+
+pub not_empty : {X : Type 0} (xs : List X) (x : X) → xs ++ x ∷ [] ≡ [] → ⊥
+not_empty [] x e = cc
+not_empty (y ∷ ys) x e = cc
+
 -- ---- two lists, from the end on
 
 module _ {A B : Type 0} (R : A → B → Type 0) where
@@ -253,3 +311,43 @@ module _ {A B : Type 0} (R : A → B → Type 0) where
   last_zip (z ∷ []) [] x y h = absurd h.1
   last_zip (z ∷ w ∷ zs) [] x y h = absurd h.1
   last_zip (z ∷ zs) (w ∷ ws) x y h = let rest = last_zip zs ws x y h.1 in ((h.0, rest.0), rest.1)
+
+-- ---- the last answer
+
+abbrev pub Reply : Type 0
+Reply = Result (Parted × Text) NoMemory
+
+both_hold : (a b : Bool) → a ≡ true → b ≡ true → (a && b) ≡ true
+both_hold true b e f = f
+both_hold false b e f = absurd cc
+
+all_last : (new : List Reply) (r : Reply) → list_all is_ok (new ++ r ∷ []) ≡ true → (list_all is_ok new ≡ true) × (is_ok r ≡ true)
+all_last [] r h = (refl, (each_of (is_ok r) true h).0)
+all_last (s ∷ ss) r h =
+    let parts = each_of (is_ok s) (list_all is_ok (ss ++ r ∷ [])) h in
+    let rest = all_last ss r parts.1 in
+    (both_hold (is_ok s) (list_all is_ok ss) parts.0 rest.0, rest.1)
+
+module _ (front : List Handed) (h : Handed) (old new : List Reply) (o : Option Reply) (answers : AreAnswers (front ++ h ∷ []) old) (all : list_all is_ok old ≡ true) (split : old ≡ new ++ option_to_list o) (none : o ≡ None → old ≡ []) where
+  pub last_there : IsSomeAnd o (λ a. IsOk a)
+  last_there = by o refl
+    where
+      by : (p : Option Reply) → o ≡ p → IsSomeAnd p (λ a. IsOk a)
+      by None e = absurd (none_for_last IsAnswer front h old (none e) answers)
+      by (Some r) e = (all_last new r (subst (λ (l : List Reply). list_all is_ok l ≡ true) (split ∙ ap (λ (p : Option Reply). new ++ option_to_list p) e) all)).1
+
+  module _ (x : Parted × Text) (is : o ≡ Some (Ok x)) where
+    split_at : old ≡ new ++ Ok x ∷ []
+    split_at = split ∙ ap (λ (p : Option Reply). new ++ option_to_list p) is
+
+    both : AreAnswers front new × IsAnswer h (Ok x)
+    both = last_zip IsAnswer front new h (Ok x) (subst (λ (l : List Reply). AreAnswers (front ++ h ∷ []) l) split_at answers)
+
+    pub answers_before : AreAnswers front new
+    answers_before = both.0
+
+    pub all_before : list_all is_ok new ≡ true
+    all_before = (all_last new (Ok x) (subst (λ (l : List Reply). list_all is_ok l ≡ true) split_at all)).0
+
+    pub last_result : IsResult h x.0 x.1
+    last_result = both.1

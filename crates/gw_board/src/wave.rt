@@ -1,32 +1,38 @@
 //! The waves of a burst: the jobs of one are opened together, and closed together.
 
-ghost use Rattle.std.specs.Prelude.{◌≡◌, ◌+◌, ◌∷◌, [], length, IfOk, OnErr, OnOk};
-ghost use Rattle.gw_board.specs.Boards.{core_of, AllClosed, Opens, unclosed};
+ghost use Rattle.std.specs.Prelude.{◌≡◌, ◌+◌, [], length, is_ok, IfOk, IsOk, IsSomeAnd, Some, Ok, OnErr, OnOk};
+ghost use Rattle.std.specs.List.{list_all};
+ghost use Rattle.gw_board.specs.Boards.{core_of, AllClosed, unclosed};
 ghost use Rattle.gw_board.specs.OpenJobs.{AreOpen, AreAnswers, IsSameBurst};
-ghost use Rattle.gw_board.specs.Planned.{MayOpenEach};
 ghost use Rattle.gw_board.specs.Results.{NothingIsOpen};
 
 use crate::board::Board;
-use crate::fault::OpenFault;
 use crate::job::{Done, Job};
 use gw_base::{Items, NoMemory};
 use gw_table::Part;
 use std::alloc::Global;
 
-impl<'b, 'h, 'a> Board<'b, 'h, 'a> {
-    /// Opens a place of a planned wave.
-    fn open_next(&mut self, alloc: Global, place: usize) -> Result<Job<'b, 'h, 'a>, NoMemory>
-        requires { MayOpenEach self.old (place ∷ []) }
-        ensures job { IfOk result (λ job. Opens self.old place job self.new) }
-        ensures err { OnErr result (self.new ≡ self.old) }
-    {
-        match self.open(alloc, place) {
-            Ok(job) => Ok(job),
-            Err(OpenFault::NoMemory) => Err(NoMemory),
-            Err(OpenFault::NotPending | OpenFault::Meets(_)) => unreachable!(),
-        }
-    }
+/// What a job came to: its new entries and the text of its reply, unless memory was wanting.
+type Answer = Result<(Part, Items<u8>), NoMemory>;
 
+fn are_all_ok(answers: &[Answer]) -> bool
+    ensures { result ≡ list_all is_ok answers.now }
+{
+    answers.iter().all(|answer| answer.is_ok())
+}
+
+/// The result in an answer that the caller knows to have one.
+fn result_in(answer: Option<Answer>) -> (Part, Items<u8>)
+    requires { IsSomeAnd answer (λ a. IsOk a) }
+    ensures { answer ≡ Some (Ok result) }
+{
+    match answer {
+        Some(Ok(result)) => result,
+        _ => unreachable!(),
+    }
+}
+
+impl<'b, 'h, 'a> Board<'b, 'h, 'a> {
     /// Plans the next wave, and opens its places: the jobs are all that is open then. There are none only where every place is closed.
     /// The caller knows that nothing is open.
     ///
@@ -44,7 +50,7 @@ impl<'b, 'h, 'a> Board<'b, 'h, 'a> {
         let wave = self.plan(alloc)?;
         let mut jobs = Vec::with_capacity(alloc, wave.len())?;
         for place in wave {
-            let Ok(job) = self.open_next(alloc, place) else {
+            let Ok(job) = self.open(alloc, place) else {
                 self.close_unchanged(jobs);
                 return Err(NoMemory);
             };
@@ -57,7 +63,7 @@ impl<'b, 'h, 'a> Board<'b, 'h, 'a> {
 
     /// Closes all jobs as if they had not been opened. The caller knows that they are all that is open. It takes no memory.
     pub fn close_unchanged(&mut self, mut jobs: Vec<Job<'b, 'h, 'a>>)
-        requires { AreOpen self.old jobs.entry.items }
+        requires { AreOpen self.old jobs.items }
         ensures none { NothingIsOpen (core_of self.new) }
         ensures left { unclosed self.new.places ≡ unclosed self.old.places }
         ensures same { IsSameBurst self.old self.new }
@@ -76,22 +82,20 @@ impl<'b, 'h, 'a> Board<'b, 'h, 'a> {
     pub fn close_wave(
         &mut self,
         mut jobs: Vec<Job<'b, 'h, 'a>>,
-        mut answers: Vec<Result<(Part, Items<u8>), NoMemory>>,
+        mut answers: Vec<Answer>,
     ) -> Result<(), NoMemory>
-        requires open { AreOpen self.old jobs.entry.items }
-        requires answers { AreAnswers jobs.entry.items answers.entry.items }
+        requires open { AreOpen self.old jobs.items }
+        requires answers { AreAnswers jobs.items answers.items }
         ensures none { NothingIsOpen (core_of self.new) }
         ensures left { OnOk result (unclosed self.new.places + length jobs.entry.items ≡ unclosed self.old.places) }
         ensures same { IsSameBurst self.old self.new }
     {
-        if !answers.iter().all(|answer| answer.is_ok()) {
+        if !are_all_ok(&answers) {
             self.close_unchanged(jobs);
             return Err(NoMemory);
         }
         while let Some(job) = jobs.pop() {
-            let Some(Ok((part, reply))) = answers.pop() else {
-                unreachable!()
-            };
+            let (part, reply) = result_in(answers.pop());
             self.close(Done::new(job, part, reply));
         }
         Ok(())

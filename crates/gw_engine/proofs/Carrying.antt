@@ -1,5 +1,5 @@
 -- What a board comes to is what the phases say: the transactions one after another, and the texts of their replies.
-use Rattle.std.proofs.Common.{◌≡◌, ℕ, List, [], ◌∷◌, ◌++◌, map, refl, sym, ap, ◌∙◌}
+use Rattle.std.proofs.Common.{◌≡◌, ℕ, ◌+◌, ◌<◌, List, [], ◌∷◌, ◌++◌, map, length, drop, get_or, refl, sym, ap, ◌∙◌, append_assoc}
 use Rattle.gw_base.specs.declared.command_words.Rules.{Rules}
 use Rattle.gw_board.specs.Carried as board
 use Rattle.gw_board.specs.Results.{slots_of}
@@ -10,6 +10,7 @@ use Rattle.gw_kept.specs.declared.entry.Entry.{Entry}
 use Rattle.gw_reply.specs.Messages.{reply_text}
 use Rattle.gw_reply.specs.declared.reply.TxReply.{TxReply}
 use Rattle.gw_reserve.specs.Owned.{paired}
+use Rattle.gw_table.proofs.Folding.{rest_of}
 use Rattle.gw_table.specs.Maps.{Maps, Outcome}
 use Rattle.gw_table.specs.Unused.{owned, AreUnused}
 use Rattle.gw_table.specs.WellFormed.{AreWellFormed}
@@ -48,3 +49,17 @@ stay_whole rules (j ∷ more) m w u =
     stay_whole rules more (paired_transaction rules j.request (paired j.request j.owned) m).maps
         (paired_whole rules j.request j.owned m (front_unused m (owned j.owned.slots) (slots_of more) u) w)
         (paired_later_free rules j.request j.owned m (slots_of more) u)
+
+-- ---- pairs, one after another
+
+pub none_left : (jobs : List Asked) → entries_with jobs [] ≡ []
+none_left [] = refl
+none_left (j ∷ more) = refl
+
+pub one_text : (jobs : List Asked) (n : ℕ) (j : Asked) (t : Text) (texts rest : List Text) (e : Entry) (entries more : List Entry) → n < length jobs → j ≡ get_or jobs n j → texts ≡ t ∷ rest → e ≡ record { mid = j.mid; id = j.request.id; bytes = t } → more ≡ entries ++ e ∷ []
+    → more ++ entries_with (drop (n + 1) jobs) rest ≡ entries ++ entries_with (drop n jobs) texts
+one_text jobs n j t texts rest e entries more h is split pair pushed =
+    ap (λ (l : List Entry). l ++ entries_with (drop (n + 1) jobs) rest) pushed
+    ∙ append_assoc entries (e ∷ []) (entries_with (drop (n + 1) jobs) rest)
+    ∙ ap (λ (x : Entry). entries ++ x ∷ entries_with (drop (n + 1) jobs) rest) pair
+    ∙ (λ i. entries ++ entries_with (sym (rest_of jobs n j j h is) i) (sym split i))

@@ -42,7 +42,7 @@ impl Model for Tables {
 
 impl Tables {
     /// Tables without places, which take no memory.
-    pub(crate) fn new(alloc: Global) -> Self
+    pub fn new(alloc: Global) -> Self
         ensures { result ≡ nothing_stored }
     {
         Tables {

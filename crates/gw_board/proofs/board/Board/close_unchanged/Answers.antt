@@ -1,0 +1,34 @@
+use Rattle.std.proofs.Common.{◌≡◌, List, [], ◌∷◌, ◌++◌, refl, sym, ap, subst, ◌∙◌, arith}
+use Rattle.gw_board.specs.Boards.{Seen, Handed, Ended, HasOpen, after_end, unchanged}
+use Rattle.gw_board.specs.OpenJobs.{AreOpen}
+use Rattle.gw_board.proofs.SeatFacts.{nil_of}
+use Rattle.gw_board.proofs.WaveJobs.{last_open, was_unchanged, left_unchanged, none_open, nothing_left, same_itself, same_still}
+use Rattle.gw_board.proofs.board.Board.close_unchanged.Goals as goal
+
+pub loop-job-init : goal.loop-job-init
+loop-job-init c = record { open_still = c.requires; left = refl; same = same_itself c.args.self.now }
+
+pub close-requires : goal.close-requires
+close-requires c =
+    let b : Seen = c.loop-job.self in
+    let opened : AreOpen b (c.pop.new.self.items ++ c.in-Some.job ∷ []) = subst (λ (l : List Handed). AreOpen b l) c.in-Some.ensures.items c.loop-job.invariant.open_still in
+    subst (λ (e : Ended). HasOpen b e.job) (sym c.unchanged.ensures) (last_open b c.pop.new.self.items c.in-Some.job opened)
+
+pub loop-job-preserved : goal.loop-job-preserved
+loop-job-preserved c =
+    let b : Seen = c.loop-job.self in
+    let d : Seen = c.close.new.self in
+    let opened : AreOpen b (c.pop.new.self.items ++ c.in-Some.job ∷ []) = subst (λ (l : List Handed). AreOpen b l) c.in-Some.ensures.items c.loop-job.invariant.open_still in
+    let is : d ≡ unchanged b c.in-Some.job = c.close.ensures.board ∙ ap (after_end b) c.unchanged.ensures in
+    let now = was_unchanged b d c.pop.new.self.items c.in-Some.job opened is in
+    record {
+      open_still = now.open_still;
+      left = left_unchanged b d c.pop.new.self.items c.in-Some.job opened is ∙ c.loop-job.invariant.left;
+      same = same_still c.args.self.now b d c.loop-job.invariant.same now.same;
+    }
+
+pub returns-clause-none : goal.returns-clause-none
+returns-clause-none c =
+    let count = c.loop-job.jobs.ok.0 in
+    let zero = (nothing_left c.pop.result _ _ c.pop.ensures.cases c.in_default.not-Some).0 in
+    none_open c.loop-job.self (subst (λ (l : List Handed). AreOpen c.loop-job.self l) (nil_of c.loop-job.jobs.items (omega arith)) c.loop-job.invariant.open_still)
