@@ -1,15 +1,15 @@
 -- What an index tells, and the index with one more pair.
-use Rattle.std.proofs.Common.{◌≡◌, ℕ, zero, suc, ◌+◌, ◌-◌, ◌<◌, ◌≤◌, ◌||◌, nat_le, nat_lt, Bool, true, false, cond, is_some, List, [], ◌∷◌, ◌++◌, map, length, take, get_or, Option, Some, None, refl, ap, sym, ◌∙◌, length-append, arith}
-use Rattle.std.proofs.lemmas.List.{map-append, length-map, take_more}
+use Rattle.std.proofs.Common.{◌≡◌, ℕ, zero, suc, ◌+◌, ◌-◌, ◌<◌, ◌≤◌, ◌||◌, nat_le, nat_lt, Bool, true, false, cond, List, [], ◌∷◌, ◌++◌, length, take, get_or, Option, Some, None, refl, ap, sym, ◌∙◌, length-append, arith}
+use Rattle.std.proofs.lemmas.List.{take_more}
 use Rattle.std.proofs.lemmas.Bool.Decides.{nat_tests}
 use Rattle.std.specs.BTreeMap.{get, is_at}
-use Rattle.gw_kept.specs.declared.entry.Entry.{Entry}
 use Rattle.gw_kept.specs.declared.entry.RequestKey.{RequestKey}
 use Rattle.gw_kept.specs.declared.index.Index.{Index}
 use Rattle.gw_kept.specs.declared.class.Class.TheVariants.{New, Over}
-use Rattle.gw_kept.specs.Pairs.{key_of, is_same}
+use Rattle.gw_kept.specs.Pairs.{is_same}
 use Rattle.gw_kept.specs.Classes.{last_place, kept_place, class_of, most_new}
-use Rattle.gw_kept.specs.Index.{key_cmp, is_asked, IsIndex}
+use Rattle.gw_kept.specs.Index.{is_asked, IsIndex}
+use Rattle.gw_kept.specs.Order.{key_cmp}
 use Rattle.gw_kept.proofs.Places.{within, among_last, one_more, key_test, same_key, same_itself}
 
 -- ---- what is asked
@@ -78,14 +78,6 @@ place_none index pairs key e = sym (kept_is index pairs key None e)
 abbrev pub Places : List (Option RequestKey) → List RequestKey → (RequestKey → Option (Option ℕ)) → Type 0
 Places asked pairs places = (q : RequestKey) → places q ≡ cond (is_asked q asked) (Some (last_place q pairs)) None
 
-tells : (t : Bool) (l : Option ℕ) (o : Option (Option ℕ)) → o ≡ cond t (Some l) None → t ≡ is_some o
-tells true l o e = sym (ap (λ (p : Option (Option ℕ)). is_some p) e)
-tells false l o e = sym (ap (λ (p : Option (Option ℕ)). is_some p) e)
-
--- a key is asked where the index has it
-pub is_there : (asked : List (Option RequestKey)) (pairs : List RequestKey) (places : RequestKey → Option (Option ℕ)) (key : RequestKey) (t : Bool) → Places asked pairs places → is_some (places key) ≡ t → is_asked key asked ≡ t
-is_there asked pairs places key t h e = tells (is_asked key asked) (last_place key pairs) (places key) (h key) ∙ e
-
 other_pair : (asked : List (Option RequestKey)) (pairs : List RequestKey) (key q : RequestKey) → is_same key q ≡ false → cond (is_asked q asked) (Some (last_place q pairs)) None ≡ cond (is_asked q asked) (Some (last_place q (pairs ++ key ∷ []))) None
 other_pair asked pairs key q e =
     let same : last_place q (pairs ++ key ∷ []) ≡ last_place q pairs = one_more q key pairs ∙ ap (λ (t : Bool). cond t (Some (length pairs)) (last_place q pairs)) e in
@@ -108,43 +100,33 @@ put asked old new pairs key place known size h u q =
     ∙ ap (λ (t : Bool). cond t (Some (Some (length pairs))) (old q)) (key_test key q)
     ∙ put_at (is_same key q) asked (old q) pairs key q refl known (h q)
 
-pass_at : (t : Bool) (asked : List (Option RequestKey)) (old : Option (Option ℕ)) (pairs : List RequestKey) (key q : RequestKey) → is_same key q ≡ t → is_asked key asked ≡ false → old ≡ cond (is_asked q asked) (Some (last_place q pairs)) None
-    → old ≡ cond (is_asked q asked) (Some (last_place q (pairs ++ key ∷ []))) None
-pass_at true asked old pairs key q is unknown h =
-    let also : is_asked q asked ≡ false = ap (λ (k : RequestKey). is_asked k asked) (sym (same_key key q is)) ∙ unknown in
-    h ∙ ap (λ (t : Bool). cond t (Some (last_place q pairs)) None) also ∙ sym (ap (λ (t : Bool). cond t (Some (last_place q (pairs ++ key ∷ []))) None) also)
-pass_at false asked old pairs key q is unknown h = h ∙ other_pair asked pairs key q is
-
--- one more pair of another key
-pub pass : (asked : List (Option RequestKey)) (old : RequestKey → Option (Option ℕ)) (pairs : List RequestKey) (key : RequestKey) → is_asked key asked ≡ false → Places asked pairs old → Places asked (pairs ++ key ∷ []) old
-pass asked old pairs key unknown h q = pass_at (is_same key q) asked (old q) pairs key q refl unknown (h q)
-
 -- ---- the keys that are asked
 
--- a key, and no place
-abbrev pub keyed : Bool → Option (Option ℕ)
-keyed t = cond t (Some None) None
+-- a key, and the place of its pair
+abbrev pub placed : (q : RequestKey) → (pairs : List RequestKey) → Bool → Option (Option ℕ)
+placed q pairs t = cond t (Some (last_place q pairs)) None
 
-put_key : (s t : Bool) → cond s (Some None) (keyed t) ≡ keyed (cond s true t)
-put_key true t = refl
-put_key false t = refl
+put_key : (s t : Bool) (key q : RequestKey) (pairs : List RequestKey) → is_same key q ≡ s → cond s (Some (last_place key pairs)) (placed q pairs t) ≡ placed q pairs (cond s true t)
+put_key true t key q pairs is = ap (λ (k : RequestKey). Some (last_place k pairs)) (same_key key q is)
+put_key false t key q pairs is = refl
 
-pub key_more : (old new : RequestKey → Option (Option ℕ)) (xs : List (Option RequestKey)) (i : ℕ) (x : Option RequestKey) (key : RequestKey) → i < length xs → x ≡ get_or xs i x → x ≡ Some key
-    → ((q : RequestKey) → old q ≡ keyed (is_asked q (take i xs))) → ((q : RequestKey) → new q ≡ cond (is_at (key_cmp key) q) (Some None) (old q)) → (q : RequestKey) → new q ≡ keyed (is_asked q (take (i + 1) xs))
-key_more old new xs i x key h is some f u q =
+pub key_more : (old new : RequestKey → Option (Option ℕ)) (pairs : List RequestKey) (xs : List (Option RequestKey)) (i : ℕ) (x : Option RequestKey) (key : RequestKey) (place : Option ℕ) → i < length xs → x ≡ get_or xs i x → x ≡ Some key → place ≡ last_place key pairs
+    → ((q : RequestKey) → old q ≡ placed q pairs (is_asked q (take i xs))) → ((q : RequestKey) → new q ≡ cond (is_at (key_cmp key) q) (Some place) (old q)) → (q : RequestKey) → new q ≡ placed q pairs (is_asked q (take (i + 1) xs))
+key_more old new pairs xs i x key place h is some there f u q =
     let last : take (i + 1) xs ≡ take i xs ++ Some key ∷ [] = take_more xs i x h ∙ ap (λ (y : Option RequestKey). take i xs ++ y ∷ []) (sym is ∙ some) in
     u q
-    ∙ ap (λ (t : Bool). cond t (Some None) (old q)) (key_test key q)
-    ∙ ap (cond (is_same key q) (Some None)) (f q)
-    ∙ put_key (is_same key q) (is_asked q (take i xs))
-    ∙ ap keyed (sym (asked_more q key (take i xs)))
-    ∙ ap (λ (l : List (Option RequestKey)). keyed (is_asked q l)) (sym last)
+    ∙ ap (λ (t : Bool). cond t (Some place) (old q)) (key_test key q)
+    ∙ ap (λ (p : Option ℕ). cond (is_same key q) (Some p) (old q)) there
+    ∙ ap (cond (is_same key q) (Some (last_place key pairs))) (f q)
+    ∙ put_key (is_same key q) (is_asked q (take i xs)) key q pairs refl
+    ∙ ap (placed q pairs) (sym (asked_more q key (take i xs)))
+    ∙ ap (λ (l : List (Option RequestKey)). placed q pairs (is_asked q l)) (sym last)
 
-pub no_key_more : (old : RequestKey → Option (Option ℕ)) (xs : List (Option RequestKey)) (i : ℕ) (x : Option RequestKey) → i < length xs → x ≡ get_or xs i x → x ≡ None
-    → ((q : RequestKey) → old q ≡ keyed (is_asked q (take i xs))) → (q : RequestKey) → old q ≡ keyed (is_asked q (take (i + 1) xs))
-no_key_more old xs i x h is none f q =
+pub no_key_more : (old : RequestKey → Option (Option ℕ)) (pairs : List RequestKey) (xs : List (Option RequestKey)) (i : ℕ) (x : Option RequestKey) → i < length xs → x ≡ get_or xs i x → x ≡ None
+    → ((q : RequestKey) → old q ≡ placed q pairs (is_asked q (take i xs))) → (q : RequestKey) → old q ≡ placed q pairs (is_asked q (take (i + 1) xs))
+no_key_more old pairs xs i x h is none f q =
     let last : take (i + 1) xs ≡ take i xs ++ None ∷ [] = take_more xs i x h ∙ ap (λ (y : Option RequestKey). take i xs ++ y ∷ []) (sym is ∙ none) in
-    f q ∙ ap keyed (sym (asked_none q (take i xs))) ∙ ap (λ (l : List (Option RequestKey)). keyed (is_asked q l)) (sym last)
+    f q ∙ ap (placed q pairs) (sym (asked_none q (take i xs))) ∙ ap (λ (l : List (Option RequestKey)). placed q pairs (is_asked q l)) (sym last)
 
 -- ---- a new request
 
@@ -165,11 +147,3 @@ noted asked index next pairs key h known u same more less =
       few = omega (arith, size, same, h.before, less);
       small = omega (arith, same, h.small);
     }
-
--- ---- the kept pairs, one by one
-
-pub keys_more : (front : List Entry) (e : Entry) (key : RequestKey) → key ≡ key_of e → map key_of front ++ key ∷ [] ≡ map key_of (front ++ e ∷ [])
-keys_more front e key is = ap (λ (k : RequestKey). map key_of front ++ k ∷ []) is ∙ sym (map-append key_of front (e ∷ []))
-
-pub size_of : (front : List Entry) (place : ℕ) → length front ≡ place → place ≡ length (map key_of front)
-size_of front place e = sym (length-map front key_of ∙ e)

@@ -1,5 +1,12 @@
 pub mod Places
-pub mod Indexes
-pub mod Bursts
+pub mod Lists
+pub mod Circle
 pub mod Last
 pub mod Repeats
+pub mod Orders
+pub mod Spans
+pub mod Forgetting
+pub mod Left
+pub mod Turned
+pub mod Indexes
+pub mod Bursts

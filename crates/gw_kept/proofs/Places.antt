@@ -12,7 +12,7 @@ use Rattle.std.proofs.lemmas.Slice.Eq.{bytes_eq-Decides}
 use Rattle.gw_kept.specs.declared.entry.RequestKey.{RequestKey}
 use Rattle.gw_kept.specs.Pairs.{is_same}
 use Rattle.gw_kept.specs.Classes.{or_here, last_place}
-use Rattle.gw_kept.specs.Index.{key_cmp}
+use Rattle.gw_kept.specs.Order.{key_cmp}
 
 -- ---- among the last so many
 
@@ -81,11 +81,18 @@ number_test a b =
       | inr (inr more) ↦ ap is_eq (sym (nat_cmp_is a b Greater more)) ∙ sym (ne_eqb a b (λ e. absurd (omega (arith, e))))
     ]
 
+both_back : (s t : Bool) → (s && t) ≡ (t && s)
+both_back true true = refl
+both_back true false = refl
+both_back false true = refl
+both_back false false = refl
+
 pub key_test : (a b : RequestKey) → is_eq (key_cmp a b) ≡ is_same a b
 key_test a b =
-    then_test (nat_cmp a.id b.id) (slice_cmp nat_cmp a.mid b.mid)
-    ∙ ap (λ (t : Bool). t && is_eq (slice_cmp nat_cmp a.mid b.mid)) (number_test a.id b.id)
-    ∙ ap (λ (t : Bool). a.id == b.id && t) (is_eq-slice_cmp a.mid b.mid)
+    then_test (slice_cmp nat_cmp a.mid b.mid) (nat_cmp a.id b.id)
+    ∙ ap (λ (t : Bool). is_eq (slice_cmp nat_cmp a.mid b.mid) && t) (number_test a.id b.id)
+    ∙ ap (λ (t : Bool). t && a.id == b.id) (is_eq-slice_cmp a.mid b.mid)
+    ∙ both_back (bytes_eq a.mid b.mid) (a.id == b.id)
 
 -- ---- keys that are the same
 

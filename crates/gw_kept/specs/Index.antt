@@ -1,17 +1,11 @@
 -- The index by which a burst's classes are found (own): the place of the last pair of each key that is asked.
 use Rattle.std.specs.Prelude.{◌≡◌, ◌≤◌, ◌<◌, ◌+◌, ◌^◌, ◌||◌, Bool, false, if◌then◌else◌, List, [], ◌∷◌, length, Option, Some, None}
-use Rattle.std.specs.Ordering.{nat_cmp, ordering_then}
-use Rattle.std.specs.Cmp.Lexicographic.{slice_cmp}
 use Rattle.std.specs.BTreeMap.{get}
-use Rattle.std.specs.declared.cmp.Ordering.{Ordering}
 use Rattle.gw_kept.specs.declared.entry.RequestKey.{RequestKey}
 use Rattle.gw_kept.specs.declared.index.Index.{Index}
 use Rattle.gw_kept.specs.Pairs.{is_same}
 use Rattle.gw_kept.specs.Classes.{last_place, most_new}
-
--- by the number, and then by the bytes of the sender
-abbrev pub key_cmp : RequestKey → RequestKey → Ordering
-key_cmp a b = ordering_then (nat_cmp a.id b.id) (slice_cmp nat_cmp a.mid b.mid)
+use Rattle.gw_kept.specs.Order.{key_cmp}
 
 -- the key is one of those that are asked
 abbrev pub is_asked : RequestKey → List (Option RequestKey) → Bool

@@ -18,13 +18,14 @@ pub struct Entry {
     pub bytes: Items<u8>,
 }
 
-/// Who asked, and under which number: what a repeat is told by. Ordered by the number first, which tells most keys apart.
+/// Who asked, and under which number: what a repeat is told by. Ordered by the sender first, so that what one sender asked
+/// stands together.
 #[derive(Clone, Copy, PartialEq, Eq, PartialOrd, Ord)]
 pub struct RequestKey {
-    /// The number of the transaction.
-    pub id: u32,
     /// Who asked, byte for byte as sent.
     pub mid: Mid,
+    /// The number of the transaction.
+    pub id: u32,
 }
 
 impl RequestKey {

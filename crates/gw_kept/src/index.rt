@@ -5,10 +5,12 @@ ghost use Rattle.std.specs.BTreeMap.{get};
 ghost use Rattle.gw_kept.specs.declared.entry.RequestKey.{RequestKey as Key};
 ghost use Rattle.gw_kept.specs.Pairs.{key_of};
 ghost use Rattle.gw_kept.specs.Classes.{source_at, last_place, kept_place, class_at, pairs_after};
-ghost use Rattle.gw_kept.specs.Index.{key_cmp, is_asked, IsIndex};
+ghost use Rattle.gw_kept.specs.Index.{is_asked, IsIndex};
+ghost use Rattle.gw_kept.specs.Order.{key_cmp, IsOrder};
 
 use crate::class::{Class, Source};
 use crate::entry::{Entry, RequestKey};
+use crate::order::Order;
 use circular_buffer::HeapCircularBuffer;
 use std::alloc::{AllocError, Global};
 use std::collections::BTreeMap;
@@ -29,24 +31,27 @@ pub struct Index {
     pub(crate) total: usize,
 }
 
-/// The keys that are asked, none with a place.
-fn asked_keys(
+/// The keys that are asked, each with the place of its pair, if it has one.
+fn asked_places(
     alloc: Global,
+    ring: &HeapCircularBuffer<Entry>,
+    order: &Order,
     asked: &[Option<RequestKey>],
 ) -> Result<BTreeMap<RequestKey, Option<usize>>, AllocError>
-    ensures { IfOk result (λ places. (q : Key) → get key_cmp places q ≡ (if is_asked q asked.now then Some None else None)) }
+    requires { IsOrder (map key_of ring.now.items) order.now.first order.now.numbers.items }
+    ensures { IfOk result (λ places. (q : Key) → get key_cmp places q ≡ (if is_asked q asked.now then Some (last_place q (map key_of ring.now.items)) else None)) }
 {
     let mut places = BTreeMap::new(alloc);
     for item in asked {
         if let Some(key) = item {
-            places.insert(*key, None)?;
+            places.insert(*key, order.find(ring, key))?;
         }
     }
     Ok(places)
 }
 
 impl Index {
-    /// The index of what a burst asks, before its first item: one pass over the kept pairs, each looked up among the keys.
+    /// The index of what a burst asks, before its first item: each key is looked up among the kept pairs.
     ///
     /// # Errors
     ///
@@ -54,21 +59,16 @@ impl Index {
     pub fn of(
         alloc: Global,
         ring: &HeapCircularBuffer<Entry>,
+        order: &Order,
         asked: &[Option<RequestKey>],
     ) -> Result<Index, AllocError>
+        requires { IsOrder (map key_of ring.now.items) order.now.first order.now.numbers.items }
         ensures index { IfOk result (λ index. IsIndex asked.now index (map key_of ring.now.items)) }
         ensures most { IfOk result (λ index. index.most ≡ ring.now.capacity) }
         ensures before { IfOk result (λ index. index.before ≡ length ring.now.items) }
     {
-        let mut places = asked_keys(alloc, asked)?;
-        for (place, entry) in ring.iter().enumerate() {
-            let key = entry.key();
-            if places.contains_key(&key) {
-                places.insert(key, Some(place))?;
-            }
-        }
         Ok(Index {
-            places,
+            places: asked_places(alloc, ring, order, asked)?,
             most: ring.capacity(),
             before: ring.len(),
             total: ring.len(),

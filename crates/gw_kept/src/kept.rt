@@ -1,14 +1,18 @@
-//! The kept replies: the last so many, in a ring.
+//! The kept replies: the last so many, in a ring, and the order of their keys.
 
 ghost use Rattle.std.specs.Prelude.{◌≡◌, ◌≤◌, None, length, IfOk, option_copied};
 ghost use Rattle.gw_kept.specs.Classes.{classes_of};
+ghost use Rattle.gw_kept.specs.Forgotten.{forgotten};
 ghost use Rattle.gw_kept.specs.Pairs.{key_of, bytes_for, bytes_at, none_kept, with_pair, kept_after, dropped_by, AreNew, IsBounded};
 
 use crate::class::Class;
 use crate::entry::{Entry, RequestKey};
+use crate::forget::turn;
 use crate::index::Index;
+use crate::order::Order;
 use circular_buffer::HeapCircularBuffer;
 use gw_base::{Items, Mid, NoMemory, TxId};
+use gw_msg::AckRange;
 use std::alloc::Global;
 use std::marker::Model;
 
@@ -16,10 +20,13 @@ use std::marker::Model;
 #[derive(Drop)]
 pub struct Kept {
     ring: HeapCircularBuffer<Entry>,
+    order: Order,
 }
 
 impl Model for Kept {
-    ghost use Rattle.gw_kept.specs.Pairs.{KeptList, coded_kept, kept_list, IsBounded};
+    ghost use Rattle.gw_kept.specs.Pairs.{KeptList, coded_kept, kept_list, IsBounded, key_of};
+    ghost use Rattle.gw_kept.specs.Order.{IsOrder};
+    ghost use Rattle.std.specs.Prelude.{◌≤◌, map, vec_capacity};
 
     ghost Value = { KeptList };
 
@@ -27,7 +34,7 @@ impl Model for Kept {
 
     ghost view = { λ a. kept_list a.ring.items a.ring.capacity };
 
-    ghost invariant = { λ a. IsBounded (kept_list a.ring.items a.ring.capacity) };
+    ghost invariant = { λ a. IsBounded (kept_list a.ring.items a.ring.capacity) × IsOrder (map key_of a.ring.items) a.order.first a.order.numbers.items × (a.ring.capacity ≤ vec_capacity a.order.numbers) };
 }
 
 impl Kept {
@@ -43,6 +50,7 @@ impl Kept {
     {
         Ok(Kept {
             ring: HeapCircularBuffer::with_capacity(alloc, most as usize)?,
+            order: Order::new(alloc, most as usize)?,
         })
     }
 
@@ -55,13 +63,21 @@ impl Kept {
     }
 
     /// Keeps a pair, whose key no kept pair has: the caller knows that. A full list hands back its oldest pair. It takes no
-    /// memory.
+    /// memory. For k kept pairs it costs log k steps, and two moves of at most 2 k bytes.
     pub fn push(&mut self, entry: Entry) -> Option<Entry>
         requires { bytes_for (key_of entry) self.old.pairs ≡ None }
         ensures pairs { self.new ≡ with_pair self.old entry }
         ensures dropped { result ≡ dropped_by self.old entry }
     {
-        self.ring.push_back(entry)
+        let dropped = if self.ring.is_full() {
+            self.order.remove_oldest(&self.ring);
+            self.ring.pop_front()
+        } else {
+            None
+        };
+        self.order.insert(&self.ring, &entry.key());
+        self.ring.push_back(entry);
+        dropped
     }
 
     /// Keeps the pairs of a burst's new requests, one after another; what falls out is let go. The caller knows that at its turn
@@ -75,7 +91,20 @@ impl Kept {
         }
     }
 
-    /// The reply that was sent to this sender under this number, if it is kept. The pairs are looked through in turn.
+    /// Removes each pair of this sender whose number is in one of the ranges, both ends included; the others keep their order.
+    /// A range whose first number is above its last has none. It takes no memory. For n ranges and k pairs it costs n log k
+    /// steps, and where a pair is removed, one pass over the pairs.
+    pub fn forget(&mut self, mid: &Mid, ranges: &[AckRange])
+        ensures { self.new ≡ forgotten self.old mid.now ranges.now }
+    {
+        if self.order.names_some(&self.ring, mid, ranges) {
+            let marks = self.order.marks(&self.ring, mid, ranges);
+            self.order.keep_unmarked(&self.ring, &marks);
+            turn(&mut self.ring, &marks);
+        }
+    }
+
+    /// The reply that was sent to this sender under this number, if it is kept: log k steps for k pairs.
     pub fn find(&self, mid: &Mid, id: TxId) -> Option<&[u8]>
         ensures { option_copied result ≡ bytes_for (record { id = id.0; mid = mid.now }) self.now.pairs }
     {
@@ -83,12 +112,10 @@ impl Kept {
             id: id.0,
             mid: *mid,
         };
-        for entry in self.ring.iter() {
-            if entry.key() == key {
-                return Some(entry.bytes.as_slice());
-            }
+        match self.order.find(&self.ring, &key) {
+            Some(place) => self.reply_at(place),
+            None => None,
         }
-        None
     }
 
     /// The reply at a place, counted from the oldest pair, as a `Source` of `classify` tells it.
@@ -104,7 +131,7 @@ impl Kept {
     /// The classes of a burst's items, in order of arrival, each told by its key: `RequestKey::of` has it, and what asks
     /// nothing has none. They are told from the keys alone, before anything is carried out. A request is a repeat where its
     /// reply is among the last kept ones at that point, those of the burst's new requests included. An index of the burst's
-    /// keys is made first, in which each kept pair is looked up once: n log n steps for n requests, and k log n for k pairs.
+    /// keys is made first, each looked up among the kept pairs: n log n and n log k steps for n requests and k pairs.
     ///
     /// # Errors
     ///
@@ -117,7 +144,7 @@ impl Kept {
         ensures classes { IfOk result (λ classes. classes ≡ classes_of self.now asked.now) }
         ensures bounded { IsBounded self.now }
     {
-        let mut index = Index::of(alloc, &self.ring, asked)?;
+        let mut index = Index::of(alloc, &self.ring, &self.order, asked)?;
         let mut classes = Items::new(alloc);
         for item in asked {
             let class = match item {

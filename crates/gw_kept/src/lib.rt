@@ -3,9 +3,11 @@
 
 mod class;
 mod entry;
+mod forget;
 mod index;
 mod kept;
 mod laws;
+mod order;
 
 pub use class::{Class, Source};
 pub use entry::{Entry, RequestKey};

@@ -8,14 +8,14 @@ use Rattle.std.specs.FinMap.{FinMap, from_entries, nat_cmp-IsAntisymmetric}
 use Rattle.std.specs.List.Sorted.{IsStrictlySortedBy}
 use Rattle.std.specs.Map.{keys_of, lookup}
 use Rattle.gw_base.proofs.NameTests.{names_same}
-use Rattle.gw_base.proofs.Views.{seen, seen_insert, entries_seen}
+use Rattle.gw_base.proofs.Views.{seen, seen_insert, seen_remove, entries_seen}
 use Rattle.gw_base.specs.NameLists.{name_cmp}
 use Rattle.gw_base.specs.declared.ids.CtxNum.{CtxNum}
 use Rattle.gw_ctx.specs.Contexts.{ContextRecord}
 use Rattle.gw_term.specs.declared.record.Termination.{Termination}
 use Rattle.gw_table.specs.declared.place.Place.{Place}
 use Rattle.gw_table.specs.Maps.{number, names, numbers}
-use Rattle.gw_table.specs.Stored.{Stored, filled, maps_of, put_term_place, put_ctx_place}
+use Rattle.gw_table.specs.Stored.{Stored, filled, maps_of, put_term_place, put_ctx_place, drop_term_place, drop_ctx_place}
 use Rattle.gw_table.proofs.Shown.{here_is, keys_here}
 
 -- entries as stored tables
@@ -31,6 +31,16 @@ pub ctx_written : (ts : List (List ℕ × Place Termination)) (es fs : List (ℕ
     → ((q : ℕ) → lookup (is_at (nat_cmp q)) fs ≡ cond (is_at (nat_cmp n.0) q) (Some p) (lookup (is_at (nat_cmp q)) es))
     → stored ts fs ≡ put_ctx_place (stored ts es) n p
 ctx_written ts es fs n p h = ap (λ (f : FinMap nat_cmp (Place ContextRecord)). record { terms = from_entries ts; contexts = f }) (seen_insert nat_cmp_total nat_cmp-IsAntisymmetric es fs n.0 p h)
+
+pub term_dropped : (es fs : List (List ℕ × Place Termination)) (cs : List (ℕ × Place ContextRecord)) (t : List ℕ)
+    → ((q : List ℕ) → lookup (is_at (name_cmp q)) fs ≡ cond (is_at (name_cmp t) q) None (lookup (is_at (name_cmp q)) es))
+    → stored fs cs ≡ drop_term_place (stored es cs) t
+term_dropped es fs cs t h = ap (λ (f : FinMap name_cmp (Place Termination)). record { terms = f; contexts = from_entries cs }) (seen_remove nat_list_cmp_total names_same es fs t h)
+
+pub ctx_dropped : (ts : List (List ℕ × Place Termination)) (es fs : List (ℕ × Place ContextRecord)) (n : CtxNum)
+    → ((q : ℕ) → lookup (is_at (nat_cmp q)) fs ≡ cond (is_at (nat_cmp n.0) q) None (lookup (is_at (nat_cmp q)) es))
+    → stored ts fs ≡ drop_ctx_place (stored ts es) n
+ctx_dropped ts es fs n h = ap (λ (f : FinMap nat_cmp (Place ContextRecord)). record { terms = from_entries ts; contexts = f }) (seen_remove nat_cmp_total nat_cmp-IsAntisymmetric es fs n.0 h)
 
 pub term_seen : (es : List (List ℕ × Place Termination)) (cs : List (ℕ × Place ContextRecord)) (s : Stored) (t : List ℕ) → stored es cs ≡ s → lookup (is_at (name_cmp t)) es ≡ finite.get s.terms t
 term_seen es cs s t is = sym (seen nat_list_cmp_total es t) ∙ ap (λ (x : Stored). finite.get x.terms t) is

@@ -16,3 +16,4 @@ pub mod Provisioning
 pub mod Shown
 pub mod Searched
 pub mod SlotNames
+pub mod Swept

@@ -36,6 +36,13 @@ has_left (Some Empty) = false
 has_left (Some (Here a)) = false
 has_left (Some Out) = true
 
+-- there is a place, and nothing that stands in it or went out of it
+abbrev pub is_vacant : {A : Type 0} → Option (Place A) → Bool
+is_vacant None = false
+is_vacant (Some Empty) = true
+is_vacant (Some (Here a)) = false
+is_vacant (Some Out) = false
+
 -- what stands there, if it is an entry
 abbrev pub if_shown : {A : Type 0} → Option (Place A) → Option (Place A)
 if_shown None = None
@@ -133,6 +140,10 @@ has_entry m Whole = true
 abbrev pub AreSwept : Stored → Type 0
 AreSwept s = (k : Key) → is_ready s k ≡ has_entry (maps_of s) k
 
+-- of these keys those with an entry in the first are prepared in the second, and all other keys as in the first
+abbrev pub AreSweptAt : List Key → Stored → Stored → Type 0
+AreSweptAt keys a b = (k : Key) → is_ready b k ≡ cond (has keys k) (has_entry (maps_of a) k) (is_ready a k)
+
 -- ---- tables of their own, beside those of the gateway
 
 abbrev pub nothing_stored : Stored
@@ -157,6 +168,13 @@ put_term_place s t p = record { terms = finite.insert s.terms t p; contexts = s.
 abbrev pub put_ctx_place : Stored → CtxNum → Place ContextRecord → Stored
 put_ctx_place s n p = record { terms = s.terms; contexts = finite.insert s.contexts n.0 p }
 
+-- there is no place for the key any more
+abbrev pub drop_term_place : Stored → List ℕ → Stored
+drop_term_place s t = record { terms = finite.remove s.terms t; contexts = s.contexts }
+
+abbrev pub drop_ctx_place : Stored → CtxNum → Stored
+drop_ctx_place s n = record { terms = s.terms; contexts = finite.remove s.contexts n.0 }
+
 -- what stood at the key is out
 abbrev pub with_out : Stored → Key → Stored
 with_out s (Term t) = put_term_place s t Out
@@ -178,6 +196,12 @@ pub record ArePrepared (keys : List Key) (a b : Stored) : Type 0 where
   pub maps : maps_of b ≡ maps_of a
   pub out : AreAsOut a b
   pub ready : (k : Key) → is_ready b k ≡ (is_ready a k || has keys k)
+
+-- The places of these keys were given up where there was no entry: `b` is `a` after it.
+pub record WereSwept (keys : List Key) (a b : Stored) : Type 0 where
+  pub maps : maps_of b ≡ maps_of a
+  pub out : AreAsOut a b
+  pub ready : AreSweptAt keys a b
 
 -- What stood at these keys went from one to the other: `from` and `to` before, `left` and `full` after it.
 pub record AreMoved (keys : List Key) (from to left full : Stored) : Type 0 where

@@ -1,7 +1,7 @@
 //! What stands at a prepared key.
 
 ghost use Rattle.std.specs.Prelude.{◌≡◌, Some, is_some, option_copied};
-ghost use Rattle.gw_table.specs.Stored.{shown, placed};
+ghost use Rattle.gw_table.specs.Stored.{shown, placed, is_vacant};
 
 use gw_base::Held;
 use gw_ctx::Context;
@@ -56,6 +56,13 @@ pub(crate) fn entry_at<T>(place: Option<&Place<Held<T>>>) -> Option<&T>
         Some(Place::Here(entry)) => Some(entry.get()),
         _ => None,
     }
+}
+
+/// Whether there is a place, and nothing that stands in it or went out of it.
+pub(crate) fn is_vacant<T>(place: Option<&Place<T>>) -> bool
+    ensures { result ≡ is_vacant (option_copied place.entry) }
+{
+    matches!(place, Some(Place::Empty))
 }
 
 impl Clone for Place<Held<Termination>> {

@@ -1,11 +1,11 @@
 //! Places for entries: made for keys that may get an entry, and swept where none came.
 
-ghost use Rattle.std.specs.Prelude.{◌≡◌, ℕ, List, [], ◌∷◌, OnOk, OnErr};
+ghost use Rattle.std.specs.Prelude.{◌≡◌, ℕ, false, List, [], ◌∷◌, OnOk, OnErr};
 ghost use Rattle.std.specs.FinMap as finite;
 ghost use Rattle.gw_base.specs.declared.key.Key.TheVariants.{Term, Ctx};
-ghost use Rattle.gw_table.specs.Stored.{maps_of, if_shown, ArePrepared, AreAsOut, AreReady, KeepReady, NoOtherReady, NoneIsOut, AreSwept};
+ghost use Rattle.gw_table.specs.Stored.{maps_of, is_out, if_shown, ArePrepared, AreAsOut, AreIn, AreReady, KeepReady, NoOtherReady, NoneIsOut, AreSwept, AreSweptAt, WereSwept};
 
-use crate::place::Place;
+use crate::place::{Place, is_vacant};
 use crate::tables::Tables;
 use gw_base::{CtxNum, Key, NoMemory, TermName};
 
@@ -44,7 +44,7 @@ impl Tables {
         }
     }
 
-    /// Prepares a place for each key, which stays prepared until `sweep`. The entries stay as they are. A key takes two look-ups.
+    /// Prepares a place for each key, which stays prepared until `sweep` or `sweep_keys`. The entries stay as they are. A key takes two look-ups.
     ///
     /// # Errors
     ///
@@ -60,6 +60,51 @@ impl Tables {
             self.prepare(*key)?;
         }
         Ok(())
+    }
+
+    /// Ends the preparation of a name, if it has no termination. The caller knows that it is not out.
+    fn sweep_term(&mut self, name: &TermName)
+        requires { is_out self.old (Term name.now) ≡ false }
+        ensures { WereSwept (Term name.now ∷ []) self.old self.new }
+    {
+        if is_vacant(self.terms.get(name)) {
+            self.terms.remove(name);
+        }
+    }
+
+    /// Ends the preparation of a number, if it has no context. The caller knows that it is not out.
+    fn sweep_ctx(&mut self, number: CtxNum)
+        requires { is_out self.old (Ctx number) ≡ false }
+        ensures { WereSwept (Ctx number ∷ []) self.old self.new }
+    {
+        if is_vacant(self.contexts.get(&number.0)) {
+            self.contexts.remove(&number.0);
+        }
+    }
+
+    /// Ends the preparation of a key, if it has no entry. The caller knows that it is not out.
+    fn sweep_key(&mut self, key: &Key)
+        requires { is_out self.old key.now ≡ false }
+        ensures { WereSwept (key.now ∷ []) self.old self.new }
+    {
+        match key {
+            Key::Term(name) => self.sweep_term(name),
+            Key::Ctx(number) => self.sweep_ctx(*number),
+            Key::Whole => {}
+        }
+    }
+
+    /// Ends the preparation of those of the keys that have no entry, and of no other key. The caller knows that none of them is
+    /// out. A key takes one look-up, and one more where its place is given up; memory is given back and none is taken.
+    pub fn sweep_keys(&mut self, keys: &[Key])
+        requires { AreIn keys.now self.old }
+        ensures maps { maps_of self.new ≡ maps_of self.old }
+        ensures out { AreAsOut self.old self.new }
+        ensures ready { AreSweptAt keys.now self.old self.new }
+    {
+        for key in keys {
+            self.sweep_key(key);
+        }
     }
 
     /// Ends the preparation of names without a termination.
