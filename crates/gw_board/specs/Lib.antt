@@ -15,4 +15,5 @@ pub mod Refused
 pub mod Results
 pub mod Seats
 pub mod Texts
+pub mod Waiting
 pub mod Waves

@@ -47,10 +47,10 @@ impl<'b, 'h, 'a> Board<'b, 'h, 'a> {
         ensures left { unclosed self.new.places ≡ unclosed self.old.places }
         ensures same { IsSameBurst self.old self.new }
     {
-        let wave = self.plan(alloc)?;
+        let wave = self.plan_wave(alloc)?;
         let mut jobs = Vec::with_capacity(alloc, wave.len())?;
-        for place in wave {
-            let Ok(job) = self.open(alloc, place) else {
+        for planned in wave {
+            let Ok(job) = self.open_planned(alloc, planned) else {
                 self.close_unchanged(jobs);
                 return Err(NoMemory);
             };

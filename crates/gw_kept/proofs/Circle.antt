@@ -1,5 +1,5 @@
 -- Numbers around a circle, and the places that they name.
-use Rattle.std.proofs.Common.{◌≡◌, ℕ, ◌+◌, ◌-◌, ◌<◌, ◌≤◌, ◌%◌, ◌^◌, arith}
+use Rattle.std.proofs.Common.{◌≡◌, ℕ, ◌+◌, ◌-◌, ◌<◌, ◌%◌, ◌^◌, arith}
 use Rattle.gw_kept.specs.Order.{number_at, place_of}
 
 pub place_back : (first place : ℕ) → first < 2 ^ 16 → place < 2 ^ 16 → place_of first (number_at first place) ≡ place

@@ -4,5 +4,9 @@ pub mod Circle
 pub mod Last
 pub mod Repeats
 pub mod Orders
+pub mod Spans
+pub mod Forgetting
+pub mod Left
+pub mod Turned
 pub mod Indexes
 pub mod Bursts

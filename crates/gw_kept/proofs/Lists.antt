@@ -1,7 +1,7 @@
 -- Lists of which each pair, or each item, is as asked: with one more item, and with other items in place of these.
-use Rattle.std.proofs.Common.{◌≡◌, ℕ, zero, suc, ◌+◌, ◌-◌, ◌<◌, ◌≤◌, List, [], ◌∷◌, ◌++◌, map, length, take, drop, get_or, refl, ap, sym, subst, ◌∙◌, add-one, length-append, arith, inl, inr}
+use Rattle.std.proofs.Common.{◌≡◌, ℕ, zero, suc, ◌+◌, ◌-◌, ◌<◌, ◌≤◌, List, [], ◌∷◌, ◌++◌, map, length, take, drop, get_or, refl, ap, sym, subst, ◌∙◌, add-one, arith, inl, inr}
 use Rattle.std.specs.List.{All, AllPairs, Contains, insert, remove}
-use Rattle.std.proofs.lemmas.List.{get_or-map, get_or_default, length-map, take-append-drop, take-map, drop-map, map-append, same_lists}
+use Rattle.std.proofs.lemmas.List.{get_or-map, length-map, take-append-drop, take-map, drop-map, map-append}
 use Rattle.std.proofs.lemmas.List.Edits.{get_or-insert_below, get_or-insert_at, get_or-insert_above, length-insert}
 use Rattle.std.proofs.lemmas.List.Elements.{All-append, All-cons, All-take, All-drop, Contains-append_cases, Contains-append_left, Contains-append_right}
 

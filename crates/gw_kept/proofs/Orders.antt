@@ -1,14 +1,18 @@
 -- What a search in the order of keys finds, and the order with one pair more or less.
-use Rattle.std.proofs.Common.{◌≡◌, ℕ, zero, suc, ◌+◌, ◌-◌, ◌<◌, ◌≤◌, ◌%◌, ◌^◌, Bool, true, false, cond, List, [], ◌∷◌, ◌++◌, map, length, drop, get_or, Option, Some, None, Result, Ok, Err, refl, ap, sym, subst, ◌∙◌, add-one, length-append, arith}
+use Rattle.std.proofs.Common.{◌≡◌, ℕ, zero, suc, ◌+◌, ◌-◌, ◌<◌, ◌≤◌, ◌%◌, ◌^◌, ◌≢◌, Bool, true, false, cond, List, [], ◌∷◌, ◌++◌, map, length, drop, get_or, Option, Some, None, Result, Ok, Err, refl, ap, sym, subst, ◌∙◌, add-one, length-append, arith}
 use Rattle.std.proofs.lemmas.List.{map-append, get_or-map, get_or_default, length-map, get_or_append_left, get_or_push, length-drop, get_or-drop}
-use Rattle.std.proofs.lemmas.List.Edits.{length-insert, length-remove, get_or-remove_below, get_or-remove_above}
-use Rattle.std.proofs.lemmas.List.Elements.{All-map}
+use Rattle.std.proofs.lemmas.List.Edits.{length-remove, get_or-remove_below, get_or-remove_above}
+use Rattle.std.proofs.lemmas.Bool.Decides.{Decides-eqb}
+use Rattle.std.proofs.lemmas.List.Elements.{All-contains, All-map}
+use Rattle.std.proofs.lemmas.Map.Made.{IsDistinct-from_AllPairs}
+use Rattle.std.proofs.lemmas.Map.Steps.{length-le_from_distinct_below}
+use Rattle.std.proofs.lemmas.Map.Views.{Contains-from_any}
 use Rattle.std.proofs.lemmas.List.Quantifiers.{all_pairs_remove}
 use Rattle.std.proofs.lemmas.List.Sorted.{searchable_from_sorted}
 use Rattle.std.specs.Cmp.{IsTotalOrder, nat_cmp_total, on_total, then_total, tied_itself}
 use Rattle.std.specs.Cmp.Lexicographic.{nat_list_cmp_total}
-use Rattle.std.specs.List.{All, AllPairs, Contains, insert, remove, slice_get}
-use Rattle.std.specs.List.Sorted.{IsSearchInRange, IsBinarySearchResult, IsNonDecreasingBy, IsPartitionPoint}
+use Rattle.std.specs.List.{All, Contains, insert, remove, slice_get}
+use Rattle.std.specs.List.Sorted.{IsSearchInRange, IsBinarySearchResult, IsNonDecreasingBy}
 use Rattle.std.specs.Option.{option_map}
 use Rattle.std.specs.Ordering.{is_eq, is_lt, ordering_index, ordering_reverse}
 use Rattle.std.specs.declared.cmp.Ordering.{Ordering}
@@ -163,7 +167,7 @@ none_sorted first h =
     record {
       places = [];
       numbered = refl;
-      sorted = record { size = refl; within = λ i d l. absurd (omega arith); whole = λ p l. absurd (omega arith); rises = λ i j d l within. absurd (omega arith) };
+      sorted = record { within = λ i d l. absurd (omega arith); whole = λ p l. absurd (omega arith); rises = λ i j d l within. absurd (omega arith) };
       around = h;
       few = omega arith;
     }
@@ -176,11 +180,9 @@ turned r s e h = e ∙ ap ordering_reverse h
 sorted_more : (keys : List RequestKey) (places : List ℕ) (key : RequestKey) (i : ℕ) → IsSorted keys places → IsStand keys places key (Err i) → IsSorted (keys ++ key ∷ []) (insert places i (length keys))
 sorted_more keys places key i sorted stand =
     let size : length (keys ++ key ∷ []) ≡ length keys + 1 = length-append keys (key ∷ []) in
-    let n : length (insert places i (length keys)) ≡ length places + 1 = length-insert places i (length keys) stand.0 in
     let there : (p : ℕ) (d : RequestKey) → p < length keys → get_or keys p d ≡ get_or (keys ++ key ∷ []) p d = λ p d l. sym (get_or_append_left keys (key ∷ []) d p l) in
     let last : (d : RequestKey) → key ≡ get_or (keys ++ key ∷ []) (length keys) d = λ d. sym (get_or_push keys key d (length keys) refl) in
     record {
-      size = omega (arith, size, n, sorted.size);
       within = all_insert (λ p. p < length (keys ++ key ∷ [])) places i (length keys) (all_weaker_here (λ p. p < length keys) (λ p. p < length (keys ++ key ∷ [])) places (λ p l. omega (arith, size)) sorted.within) (omega (arith, size));
       whole =
           λ p l. three_ways p (length keys) (Contains (insert places i (length keys)) p)
@@ -280,14 +282,11 @@ both_hold keys xs a b k d within = (a k d within, b k d within)
 
 sorted_less : (keys : List RequestKey) (places : List ℕ) (i : ℕ) → IsSorted keys places → 0 < length keys → i < length places → get_or places i 0 ≡ 0 → IsSorted (drop 1 keys) (map (λ p. p - 1) (remove places i))
 sorted_less keys places i sorted some l zero_at =
-    let n : length (remove places i) + 1 ≡ length places = length-remove places i l in
-    let m : length (map (λ p. p - 1) (remove places i)) ≡ length (remove places i) = length-map (remove places i) (λ p. p - 1) in
     let size : length (drop 1 keys) ≡ length keys - 1 = length-drop 1 keys in
     let rest : All (λ p. (0 < p) × (p < length keys)) (remove places i) = both_hold keys (remove places i) (all_later keys places i sorted l zero_at) (all_left keys places i sorted l) in
     let moved : (p : ℕ) (d : RequestKey) → 0 < p → get_or keys p d ≡ get_or (drop 1 keys) (p - 1) d =
     λ p d h. let e : 1 + (p - 1) ≡ p = omega arith in sym (get_or-drop 1 keys (p - 1) d ∙ ap (λ (q : ℕ). get_or keys q d) e) in
     record {
-      size = omega (arith, sorted.size);
       within = All-map (λ p. p < length (drop 1 keys)) (λ p. p - 1) (remove places i) (all_weaker_here (λ p. (0 < p) × (p < length keys)) (λ p. p - 1 < length (drop 1 keys)) (remove places i) (λ p h. omega arith) rest);
       whole = λ p lp. contains_before (remove places i) p (one_later keys places i p sorted l zero_at (omega arith));
       rises =
@@ -403,3 +402,23 @@ pub found_none : (keys : List RequestKey) (first : ℕ) (numbers : List ℕ) (ke
 found_none keys first numbers key i o stand none =
     let here : Some (get_or o.places i 0) ≡ last_place key keys = found_here (last_place key keys) keys o.places key (get_or o.places i 0) refl o.sorted (o.sorted.within i 0 stand.0) stand.1 in
     absurd cc
+
+-- ---- no more places than keys
+
+pub differ : (keys : List RequestKey) (p q : ℕ) → Before keys p q → p ≢ q
+differ keys p q before e = apart keys p q nobody before (ap (λ (n : ℕ). get_or keys n nobody) e)
+
+pub few_places : (keys : List RequestKey) (places : List ℕ) → IsSorted keys places → length places ≤ length keys
+few_places keys places sorted =
+    length-le_from_distinct_below places (length keys)
+    (IsDistinct-from_AllPairs Decides-eqb places (all_pairs_weaker (λ p. p < length keys) (Before keys) (λ p q. p ≢ q) places sorted.within (λ p q lp lq. differ keys p q) sorted.rises))
+    (λ q e. All-contains (λ p. p < length keys) places q sorted.within (Contains-from_any (λ x y. (Decides-eqb x y).0) q places e))
+
+pub few_numbers : (keys : List RequestKey) (first : ℕ) (numbers : List ℕ) → IsOrder keys first numbers → length numbers ≤ most_kept
+few_numbers keys first numbers o = omega (arith, numbers_are keys first numbers o, few_places keys o.places o.sorted, o.few)
+
+-- each number is that of a pair
+pub place_below : (keys : List RequestKey) (first : ℕ) (numbers : List ℕ) (i d : ℕ) → IsOrder keys first numbers → i < length numbers → place_of first (get_or numbers i d) < length keys
+place_below keys first numbers i d o l =
+    let m : i < length o.places = omega (arith, numbers_are keys first numbers o) in
+    subst (λ (p : ℕ). p < length keys) (sym (place_at keys first numbers o i d m)) (o.sorted.within i 0 m)

@@ -3,5 +3,7 @@ pub use Rattle.circular_buffer.specs.Buffer
 pub mod Pairs
 pub mod Classes
 pub mod Order
+pub mod Forgotten
+pub mod Marks
 pub mod Index
 pub mod Repeats

@@ -27,7 +27,6 @@ Before keys p q = (d : RequestKey) → key_cmp (slice_index_or keys p d) (slice_
 
 -- these are the places of all the keys, each once, and the keys there rise
 pub record IsSorted (keys : List RequestKey) (places : List ℕ) : Type 0 where
-  pub size : length places ≡ length keys
   pub within : All (λ p. p < length keys) places
   pub whole : (p : ℕ) → p < length keys → Contains places p
   pub rises : AllPairs (Before keys) places

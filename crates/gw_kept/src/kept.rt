@@ -2,14 +2,17 @@
 
 ghost use Rattle.std.specs.Prelude.{◌≡◌, ◌≤◌, None, length, IfOk, option_copied};
 ghost use Rattle.gw_kept.specs.Classes.{classes_of};
+ghost use Rattle.gw_kept.specs.Forgotten.{forgotten};
 ghost use Rattle.gw_kept.specs.Pairs.{key_of, bytes_for, bytes_at, none_kept, with_pair, kept_after, dropped_by, AreNew, IsBounded};
 
 use crate::class::Class;
 use crate::entry::{Entry, RequestKey};
+use crate::forget::turn;
 use crate::index::Index;
 use crate::order::Order;
 use circular_buffer::HeapCircularBuffer;
 use gw_base::{Items, Mid, NoMemory, TxId};
+use gw_msg::AckRange;
 use std::alloc::Global;
 use std::marker::Model;
 
@@ -85,6 +88,19 @@ impl Kept {
     {
         for entry in entries {
             self.push(entry);
+        }
+    }
+
+    /// Removes each pair of this sender whose number is in one of the ranges, both ends included; the others keep their order.
+    /// A range whose first number is above its last has none. It takes no memory. For n ranges and k pairs it costs n log k
+    /// steps, and where a pair is removed, one pass over the pairs.
+    pub fn forget(&mut self, mid: &Mid, ranges: &[AckRange])
+        ensures { self.new ≡ forgotten self.old mid.now ranges.now }
+    {
+        if self.order.names_some(&self.ring, mid, ranges) {
+            let marks = self.order.marks(&self.ring, mid, ranges);
+            self.order.keep_unmarked(&self.ring, &marks);
+            turn(&mut self.ring, &marks);
         }
     }
 

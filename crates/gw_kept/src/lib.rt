@@ -3,6 +3,7 @@
 
 mod class;
 mod entry;
+mod forget;
 mod index;
 mod kept;
 mod laws;

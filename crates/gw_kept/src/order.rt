@@ -37,7 +37,7 @@ impl Order {
     }
 
     /// The place of the pair that has this number.
-    fn place(&self, number: u16) -> usize
+    pub fn place(&self, number: u16) -> usize
         ensures { result ≡ place_of self.now.first number }
     {
         usize::from(number.wrapping_sub(self.first))
@@ -54,7 +54,7 @@ impl Order {
     }
 
     /// Where a key stands in the order, or where it would stand: as many steps as the count of pairs has binary digits.
-    fn search(&self, ring: &HeapCircularBuffer<Entry>, key: &RequestKey) -> Result<usize, usize>
+    pub fn search(&self, ring: &HeapCircularBuffer<Entry>, key: &RequestKey) -> Result<usize, usize>
         ensures range { IsSearchInRange result (vec_len self.now.numbers) }
         ensures stand { (order : IsOrder (map key_of ring.now.items) self.now.first self.now.numbers.items) → IsStand (map key_of ring.now.items) order.places key.now result }
     {

@@ -3,7 +3,7 @@ use Rattle.std.proofs.lemmas.List.{length-map}
 use Rattle.std.specs.List.{insert}
 use Rattle.gw_kept.specs.Pairs.{key_of}
 use Rattle.gw_kept.specs.Order.{number_at}
-use Rattle.gw_kept.proofs.Orders.{one_more_order, numbers_are, found_none}
+use Rattle.gw_kept.proofs.Orders.{few_places, one_more_order, numbers_are, found_none}
 use Rattle.gw_kept.proofs.order.Order.insert.Goals as goal
 
 pub returns-in-Err-clause-order : goal.returns-in-Err-clause-order
@@ -15,7 +15,7 @@ returns-in-Err-clause-order c =
     let keys : length (map key_of es) ≡ length es = length-map es key_of in
     one_more_order (map key_of es) old.first old.numbers.items c.insert.new.self.items c.args.key.now c.in-Err.at (number_at old.first c.len.result) o (c.in-Err.ensures.stand o) (omega (arith, c.requires.few))
     (ap (number_at old.first) (c.len.ensures.len ∙ sym keys))
-    (c.insert.ensures.items ∙ ap (λ (t : Bool). cond t (insert old.numbers.items c.in-Err.at (number_at old.first c.len.result)) old.numbers.items) (c.insert.ensures.succeeds (omega (arith, o.sorted.size, old.numbers.ok.0, c.requires.room))))
+    (c.insert.ensures.items ∙ ap (λ (t : Bool). cond t (insert old.numbers.items c.in-Err.at (number_at old.first c.len.result)) old.numbers.items) (c.insert.ensures.succeeds (omega (arith, few_places (map key_of es) o.places o.sorted, old.numbers.ok.0, c.requires.room))))
 
 pub returns-in_default-clause-order : goal.returns-in_default-clause-order
 returns-in_default-clause-order c =

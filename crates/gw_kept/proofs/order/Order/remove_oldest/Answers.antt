@@ -1,8 +1,4 @@
-use Rattle.std.proofs.Common.{◌≡◌, ◌<◌, ◌+◌, ◌%◌, ◌^◌, ℕ, List, None, Some, map, drop, length, get_or, sym, ap, subst, ◌∙◌, arith}
-use Rattle.std.proofs.lemmas.List.{length-map}
-use Rattle.std.specs.List.{slice_get}
-use Rattle.gw_kept.specs.declared.entry.Entry.{Entry}
-use Rattle.gw_kept.specs.declared.entry.RequestKey.{RequestKey}
+use Rattle.std.proofs.Common.{◌+◌, ◌%◌, ◌^◌, ℕ, List, map, drop, sym, subst}
 use Rattle.gw_kept.specs.declared.order.Order.{Order}
 use Rattle.gw_kept.specs.Pairs.{key_of}
 use Rattle.gw_kept.specs.Order.{IsOrder}
