@@ -1,17 +1,24 @@
 -- What a board comes to is what the phases say: the transactions one after another, and the texts of their replies.
-use Rattle.std.proofs.Common.{◌≡◌, ℕ, ◌+◌, ◌<◌, List, [], ◌∷◌, ◌++◌, map, length, drop, get_or, refl, sym, ap, ◌∙◌, append_assoc}
+use Rattle.std.proofs.Common.{◌≡◌, ℕ, ◌+◌, ◌<◌, false, not, List, [], ◌∷◌, ◌++◌, map, length, drop, get_or, Result, Ok, Err, IfOk, refl, sym, ap, ◌∙◌, append_assoc, arith}
+use Rattle.std.specs.Prelude.{◌||◌, OnOk, OnErr}
+use Rattle.std.specs.List.{list_any}
+use Rattle.gw_base.proofs.Booleans.{neither}
 use Rattle.gw_base.specs.declared.command_words.Rules.{Rules}
+use Rattle.gw_board.specs.Boards.{Seen, Handed, core_of, asked_of, begun_board, outcome_of, is_closed, AllClosed}
 use Rattle.gw_board.specs.Carried as board
-use Rattle.gw_board.specs.Results.{slots_of}
+use Rattle.gw_board.specs.Core.{Standing, Pending, Opened, Closed, Place, pending}
+use Rattle.gw_board.specs.Jobs.{new_part}
+use Rattle.gw_board.specs.OpenJobs.{IsAnswer, IsSameBurst}
+use Rattle.gw_board.specs.Results.{is_open, NothingIsOpen, slots_of}
 use Rattle.gw_board.specs.Texts.{Text}
 use Rattle.gw_board.specs.declared.asked.Asked.{Asked}
 use Rattle.gw_board.specs.declared.manner.Manner.{Manner}
+use Rattle.gw_board.proofs.WaveJobs.{Reply}
 use Rattle.gw_kept.specs.declared.entry.Entry.{Entry}
-use Rattle.gw_reply.specs.Messages.{reply_text}
-use Rattle.gw_reply.specs.declared.reply.TxReply.{TxReply}
 use Rattle.gw_reserve.specs.Owned.{paired}
 use Rattle.gw_table.proofs.Folding.{rest_of}
-use Rattle.gw_table.specs.Maps.{Maps, Outcome}
+use Rattle.gw_table.specs.Parts.{Parted}
+use Rattle.gw_table.specs.Maps.{Maps}
 use Rattle.gw_table.specs.Unused.{owned, AreUnused}
 use Rattle.gw_table.specs.WellFormed.{AreWellFormed}
 use Rattle.gw_tx.specs.Transactions.{paired_transaction}
@@ -47,8 +54,8 @@ unfolding carried
 stay_whole rules [] m w u = w
 stay_whole rules (j ∷ more) m w u =
     stay_whole rules more (paired_transaction rules j.request (paired j.request j.owned) m).maps
-        (paired_whole rules j.request j.owned m (front_unused m (owned j.owned.slots) (slots_of more) u) w)
-        (paired_later_free rules j.request j.owned m (slots_of more) u)
+    (paired_whole rules j.request j.owned m (front_unused m (owned j.owned.slots) (slots_of more) u) w)
+    (paired_later_free rules j.request j.owned m (slots_of more) u)
 
 -- ---- pairs, one after another
 
@@ -63,3 +70,58 @@ one_text jobs n j t texts rest e entries more h is split pair pushed =
     ∙ append_assoc entries (e ∷ []) (entries_with (drop (n + 1) jobs) rest)
     ∙ ap (λ (x : Entry). entries ++ x ∷ entries_with (drop (n + 1) jobs) rest) pair
     ∙ (λ i. entries ++ entries_with (sym (rest_of jobs n j j h is) i) (sym split i))
+
+-- ---- what is answered on a job
+
+pub both_parts : (h : Handed) (r : Reply) → IfOk r (λ (n : Parted × Text). n.0 ≡ new_part h) → IfOk r (λ (n : Parted × Text). n.1 ≡ (outcome_of h).answer) → IsAnswer h r
+both_parts h (Ok n) p q = record { part = p; reply = q }
+both_parts h (Err e) p q = tt
+
+-- ---- a board from its start to its end
+
+pending_shut : (jobs : List Asked) → list_any (λ (p : Place). is_open p.standing) (map pending jobs) ≡ false
+pending_shut [] = refl
+pending_shut (j ∷ more) = pending_shut more
+
+asked_pending : (jobs : List Asked) → asked_of (map pending jobs) ≡ jobs
+asked_pending [] = refl
+asked_pending (j ∷ more) = ap (λ (l : List Asked). j ∷ l) (asked_pending more)
+
+pub length_carried : (manner : Manner) (jobs : List Asked) (m : Maps) → length (board.carried manner jobs m).answer ≡ length jobs
+length_carried manner [] m = refl
+length_carried manner (j ∷ more) m = let rest : length (board.carried manner more (board.done manner j m).maps).answer ≡ length more = length_carried manner more (board.done manner j m).maps in omega (arith, rest)
+
+shut_if_closed : (x : Standing) → not (is_closed x) ≡ false → is_open x ≡ false
+shut_if_closed Pending h = refl
+shut_if_closed (Opened j) h = absurd cc
+shut_if_closed (Closed reply) h = refl
+
+closed_shut : (places : List Place) → AllClosed places → list_any (λ (p : Place). is_open p.standing) places ≡ false
+closed_shut [] h = refl
+closed_shut (p ∷ ps) h =
+    let both = neither (not (is_closed p.standing)) (list_any (λ (q : Place). not (is_closed q.standing)) ps) h in
+    (λ i. shut_if_closed p.standing both.0 i || closed_shut ps both.1 i)
+
+-- where every place is closed nothing is open
+pub none_open : (b : Seen) → AllClosed b.places → NothingIsOpen (core_of b)
+none_open b h = closed_shut b.places h
+
+module _ (manner : Manner) (jobs : List Asked) (m : Maps) (b : Seen) (begun : b ≡ begun_board manner jobs m) where
+  pub none_yet : NothingIsOpen (core_of b)
+  none_yet = ap (λ (x : Seen). list_any (λ (p : Place). is_open p.standing) x.places) begun ∙ pending_shut jobs
+
+  -- whatever was opened and closed since
+  pub comes_to : (d : Seen) → IsSameBurst b d → board.carried d.manner (asked_of d.places) d.begun ≡ board.carried manner jobs m
+  comes_to d same =
+      let manners : d.manner ≡ manner = same.manner ∙ ap (λ (x : Seen). x.manner) begun in
+      let asked : asked_of d.places ≡ jobs = same.asked ∙ ap (λ (x : Seen). asked_of x.places) begun ∙ asked_pending jobs in
+      let maps : d.begun ≡ m = same.begun ∙ ap (λ (x : Seen). x.begun) begun in
+      λ i. board.carried (manners i) (asked i) (maps i)
+
+pub on_err : {T E P : Type 0} (r : Result T E) → P → OnErr r P
+on_err (Ok x) p = tt
+on_err (Err e) p = p
+
+pub ok_with : {T E Q : Type 0} {P R : T → Type 0} (r : Result T E) → IfOk r P → OnOk r Q → ((x : T) → P x → Q → R x) → IfOk r R
+ok_with (Ok x) p q f = f x p q
+ok_with (Err e) p q f = tt

@@ -1,5 +1,5 @@
 -- What comes of the phases of a burst, one behind the other.
-use Rattle.std.proofs.Common.{◌≡◌, ℕ, ◌≤◌, List, [], map, length, sym, ap, subst, ◌∙◌, arith}
+use Rattle.std.proofs.Common.{◌≡◌, ℕ, ◌≤◌, List, [], map, length, refl, sym, ap, subst, ◌∙◌, arith}
 use Rattle.std.specs.List.{All, AllZip}
 use Rattle.gw_cmd.specs.KeptForms.{AreKept}
 use Rattle.gw_kept.proofs.Last.{few_after, most_after}
@@ -19,14 +19,16 @@ use Rattle.gw_engine.specs.declared.asked.Sent.{Sent}
 use Rattle.gw_engine.specs.declared.classify.Task.{Task}
 use Rattle.gw_engine.specs.declared.datagram.Datagram.{Datagram}
 use Rattle.gw_engine.specs.declared.heard.Heard.{Heard}
+use Rattle.gw_board.specs.Results.{slots_of}
 use Rattle.gw_board.specs.declared.asked.Asked.{Asked}
 use Rattle.gw_engine.specs.Bursts.{cursors_of, burst_outcome}
 use Rattle.gw_engine.specs.Carried.{carried}
 use Rattle.gw_engine.specs.Forms.{AreInForm}
-use Rattle.gw_engine.specs.Phases.{asks_of, told, new_of, tasks_in, requests_of, ids_in, paired_job, paired_requests, AreJobs, slots_of, cursors_behind, done_by, kept_of, entries_of, answers_of, adopted, phased, IsOutcome}
+use Rattle.gw_engine.specs.Phases.{asks_of, told, new_of, tasks_in, requests_of, ids_in, paired_job, paired_requests, AreJobs, cursors_behind, done_by, kept_of, entries_of, answers_of, adopted, phased, IsOutcome}
 use Rattle.gw_engine.specs.Readable.{IsAnswerTo, questions}
 use Rattle.gw_engine.specs.State.{State, GatewayValue, IsKeptReply, IsWellFormed}
 use Rattle.gw_engine.proofs.Answered.{all_answered}
+use Rattle.gw_engine.proofs.Carrying.{stay_whole}
 use Rattle.gw_engine.proofs.Phases.{phased_answers, phased_state, phased_new}
 
 -- ---- what jobs own is unused at the burst's start
@@ -82,3 +84,20 @@ outcome g heard tasks jobs cursors m entries answers w small forms c =
         replies = subst (λ (s : State). All (IsKeptReply g.settings.mid) s.kept.pairs) (sym state) answered.after.replies;
       };
     }
+
+-- the same of what is kept and answered of jobs
+pub outcome_of_jobs : (g : GatewayValue) (heard : List Heard) (tasks : List Task) (jobs : List Asked) (cursors : Cursors) → IsWellFormed g.settings g.state → g.settings.slots ≤ 4096 → AreInForm heard
+    → tasks ≡ tasks_in 0 (told g.state.kept (asks_of heard)) → AreJobs (new_of g heard) (ids_in g (new_of g heard)) jobs → cursors ≡ cursors_behind g heard → AreWithin g.settings.contexts g.settings.slots cursors
+    → IsOutcome g heard (answers_of g.settings.mid g.state.kept (kept_of g jobs) tasks) (done_by g.settings.rules jobs g.state.maps).maps cursors (kept_of g jobs)
+outcome_of_jobs g heard tasks jobs cursors w small forms tasks_are jobs_are cursors_are within =
+    outcome g heard tasks jobs cursors (done_by g.settings.rules jobs g.state.maps).maps (kept_of g jobs) (answers_of g.settings.mid g.state.kept (kept_of g jobs) tasks) w small forms
+    (record {
+      tasks_are = tasks_are;
+      jobs_are = jobs_are;
+      cursors_are = cursors_are;
+      maps_are = refl;
+      entries_are = refl;
+      answers_are = refl;
+      whole = stay_whole g.settings.rules jobs g.state.maps w.maps (jobs_unused g (new_of g heard) jobs jobs_are w small);
+      within = within;
+    })

@@ -11,9 +11,10 @@ use Rattle.gw_reserve.proofs.Choices.{owned_choices}
 use Rattle.gw_table.specs.Maps.{Maps}
 use Rattle.gw_table.specs.Unused.{owned}
 use Rattle.gw_engine.specs.declared.asked.Sent.{Sent}
+use Rattle.gw_board.specs.Results.{slots_of}
 use Rattle.gw_board.specs.declared.asked.Asked.{Asked}
 use Rattle.gw_engine.specs.Bursts.{cursors_of}
-use Rattle.gw_engine.specs.Phases.{requests_of, ids_in, paired_job, paired_requests, sent_of, slots_of, AreJobs}
+use Rattle.gw_engine.specs.Phases.{requests_of, ids_in, paired_job, paired_requests, sent_of, AreJobs}
 use Rattle.gw_engine.specs.State.{GatewayValue}
 use Rattle.gw_engine.proofs.Cursors.{cursors-cons}
 

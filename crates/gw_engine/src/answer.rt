@@ -24,11 +24,7 @@ fn text_of(alloc: Global, reply: &TxReply, mid: &Mid) -> Result<Items<u8>, NoMem
 }
 
 /// A reply by where it is: one that was kept before the burst, or that of one of its new requests, all of which are carried out.
-fn reply_at<'k>(
-    kept: &'k Kept,
-    board: &'k Board<'_, '_, '_>,
-    source: Source,
-) -> Option<&'k [u8]>
+fn reply_at<'k>(kept: &'k Kept, board: &'k Board<'_, '_, '_>, source: Source) -> Option<&'k [u8]>
     requires { AllClosed board.now.places }
     ensures { (entries : List Pair) → AreTold board.now entries → option_copied result ≡ bytes_of source kept.now entries }
 {

@@ -87,11 +87,7 @@ fn answered(
 }
 
 /// The pair of each request and its text. The caller knows that there is room for all, and none yet.
-fn with_texts(
-    mut entries: Vec<Entry>,
-    jobs: &[Asked<'_, '_>],
-    texts: Vec<Items<u8>>,
-) -> Vec<Entry>
+fn with_texts(mut entries: Vec<Entry>, jobs: &[Asked<'_, '_>], texts: Vec<Items<u8>>) -> Vec<Entry>
     requires none { entries.items ≡ [] }
     requires room { length jobs.now ≤ vec_capacity entries }
     requires each { length texts.items ≡ length jobs.now }

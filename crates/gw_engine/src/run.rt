@@ -60,10 +60,11 @@ impl Gateway {
         requires unused { AreUnused self.old.state.maps [] (slots_of plan.jobs) }
         requires new { AreNew self.old.state.kept (kept_of self.old plan.jobs) }
         requires fits { IsWellFormed self.old.settings (adopted self.old.state (done_by self.old.settings.rules plan.jobs self.old.state.maps).maps plan.cursors (kept_of self.old plan.jobs)) }
-        ensures answers { IfOk result (λ answers. answers ≡ answers_of self.old.settings.mid self.old.state.kept (kept_of self.old plan.jobs) plan.tasks) }
+        ensures answers { IfOk result (λ answers. answers ≡ answers_of self.old.settings.mid self.old.state.kept (kept_of self.old plan.entry.jobs) plan.entry.tasks) }
         ensures settings { self.new.settings ≡ self.old.settings }
-        ensures state { OnOk result (self.new.state ≡ adopted self.old.state (done_by self.old.settings.rules plan.jobs self.old.state.maps).maps plan.cursors (kept_of self.old plan.jobs)) }
+        ensures state { OnOk result (self.new.state ≡ adopted self.old.state (done_by self.old.settings.rules plan.entry.jobs self.old.state.maps).maps plan.entry.cursors (kept_of self.old plan.entry.jobs)) }
         ensures err { OnErr result (self.new ≡ self.old) }
+        ensures well_formed { IsWellFormed self.new.settings self.new.state }
     {
         let manner = Manner {
             rules: self.rules,
@@ -75,7 +76,14 @@ impl Gateway {
             cursors,
         } = plan;
         let tables = mem::replace(&mut self.tables, Tables::new(alloc));
-        match carried_out(alloc, tables, manner, &self.kept, tasks.as_slice(), jobs.as_slice()) {
+        match carried_out(
+            alloc,
+            tables,
+            manner,
+            &self.kept,
+            tasks.as_slice(),
+            jobs.as_slice(),
+        ) {
             Ok(done) => {
                 let Done {
                     tables,

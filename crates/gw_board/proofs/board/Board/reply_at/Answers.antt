@@ -12,10 +12,10 @@ use Rattle.gw_board.proofs.board.Board.reply_at.Goals as goal
 pub returns-in-Some-clause-all : goal.returns-in-Some-clause-all
 returns-in-Some-clause-all c = λ all.
     let here : option_copied c.text_in.result ≡ reply_at (slice_get c.args.self.now.places c.args.place) =
-        c.text_in.ensures
-        ∙ sym (ap (λ (x : Seen). reply_at (slice_get x.places c.args.place)) (sym c.self.view_is)
-        ∙ ap (λ (l : List Seat). reply_at (slice_get (map place_of l) c.args.place)) (sym c.deref.ensures.value)
-        ∙ ap reply_at (seat_place c.deref.result.now c.args.place c.in-Some.seat.now c.in-Some.ensures.lookup.3.0 c.in-Some.ensures.lookup.1)) in
+    c.text_in.ensures
+    ∙ sym (ap (λ (x : Seen). reply_at (slice_get x.places c.args.place)) (sym c.self.view_is)
+    ∙ ap (λ (l : List Seat). reply_at (slice_get (map place_of l) c.args.place)) (sym c.deref.ensures.value)
+    ∙ ap reply_at (seat_place c.deref.result.now c.args.place c.in-Some.seat.now c.in-Some.ensures.lookup.3.0 c.in-Some.ensures.lookup.1)) in
     here ∙ reply_is c.args.self.now (subst GivesTheFold c.self.view_is (gives_the_fold (value_of c.self.inside) c.self.invariant.on_the_way)) all c.args.place
 
 pub returns-in-None-clause-reply : goal.returns-in-None-clause-reply

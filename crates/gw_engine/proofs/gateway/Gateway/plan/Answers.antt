@@ -2,7 +2,6 @@ use Rattle.std.proofs.Common.{◌≡◌, List, ap, subst, ◌∙◌}
 use Rattle.gw_reserve.specs.Owners.{new_cursors}
 use Rattle.gw_engine.specs.declared.asked.Ask.{Ask}
 use Rattle.gw_engine.specs.declared.asked.Sent.{Sent}
-use Rattle.gw_board.specs.declared.asked.Asked.{Asked}
 use Rattle.gw_engine.specs.Bursts.{cursors_of}
 use Rattle.gw_engine.specs.Phases.{asks_of, told, new_in, new_of, tasks_in, AreJobs, ids_in}
 use Rattle.gw_engine.specs.State.{GatewayValue}

@@ -1,4 +1,4 @@
-use Rattle.std.proofs.Common.{◌≡◌, ℕ, ◌+◌, List, [], ◌∷◌, ◌++◌, drop, ap, subst, ◌∙◌}
+use Rattle.std.proofs.Common.{◌≡◌, ℕ, ◌+◌, List, drop, ap, subst, ◌∙◌}
 use Rattle.std.proofs.Math.ListN.{drop_of_length-le}
 use Rattle.gw_msg.specs.declared.message.Request.{Request}
 use Rattle.gw_reserve.specs.Owners.{AreWithin}
@@ -43,7 +43,7 @@ loop-sent-preserved c =
       contexts = e.contexts_stay ∙ c.loop-sent.invariant.contexts;
       slots = e.slots_stay ∙ c.loop-sent.invariant.slots;
       owns = goes_on g new (drop i new) (drop (i + 1) new) x v w o c.loop-sent.jobs c.push.new.self job (rest_of new i x x c.loop-sent-test.true c.sent-item.is) c.loop-sent.invariant.owns owned
-          (λ k. record { mid = x.mid; request = c.new.ensures k; owned = o }) c.in_ok-push.ensures.ok;
+          (ap (λ (r : Request). record { mid = x.mid; request = r; owned = o }) (c.new.ensures ∙ c.get-in-loop-sent.ensures)) c.in_ok-push.ensures.ok;
     }
 
 pub returns-clause-jobs : goal.returns-clause-jobs
