@@ -8,6 +8,7 @@ mod fault;
 mod job;
 mod laws;
 mod named;
+mod namers;
 mod open;
 mod plan;
 mod planned;
