@@ -9,6 +9,7 @@ mod job;
 mod laws;
 mod manner;
 mod named;
+mod namers;
 mod open;
 mod plan;
 mod reply;

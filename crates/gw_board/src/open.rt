@@ -39,7 +39,7 @@ pub(crate) fn keys_of(
 }
 
 /// Whether two keys are the same.
-fn is_same(a: &Key, b: &Key) -> bool
+pub(crate) fn is_same(a: &Key, b: &Key) -> bool
     ensures { result ≡ same_key a.now b.now }
 {
     match (a, b) {
@@ -57,7 +57,7 @@ pub(crate) fn has_key(keys: &[Key], key: &Key) -> bool
 }
 
 /// Whether a key is in both lists.
-pub(crate) fn share_a_key(a: &[Key], b: &[Key]) -> bool
+fn share_a_key(a: &[Key], b: &[Key]) -> bool
     ensures { result ≡ list_any (has a.now) b.now }
 {
     b.iter().any(|key| has_key(a, key))

@@ -16,6 +16,7 @@ ghost use Rattle.gw_board.specs.Waiting.{meet_waiting};
 ghost use Rattle.gw_board.specs.Waves.{is_pending, wave};
 
 use crate::board::Board;
+use crate::named::Link;
 use crate::open::keys_of;
 use crate::planned::Planned;
 use crate::seat::{Seat, Stage};
@@ -54,18 +55,19 @@ fn note_place(planned: &mut Vec<Planned>, place: usize, found: Option<Keys>) -> 
     Ok(())
 }
 
-/// Whether a place is pending and names what this one names, so that their keys meet whatever the tables are.
-fn is_ahead(seat: &Seat<'_, '_, '_>, mine: &Seat<'_, '_, '_>) -> bool
+/// Whether a place is pending and the link shows that it names what this one names, so that their keys meet whatever the tables are.
+fn is_ahead(seat: &Seat<'_, '_, '_>, mine: &Seat<'_, '_, '_>, link: Link) -> bool
     ensures { IsTrue result → (m : Maps) → (is_pending (standing_of seat.now.stage) && meets (keys_of seat.now.task m) (keys_of mine.now.task m)) ≡ true }
 {
     match seat.stage {
-        Stage::Pending => seat.task.shares_a_name(&mine.task),
+        Stage::Pending => mine.task.is_linked(&seat.task, link),
         _ => false,
     }
 }
 
-/// Whether a place is in no wave, whatever the tables are: it is not pending, or an earlier pending place names what it names. The one
-/// that was found last is looked at first.
+/// Whether a place is in no wave, whatever the tables are: it is not pending, or an earlier pending place names what it names. Of the
+/// places that name a thing it is enough to look at the last before this one, since it waits for those before it. One that does not
+/// wait any more is not looked at again.
 fn waits(seats: &[Seat<'_, '_, '_>], at: usize) -> bool
     requires { at < length seats.now }
     ensures { IsTrue result → WaitsAlways (map place_of seats.now) at }
@@ -74,18 +76,15 @@ fn waits(seats: &[Seat<'_, '_, '_>], at: usize) -> bool
     let Stage::Pending = mine.stage else {
         return true;
     };
-    let watched = mine.task.watched();
-    if watched < at && is_ahead(&seats[watched], mine) {
-        return true;
-    }
-    let mut place = at;
-    while place > 0 {
-        place -= 1;
-        if is_ahead(&seats[place], mine) {
-            mine.task.watch(place);
+    let links = mine.task.links();
+    for next in mine.task.watched()..links.len() {
+        let link = links[next];
+        if link.place < at && is_ahead(&seats[link.place], mine, link) {
+            mine.task.watch(next);
             return true;
         }
     }
+    mine.task.watch(links.len());
     false
 }
 
