@@ -13,6 +13,7 @@ mod open;
 mod plan;
 mod planned;
 mod seat;
+mod touch;
 mod waiting;
 
 pub use asked::{Asked, Lent};
