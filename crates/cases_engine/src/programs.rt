@@ -2,7 +2,7 @@
 
 use crate::streams::{Input, Output};
 use cases_text::{CaseFault, Page, as_text, decoded, number_of, split_word};
-use gw_program::{program, unreadable_words};
+use gw_program::{Stream, program, unreadable_words};
 use std::alloc::{AllocError, Global};
 use std::fs;
 use std::io::{Error, ErrorKind};
@@ -24,12 +24,15 @@ struct Ends {
     input_fails: bool,
     /// So many bytes go to standard output, and no more.
     room: usize,
+    /// So many go to standard error.
+    err_room: usize,
 }
 
 /// Every read and write succeeds.
 const WELL: Ends = Ends {
     input_fails: false,
     room: usize::MAX,
+    err_room: usize::MAX,
 };
 
 /// The words of a line.
@@ -59,11 +62,13 @@ fn write_stream(out: &mut Page, name: &[u8], text: &[u8]) {
 
 /// The status of words that could not be read, and what is said of them.
 fn write_unreadable(kind: ErrorKind, out: &mut Page) {
-    let mut err = Output::new(Vec::new(out.alloc()), usize::MAX);
+    let mut err = Stream {
+        stream: Output::new(Vec::new(out.alloc()), usize::MAX),
+    };
     let status = unreadable_words(&Error::from(kind), &mut err);
     out.put(b"status ");
     out.number(u64::from(status));
-    write_stream(out, b"err ", err.as_bytes());
+    write_stream(out, b"err ", err.stream.as_bytes());
 }
 
 impl<'r, R: Files + Net + Wait + AllocGlobal> Programs<'r, R> {
@@ -80,12 +85,14 @@ impl<'r, R: Files + Net + Wait + AllocGlobal> Programs<'r, R> {
         let words = words_of(out.alloc(), line)?;
         let mut input = Input::new(self.input.as_slice(), ends.input_fails);
         let mut told = Output::new(Vec::new(out.alloc()), ends.room);
-        let mut err = Output::new(Vec::new(out.alloc()), usize::MAX);
+        let mut err = Stream {
+            stream: Output::new(Vec::new(out.alloc()), ends.err_room),
+        };
         let status = program(self.rt, words.as_slice(), &mut input, &mut told, &mut err);
         out.put(b"status ");
         out.number(u64::from(status));
         write_stream(out, b"out ", told.as_bytes());
-        write_stream(out, b"err ", err.as_bytes());
+        write_stream(out, b"err ", err.stream.as_bytes());
         Ok(())
     }
 
@@ -116,11 +123,16 @@ impl<'r, R: Files + Net + Wait + AllocGlobal> Programs<'r, R> {
             input_fails: true,
             ..WELL
         };
+        let mute = Ends {
+            err_room: 0,
+            ..WELL
+        };
         match call {
             "file" => return self.write_file(asked, out),
             "input" => self.input = decoded(out.alloc(), asked)?,
             "run" => return self.run(asked, WELL, out),
             "run-unread" => return self.run(asked, failing, out),
+            "run-mute" => return self.run(asked, mute, out),
             "run-short" => return self.run_short(asked, out),
             "no-text" => write_unreadable(ErrorKind::InvalidData, out),
             "no-memory" => write_unreadable(ErrorKind::OutOfMemory, out),

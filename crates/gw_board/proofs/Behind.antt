@@ -1,5 +1,5 @@
 -- Places that wait for earlier ones whatever the maps are, and waves that end before them.
-use Rattle.std.proofs.Common.{◌≡◌, ℕ, zero, suc, ◌+◌, ◌<◌, ◌≤◌, Bool, true, false, cond, ◌&&◌, not, List, [], ◌∷◌, ◌++◌, take, filter, Some, refl, ap, ◌∙◌, arith, append-nil}
+use Rattle.std.proofs.Common.{◌≡◌, ℕ, zero, suc, ◌+◌, ◌<◌, ◌≤◌, Bool, true, false, cond, ◌&&◌, not, List, [], ◌∷◌, ◌++◌, take, filter, Some, ap, ◌∙◌, arith, append-nil}
 use Rattle.std.specs.Prelude.{slice_get}
 use Rattle.std.specs.List.{range_with_len}
 use Rattle.gw_base.specs.declared.key.Key.{Key}
@@ -10,7 +10,7 @@ use Rattle.gw_board.specs.Carried.{keys_of}
 use Rattle.gw_board.specs.Core.{Place}
 use Rattle.gw_board.specs.Named.{WaitsAlways}
 use Rattle.gw_board.specs.Waves.{is_pending, meets_pending, is_free}
-use Rattle.gw_board.proofs.Planning.{filter_more}
+use Rattle.gw_board.proofs.Planning.{and_false, filter_more}
 
 pub not_pending : (places : List Place) (i : ℕ) (p : Place) → slice_get places i ≡ Some p → is_pending p.standing ≡ false → WaitsAlways places i
 not_pending places i p e h m = ap (is_free m (take i places)) e ∙ ap (λ b. b && not (meets_pending (keys_of p.asked m) m (take i places))) h
@@ -22,10 +22,6 @@ found k m (x ∷ xs) (suc i) zero q e l h =
     let same : x ≡ q = cc in
     or_left (is_pending x.standing && meets (keys_of x.asked m) k) (meets_pending k m (take i xs)) (ap (λ (y : Place). is_pending y.standing && meets (keys_of y.asked m) k) same ∙ h)
 found k m (x ∷ xs) (suc i) (suc j) q e l h = or_right (is_pending x.standing && meets (keys_of x.asked m) k) (meets_pending k m (take i xs)) (found k m xs i j q e (omega arith) h)
-
-and_false : (b : Bool) → (b && false) ≡ false
-and_false true = refl
-and_false false = refl
 
 pub behind : (places : List Place) (i j : ℕ) (p q : Place) → slice_get places i ≡ Some p → slice_get places j ≡ Some q → j < i
     → ((m : Maps) → (is_pending q.standing && meets (keys_of q.asked m) (keys_of p.asked m)) ≡ true) → WaitsAlways places i

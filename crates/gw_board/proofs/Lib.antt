@@ -6,6 +6,7 @@ pub mod Drawing
 pub mod Ending
 pub mod Ends
 pub mod FirstOfAll
+pub mod InTurn
 pub mod KeptIn
 pub mod Leading
 pub mod LeftOut
@@ -14,7 +15,6 @@ pub mod OnTheWay
 pub mod Opening
 pub mod Orders
 pub mod Outs
-pub mod Planned
 pub mod Planning
 pub mod Requests
 pub mod SeatFacts
@@ -24,3 +24,4 @@ pub mod States
 pub mod Steps
 pub mod Together
 pub mod Untold
+pub mod Waits

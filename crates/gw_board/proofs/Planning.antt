@@ -1,17 +1,25 @@
 -- A wave, one place after another.
-use Rattle.std.proofs.Common.{◌≡◌, ℕ, zero, suc, ◌+◌, Bool, true, false, cond, ◌&&◌, not, List, [], ◌∷◌, ◌++◌, take, filter, Some, refl, sym, ap, ◌∙◌, arith}
-use Rattle.std.specs.Prelude.{◌||◌, slice_get}
+use Rattle.std.proofs.Common.{◌≡◌, ℕ, zero, suc, ◌+◌, ◌≤◌, Bool, true, false, cond, ◌&&◌, not, List, [], ◌∷◌, ◌++◌, map, take, filter, Option, None, Some, is_some, refl, sym, ap, ◌∙◌, arith}
+use Rattle.std.specs.Prelude.{◌||◌, slice_get, IfSome}
 use Rattle.std.specs.List.{list_any, range_with_len}
 use Rattle.std.proofs.lemmas.List.{map-id}
 use Rattle.std.proofs.lemmas.List.Elements.{filter-append}
 use Rattle.std.proofs.lemmas.List.FromFn.{map-range_with_len_more}
 use Rattle.gw_base.specs.declared.key.Key.{Key}
+use Rattle.gw_base.specs.declared.key.Key.TheVariants.{Whole}
+use Rattle.gw_base.specs.Keys.{has}
+use Rattle.gw_base.proofs.Booleans.{both}
+use Rattle.gw_base.proofs.NamesInLists.{or_left, or_right, or_cases, either}
 use Rattle.gw_foot.specs.Meets.{meets}
+use Rattle.gw_board.specs.Boards.{Seen}
 use Rattle.gw_board.specs.Carried.{keys_of}
-use Rattle.gw_board.specs.Core.{Place, Core}
+use Rattle.gw_board.specs.Core.{Standing, Pending, Opened, Closed, Place, Core, pending, AreKeysOf}
+use Rattle.gw_board.specs.Fitting.{Each}
+use Rattle.gw_board.specs.Planned.{IsReckoned, planned_with}
+use Rattle.gw_board.specs.Waiting.{is_waiting, meet_waiting}
 use Rattle.gw_board.specs.Waves.{is_pending, meets_pending, is_free}
-use Rattle.gw_board.proofs.Alike.{meets_alike}
-use Rattle.gw_board.proofs.Outs.{SameKeys}
+use Rattle.gw_board.specs.declared.planned.Planned.{Planned}
+use Rattle.gw_board.specs.declared.waiting.Waiting.{Waiting}
 
 or_false : (b : Bool) → (b || false) ≡ b
 or_false true = refl
@@ -26,6 +34,10 @@ any-take_more f [] i x e = absurd cc
 any-take_more f (y ∷ ys) zero x e = let same : y ≡ x = cc in or_false (f y) ∙ ap f same
 any-take_more f (y ∷ ys) (suc i) x e = ap (λ b. f y || b) (any-take_more f ys i x e) ∙ or_group (f y) (list_any f (take i ys)) (f x)
 
+pub and_false : (b : Bool) → (b && false) ≡ false
+and_false true = refl
+and_false false = refl
+
 range_more : (n : ℕ) → range_with_len 0 (n + 1) ≡ range_with_len 0 n ++ n ∷ []
 range_more n = sym (map-id (range_with_len 0 (n + 1))) ∙ (map-range_with_len_more (λ k. k) 0 n n (omega arith) ∙ ap (λ (ks : List ℕ). ks ++ n ∷ []) (map-id (range_with_len 0 n)))
 
@@ -39,28 +51,67 @@ filter_more f n = ap (filter f) (range_more n) ∙ filter-append f (range_with_l
 pub wave_more : (s : Core) (n : ℕ) → filter (free_at s) (range_with_len 0 (n + 1)) ≡ filter (free_at s) (range_with_len 0 n) ++ cond (free_at s n) (n ∷ []) []
 wave_more s n = filter_more (free_at s) n
 
--- the keys of those that wait are those of the earlier pending places
-abbrev pub AreThose : Core → ℕ → List (List Key) → Type 0
-AreThose s n waiting = (k : List Key) → list_any (λ other. meets other k) waiting ≡ meets_pending k s.maps (take n s.places)
+-- those that wait are the earlier pending places
+abbrev pub AreThose : Core → ℕ → Waiting → Type 0
+AreThose s n waiting = (k : List Key) → meet_waiting waiting k ≡ meets_pending k s.maps (take n s.places)
 
-pub those_more : (s : Core) (n : ℕ) (p : Place) (waiting new : List (List Key)) → slice_get s.places n ≡ Some p → AreThose s n waiting
-    → ((k : List Key) → list_any (λ other. meets other k) new ≡ (list_any (λ other. meets other k) waiting || (is_pending p.standing && meets (keys_of p.asked s.maps) k))) → AreThose s (suc n) new
+pub those_more : (s : Core) (n : ℕ) (p : Place) (waiting new : Waiting) → slice_get s.places n ≡ Some p → AreThose s n waiting
+    → ((k : List Key) → meet_waiting new k ≡ (meet_waiting waiting k || (is_pending p.standing && meets (keys_of p.asked s.maps) k))) → AreThose s (suc n) new
 those_more s n p waiting new e h f k =
     f k
     ∙ ap (λ b. b || (is_pending p.standing && meets (keys_of p.asked s.maps) k)) (h k)
     ∙ sym (any-take_more (λ (q : Place). is_pending q.standing && meets (keys_of q.asked s.maps) k) s.places n p e)
 
-pub free_is : (s : Core) (n : ℕ) (p : Place) (waiting : List (List Key)) (free : Bool) → slice_get s.places n ≡ Some p → AreThose s n waiting
-    → free ≡ (is_pending p.standing && not (list_any (λ other. meets other (keys_of p.asked s.maps)) waiting)) → free ≡ free_at s n
+pub free_is : (s : Core) (n : ℕ) (p : Place) (waiting : Waiting) (free : Bool) → slice_get s.places n ≡ Some p → AreThose s n waiting
+    → free ≡ (is_pending p.standing && not (meet_waiting waiting (keys_of p.asked s.maps))) → free ≡ free_at s n
 free_is s n p waiting free e h f =
     f ∙ ap (λ b. is_pending p.standing && not b) (h (keys_of p.asked s.maps)) ∙ ap (is_free s.maps (take n s.places)) (sym e)
 
--- ---- the keys of one more
+-- ---- behind a place that has the whole of the tables
 
-pub one_waits : (keys mine k : List Key) (old : List (List Key)) → SameKeys keys mine → list_any (λ other. meets other k) (old ++ keys ∷ []) ≡ (list_any (λ other. meets other k) old || meets mine k)
-one_waits keys mine k [] s = or_false (meets keys k) ∙ meets_alike keys k mine k s (λ q. refl)
-one_waits keys mine k (o ∷ os) s = ap (λ b. meets o k || b) (one_waits keys mine k os s) ∙ or_group (meets o k) (list_any (λ other. meets other k) os) (meets mine k)
+any-take_later : {X : Type 0} (f : X → Bool) (xs : List X) (n i : ℕ) → n ≤ i → list_any f (take n xs) ≡ true → list_any f (take i xs) ≡ true
+any-take_later f xs zero i l h = absurd cc
+any-take_later f [] (suc n) i l h = absurd cc
+any-take_later f (x ∷ xs) (suc n) zero l h = absurd (omega arith)
+any-take_later f (x ∷ xs) (suc n) (suc i) l h =
+    either (or_cases (f x) (list_any f (take n xs)) h)
+    (λ a. or_left (f x) (list_any f (take i xs)) a)
+    (λ b. or_right (f x) (list_any f (take i xs)) (any-take_later f xs n i (omega arith) b))
 
-pub any_keys_alike : (keys mine : List Key) (old : List (List Key)) → SameKeys keys mine → list_any (λ other. meets other keys) old ≡ list_any (λ other. meets other mine) old
-any_keys_alike keys mine [] s = refl
-any_keys_alike keys mine (o ∷ os) s = λ i. meets_alike o keys o mine (λ q. refl) s i || any_keys_alike keys mine os s i
+pub none_behind : (s : Core) (n : ℕ) (waiting : Waiting) → AreThose s n waiting → waiting.is_whole ≡ true → (i : ℕ) → n ≤ i → free_at s i ≡ false
+none_behind s n waiting h w i l = by (slice_get s.places i)
+  where
+    met : (k : List Key) → meets_pending k s.maps (take i s.places) ≡ true
+    met k = any-take_later (λ (q : Place). is_pending q.standing && meets (keys_of q.asked s.maps) k) s.places n i l
+        (sym (h k) ∙ (λ j. w j || (waiting.is_any && has k Whole) || list_any (is_waiting waiting) k))
+
+    by : (o : Option Place) → is_free s.maps (take i s.places) o ≡ false
+    by None = refl
+    by (Some p) = ap (λ b. is_pending p.standing && not b) (met (keys_of p.asked s.maps)) ∙ and_false (is_pending p.standing)
+
+-- ---- a place with its keys
+
+pub placed : (i : ℕ) (found : Option (List Key)) → map (λ (p : Planned). p.place) (planned_with i found) ≡ cond (is_some found) (i ∷ []) []
+placed i None = refl
+placed i (Some keys) = refl
+
+pending_if : (p : Place) → is_pending p.standing ≡ true → p ≡ pending p.asked
+pending_if p h = by p.standing refl h
+  where
+    by : (x : Standing) → p.standing ≡ x → is_pending x ≡ true → p ≡ pending p.asked
+    by Pending e h = λ k. record { asked = p.asked; standing = e k }
+    by (Opened j) e h = absurd cc
+    by (Closed reply) e h = absurd cc
+
+pub reckoned : (b : Seen) (i : ℕ) (p : Place) (found : Option (List Key)) (free : Bool) → slice_get b.places i ≡ Some p → is_some found ≡ (is_pending p.standing && free)
+    → IfSome found (AreKeysOf p.asked b.maps) → Each (IsReckoned b) (planned_with i found)
+reckoned b i p None free e f g = tt
+reckoned b i p (Some keys) free e f g = (record { asked = p.asked; pends = e ∙ ap (λ x. Some x) (pending_if p (both (is_pending p.standing) free (sym f)).0); listed = g }, tt)
+
+pub each-append : {X : Type 0} (P : X → Type 0) (xs ys : List X) → Each P xs → Each P ys → Each P (xs ++ ys)
+each-append P [] ys h g = g
+each-append P (x ∷ xs) ys h g = (h.0, each-append P xs ys h.1 g)
+
+pub map-append : {X Y : Type 0} (f : X → Y) (xs ys : List X) → map f (xs ++ ys) ≡ map f xs ++ map f ys
+map-append f [] ys = refl
+map-append f (x ∷ xs) ys = ap (λ l. f x ∷ l) (map-append f xs ys)

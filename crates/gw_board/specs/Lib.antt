@@ -12,4 +12,5 @@ pub mod Planned
 pub mod Refused
 pub mod Results
 pub mod Seats
+pub mod Waiting
 pub mod Waves

@@ -14,7 +14,8 @@ ghost use Rattle.gw_board.specs.Endings.{all_ended};
 ghost use Rattle.gw_board.specs.Fitting.{FitsTogether};
 ghost use Rattle.gw_board.specs.Journal.{journal, undone};
 ghost use Rattle.gw_board.specs.Met.{IsRefused};
-ghost use Rattle.gw_board.specs.Planned.{MayOpenEach};
+ghost use Rattle.gw_board.specs.Planned.{IsPlan, MayOpenEach, MayOpenInTurn, MayOpenWith};
+ghost use Rattle.gw_board.specs.declared.planned.Planned.{Planned};
 ghost use Rattle.gw_board.specs.declared.fault.OpenFault.{OpenFault};
 ghost use Rattle.gw_board.specs.declared.fault.OpenFault.TheVariants.{NoMemory};
 ghost use Rattle.gw_board.specs.Results.{is_open_at, NothingIsOpen, AreClosed, carried_on, result_of, slots_of};
@@ -70,4 +71,12 @@ pub fn planned_places_are_opened()
     ensures wave { (b : Seen) → NothingIsOpen (core_of b) → MayOpenEach b (wave (core_of b)) }
     ensures next { (b c : Seen) (i : ℕ) (later : List ℕ) (h : Handed) → MayOpenEach b (i ∷ later) → Opens b i h c → MayOpenEach c later }
     ensures refused { (b : Seen) (i : ℕ) (later : List ℕ) (fault : OpenFault) → MayOpenEach b (i ∷ later) → IsRefused b i fault → fault ≡ NoMemory }
+{}
+
+/// While nothing is open on a board, the places of its plan may be opened one after another, each with the keys that it has there:
+/// so may the first, with its keys, and once it is open those behind it.
+pub fn planned_keys_stay()
+    ensures wave { (b : Seen) (planned : List Planned) → NothingIsOpen (core_of b) → IsPlan b planned → MayOpenInTurn b planned }
+    ensures first { (b : Seen) (p : Planned) (later : List Planned) → MayOpenInTurn b (p ∷ later) → MayOpenWith b p.place p.keys }
+    ensures next { (b c : Seen) (p : Planned) (later : List Planned) (h : Handed) → MayOpenInTurn b (p ∷ later) → Opens b p.place h c → h.keys ≡ p.keys → MayOpenInTurn c later }
 {}

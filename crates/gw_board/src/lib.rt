@@ -8,9 +8,12 @@ mod fault;
 mod job;
 mod laws;
 mod named;
+mod namers;
 mod open;
 mod plan;
+mod planned;
 mod seat;
+mod waiting;
 
 pub use asked::{Asked, Lent};
 pub use board::Board;
@@ -18,6 +21,7 @@ pub use fault::{BoardFault, OpenFault};
 pub use job::{Done, Job, carry};
 pub use laws::{
     events_leave_what_a_state_comes_to, lawful_events_give_the_fold, open_jobs_may_be_drawn,
-    originals_give_the_tables_back, planned_places_are_opened, waves_may_be_opened,
-    what_is_open_may_be_closed,
+    originals_give_the_tables_back, planned_keys_stay, planned_places_are_opened,
+    waves_may_be_opened, what_is_open_may_be_closed,
 };
+pub use planned::Planned;

@@ -1,6 +1,7 @@
 //! What a request names by itself, whatever the tables are.
 
 ghost use Rattle.std.specs.Prelude.{◌≡◌, ◌||◌, true, IfOk, IsTrue, OnOk};
+ghost use Rattle.std.specs.List.{list_any};
 ghost use Rattle.gw_base.specs.declared.key.Key.{Key as AKey};
 ghost use Rattle.gw_base.specs.Keys.{has};
 ghost use Rattle.gw_foot.specs.Meets.{meets};
@@ -9,7 +10,8 @@ ghost use Rattle.gw_board.specs.Carried.{keys_of};
 ghost use Rattle.gw_board.specs.Named.{names_term, names_context, names_in_commands, names_in, AreNamed};
 
 use crate::asked::{Asked, Task};
-use crate::open::share_a_key;
+use crate::namers::{Namers, Naming};
+use crate::open::is_same;
 use gw_base::{CtxRef, Key, NoMemory, TermRef};
 use gw_msg::{Action, Command, Request};
 use std::alloc::Global;
@@ -62,13 +64,70 @@ fn names_of(alloc: Global, request: &Request<'_>) -> Result<Vec<Key>, NoMemory>
     Ok(names)
 }
 
-/// What is asked, with what it names by itself, and an earlier place that was seen to name such a thing too. That place is looked at
-/// anew each time, so any number will do.
+/// An earlier place that names what this one names: which of this place's names it is, the place, and which of its names.
+#[derive(Clone, Copy, Drop)]
+pub(crate) struct Link {
+    mine: usize,
+    pub(crate) place: usize,
+    theirs: usize,
+}
+
+/// For each of the names the last earlier place that names it too, where there is one.
+fn links_of(
+    alloc: Global,
+    names: &[Key],
+    place: usize,
+    namers: &mut Namers,
+) -> Result<Vec<Link>, NoMemory> {
+    let mut links = Vec::new(alloc);
+    for (at, key) in names.iter().enumerate() {
+        let last = namers.note(key, Naming { place, at })?;
+        add_link(&mut links, place, at, last)?;
+    }
+    Ok(links)
+}
+
+/// A link to where a name of this place was named last, if that was at an earlier place.
+fn add_link(
+    links: &mut Vec<Link>,
+    place: usize,
+    mine: usize,
+    last: Option<Naming>,
+) -> Result<(), NoMemory> {
+    match last {
+        Some(last) if last.place < place => {
+            links.push(Link {
+                mine,
+                place: last.place,
+                theirs: last.at,
+            })?;
+        }
+        _ => {}
+    }
+    Ok(())
+}
+
+/// Whether the two names of a link are one.
+fn are_one(mine: &[Key], theirs: &[Key], link: Link) -> bool
+    ensures { IsTrue result → list_any (has theirs.now) mine.now ≡ true }
+{
+    let Some(name) = mine.get(link.mine) else {
+        return false;
+    };
+    let Some(other) = theirs.get(link.theirs) else {
+        return false;
+    };
+    is_same(name, other)
+}
+
+/// What is asked, with what it names by itself, and the earlier places that name such a thing too. Those before the watched one were
+/// seen not to wait any more. Each link is looked at anew each time, so any numbers will do.
 #[derive(Drop)]
 pub(crate) struct Named<'b, 'h, 'a> {
     task: Task<'b, 'h, 'a>,
     names: Vec<Key>,
-    watch: Cell<usize>,
+    links: Vec<Link>,
+    watched: Cell<usize>,
 }
 
 impl<'b, 'h, 'a> Model for Named<'b, 'h, 'a> {
@@ -83,14 +142,22 @@ impl<'b, 'h, 'a> Model for Named<'b, 'h, 'a> {
 }
 
 impl<'b, 'h, 'a> Named<'b, 'h, 'a> {
-    pub(crate) fn new(alloc: Global, asked: &'b Asked<'h, 'a>) -> Result<Self, NoMemory>
+    /// What is asked at a place, where the namers know of the earlier places.
+    pub(crate) fn new(
+        alloc: Global,
+        asked: &'b Asked<'h, 'a>,
+        place: usize,
+        namers: &mut Namers,
+    ) -> Result<Self, NoMemory>
         ensures { IfOk result (λ named. named ≡ asked.now) }
     {
         let names = names_of(alloc, asked.request.get())?;
+        let links = links_of(alloc, &names, place, namers)?;
         Ok(Named {
             task: Task::new(asked),
             names,
-            watch: Cell::new(0),
+            links,
+            watched: Cell::new(0),
         })
     }
 
@@ -100,20 +167,25 @@ impl<'b, 'h, 'a> Named<'b, 'h, 'a> {
         &self.task
     }
 
-    /// The place that is watched.
+    /// The earlier places that name what this one names.
+    pub(crate) fn links(&self) -> &[Link] {
+        &self.links
+    }
+
+    /// Which link is watched.
     pub(crate) fn watched(&self) -> usize {
-        self.watch.get()
+        self.watched.get()
     }
 
-    /// Watches a place.
-    pub(crate) fn watch(&self, place: usize) {
-        self.watch.set(place);
+    /// Watches a link.
+    pub(crate) fn watch(&self, link: usize) {
+        self.watched.set(link);
     }
 
-    /// Whether both name a thing, so that their keys meet whatever the tables are.
-    pub(crate) fn shares_a_name(&self, other: &Named<'_, '_, '_>) -> bool
-        ensures { IsTrue result → (m : Maps) → meets (keys_of self.now m) (keys_of other.now m) ≡ true }
+    /// Whether the link shows that both name a thing, so that their keys meet whatever the tables are.
+    pub(crate) fn is_linked(&self, other: &Named<'_, '_, '_>, link: Link) -> bool
+        ensures { IsTrue result → (m : Maps) → meets (keys_of other.now m) (keys_of self.now m) ≡ true }
     {
-        share_a_key(&self.names, &other.names)
+        are_one(&self.names, &other.names, link)
     }
 }

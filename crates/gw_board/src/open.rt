@@ -1,6 +1,6 @@
 //! Opening a place.
 
-ghost use Rattle.std.specs.Prelude.{◌≡◌, IfOk, OnErr, OnOk, IfErr, map, slice_get, Some};
+ghost use Rattle.std.specs.Prelude.{◌≡◌, ◌∷◌, IfOk, List, OnErr, OnOk, IfErr, map, slice_get, Some};
 ghost use Rattle.std.specs.List.{list_any};
 ghost use Rattle.gw_base.specs.Keys.{has, same_key};
 ghost use Rattle.gw_table.specs.KeyLists.{IsListOf};
@@ -10,12 +10,15 @@ ghost use Rattle.gw_board.specs.Boards.{core_of, GivesTheFold, Opens};
 ghost use Rattle.gw_board.specs.Carried.{keys_of};
 ghost use Rattle.gw_board.specs.Core.{pending, meets_at, MayOpen};
 ghost use Rattle.gw_board.specs.Met.{FindsFirstMet, IsRefused, PendsAt};
+ghost use Rattle.gw_board.specs.Planned.{MayOpenInTurn, MayOpenWith};
 ghost use Rattle.gw_board.specs.Seats.{standing_of, place_of};
+ghost use Rattle.gw_board.specs.declared.planned.Planned.{Planned as APlanned};
 
 use crate::asked::Task;
 use crate::board::Board;
 use crate::fault::OpenFault;
 use crate::job::Job;
+use crate::planned::Planned;
 use crate::seat::{Seat, Stage, set_stage};
 use gw_base::{Key, NoMemory};
 use gw_foot::{footprint, meets};
@@ -36,7 +39,7 @@ pub(crate) fn keys_of(
 }
 
 /// Whether two keys are the same.
-fn is_same(a: &Key, b: &Key) -> bool
+pub(crate) fn is_same(a: &Key, b: &Key) -> bool
     ensures { result ≡ same_key a.now b.now }
 {
     match (a, b) {
@@ -47,14 +50,14 @@ fn is_same(a: &Key, b: &Key) -> bool
     }
 }
 
-fn has_key(keys: &[Key], key: &Key) -> bool
+pub(crate) fn has_key(keys: &[Key], key: &Key) -> bool
     ensures { result ≡ has keys.now key.now }
 {
     keys.iter().any(|other| is_same(key, other))
 }
 
 /// Whether a key is in both lists.
-pub(crate) fn share_a_key(a: &[Key], b: &[Key]) -> bool
+fn share_a_key(a: &[Key], b: &[Key]) -> bool
     ensures { result ≡ list_any (has a.now) b.now }
 {
     b.iter().any(|key| has_key(a, key))
@@ -143,6 +146,7 @@ impl<'b, 'h, 'a> Board<'b, 'h, 'a> {
     ) -> Result<Job<'b, 'h, 'a>, NoMemory>
         requires { MayOpen (core_of self.old) place task keys }
         ensures job { IfOk result (λ job. Opens self.old place job self.new) }
+        ensures keys { IfOk result (λ job. job.keys ≡ keys) }
         ensures outcome { OnOk result (GivesTheFold self.new) }
         ensures err { OnErr result (self.new ≡ self.old) }
     {
@@ -186,5 +190,31 @@ impl<'b, 'h, 'a> Board<'b, 'h, 'a> {
         };
         let keys = self.free_keys(alloc, place, &task)?;
         Ok(self.hand_out(alloc, place, task, keys)?)
+    }
+
+    /// Opens a place as it was planned. The caller knows that it may be opened with the keys that it has there, as those of
+    /// `plan_wave` may while nothing else is open, one after another. No other place is looked at, and the tables only at these keys.
+    /// Room is made as by `open`.
+    ///
+    /// # Errors
+    ///
+    /// Want of memory. The board is as it was.
+    pub fn open_planned(
+        &mut self,
+        alloc: Global,
+        planned: Planned,
+    ) -> Result<Job<'b, 'h, 'a>, NoMemory>
+        requires { MayOpenWith self.old planned.place planned.keys }
+        ensures job { IfOk result (λ job. Opens self.old planned.place job self.new) }
+        ensures keys { IfOk result (λ job. job.keys ≡ planned.keys) }
+        ensures next { (later : List APlanned) → MayOpenInTurn self.old (planned ∷ later) → OnOk result (MayOpenInTurn self.new later) }
+        ensures outcome { OnOk result (GivesTheFold self.new) }
+        ensures err { OnErr result (self.new ≡ self.old) }
+    {
+        let Planned { place, keys } = planned;
+        let Some(task) = self.pending_task(place) else {
+            unreachable!()
+        };
+        self.hand_out(alloc, place, task, keys)
     }
 }

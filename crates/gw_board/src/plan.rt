@@ -1,73 +1,73 @@
 //! Which places may be opened together.
 
-ghost use Rattle.std.specs.Prelude.{◌≡◌, ◌≤◌, ◌<◌, ◌++◌, ◌∷◌, [], ◌||◌, ◌&&◌, ℕ, true, not, cond, length, map, IsTrue, List, IfOk, OnOk};
-ghost use Rattle.std.specs.List.{list_any};
+ghost use Rattle.std.specs.Prelude.{◌≡◌, ◌≤◌, ◌<◌, ◌++◌, ◌||◌, ◌&&◌, ℕ, true, not, length, map, is_some, option_to_list, IsTrue, List, IfOk, IfSome, OnOk};
 ghost use Rattle.gw_base.specs.declared.key.Key.{Key as AKey};
 ghost use Rattle.gw_table.specs.Maps.{Maps};
 ghost use Rattle.gw_table.specs.Stored.{maps_of};
 ghost use Rattle.gw_foot.specs.Meets.{meets};
 ghost use Rattle.gw_board.specs.Boards.{core_of};
 ghost use Rattle.gw_board.specs.Carried.{keys_of};
+ghost use Rattle.gw_board.specs.Core.{AreKeysOf};
 ghost use Rattle.gw_board.specs.Named.{WaitsAlways};
+ghost use Rattle.gw_board.specs.Planned.{IsPlan, MayOpenInTurn, planned_with};
+ghost use Rattle.gw_board.specs.Results.{NothingIsOpen};
 ghost use Rattle.gw_board.specs.Seats.{standing_of, place_of};
+ghost use Rattle.gw_board.specs.Waiting.{meet_waiting};
 ghost use Rattle.gw_board.specs.Waves.{is_pending, wave};
 
 use crate::board::Board;
+use crate::named::Link;
 use crate::open::keys_of;
+use crate::planned::Planned;
 use crate::seat::{Seat, Stage};
+use crate::waiting::Waiting;
 use gw_base::NoMemory;
-use gw_foot::meets;
 use gw_table::{Keys, Tables};
 use std::alloc::Global;
 
-/// Whether keys meet one of the others.
-fn meets_one(others: &[Keys], keys: &Keys) -> bool
-    ensures { result ≡ list_any (λ other. meets other keys.now) others.now }
-{
-    others.iter().any(|other| meets(other, keys))
-}
-
-/// Whether a place is pending and meets none of the keys of those that wait; if it is pending, its keys join them.
+/// The keys of a place that is pending and meets none of those that wait. If it is pending, it waits from now on.
 fn join_waiting(
     alloc: Global,
     tables: &Tables,
     seat: &Seat<'_, '_, '_>,
-    waiting: &mut Vec<Keys>,
-) -> Result<bool, NoMemory>
-    ensures free { IfOk result (λ free. free ≡ (is_pending (standing_of seat.now.stage) && not (list_any (λ other. meets other (keys_of seat.now.task (maps_of tables.now))) waiting.old.items))) }
-    ensures waiting { OnOk result ((k : List AKey) → list_any (λ other. meets other k) waiting.new.items ≡ (list_any (λ other. meets other k) waiting.old.items || (is_pending (standing_of seat.now.stage) && meets (keys_of seat.now.task (maps_of tables.now)) k))) }
+    waiting: &mut Waiting,
+) -> Result<Option<Keys>, NoMemory>
+    ensures free { IfOk result (λ found. is_some found ≡ (is_pending (standing_of seat.now.stage) && not (meet_waiting waiting.old (keys_of seat.now.task (maps_of tables.now))))) }
+    ensures keys { IfOk result (λ found. IfSome found (AreKeysOf seat.now.task (maps_of tables.now))) }
+    ensures waiting { OnOk result ((k : List AKey) → meet_waiting waiting.new k ≡ (meet_waiting waiting.old k || (is_pending (standing_of seat.now.stage) && meets (keys_of seat.now.task (maps_of tables.now)) k))) }
 {
     let Stage::Pending = seat.stage else {
-        return Ok(false);
+        return Ok(None);
     };
     let keys = keys_of(alloc, tables, seat.task.task())?;
-    let free = !meets_one(waiting, &keys);
-    waiting.push(keys)?;
-    Ok(free)
+    let free = !waiting.meets(keys.list());
+    waiting.add(keys.list())?;
+    Ok(free.then_some(keys))
 }
 
 /// The place goes last, if it is in the wave.
-fn note_place(places: &mut Vec<usize>, place: usize, free: bool) -> Result<(), NoMemory>
-    ensures { OnOk result (places.new.items ≡ places.old.items ++ cond free (place ∷ []) []) }
+fn note_place(planned: &mut Vec<Planned>, place: usize, found: Option<Keys>) -> Result<(), NoMemory>
+    ensures { OnOk result (planned.new.items ≡ planned.old.items ++ planned_with place found) }
 {
-    if free {
-        places.push(place)?;
+    if let Some(keys) = found {
+        planned.push(Planned { place, keys })?;
     }
     Ok(())
 }
 
-/// Whether a place is pending and names what this one names, so that their keys meet whatever the tables are.
-fn is_ahead(seat: &Seat<'_, '_, '_>, mine: &Seat<'_, '_, '_>) -> bool
+/// Whether a place is pending and the link shows that it names what this one names, so that their keys meet whatever the tables are.
+fn is_ahead(seat: &Seat<'_, '_, '_>, mine: &Seat<'_, '_, '_>, link: Link) -> bool
     ensures { IsTrue result → (m : Maps) → (is_pending (standing_of seat.now.stage) && meets (keys_of seat.now.task m) (keys_of mine.now.task m)) ≡ true }
 {
     match seat.stage {
-        Stage::Pending => seat.task.shares_a_name(&mine.task),
+        Stage::Pending => mine.task.is_linked(&seat.task, link),
         _ => false,
     }
 }
 
-/// Whether a place is in no wave, whatever the tables are: it is not pending, or an earlier pending place names what it names. The one
-/// that was found last is looked at first.
+/// Whether a place is in no wave, whatever the tables are: it is not pending, or an earlier pending place names what it names. Of the
+/// places that name a thing it is enough to look at the last before this one, since it waits for those before it. One that does not
+/// wait any more is not looked at again.
 fn waits(seats: &[Seat<'_, '_, '_>], at: usize) -> bool
     requires { at < length seats.now }
     ensures { IsTrue result → WaitsAlways (map place_of seats.now) at }
@@ -76,18 +76,15 @@ fn waits(seats: &[Seat<'_, '_, '_>], at: usize) -> bool
     let Stage::Pending = mine.stage else {
         return true;
     };
-    let watched = mine.task.watched();
-    if watched < at && is_ahead(&seats[watched], mine) {
-        return true;
-    }
-    let mut place = at;
-    while place > 0 {
-        place -= 1;
-        if is_ahead(&seats[place], mine) {
-            mine.task.watch(place);
+    let links = mine.task.links();
+    for next in mine.task.watched()..links.len() {
+        let link = links[next];
+        if link.place < at && is_ahead(&seats[link.place], mine, link) {
+            mine.task.watch(next);
             return true;
         }
     }
+    mine.task.watch(links.len());
     false
 }
 
@@ -105,11 +102,20 @@ fn end_of_wave(seats: &[Seat<'_, '_, '_>]) -> usize
     end
 }
 
+fn places_of(alloc: Global, planned: &[Planned]) -> Result<Vec<usize>, NoMemory>
+    ensures { IfOk result (λ places. places.items ≡ map (λ p. p.place) planned.now) }
+{
+    let mut places = Vec::with_capacity(alloc, planned.len())?;
+    for one in planned {
+        places.push(one.place)?;
+    }
+    Ok(places)
+}
+
 impl Board<'_, '_, '_> {
     /// The next wave: in rising order, all pending places whose keys, in the tables as they are, meet those of no earlier pending
-    /// place. While nothing is open, the places of the wave may be opened in this order, one after another. A place that
-    /// waits for an earlier one which names a context or a termination that it names is not looked at in the tables, but where a later
-    /// one may be in the wave.
+    /// place. While nothing is open, the places of the wave may be opened in this order, one after another. The work is that of
+    /// `plan_wave`.
     ///
     /// # Errors
     ///
@@ -117,13 +123,32 @@ impl Board<'_, '_, '_> {
     pub fn plan(&self, alloc: Global) -> Result<Vec<usize>, NoMemory>
         ensures { IfOk result (λ places. places.items ≡ wave (core_of self.now)) }
     {
-        let mut places = Vec::new(alloc);
-        let mut waiting = Vec::new(alloc);
+        let planned = self.plan_wave(alloc)?;
+        places_of(alloc, &planned)
+    }
+
+    /// The next wave, as of `plan`, each place with its keys. While nothing is open, `open_planned` opens them in this order, one
+    /// after another. A place that waits for an earlier one which names a context or a termination that it names is not looked at in
+    /// the tables, but where a later one may be in the wave; nor is any behind one that has the whole of the tables. With n keys of
+    /// the places that are looked at the work is n log n.
+    ///
+    /// # Errors
+    ///
+    /// Want of memory.
+    pub fn plan_wave(&self, alloc: Global) -> Result<Vec<Planned>, NoMemory>
+        ensures plan { IfOk result (λ planned. IsPlan self.now planned.items) }
+        ensures in_turn { IfOk result (λ planned. NothingIsOpen (core_of self.now) → MayOpenInTurn self.now planned.items) }
+    {
+        let mut planned = Vec::new(alloc);
+        let mut waiting = Waiting::new(alloc);
         let may_be = &self.seats[..end_of_wave(&self.seats)];
         for (at, seat) in may_be.iter().enumerate() {
-            let free = join_waiting(alloc, &self.tables, seat, &mut waiting)?;
-            note_place(&mut places, at, free)?;
+            if waiting.is_whole() {
+                return Ok(planned);
+            }
+            let found = join_waiting(alloc, &self.tables, seat, &mut waiting)?;
+            note_place(&mut planned, at, found)?;
         }
-        Ok(places)
+        Ok(planned)
     }
 }

@@ -6,6 +6,7 @@ ghost use Rattle.gw_board.specs.Seats.{standing_of, place_of};
 
 use crate::asked::Asked;
 use crate::named::Named;
+use crate::namers::Namers;
 use gw_base::{Key, NoMemory};
 use gw_reply::TxReply;
 use gw_table::Part;
@@ -41,9 +42,10 @@ pub(crate) fn seats_of<'b, 'h, 'a>(
     ensures { IfOk result (λ seats. map place_of seats.items ≡ map pending asked.now) }
 {
     let mut seats = Vec::with_capacity(alloc, asked.len())?;
+    let mut namers = Namers::new(alloc);
     for one in asked {
         seats.push(Seat {
-            task: Named::new(alloc, one)?,
+            task: Named::new(alloc, one, seats.len(), &mut namers)?,
             stage: Stage::Pending,
         })?;
     }

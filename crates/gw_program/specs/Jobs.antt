@@ -22,6 +22,7 @@ use Rattle.gw_front.specs.declared.serve_fault.ServeFault.{ServeFault}
 use Rattle.gw_front.specs.declared.serve_fault.ServeFault.TheVariants.{Bind}
 use Rattle.gw_program.specs.Faults.{of_replay, of_serve}
 use Rattle.gw_program.specs.Outcomes.{IsTold, IsExplained}
+use Rattle.gw_program.specs.Standings.{Standing}
 use Rattle.gw_program.specs.Start.{start}
 use Rattle.gw_program.specs.Words.{IsAsked, mistakes}
 use Rattle.gw_program.specs.declared.command_line.Job.{Job}
@@ -187,7 +188,7 @@ IsJob held (job.Check file) input out out′ ended = IsCheck held file.now out o
 IsJob held asked input out out′ ended = (made : Result GatewayValue Fault) × IsStart held (file_of asked) made × IsBegun asked input out out′ ended made
 
 -- the job that the words ask for was done, up to a fault that it has, and its end was told
-pub record IsJobEnd {F : Type 0} (held : F → Option (List ℕ)) (words : List (List ℕ)) (input out out′ err err′ : Option (List ℕ)) (ended : Ended) : Type 0 where
+pub record IsJobEnd {F : Type 0} (held : F → Option (List ℕ)) (words : List (List ℕ)) (input out out′ : Option (List ℕ)) (err err′ : Standing) (ended : Ended) : Type 0 where
   pub asked : Job
   pub is_asked : IsAsked words asked
   pub done : Result Unit Fault
@@ -195,5 +196,5 @@ pub record IsJobEnd {F : Type 0} (held : F → Option (List ℕ)) (words : List 
   pub told : IsTold done err err′ ended
 
 -- how the program ends on these words: the job that they ask for was done, or they ask for none
-abbrev pub IsEnd : {F : Type 0} → (F → Option (List ℕ)) → List (List ℕ) → (input out out′ err err′ : Option (List ℕ)) → Ended → Type 0
+abbrev pub IsEnd : {F : Type 0} → (F → Option (List ℕ)) → List (List ℕ) → (input out out′ : Option (List ℕ)) → (err err′ : Standing) → Ended → Type 0
 IsEnd held words input out out′ err err′ ended = IsJobEnd held words input out out′ err err′ ended ⊎ IsExplained (mistakes words) ended out out′ err err′

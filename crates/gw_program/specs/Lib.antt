@@ -3,5 +3,6 @@ pub mod Faults
 pub mod Forms
 pub mod Jobs
 pub mod Outcomes
+pub mod Standings
 pub mod Start
 pub mod Words

@@ -1,7 +1,6 @@
 -- How the program ends: its exit status, and what it tells (own).
 use Rattle.std.specs.Prelude.{◌≡◌, ◌≢◌, ◌<◌, ◌⊎◌, ℕ, Bool, List, ◌++◌, length, codes, Option, Result, Ok, Err}
-use Rattle.std.specs.Bool.{OnTrue}
-use Rattle.std.specs.Io.KnownBytes.{Appends, Keeps}
+use Rattle.std.specs.Io.KnownBytes.{Keeps}
 use Rattle.gw_program.specs.declared.ended.Ended.{Ended}
 use Rattle.gw_program.specs.declared.ended.Ended.TheVariants.{Done, Misused, Failed}
 use Rattle.gw_program.specs.declared.fault.Fault.{Fault}
@@ -12,6 +11,7 @@ use Rattle.clap.specs.declared.error.kind.ErrorKind.TheVariants as asked
 use Rattle.std.specs.declared.io.ErrorKind.{ErrorKind as ReadFault}
 use Rattle.std.specs.declared.io.ErrorKind.TheVariants.{OutOfMemory}
 use Rattle.gw_program.specs.Faults.{line_of}
+use Rattle.gw_program.specs.Standings.{Standing, IsSilent, Tells}
 
 -- the exit status
 abbrev pub status_of : Ended → ℕ
@@ -19,15 +19,18 @@ status_of Done = 0
 status_of (Failed fault told) = 1
 status_of (Misused told) = 2
 
--- How a job ended, and what standard error says: nothing where the job was done, else the fault's line and nothing else, where it
--- took that.
-abbrev pub IsTold : Result Unit Fault → (err err′ : Option (List ℕ)) → Ended → Type 0
-IsTold (Ok done) err err′ ended = (ended ≡ Done) × Keeps err err′
-IsTold (Err fault) err err′ ended = (told : Bool) × (ended ≡ Failed fault told) × OnTrue told (Appends err err′ (line_of fault ++ codes "\n"))
+-- The fault's line was handed to standard error, once and whole, and nothing else.
+abbrev pub IsFailure : Fault → (err err′ : Standing) → Ended → Type 0
+IsFailure fault err err′ ended = (told : Bool) × (ended ≡ Failed fault told) × Tells (line_of fault ++ codes "\n") told err err′
 
--- something, of which no more is said
-abbrev pub Says : (err err′ : Option (List ℕ)) → Type 0
-Says err err′ = (said : List ℕ) × (0 < length said) × Appends err err′ said
+-- How a job ended, and what standard error is told: nothing where the job was done, else the fault's line.
+abbrev pub IsTold : Result Unit Fault → (err err′ : Standing) → Ended → Type 0
+IsTold (Ok done) err err′ ended = (ended ≡ Done) × IsSilent err err′
+IsTold (Err fault) err err′ ended = IsFailure fault err err′ ended
+
+-- something, of which no more is said, was handed over, once and whole
+abbrev pub Says : Bool → (err err′ : Standing) → Type 0
+Says told err err′ = (said : List ℕ) × (0 < length said) × Tells said told err err′
 
 -- the words ask for help or the version
 abbrev pub IsShown : ErrorKind → Type 0
@@ -39,18 +42,18 @@ IsMistake kind = (kind ≢ asked.OutOfMemory) × (kind ≢ asked.DisplayHelp) ×
 
 -- What is said of words with a mistake of that kind: help and the version, which standard error says nothing of, a mistake, or want
 -- of memory.
-abbrev pub IsExplainedBy : ErrorKind → Ended → (out out′ err err′ : Option (List ℕ)) → Type 0
-IsExplainedBy kind Done out out′ err err′ = IsShown kind × Keeps err err′
-IsExplainedBy kind (Failed fault told) out out′ err err′ = (fault ≡ why.NoMemory) × Keeps out out′ × OnTrue told (Appends err err′ (line_of fault ++ codes "\n"))
-IsExplainedBy kind (Misused told) out out′ err err′ = IsMistake kind × Keeps out out′ × OnTrue told (Says err err′)
+abbrev pub IsExplainedBy : ErrorKind → Ended → (out out′ : Option (List ℕ)) → (err err′ : Standing) → Type 0
+IsExplainedBy kind Done out out′ err err′ = IsShown kind × IsSilent err err′
+IsExplainedBy kind (Failed fault told) out out′ err err′ = (fault ≡ why.NoMemory) × Keeps out out′ × Tells (line_of fault ++ codes "\n") told err err′
+IsExplainedBy kind (Misused told) out out′ err err′ = IsMistake kind × Keeps out out′ × Says told err err′
 
 -- The words ask for no job, since they have one of these mistakes, or memory was refused.
-pub record IsExplained (mistakes : Kinds) (ended : Ended) (out out′ err err′ : Option (List ℕ)) : Type 0 where
+pub record IsExplained (mistakes : Kinds) (ended : Ended) (out out′ : Option (List ℕ)) (err err′ : Standing) : Type 0 where
   pub kind : ErrorKind
   pub is_one : (kind ≡ asked.OutOfMemory) ⊎ IsAmong kind mistakes
   pub explained : IsExplainedBy kind ended out out′ err err′
 
--- The words could not be read: memory was refused to them, or one of them is no text, which standard error says.
-abbrev pub IsUnreadable : ReadFault → (err err′ : Option (List ℕ)) → Ended → Type 0
-IsUnreadable OutOfMemory err err′ ended = (told : Bool) × (ended ≡ Failed why.NoMemory told) × OnTrue told (Appends err err′ (line_of why.NoMemory ++ codes "\n"))
-IsUnreadable _ err err′ ended = (told : Bool) × (ended ≡ Misused told) × OnTrue told (Appends err err′ (codes "error: a word of the command line is not UTF-8\n"))
+-- The words could not be read: memory was refused to them, or one of them is no text, which standard error is told.
+abbrev pub IsUnreadable : ReadFault → (err err′ : Standing) → Ended → Type 0
+IsUnreadable OutOfMemory err err′ ended = IsFailure why.NoMemory err err′ ended
+IsUnreadable _ err err′ ended = (told : Bool) × (ended ≡ Misused told) × Tells (codes "error: a word of the command line is not UTF-8\n") told err err′

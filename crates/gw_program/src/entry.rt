@@ -1,14 +1,11 @@
 //! The program apart from its streams: words in, a status out.
 
-ghost use Rattle.std.specs.Prelude.{◌≡◌, ◌⊎◌, ℕ, Bool, List, Option, OnOk, IfErr, map};
-ghost use Rattle.clap.specs.Words.{kind_of};
-ghost use Rattle.std.specs.Bool.{OnTrue};
-ghost use Rattle.std.specs.IoError.{error_kind};
+ghost use Rattle.std.specs.Prelude.{◌≡◌, ◌⊎◌, ℕ, List, Option, OnOk, IfErr, map};
 ghost use Rattle.std.specs.Io.KnownBytes.{Appends};
 ghost use Rattle.std.specs.Option.{option_map};
 ghost use Rattle.gw_engine.specs.AuditText.{audit_text};
 ghost use Rattle.gw_program.specs.Jobs.{IsStart, IsReplayJob, IsAnswerJob, IsServeJob, IsUntoldFor, IsJob, IsEnd};
-ghost use Rattle.gw_program.specs.Outcomes.{IsExplainedBy, IsTold, IsUnreadable, Says, status_of};
+ghost use Rattle.gw_program.specs.Outcomes.{status_of};
 ghost use Rattle.gw_program.specs.declared.ended.Ended.{Ended as Ending};
 
 use crate::check::check;
@@ -17,13 +14,13 @@ use crate::ended::Ended;
 use crate::fault::Fault;
 use crate::file::gateway_of;
 use crate::gateway::gateway;
-use clap::Error;
-use clap::error::ErrorKind;
+use crate::standard_error::StandardError;
+use crate::telling::{explained, told};
 use gw_engine::Gateway;
 use gw_front::{answer, replay, serve};
 use std::alloc::Global;
 use std::convert::AsStr;
-use std::io::{self, Read, Write};
+use std::io::{Read, Write};
 use std::net::{Net, SocketAddr};
 use std::rt::Files;
 use std::sync::Wait;
@@ -184,76 +181,8 @@ fn run<'a, R: Files + Net + Wait, I: Read, W: Write>(
     }
 }
 
-/// How a run ended. The line of its fault goes to `err`.
-fn told<'a, E: Write>(done: Result<(), Fault<'a>>, err: &mut E) -> Ended<'a>
-    ensures { IsTold done.entry (E.contents err.old) (E.contents err.new) result }
-{
-    match done {
-        Ok(()) => Ended::Done,
-        Err(fault) => {
-            let is_told = writeln!(err, "{fault}").is_ok();
-            Ended::Failed { fault, is_told }
-        }
-    }
-}
-
-/// What is said of words that ask for nothing, where their reader says nothing of it.
-const MISTAKE: &str = "error: the words ask for nothing that there is\n";
-
-/// Tells a mistake in the words.
-fn misused<E: Write>(text: &str, err: &mut E) -> Ended<'static>
-    ensures { (is_told : Bool) × (result ≡ Ended.Misused is_told) × OnTrue is_told (Says (E.contents err.old) (E.contents err.new)) }
-{
-    let said = if text.is_empty() { MISTAKE } else { text };
-    let is_told = err.write_all(said.as_bytes()).is_ok();
-    Ended::Misused { is_told }
-}
-
-/// How the program ends on words that ask for no job: help and the version go to `out`, a mistake is told on `err`.
-fn explained<W: Write, E: Write>(
-    alloc: Global,
-    error: &Error,
-    out: &mut W,
-    err: &mut E,
-) -> Ended<'static>
-    ensures { IsExplainedBy (kind_of error.now) result (W.contents out.old) (W.contents out.new) (E.contents err.old) (E.contents err.new) }
-{
-    match error.kind() {
-        ErrorKind::OutOfMemory => told(Err(Fault::NoMemory), err),
-        ErrorKind::DisplayHelp | ErrorKind::DisplayVersion => {
-            let _ = write!(out, "{error}");
-            Ended::Done
-        }
-        _ => match format!(in alloc; "{error}") {
-            Ok(text) => misused(text.as_str(), err),
-            Err(_) => told(Err(Fault::NoMemory), err),
-        },
-    }
-}
-
-/// What is said of a word that is no text.
-const NO_TEXT: &[u8] = b"error: a word of the command line is not UTF-8\n";
-
-/// How the program ends where the words could not be read: one of them is no text, or memory was refused to them.
-fn refused<E: Write>(error: &io::Error, err: &mut E) -> Ended<'static>
-    ensures { IsUnreadable (error_kind error.now) (E.contents err.old) (E.contents err.new) result }
-{
-    if error.kind() == io::ErrorKind::OutOfMemory {
-        return told(Err(Fault::NoMemory), err);
-    }
-    let is_told = err.write_all(NO_TEXT).is_ok();
-    Ended::Misused { is_told }
-}
-
-/// The exit status where the words could not be read: 1 where memory was refused, else 2, and `err` says why.
-pub fn unreadable_words<E: Write>(error: &io::Error, err: &mut E) -> u8
-    ensures { (ended : Ending) × (result ≡ status_of ended) × IsUnreadable (error_kind error.now) (E.contents err.old) (E.contents err.new) ended }
-{
-    refused(error, err).status()
-}
-
 /// How the program ends on words.
-fn end_of<'a, R: Files + Net + Wait, S: AsStr, I: Read, W: Write, E: Write>(
+fn end_of<'a, R: Files + Net + Wait, S: AsStr, I: Read, W: Write, E: StandardError>(
     rt: &R,
     alloc: Global,
     words: &'a [S],
@@ -261,7 +190,7 @@ fn end_of<'a, R: Files + Net + Wait, S: AsStr, I: Read, W: Write, E: Write>(
     out: &mut W,
     err: &mut E,
 ) -> Ended<'a>
-    ensures { IsEnd R.File.Read.remaining (map S.text words.entry.now) (I.remaining reader.old) (W.contents out.old) (W.contents out.new) (E.contents err.old) (E.contents err.new) result }
+    ensures { IsEnd R.File.Read.remaining (map S.text words.entry.now) (I.remaining reader.old) (W.contents out.old) (W.contents out.new) (E.standing err.old) (E.standing err.new) result }
 {
     let job = match read_words(alloc, words) {
         Ok(job) => job,
@@ -274,14 +203,14 @@ fn end_of<'a, R: Files + Net + Wait, S: AsStr, I: Read, W: Write, E: Write>(
 /// Runs the program on the words behind its name, and answers its exit status: 0 when what they ask for is done, help and the
 /// version too; 1 after a fault, whose one line goes to `err`; 2 where the words ask for nothing that there is, which is told on
 /// `err`. With no words it replays with the built-in configuration.
-pub fn program<R: Files + Net + Wait + AllocGlobal, S: AsStr, I: Read, W: Write, E: Write>(
+pub fn program<R: Files + Net + Wait + AllocGlobal, S: AsStr, I: Read, W: Write, E: StandardError>(
     rt: &R,
     words: &[S],
     reader: &mut I,
     out: &mut W,
     err: &mut E,
 ) -> u8
-    ensures { (ended : Ending) × (result ≡ status_of ended) × IsEnd R.File.Read.remaining (map S.text words.now) (I.remaining reader.old) (W.contents out.old) (W.contents out.new) (E.contents err.old) (E.contents err.new) ended }
+    ensures { (ended : Ending) × (result ≡ status_of ended) × IsEnd R.File.Read.remaining (map S.text words.now) (I.remaining reader.old) (W.contents out.old) (W.contents out.new) (E.standing err.old) (E.standing err.new) ended }
 {
     end_of(rt, rt.alloc(), words, reader, out, err).status()
 }

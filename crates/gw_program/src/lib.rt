@@ -9,9 +9,13 @@ mod fault;
 mod file;
 mod gateway;
 mod laws;
+mod standard_error;
+mod telling;
 
 pub use command_line::Job;
 pub use ended::Ended;
-pub use entry::{program, unreadable_words};
+pub use entry::program;
 pub use fault::Fault;
 pub use laws::words_of_each_form_ask_for_their_job;
+pub use standard_error::{StandardError, Stream};
+pub use telling::unreadable_words;

@@ -1,6 +1,6 @@
 //! Runs of the program on words, with no input.
 
-use gw_program::program;
+use gw_program::{Stream, program};
 use std::net::Net;
 use std::rt::Files;
 use std::sync::Wait;
@@ -37,10 +37,17 @@ fn holds(bytes: &[u8], text: &[u8]) -> bool {
 impl Run {
     /// A run on the words.
     pub(crate) fn of<R: Files + Net + Wait + AllocGlobal>(rt: &R, words: &[&str]) -> Run {
-        let (mut out, mut err) = (Vec::new(rt.alloc()), Vec::new(rt.alloc()));
+        let mut out = Vec::new(rt.alloc());
+        let mut err = Stream {
+            stream: Vec::new(rt.alloc()),
+        };
         let mut input = b"".as_slice();
         let status = program(rt, words, &mut input, &mut out, &mut err);
-        Run { status, out, err }
+        Run {
+            status,
+            out,
+            err: err.stream,
+        }
     }
 
     /// It ended with status 0, and said this among more.

@@ -3,7 +3,7 @@
 
 use crate::places::{file_of, free_address};
 use crate::runs::{CONFIGURATION, Run};
-use gw_program::program;
+use gw_program::{Stream, program};
 use std::alloc::Global;
 use std::io::{self, Write};
 use std::net::{IpAddr, Ipv4Addr, Ipv6Addr, Net, SocketAddr, UdpSocket};
@@ -95,13 +95,16 @@ fn is_served<R: Files + Net + Wait + AllocGlobal>(
         sent,
         told: Vec::new(rt.alloc()),
     };
-    let (mut input, mut err) = (b"".as_slice(), Vec::new(rt.alloc()));
+    let mut input = b"".as_slice();
+    let mut err = Stream {
+        stream: Vec::new(rt.alloc()),
+    };
     let status = program(rt, words.as_slice(), &mut input, &mut out, &mut err);
     fs::remove_file(rt, file.as_str())?;
-    if err.as_slice() == NOT_BOUND {
+    if err.stream.as_slice() == NOT_BOUND {
         return Ok(false);
     }
-    is_so(status == 0 && err.is_empty(), "a run that is done")?;
+    is_so(status == 0 && err.stream.is_empty(), "a run that is done")?;
     is_text(out.told.as_slice(), said)?;
     Ok(true)
 }

@@ -1,4 +1,4 @@
-use Rattle.gw_board.proofs.Planned.{each_of_wave, each_later, not_refused}
+use Rattle.gw_board.proofs.InTurn.{each_of_wave, each_later, not_refused}
 use Rattle.gw_board.proofs.laws.planned_places_are_opened.Goals as goal
 
 pub returns-clause-wave : goal.returns-clause-wave
