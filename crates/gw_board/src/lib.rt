@@ -16,6 +16,7 @@ mod reply;
 mod seat;
 mod wave;
 mod planned;
+mod touch;
 mod waiting;
 
 pub use asked::{Asked, Lent};

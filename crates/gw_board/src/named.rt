@@ -1,19 +1,19 @@
 //! What a request names by itself, whatever the tables are.
 
 ghost use Rattle.std.specs.Prelude.{◌≡◌, ◌||◌, true, IfOk, IsTrue, OnOk};
-ghost use Rattle.std.specs.List.{list_any};
 ghost use Rattle.gw_base.specs.declared.key.Key.{Key as AKey};
 ghost use Rattle.gw_base.specs.Keys.{has};
 ghost use Rattle.gw_foot.specs.Meets.{meets};
-ghost use Rattle.gw_table.specs.Maps.{Maps};
+ghost use Rattle.gw_table.specs.Stored.{maps_of};
 ghost use Rattle.gw_board.specs.Carried.{keys_of};
 ghost use Rattle.gw_board.specs.Named.{names_term, names_context, names_in_commands, names_in, AreNamed};
 
 use crate::asked::{Asked, Task};
 use crate::namers::{Namers, Naming};
-use crate::open::is_same;
+use crate::touch::{Link, does_hold, note_contexts};
 use gw_base::{CtxRef, Key, NoMemory, TermRef};
 use gw_msg::{Action, Command, Request};
+use gw_table::Tables;
 use std::alloc::Global;
 use std::cell::Cell;
 use std::marker::Model;
@@ -64,14 +64,6 @@ fn names_of(alloc: Global, request: &Request<'_>) -> Result<Vec<Key>, NoMemory>
     Ok(names)
 }
 
-/// An earlier place that names what this one names: which of this place's names it is, the place, and which of its names.
-#[derive(Clone, Copy, Drop)]
-pub(crate) struct Link {
-    mine: usize,
-    pub(crate) place: usize,
-    theirs: usize,
-}
-
 /// For each of the names the last earlier place that names it too, where there is one.
 fn links_of(
     alloc: Global,
@@ -107,27 +99,16 @@ fn add_link(
     Ok(())
 }
 
-/// Whether the two names of a link are one.
-fn are_one(mine: &[Key], theirs: &[Key], link: Link) -> bool
-    ensures { IsTrue result → list_any (has theirs.now) mine.now ≡ true }
-{
-    let Some(name) = mine.get(link.mine) else {
-        return false;
-    };
-    let Some(other) = theirs.get(link.theirs) else {
-        return false;
-    };
-    is_same(name, other)
-}
-
 /// What is asked, with what it names by itself, and the earlier places that name such a thing too. Those before the watched one were
-/// seen not to wait any more. Each link is looked at anew each time, so any numbers will do.
+/// seen not to wait any more. Besides, one earlier place that was seen to have a context in common with this one. Each link is looked
+/// at anew each time, so any numbers will do.
 #[derive(Drop)]
 pub(crate) struct Named<'b, 'h, 'a> {
     task: Task<'b, 'h, 'a>,
     names: Vec<Key>,
     links: Vec<Link>,
     watched: Cell<usize>,
+    beside: Cell<Option<Link>>,
 }
 
 impl<'b, 'h, 'a> Model for Named<'b, 'h, 'a> {
@@ -158,6 +139,7 @@ impl<'b, 'h, 'a> Named<'b, 'h, 'a> {
             names,
             links,
             watched: Cell::new(0),
+            beside: Cell::new(None),
         })
     }
 
@@ -182,10 +164,27 @@ impl<'b, 'h, 'a> Named<'b, 'h, 'a> {
         self.watched.set(link);
     }
 
-    /// Whether the link shows that both name a thing, so that their keys meet whatever the tables are.
-    pub(crate) fn is_linked(&self, other: &Named<'_, '_, '_>, link: Link) -> bool
-        ensures { IsTrue result → (m : Maps) → meets (keys_of other.now m) (keys_of self.now m) ≡ true }
+    /// The link to a place that has a context in common with this one.
+    pub(crate) fn beside(&self) -> Option<Link> {
+        self.beside.get()
+    }
+
+    /// Looks for such a place among those that were noted, and notes this one.
+    pub(crate) fn watch_contexts(
+        &self,
+        tables: &Tables,
+        place: usize,
+        holders: &mut Namers,
+    ) -> Result<(), NoMemory> {
+        let found = note_contexts(tables, &self.names, place, holders)?;
+        self.beside.set(found);
+        Ok(())
+    }
+
+    /// Whether the link shows that both name a thing, or things in one context, so that their keys meet in the tables as they are.
+    pub(crate) fn is_linked(&self, tables: &Tables, other: &Named<'_, '_, '_>, link: Link) -> bool
+        ensures { IsTrue result → meets (keys_of other.now (maps_of tables.now)) (keys_of self.now (maps_of tables.now)) ≡ true }
     {
-        are_one(&self.names, &other.names, link)
+        does_hold(tables, &self.names, &other.names, link)
     }
 }

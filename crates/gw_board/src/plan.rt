@@ -1,14 +1,13 @@
 //! Which places may be opened together.
 
-ghost use Rattle.std.specs.Prelude.{◌≡◌, ◌≤◌, ◌<◌, ◌++◌, ◌||◌, ◌&&◌, ℕ, true, not, length, map, is_some, option_to_list, IsTrue, List, IfOk, IfSome, OnOk};
+ghost use Rattle.std.specs.Prelude.{◌≡◌, ◌≤◌, ◌<◌, ◌++◌, ◌||◌, ◌&&◌, ℕ, true, not, length, map, is_some, IsTrue, List, IfOk, IfSome, OnOk};
 ghost use Rattle.gw_base.specs.declared.key.Key.{Key as AKey};
-ghost use Rattle.gw_table.specs.Maps.{Maps};
 ghost use Rattle.gw_table.specs.Stored.{maps_of};
 ghost use Rattle.gw_foot.specs.Meets.{meets};
 ghost use Rattle.gw_board.specs.Boards.{core_of};
 ghost use Rattle.gw_board.specs.Carried.{keys_of};
 ghost use Rattle.gw_board.specs.Core.{AreKeysOf};
-ghost use Rattle.gw_board.specs.Named.{WaitsAlways};
+ghost use Rattle.gw_board.specs.Named.{IsNoneOfWave};
 ghost use Rattle.gw_board.specs.Planned.{IsPlan, MayOpenInTurn, planned_with};
 ghost use Rattle.gw_board.specs.Results.{NothingIsOpen};
 ghost use Rattle.gw_board.specs.Seats.{standing_of, place_of};
@@ -16,10 +15,11 @@ ghost use Rattle.gw_board.specs.Waiting.{meet_waiting};
 ghost use Rattle.gw_board.specs.Waves.{is_pending, wave};
 
 use crate::board::Board;
-use crate::named::Link;
+use crate::namers::Namers;
 use crate::open::keys_of;
 use crate::planned::Planned;
 use crate::seat::{Seat, Stage};
+use crate::touch::Link;
 use crate::waiting::Waiting;
 use gw_base::NoMemory;
 use gw_table::{Keys, Tables};
@@ -55,51 +55,89 @@ fn note_place(planned: &mut Vec<Planned>, place: usize, found: Option<Keys>) -> 
     Ok(())
 }
 
-/// Whether a place is pending and the link shows that it names what this one names, so that their keys meet whatever the tables are.
-fn is_ahead(seat: &Seat<'_, '_, '_>, mine: &Seat<'_, '_, '_>, link: Link) -> bool
-    ensures { IsTrue result → (m : Maps) → (is_pending (standing_of seat.now.stage) && meets (keys_of seat.now.task m) (keys_of mine.now.task m)) ≡ true }
+/// Whether a place is pending and the link shows that it names what this one names, or something in one context with it, so that
+/// their keys meet.
+fn is_ahead(tables: &Tables, seat: &Seat<'_, '_, '_>, mine: &Seat<'_, '_, '_>, link: Link) -> bool
+    ensures { IsTrue result → (is_pending (standing_of seat.now.stage) && meets (keys_of seat.now.task (maps_of tables.now)) (keys_of mine.now.task (maps_of tables.now))) ≡ true }
 {
     match seat.stage {
-        Stage::Pending => mine.task.is_linked(&seat.task, link),
+        Stage::Pending => mine.task.is_linked(tables, &seat.task, link),
         _ => false,
     }
 }
 
-/// Whether a place is in no wave, whatever the tables are: it is not pending, or an earlier pending place names what it names. Of the
-/// places that name a thing it is enough to look at the last before this one, since it waits for those before it. One that does not
-/// wait any more is not looked at again.
-fn waits(seats: &[Seat<'_, '_, '_>], at: usize) -> bool
+/// Whether a place waits for one that is linked to it.
+fn waits_for(tables: &Tables, seats: &[Seat<'_, '_, '_>], at: usize, link: Link) -> bool
     requires { at < length seats.now }
-    ensures { IsTrue result → WaitsAlways (map place_of seats.now) at }
+    ensures { IsTrue result → IsNoneOfWave (maps_of tables.now) (map place_of seats.now) at }
 {
-    let mine = &seats[at];
-    let Stage::Pending = mine.stage else {
-        return true;
-    };
-    let links = mine.task.links();
-    for next in mine.task.watched()..links.len() {
-        let link = links[next];
-        if link.place < at && is_ahead(&seats[link.place], mine, link) {
-            mine.task.watch(next);
+    if at <= link.place {
+        return false;
+    }
+    is_ahead(tables, &seats[link.place], &seats[at], link)
+}
+
+/// Whether a place waits for an earlier one that names what it names. Of the places that name a thing it is enough to look at the last
+/// before this one, since it waits for those before it. One that does not wait any more is not looked at again.
+fn waits_by_name(tables: &Tables, seats: &[Seat<'_, '_, '_>], at: usize) -> bool
+    requires { at < length seats.now }
+    ensures { IsTrue result → IsNoneOfWave (maps_of tables.now) (map place_of seats.now) at }
+{
+    let task = &seats[at].task;
+    let links = task.links();
+    for next in task.watched()..links.len() {
+        if waits_for(tables, seats, at, links[next]) {
+            task.watch(next);
             return true;
         }
     }
-    mine.task.watch(links.len());
+    task.watch(links.len());
     false
 }
 
+/// Whether a place is not in the wave, as far as its links show: it is not pending, or it waits for an earlier pending place that names
+/// what it names, or for the one that was seen to have a context in common with it.
+fn waits(tables: &Tables, seats: &[Seat<'_, '_, '_>], at: usize) -> bool
+    requires { at < length seats.now }
+    ensures { IsTrue result → IsNoneOfWave (maps_of tables.now) (map place_of seats.now) at }
+{
+    let Stage::Pending = seats[at].stage else {
+        return true;
+    };
+    if waits_by_name(tables, seats, at) {
+        return true;
+    }
+    match seats[at].task.beside() {
+        Some(link) => waits_for(tables, seats, at, link),
+        None => false,
+    }
+}
+
 /// The place behind the last that may be in the wave.
-fn end_of_wave(seats: &[Seat<'_, '_, '_>]) -> usize
+fn end_of_wave(tables: &Tables, seats: &[Seat<'_, '_, '_>]) -> usize
     ensures end { result ≤ length seats.now }
-    ensures behind { (i : ℕ) → result ≤ i → i < length seats.now → WaitsAlways (map place_of seats.now) i }
+    ensures behind { (i : ℕ) → result ≤ i → i < length seats.now → IsNoneOfWave (maps_of tables.now) (map place_of seats.now) i }
 {
     let mut end = 0;
     for at in 0..seats.len() {
-        if !waits(seats, at) {
+        if !waits(tables, seats, at) {
             end = at + 1;
         }
     }
     end
+}
+
+/// Where a pending place is looked at in the tables, the last earlier one with a context in common is remembered.
+fn watch_contexts(
+    tables: &Tables,
+    seat: &Seat<'_, '_, '_>,
+    place: usize,
+    holders: &mut Namers,
+) -> Result<(), NoMemory> {
+    match seat.stage {
+        Stage::Pending => seat.task.watch_contexts(tables, place, holders),
+        _ => Ok(()),
+    }
 }
 
 fn places_of(alloc: Global, planned: &[Planned]) -> Result<Vec<usize>, NoMemory>
@@ -141,11 +179,13 @@ impl Board<'_, '_, '_> {
     {
         let mut planned = Vec::new(alloc);
         let mut waiting = Waiting::new(alloc);
-        let may_be = &self.seats[..end_of_wave(&self.seats)];
+        let mut holders = Namers::new(alloc);
+        let may_be = &self.seats[..end_of_wave(&self.tables, &self.seats)];
         for (at, seat) in may_be.iter().enumerate() {
             if waiting.is_whole() {
                 return Ok(planned);
             }
+            watch_contexts(&self.tables, seat, at, &mut holders)?;
             let found = join_waiting(alloc, &self.tables, seat, &mut waiting)?;
             note_place(&mut planned, at, found)?;
         }

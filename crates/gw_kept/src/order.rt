@@ -12,7 +12,7 @@ use std::alloc::{AllocError, Global};
 use std::cmp::Ordering;
 
 /// The numbers of the kept pairs, in the order of their keys. Pairs are numbered as they come, from the oldest on, and behind
-/// 65,535 comes 0: so a pair has its number for as long as it is kept, whatever falls out before it.
+/// 65,535 comes 0: so what falls out changes no other number. Where pairs are forgotten, those that stay are numbered anew.
 #[derive(Drop)]
 pub struct Order {
     pub(crate) numbers: Vec<u16>,

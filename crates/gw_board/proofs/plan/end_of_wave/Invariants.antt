@@ -1,5 +1,6 @@
 use Rattle.std.proofs.Common.{ℕ, ◌<◌, ◌≤◌, map}
-use Rattle.gw_board.specs.Named.{WaitsAlways}
+use Rattle.gw_table.specs.Stored.{maps_of}
+use Rattle.gw_board.specs.Named.{IsNoneOfWave}
 use Rattle.gw_board.specs.Seats.{place_of}
 use Rattle.gw_board.proofs.plan.end_of_wave.Given as goal
 
@@ -7,5 +8,5 @@ use Rattle.gw_board.proofs.plan.end_of_wave.Given as goal
 abbrev pub invariant-loop-at : goal.invariant-loop-at
 invariant-loop-at l = record {
   end : l.end ≤ l.at;
-  behind : (i : ℕ) → l.end ≤ i → i < l.at → WaitsAlways (map place_of l.seats) i;
+  behind : (i : ℕ) → l.end ≤ i → i < l.at → IsNoneOfWave (maps_of l.tables) (map place_of l.seats) i;
 }

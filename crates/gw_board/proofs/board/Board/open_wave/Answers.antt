@@ -1,6 +1,8 @@
-use Rattle.std.proofs.Common.{◌≡◌, ◌+◌, length, List, [], ◌∷◌, ◌++◌, refl, sym, ap, subst, ◌∙◌, arith, length-append}
+use Rattle.std.proofs.Common.{◌≡◌, ◌+◌, map, length, List, [], ◌∷◌, ◌++◌, refl, sym, ap, subst, ◌∙◌, arith, length-append}
 use Rattle.gw_board.specs.Boards.{Seen, Handed, AllClosed, Opens}
 use Rattle.gw_board.specs.OpenJobs.{AreOpen}
+use Rattle.gw_board.specs.Planned.{MayOpenInTurn}
+use Rattle.gw_board.specs.declared.planned.Planned.{Planned}
 use Rattle.gw_board.proofs.SeatFacts.{nil_of}
 use Rattle.gw_board.proofs.WaveJobs.{no_jobs, one_opened, same_opened, left_opened, same_itself, same_still, all_are_closed, not_empty}
 use Rattle.gw_board.proofs.board.Board.open_wave.Goals as goal

@@ -6,7 +6,7 @@ use Rattle.gw_board.specs.Boards.{Seen, core_of}
 use Rattle.gw_board.specs.Carried.{keys_of}
 use Rattle.gw_board.specs.Core.{Place}
 use Rattle.gw_board.specs.Fitting.{Each}
-use Rattle.gw_board.specs.Named.{WaitsAlways}
+use Rattle.gw_board.specs.Named.{IsNoneOfWave}
 use Rattle.gw_board.specs.Planned.{IsPlan, IsReckoned, planned_with}
 use Rattle.gw_board.specs.Seats.{place_of}
 use Rattle.gw_board.specs.Waiting.{meet_waiting}
@@ -81,7 +81,7 @@ returns c =
     let at_end : c.loop-at.at ≡ e = omega arith in
     let all : e + (n - e) ≡ n = omega arith in
     let rest : (i : ℕ) → e ≤ i → i < e + (n - e) → free_at (core_of b) i ≡ false =
-    λ i l m. subst (λ (k : List Seat). WaitsAlways (map place_of k) i) c.deref-2.ensures.value (c.end_of_wave.ensures.behind i l (let o : length c.deref-2.result.now ≡ length items = ap length c.deref-2.ensures.value in omega arith)) b.maps in
+    λ i l m. subst (λ (k : List Seat). IsNoneOfWave b.maps (map place_of k) i) c.deref-2.ensures.value (c.end_of_wave.ensures.behind i l (let o : length c.deref-2.result.now ≡ length items = ap length c.deref-2.ensures.value in omega arith)) in
     let plan : IsPlan s c.loop-at.planned.items = record {
       places = c.loop-at.invariant.places
           ∙ ap (λ (x : Seen). filter (free_at (core_of x)) (range_with_len 0 c.loop-at.at)) (sym c.self.view_is)
