@@ -12,12 +12,12 @@ mod named;
 mod namers;
 mod open;
 mod plan;
+mod planned;
 mod reply;
 mod seat;
-mod wave;
-mod planned;
 mod touch;
 mod waiting;
+mod wave;
 
 pub use asked::{Asked, Lent};
 pub use board::Board;
