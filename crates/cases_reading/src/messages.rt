@@ -3,7 +3,9 @@
 use crate::descriptors::write_descriptor;
 use cases_text::Page;
 use gw_base::CtxRef;
-use gw_msg::{AckRange, Action, Command, Item, Message, ReadFault, Request, read_message};
+use gw_msg::{
+    AckRange, Action, Command, ContextProp, Item, Message, ReadFault, Request, Triple, read_message,
+};
 
 fn write_command(out: &mut Page, command: &Command<'_>) {
     out.put(b"; ");
@@ -32,10 +34,44 @@ fn write_context(out: &mut Page, ctx: CtxRef) {
     }
 }
 
+fn write_triple(out: &mut Page, triple: &Triple) {
+    out.put(b" (");
+    out.named(&triple.a);
+    out.put(b" ");
+    out.named(&triple.b);
+    out.put(b" ");
+    out.named(&triple.flow);
+    out.put(b")");
+}
+
+fn write_prop(out: &mut Page, prop: &ContextProp) {
+    match prop {
+        ContextProp::Priority(number) => {
+            out.put(b"Priority ");
+            out.number(u64::from(*number));
+        }
+        ContextProp::Emergency => out.put(b"Emergency"),
+        ContextProp::Topology(triples) => {
+            out.put(b"Topology");
+            for triple in triples.as_slice() {
+                write_triple(out, triple);
+            }
+        }
+        ContextProp::ContextAudit(items) => {
+            out.put(b"ContextAudit");
+            for item in items.as_slice() {
+                out.put(b" ");
+                out.named(item);
+            }
+        }
+    }
+}
+
 fn write_action(out: &mut Page, action: &Action<'_>) {
     write_context(out, action.ctx);
-    if action.props {
-        out.put(b" properties");
+    for prop in action.props.as_slice() {
+        out.put(b" / ");
+        write_prop(out, prop);
     }
     for command in action.commands.as_slice() {
         write_command(out, command);

@@ -20,7 +20,7 @@ use Rattle.gw_refusal.specs.declared.at.At.TheVariants.{Null, Live, Unmade, Each
 use Rattle.gw_cmd.specs.Commands.{command}
 use Rattle.gw_cmd.proofs.Programs.{program, effect-program}
 use Rattle.gw_reserve.specs.Owned.{OwnedAction}
-use Rattle.gw_tx.specs.Transactions.{attempted, attempt, commands, action_error, replied, refused_action, remembered, in_each, in_all, after_all, action_for_each, action_in, action_for, action_on, action, actions, paired_transaction}
+use Rattle.gw_tx.specs.Transactions.{has_properties, attempted, attempt, commands, action_error, replied, refused_action, remembered, in_each, in_all, after_all, action_for_each, action_in, action_for, action_on, action, actions, paired_transaction}
 use Rattle.gw_foot.proofs.InTurn.{mapped, effect-mapped, in_turn, effect-in_turn}
 
 -- ---- the commands of an action
@@ -73,7 +73,7 @@ of_on rules a ref.Null = mapped replied (of_commands rules Null a.commands)
 of_on rules a ref.All = ReadAll (λ m. of_for_each rules a.commands (numbers m))
 
 abbrev pub of_action : Rules → Unit {0} → OwnedAction → Accesses (Attempts Unit ActionReply)
-of_action rules u a = cond a.sent.props (Done (action_error a.sent.ctx NotImplemented)) (of_on rules a a.sent.ctx)
+of_action rules u a = cond (has_properties a.sent) (Done (action_error a.sent.ctx NotImplemented)) (of_on rules a a.sent.ctx)
 
 effect-of_in : (rules : Rules) (n : CtxNum) (ps : List (Option ℕ × Command)) (o : Option ContextRecord) (m : Maps) → effect (of_in rules n ps o) m ≡ action_in rules n ps m o
 effect-of_in rules n ps None m = refl
@@ -90,7 +90,7 @@ effect-of_on rules a ref.Null m = effect-mapped replied (of_commands rules Null 
 effect-of_on rules a ref.All m = effect-of_for_each rules a.commands (numbers m) m
 
 pub effect-of_action : (rules : Rules) (u : Unit {0}) (a : OwnedAction) (m : Maps) → effect (of_action rules u a) m ≡ action rules u a m
-effect-of_action rules u a m = by a.sent.props
+effect-of_action rules u a m = by (has_properties a.sent)
   where
     by : (b : Bool) → effect (cond b (Done (action_error a.sent.ctx NotImplemented)) (of_on rules a a.sent.ctx)) m ≡ (if b then refused_action a.sent.ctx NotImplemented m else action_on rules a m a.sent.ctx)
     by true = refl

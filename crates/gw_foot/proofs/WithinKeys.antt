@@ -28,7 +28,7 @@ use Rattle.gw_cmd.specs.Commands.{command}
 use Rattle.gw_cmd.proofs.Programs.{program}
 use Rattle.gw_reserve.specs.Owned.{OwnedAction, AreFreeSlots, first_owned, later_owned, paired_commands, paired_action, paired_actions}
 use Rattle.gw_tx.specs.Footprints.{keys_in_action, action_footprint, footprint_of}
-use Rattle.gw_tx.specs.Transactions.{attempted, attempt, action_error, replied, remembered, in_each, after_all, action, paired_transaction}
+use Rattle.gw_tx.specs.Transactions.{has_properties, attempted, attempt, action_error, replied, remembered, in_each, after_all, action, paired_transaction}
 use Rattle.gw_tx.proofs.EachContext.{stays_each}
 use Rattle.gw_tx.proofs.Facts.{IsHeld}
 use Rattle.gw_tx.proofs.FreeSlots.{AnySlot}
@@ -106,7 +106,7 @@ module _ (rules : Rules) (keys : List Key) (start : Maps) where
 
   within_action : (a : Action) (number : Option CtxNum) (slots : List (Option ℕ)) (m : Maps) → Holds (Only keys) (action_footprint (paired_action number slots a) start) → With AnySlot Q slots m → Within keys (of_action rules tt (paired_action number slots a)) m
   within_action a number slots m h w =
-      within-cond keys a.props (Done (action_error a.ctx NotImplemented)) (of_on rules (paired_action number slots a) a.ctx) m tt
+      within-cond keys (has_properties a) (Done (action_error a.ctx NotImplemented)) (of_on rules (paired_action number slots a) a.ctx) m tt
       (within_on a number slots m a.ctx h (listed_in (Only keys) start (paired_action number slots a) h) w)
 
   within_actions : (held : List (Option CtxNum)) (slots : List (Option ℕ)) (asked : List Action) (m : Maps) → Holds (Only keys) (footprint_of (paired_actions held slots asked) start) → With AnySlot Q slots m → Within keys (of_actions rules (paired_actions held slots asked)) m

@@ -18,7 +18,7 @@ use Rattle.gw_text.specs.Tokens.{token_of}
 use Rattle.gw_text.specs.Reader.{Reader, ◌>>=◌, found, word_as, solid_as, number_at, number_up_to, group_read, quoted_read, if_end, braced_at, items_at}
 use Rattle.gw_text.specs.declared.token.Token.{Token}
 use Rattle.gw_text.specs.declared.token.Token.TheVariants as token
-use Rattle.gw_text.proofs.FormLaws.{skip_is, skip_stays, some_is, sign_ends, sign_other, sign_none, BeginsWith, bind_some, both_split, begins_append, begins_wider, begins_some, byte_is_solid, skip_solid, safe_apart, digit_apart, solid_apart, digit_is_safe, number_solid, begins_ends, no_byte, both_begins, both_ends, both_no_more, sep_ends, with_second, at_end, spaced_begins, group_begins, quoted_begins, ahead_ends}
+use Rattle.gw_text.proofs.FormLaws.{skip_is, skip_stays, some_is, sign_ends, sign_other, sign_none, BeginsWith, bind_some, both_split, begins_append, begins_wider, begins_some, byte_is_solid, skip_solid, safe_apart, digit_apart, solid_apart, number_solid, begins_ends, no_byte, both_begins, both_ends, both_no_more, sep_ends, with_second, at_end, spaced_begins, group_begins, quoted_begins, ahead_ends}
 use Rattle.gw_text.proofs.ReaderLaws.{ReadsUp, Same, Skipped, UpTo, Any, up_as, up_from, up_next, up_to, up_skipped, up_then, up_last, up_done, up_sign, up_close, up_space, up_if_byte, up_if_begins, up_if_begins_from, up_shrinks, same_up, skipped_up, up_number, up_number_up_to, up_sep, BracesUp, up_braced, ItemsUp, ToEnd, Ended, up_items, up_quoted, up_group}
 use Rattle.gw_text.specs.Parts.{Shrinks, ShrinksMore}
 use Rattle.gw_msg.specs.declared.message.Action.{Action}
@@ -31,9 +31,9 @@ use Rattle.gw_msg.specs.Words.{is_error, is_error_start}
 use Rattle.gw_msg.specs.NameWords.{mid_of}
 use Rattle.gw_msg.specs.Reading.{token_in, nothing_at, action_at, request_at, reply_at, pending_at, last_at, range_at, ack_at, item_behind, item_at, quoted_or_nothing, error_at, error_body_at, body_at, content_at}
 use Rattle.gw_msg.proofs.Starts.{error_starts, no_error_start, transaction_starts, reply_starts, pending_starts, ack_starts}
-use Rattle.gw_msg.proofs.Steps.{Done, Dropped, nothing_more, nothing_behind}
+use Rattle.gw_msg.proofs.Steps.{Done, Dropped, nothing_more, nothing_behind, behind_sign, no_more_within, no_digit}
 use Rattle.gw_msg.proofs.WordLaws.{any_token_reads, error_word_reads, token_solid, mid_reads, mid_begins}
-use Rattle.gw_msg.proofs.Laws.{behind_sign, action_reads, action_braces}
+use Rattle.gw_msg.proofs.Laws.{action_reads, action_braces}
 
 -- ---- a number behind `=`
 
@@ -106,18 +106,6 @@ LastNumber first r text = (last : ℕ) × (range_of first last ≡ r) × IsUint3
 
 abbrev RangeEnd : ℕ → AckRange → List ℕ → Type 0
 RangeEnd first r text = Both (IsText (dash ∷ [])) (LastNumber first r) text ⊎ Done (range_of first first) r text
-
--- a class within another
-no_more_within : (p q : ℕ → Bool) → ((c : ℕ) → p c ≡ true → q c ≡ true) → (rest : List ℕ) → NoMore q rest → NoMore p rest
-no_more_within p q h [] n = refl
-no_more_within p q h (c ∷ cs) n = refute (p c) (λ is. let clash : true ≡ false = sym (h c is) ∙ n in absurd cc)
-  where
-    refute : (t : Bool) → (t ≡ true → ⊥) → t ≡ false
-    refute true k = absurd (k refl)
-    refute false k = refl
-
-no_digit : (rest : List ℕ) → NoMore is_safe rest → NoMore is_digit rest
-no_digit = no_more_within is_digit is_safe digit_is_safe
 
 range_end_reads : (first : ℕ) → ReadsUp (last_at first) (RangeEnd first) (NoMore is_safe) Same Same
 range_end_reads first =

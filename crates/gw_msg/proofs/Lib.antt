@@ -4,8 +4,10 @@ pub mod TokenMarks
 pub mod Starts
 pub mod Steps
 pub mod WordLaws
-pub mod Laws
-pub mod ItemLaws
+pub mod ContextLaws
 pub mod ActionParts
+pub mod Laws
+pub mod ContentsLoop
+pub mod ItemLaws
 pub mod HeaderLaws
 pub mod Whole

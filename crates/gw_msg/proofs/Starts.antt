@@ -7,7 +7,7 @@ use Rattle.std.proofs.lemmas.Slice.Eq.{bytes_eq-Decides}
 use Rattle.std.proofs.lemmas.Bool.{and_parts, or_cases, eqb-true, not-true}
 use Rattle.gw_base.specs.Bytes.{is_one_of}
 use Rattle.gw_text.specs.Runs.{begins, first}
-use Rattle.gw_text.specs.Forms.{IsInAnyCase}
+use Rattle.gw_text.specs.Forms.{IsInAnyCase, IsToken}
 use Rattle.gw_text.specs.Tokens.{Spelling, table, is_spelling, find_token, token_of}
 use Rattle.gw_text.specs.declared.token.Token.{Token}
 use Rattle.gw_text.specs.declared.token.Token.TheVariants as token
@@ -15,7 +15,7 @@ use Rattle.gw_text.proofs.FormLaws.{some_is}
 use Rattle.gw_base.specs.declared.command_words.Verb.{Verb}
 use Rattle.gw_base.specs.declared.command_words.Verb.TheVariants as verb
 use Rattle.gw_msg.specs.Words.{is_error_start, is_context_property_start}
-use Rattle.gw_msg.specs.Grammar.{IsPropertyToken, SpellsVerb}
+use Rattle.gw_msg.specs.Grammar.{SpellsVerb}
 
 -- ---- the next byte
 
@@ -160,11 +160,17 @@ ack_starts word e = small_e word (token_fits word token.TransactionResponseAck e
 small_property : (word : List ℕ) → begins (is_one_of (codes "tpec")) (map to_ascii_lowercase word) ≡ true → begins is_context_property_start word ≡ true
 small_property word h = begins_with is_context_property_start (codes "tpec") word refl refl h
 
-pub property_starts : (word : List ℕ) → IsPropertyToken word → begins is_context_property_start word ≡ true
-property_starts word (inl h) = small_property word (token_fits word token.Topology h.stands)
-property_starts word (inr (inl h)) = small_property word (token_fits word token.Priority h.stands)
-property_starts word (inr (inr (inl h))) = small_property word (token_fits word token.Emergency h.stands)
-property_starts word (inr (inr (inr h))) = small_property word (token_fits word token.ContextAudit h.stands)
+pub topology_starts : (word : List ℕ) → IsToken token.Topology word → begins is_context_property_start word ≡ true
+topology_starts word h = small_property word (token_fits word token.Topology h.stands)
+
+pub priority_starts : (word : List ℕ) → IsToken token.Priority word → begins is_context_property_start word ≡ true
+priority_starts word h = small_property word (token_fits word token.Priority h.stands)
+
+pub emergency_starts : (word : List ℕ) → IsToken token.Emergency word → begins is_context_property_start word ≡ true
+emergency_starts word h = small_property word (token_fits word token.Emergency h.stands)
+
+pub context_audit_starts : (word : List ℕ) → IsToken token.ContextAudit word → begins is_context_property_start word ≡ true
+context_audit_starts word h = small_property word (token_fits word token.ContextAudit h.stands)
 
 abbrev pub no_context_property_start : ℕ → Bool
 no_context_property_start b = not (is_context_property_start b)

@@ -2,13 +2,15 @@
 use Rattle.std.proofs.Common.{◌≡◌, ◌⊎◌, inl, inr, ℕ, Bool, true, false, not, ◌==◌, List, [], ◌∷◌, ◌++◌, Some, None, refl, ap, sym, subst, ◌∙◌}
 use Rattle.std.proofs.lemmas.List.{append-nil}
 use Rattle.std.proofs.lemmas.Bool.{not-true}
-use Rattle.gw_base.specs.Lang.{Both, IsText}
-use Rattle.gw_text.specs.Runs.{begins, is_byte}
-use Rattle.gw_text.specs.Sign.{prefix_at}
-use Rattle.gw_text.specs.Forms.{IsInAnyCase}
+use Rattle.gw_base.specs.Lang.{Both, ◌▹◌, IsText}
+use Rattle.gw_text.specs.Runs.{begins, is_byte, NoMore}
+use Rattle.gw_base.specs.Bytes.{is_digit}
+use Rattle.gw_text.specs.Lexical.{is_safe, is_solid, is_space_start}
+use Rattle.gw_text.specs.Sign.{prefix_at, sign_at}
+use Rattle.gw_text.specs.Forms.{IsInAnyCase, IsSign}
 use Rattle.gw_text.specs.Reader.{Reader, ◌>>=◌, if_byte}
-use Rattle.gw_text.proofs.FormLaws.{both_begins, begins_ends, no_byte, BeginsWith}
-use Rattle.gw_text.proofs.ReaderLaws.{ReadsUp, Same, up_as, up_done, up_if_prefix, up_if_byte}
+use Rattle.gw_text.proofs.FormLaws.{both_begins, begins_ends, no_byte, digit_is_safe, BeginsWith}
+use Rattle.gw_text.proofs.ReaderLaws.{ReadsUp, Same, up_as, up_from, up_done, up_if_prefix, up_if_byte, up_sign, up_skipped, same_up}
 use Rattle.gw_msg.specs.Grammar.{SpellsMark}
 use Rattle.gw_msg.specs.Reading.{mark_at, only_if}
 
@@ -80,3 +82,24 @@ up_mark b v more Q Next h other =
 
 abbrev pub Dropped : (List ℕ → Type 0) → Unit {0} → List ℕ → Type 0
 Dropped P u text = P text
+
+-- ---- signs
+
+-- behind what stands just there, a sign, and then a reader of what begins with no white space
+pub behind_sign : {W : Type 0} (b : ℕ) (k : Reader W) (Q : W → List ℕ → Type 0) (Next : List ℕ → Type 0) (To : List ℕ → List ℕ → Type 0) → is_space_start b ≡ false → BeginsWith is_solid Q → ReadsUp k Q Next Same To
+    → ReadsUp (λ text. sign_at b text >>= k) (λ w. IsSign b ▹ Q w) Next Same To
+behind_sign b k Q Next To solid first h = up_from (up_sign b k Q Next To solid (up_skipped first h)) same_up
+
+-- ---- classes
+
+-- a class within another
+pub no_more_within : (p q : ℕ → Bool) → ((c : ℕ) → p c ≡ true → q c ≡ true) → (rest : List ℕ) → NoMore q rest → NoMore p rest
+no_more_within p q h [] n = refl
+no_more_within p q h (c ∷ cs) n = refute (p c) (λ is. let clash : true ≡ false = sym (h c is) ∙ n in absurd cc)
+  where
+    refute : (t : Bool) → (t ≡ true → ⊥) → t ≡ false
+    refute true k = absurd (k refl)
+    refute false k = refl
+
+pub no_digit : (rest : List ℕ) → NoMore is_safe rest → NoMore is_digit rest
+no_digit = no_more_within is_digit is_safe digit_is_safe

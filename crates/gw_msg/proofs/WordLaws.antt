@@ -24,12 +24,12 @@ use Rattle.gw_text.specs.declared.token.Token.{Token}
 use Rattle.gw_text.specs.declared.token.Token.TheVariants as token
 use Rattle.gw_text.proofs.FormLaws.{some_is, BeginsWith, begins_wider, space_bytes, is_solid_by, digit_apart, run_begins, word_solid, number_begins, number_solid, both_begins}
 use Rattle.gw_text.proofs.ReaderLaws.{ReadsUp, Same, up_as, up_last, up_then, up_done, up_word, up_solid, up_number}
-use Rattle.gw_msg.specs.Grammar.{IsPropertyToken, command_token, SpellsVerb, SpellsTerm, SpellsContextId, SpellsMid}
-use Rattle.gw_msg.specs.Words.{verb_for, verb_of, is_context, is_context_property, is_error}
+use Rattle.gw_msg.specs.Grammar.{command_token, SpellsVerb, SpellsTerm, SpellsContextId, SpellsMid}
+use Rattle.gw_msg.specs.Words.{verb_for, verb_of, is_context, is_error}
 use Rattle.gw_msg.specs.NameWords.{term_of, mid_of}
 use Rattle.gw_msg.specs.Reading.{only_if, token_in, if_mark, context_number_at, context_id_at}
 use Rattle.gw_msg.proofs.Starts.{one_of}
-use Rattle.gw_msg.proofs.Steps.{Done, Dropped, nothing_behind, nothing_more, other_than, up_mark, up_only_if}
+use Rattle.gw_msg.proofs.Steps.{Done, nothing_behind, nothing_more, other_than, up_mark, up_only_if}
 use Rattle.gw_msg.proofs.WordLemmas.{term_is, term_again, mid_is, mid_again}
 
 -- ---- tokens
@@ -84,25 +84,6 @@ context_to _ text e h = absurd cc
 
 pub context_reads : ReadsUp (token_in is_context) (λ u. IsToken token.Context) (NoMore is_safe) Same Same
 context_reads = up_as (token_in_reads is_context) (λ u text h. context_to h.0 text h.1 h.2) (λ u text h. (token.Context, refl, h))
-
-property_to : (t : Token) (text : List ℕ) → is_context_property t ≡ true → IsToken t text → IsPropertyToken text
-property_to token.Topology text e h = inl h
-property_to token.Priority text e h = inr (inl h)
-property_to token.Emergency text e h = inr (inr (inl h))
-property_to token.ContextAudit text e h = inr (inr (inr h))
-property_to _ text e h = absurd cc
-
-property_from : (text : List ℕ) → IsPropertyToken text → TokenIn is_context_property tt text
-property_from text (inl h) = (token.Topology, refl, h)
-property_from text (inr (inl h)) = (token.Priority, refl, h)
-property_from text (inr (inr (inl h))) = (token.Emergency, refl, h)
-property_from text (inr (inr (inr h))) = (token.ContextAudit, refl, h)
-
-pub property_word_reads : ReadsUp (token_in is_context_property) (Dropped IsPropertyToken) (NoMore is_safe) Same Same
-property_word_reads = up_as (token_in_reads is_context_property) (λ u text h. property_to h.0 text h.1 h.2) (λ u text h. property_from text h)
-
-pub property_word_solid : (text : List ℕ) → IsPropertyToken text → begins is_solid text ≡ true
-property_word_solid text h = let p = property_from text h in word_solid text p.2.word
 
 error_to : (t : Token) (text : List ℕ) → is_error t ≡ true → IsToken t text → IsToken token.Error text
 error_to token.Error text e h = h

@@ -1,9 +1,11 @@
 -- Which texts spell a message (RFC 3525, Annex B.2). EQUAL, LBRKT, RBRKT and COMMA are signs, with LWSP on both sides.
-use Rattle.std.specs.Prelude.{◌≡◌, ◌≢◌, ◌⊎◌, ℕ, nat_lt, true, false, Bool, List, [], ◌∷◌, length, Option, Result, Ok, Err, codes}
+use Rattle.std.specs.Prelude.{◌≡◌, ◌≢◌, ◌⊎◌, ℕ, true, false, Bool, List, [], ◌∷◌, Option, Result, Ok, Err, codes}
 use Rattle.gw_base.specs.Lang.{◌▹◌, Optional, IsText}
 use Rattle.gw_base.specs.Mids.{IsMid}
 use Rattle.gw_base.specs.TermRefs.{IsTerm}
 use Rattle.gw_base.specs.declared.term_ref.TermRef.{TermRef}
+use Rattle.gw_base.specs.declared.context_words.Flow.{Flow}
+use Rattle.gw_base.specs.declared.context_words.Flow.TheVariants as flow
 use Rattle.gw_base.specs.declared.command_words.CtxRef.{CtxRef}
 use Rattle.gw_base.specs.declared.command_words.CtxRef.TheVariants.{Null, All, Choose, Num}
 use Rattle.gw_base.specs.declared.command_words.Verb.{Verb}
@@ -15,10 +17,15 @@ use Rattle.gw_text.specs.Quoted.{IsQuoted}
 use Rattle.gw_text.specs.Group.{IsGroup}
 use Rattle.gw_text.specs.declared.token.Token.{Token}
 use Rattle.gw_text.specs.declared.token.Token.TheVariants as token
-use Rattle.gw_desc.specs.Grammar.{SpellsOptionalGroup, IsTail, SpellsDescriptor}
+use Rattle.gw_desc.specs.Grammar.{SpellsOptionalGroup, SpellsDescriptor}
 use Rattle.gw_desc.specs.declared.descriptor.Descriptor.{Descriptor}
 use Rattle.gw_msg.specs.declared.message.Command.{Command}
 use Rattle.gw_msg.specs.declared.message.Action.{Action}
+use Rattle.gw_msg.specs.declared.message.Triple.{Triple}
+use Rattle.gw_msg.specs.declared.message.ContextItem.{ContextItem}
+use Rattle.gw_msg.specs.declared.message.ContextItem.TheVariants as audited
+use Rattle.gw_msg.specs.declared.message.ContextProp.{ContextProp}
+use Rattle.gw_msg.specs.declared.message.ContextProp.TheVariants as property
 use Rattle.gw_msg.specs.declared.message.Request.{Request}
 use Rattle.gw_msg.specs.declared.message.AckRange.{AckRange}
 use Rattle.gw_msg.specs.declared.message.Item.{Item}
@@ -92,37 +99,66 @@ SpellsContextId All text = IsText (codes "*") text
 SpellsContextId Null text = IsText (codes "-") text
 SpellsContextId (Num n) text = IsUint32 n.0 text
 
--- TopologyToken, PriorityToken, EmergencyToken, ContextAuditToken
-abbrev pub IsPropertyToken : List ℕ → Type 0
-IsPropertyToken text = IsToken token.Topology text ⊎ (IsToken token.Priority text ⊎ (IsToken token.Emergency text ⊎ IsToken token.ContextAudit text))
+-- the most digits of a priority, as it is sent (own)
+abbrev pub priority_digits : ℕ
+priority_digits = 5
 
--- a contextProperty or a contextAudit: its token and a tail, which is read and dropped (own)
-abbrev pub SpellsContextProperty : List ℕ → Type 0
-SpellsContextProperty = IsPropertyToken ▹ IsTail
+-- the greatest priority that may be sent (own)
+abbrev pub priority_max : ℕ
+priority_max = 65535
 
--- a context property, of which nothing is kept
-abbrev pub ContextProperty : Type 0
-ContextProperty = Unit {0}
+-- UINT16 of a priority
+abbrev pub IsPriority : ℕ → List ℕ → Type 0
+IsPriority = IsNumber priority_digits priority_max
+
+-- the token of each topologyDirection
+abbrev pub flow_token : Flow → Token
+flow_token flow.Bothway = token.Bothway
+flow_token flow.Isolate = token.Isolate
+flow_token flow.Oneway = token.Oneway
+
+-- topologyDirection: BothwayToken, IsolateToken, OnewayToken
+abbrev pub SpellsFlow : Flow → List ℕ → Type 0
+SpellsFlow f = IsToken (flow_token f)
+
+-- topologyTriple: terminationA COMMA terminationB COMMA topologyDirection
+abbrev pub SpellsTriple : Triple → List ℕ → Type 0
+SpellsTriple t = SpellsTerm t.a ▹ IsSign comma ▹ SpellsTerm t.b ▹ IsSign comma ▹ SpellsFlow t.flow
+
+-- the token of each of contextAuditProperties
+abbrev pub context_item_token : ContextItem → Token
+context_item_token audited.Topology = token.Topology
+context_item_token audited.Priority = token.Priority
+context_item_token audited.Emergency = token.Emergency
+
+-- contextAuditProperties: TopologyToken, PriorityToken, EmergencyToken
+abbrev pub SpellsContextItem : ContextItem → List ℕ → Type 0
+SpellsContextItem i = IsToken (context_item_token i)
+
+-- a contextProperty or a contextAudit: priority, emergency, topologyDescriptor, contextAudit
+abbrev pub SpellsContextProperty : ContextProp → List ℕ → Type 0
+SpellsContextProperty (property.Priority n) text = (IsToken token.Priority ▹ IsSign equals_sign ▹ IsPriority n) text
+SpellsContextProperty property.Emergency text = IsToken token.Emergency text
+SpellsContextProperty (property.Topology triples) text = (IsToken token.Topology ▹ Braced SpellsTriple triples) text
+SpellsContextProperty (property.ContextAudit items) text = (IsToken token.ContextAudit ▹ Braced SpellsContextItem items) text
 
 -- contextProperties and contextAudit, with COMMA between them
-abbrev pub SpellsContextProperties : List ContextProperty → List ℕ → Type 0
-SpellsContextProperties = Separated (λ property. SpellsContextProperty)
+abbrev pub SpellsContextProperties : List ContextProp → List ℕ → Type 0
+SpellsContextProperties = Separated SpellsContextProperty
 
 -- commandRequestList
 abbrev pub SpellsCommands : List Command → List ℕ → Type 0
 SpellsCommands = Separated SpellsCommand
 
 -- what an action asks of its context: commands, or properties, or properties and behind COMMA commands
-abbrev pub SpellsContents : List ContextProperty → List Command → List ℕ → Type 0
+abbrev pub SpellsContents : List ContextProp → List Command → List ℕ → Type 0
 SpellsContents [] commands = SpellsCommands commands
 SpellsContents (p ∷ ps) [] = SpellsContextProperties (p ∷ ps)
 SpellsContents (p ∷ ps) (c ∷ cs) = SpellsContextProperties (p ∷ ps) ▹ IsSign comma ▹ SpellsCommands (c ∷ cs)
 
 -- actionRequest: CtxToken EQUAL ContextID LBRKT .. RBRKT
-pub record SpellsAction (a : Action) (text : List ℕ) : Type 0 where
-  pub properties : List ContextProperty
-  pub words : (IsToken token.Context ▹ IsSign equals_sign ▹ SpellsContextId a.ctx ▹ IsSign left_brace ▹ SpellsContents properties a.commands ▹ IsSign right_brace) text
-  pub props : a.props ≡ nat_lt 0 (length properties)
+abbrev pub SpellsAction : Action → List ℕ → Type 0
+SpellsAction a = IsToken token.Context ▹ IsSign equals_sign ▹ SpellsContextId a.ctx ▹ IsSign left_brace ▹ SpellsContents a.props a.commands ▹ IsSign right_brace
 
 -- ---- messages
 

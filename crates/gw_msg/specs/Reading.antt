@@ -1,11 +1,11 @@
 -- Messages as they are read, from left to right (own). That this is the grammar (RFC 3525, Annex B.2) is proved.
-use Rattle.std.specs.Prelude.{◌≡◌, ◌==◌, ◌||◌, not, ℕ, zero, suc, length, true, false, Bool, List, [], if◌then◌else◌, Option, Some, None, Result, Ok, Err, codes}
+use Rattle.std.specs.Prelude.{◌≡◌, ◌==◌, ◌||◌, not, ℕ, zero, suc, length, true, false, Bool, List, [], ◌∷◌, if◌then◌else◌, Option, Some, None, Result, Ok, Err, codes}
 use Rattle.gw_base.specs.Bytes.{byte}
 use Rattle.gw_base.specs.declared.command_words.CtxRef.{CtxRef}
 use Rattle.gw_base.specs.declared.command_words.CtxRef.TheVariants.{Null, All, Choose, Num}
 use Rattle.gw_base.specs.declared.command_words.Verb.{Verb}
 use Rattle.gw_text.specs.Lexical.{comma, equals_sign, left_brace, right_brace, dash, quote_mark}
-use Rattle.gw_text.specs.Runs.{begins, is_byte}
+use Rattle.gw_text.specs.Runs.{is_byte}
 use Rattle.gw_text.specs.Tokens.{token_of}
 use Rattle.gw_text.specs.declared.token.Token.{Token}
 use Rattle.gw_text.specs.declared.token.Token.TheVariants as token
@@ -15,18 +15,22 @@ use Rattle.gw_text.specs.Scans.{sep_at}
 use Rattle.gw_text.specs.Reader.{Reader, ◌>>=◌, found, word_as, solid_as, number_at, number_up_to, group_read, quoted_read, if_byte, if_sign, if_prefix, if_begins, list_at, braced_at, optional_at, items_at, if_end}
 use Rattle.gw_msg.specs.declared.message.Command.{Command}
 use Rattle.gw_msg.specs.declared.message.Action.{Action}
+use Rattle.gw_msg.specs.declared.message.Triple.{Triple}
+use Rattle.gw_msg.specs.declared.message.ContextItem.{ContextItem}
+use Rattle.gw_msg.specs.declared.message.ContextProp.{ContextProp}
+use Rattle.gw_msg.specs.declared.message.ContextProp.TheVariants as property
 use Rattle.gw_msg.specs.declared.message.AckRange.{AckRange}
 use Rattle.gw_msg.specs.declared.message.Item.{Item}
 use Rattle.gw_msg.specs.declared.message.Item.TheVariants as item
 use Rattle.gw_msg.specs.declared.message.Message.{Message}
 use Rattle.gw_msg.specs.declared.fault.ReadFault.{ReadFault}
 use Rattle.gw_msg.specs.declared.fault.ReadFault.TheVariants.{Version, Syntax, NoMemory}
-use Rattle.gw_desc.specs.Reading.{optional_group_at, tail_at, descriptor_at}
+use Rattle.gw_desc.specs.Reading.{optional_group_at, descriptor_at}
 use Rattle.gw_desc.specs.declared.descriptor.Descriptor.{Descriptor}
 use Rattle.gw_text.specs.declared.fault.ParseFault.{ParseFault}
 use Rattle.gw_text.specs.declared.fault.ParseFault.TheVariants as part
-use Rattle.gw_msg.specs.Grammar.{may_be_wild, has_group, reply_depth, code_digits, code_max, spoken_version, version_digits, version_max}
-use Rattle.gw_msg.specs.Words.{verb_of, is_context, is_context_property, is_context_property_start, is_error, is_error_start}
+use Rattle.gw_msg.specs.Grammar.{may_be_wild, has_group, priority_digits, priority_max, reply_depth, code_digits, code_max, spoken_version, version_digits, version_max}
+use Rattle.gw_msg.specs.Words.{verb_of, flow_of, context_item_of, is_context, is_context_property_start, is_error, is_error_start}
 use Rattle.gw_msg.specs.NameWords.{term_of, mid_of}
 
 -- ---- steps
@@ -88,33 +92,70 @@ context_number_at text = do
 unfoldable pub context_id_at : Reader CtxRef
 context_id_at = if_mark (codes "$") Choose (if_mark (codes "*") All (if_mark (codes "-") Null context_number_at))
 
--- a context property or a contextAudit: its token and a tail, which is dropped
-unfoldable pub context_property_at : Reader (Unit {0})
+-- two TerminationIDs, and how media flow between them
+unfoldable pub triple_at : Reader Triple
+triple_at text = do
+  a ← word_as term_of text
+  second ← sign_at comma a.1
+  b ← word_as term_of second
+  third ← sign_at comma b.1
+  flow ← word_as flow_of third
+  Some (record { a = a.0; b = b.0; flow = flow.0 }, flow.1)
+
+-- a property that is asked for
+abbrev pub context_item_at : Reader ContextItem
+context_item_at = word_as context_item_of
+
+-- behind the word Priority: `=`, and its number
+unfoldable pub priority_at : Reader ℕ
+priority_at text = do
+  equals ← sign_at equals_sign text
+  number_up_to priority_digits priority_max equals
+
+-- behind the word of a context property, or of a contextAudit
+abbrev pub property_rest : Token → Reader ContextProp
+property_rest token.Priority text = priority_at text >>= λ n. Some (property.Priority n.0, n.1)
+property_rest token.Emergency text = Some (property.Emergency, text)
+property_rest token.Topology text = braced_at triple_at text >>= λ list. Some (property.Topology list.0, list.1)
+property_rest token.ContextAudit text = braced_at context_item_at text >>= λ list. Some (property.ContextAudit list.0, list.1)
+property_rest _ text = None
+
+-- the word, and what is behind it
+unfoldable pub context_property_at : Reader ContextProp
 context_property_at text = do
-  word ← token_in is_context_property text
-  tail ← tail_at word.1
-  Some (tt, tail.1)
+  word ← word_as token_of text
+  property_rest word.0 word.1
+
+-- what an action asks of its context: properties, and commands
+abbrev pub Contents : Type 0
+Contents = List ContextProp × List Command
+
+-- what others read, behind a property
+abbrev pub behind_property : ContextProp → Reader Contents → Reader Contents
+behind_property p others text = do
+  contents ← others text
+  Some ((p ∷ contents.0.0, contents.0.1), contents.1)
 
 -- a property, and what others read behind a comma
-abbrev pub property_then : Reader (List Command) → Reader (List Command)
+abbrev pub property_then : Reader Contents → Reader Contents
 property_then others text = do
-  property ← context_property_at text
-  if_sign comma others (λ rest. Some ([], rest)) property.1
+  p ← context_property_at text
+  if_sign comma (behind_property p.0 others) (λ rest. Some ((p.0 ∷ [], []), rest)) p.1
 
--- the commands behind the properties, which are fewer than fuel
-unfoldable pub commands_from : ℕ → Reader (List Command)
-commands_from zero text = None
-commands_from (suc fuel) text = if_begins is_context_property_start (property_then (commands_from fuel)) (list_at command_at) text
+-- commands without properties
+abbrev pub commands_alone_at : Reader Contents
+commands_alone_at text = do
+  commands ← list_at command_at text
+  Some (([], commands.0), commands.1)
+
+-- properties, fewer than fuel, and the commands behind them
+unfoldable pub contents_from : ℕ → Reader Contents
+contents_from zero text = None
+contents_from (suc fuel) text = if_begins is_context_property_start (property_then (contents_from fuel)) commands_alone_at text
 
 -- each property is a byte at least, so the text has fewer than this
-abbrev pub commands_at : Reader (List Command)
-commands_at text = commands_from (suc (length text)) text
-
--- whether properties stand there, and the commands
-abbrev pub contents_at : Reader (Bool × List Command)
-contents_at text = do
-  commands ← commands_at text
-  Some ((begins is_context_property_start text, commands.0), commands.1)
+abbrev pub contents_at : Reader Contents
+contents_at text = contents_from (suc (length text)) text
 
 -- the token of an action, `=`, a ContextID, and its contents in braces
 unfoldable pub action_at : Reader Action

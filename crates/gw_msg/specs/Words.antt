@@ -3,6 +3,10 @@ use Rattle.std.specs.Prelude.{ℕ, Bool, true, false, List, Option, Some, None, 
 use Rattle.gw_base.specs.Bytes.{is_one_of}
 use Rattle.gw_base.specs.declared.command_words.Verb.{Verb}
 use Rattle.gw_base.specs.declared.command_words.Verb.TheVariants as verb
+use Rattle.gw_base.specs.declared.context_words.Flow.{Flow}
+use Rattle.gw_base.specs.declared.context_words.Flow.TheVariants.{Bothway, Isolate, Oneway}
+use Rattle.gw_msg.specs.declared.message.ContextItem.{ContextItem}
+use Rattle.gw_msg.specs.declared.message.ContextItem.TheVariants as item
 use Rattle.gw_text.specs.Tokens.{token_of}
 use Rattle.gw_text.specs.declared.token.Token.{Token}
 use Rattle.gw_text.specs.declared.token.Token.TheVariants as token
@@ -33,13 +37,27 @@ abbrev pub is_error : Token → Bool
 is_error token.Error = true
 is_error _ = false
 
--- the tokens of context properties
-abbrev pub is_context_property : Token → Bool
-is_context_property token.Topology = true
-is_context_property token.Priority = true
-is_context_property token.Emergency = true
-is_context_property token.ContextAudit = true
-is_context_property _ = false
+-- how media flow, by its token
+abbrev pub flow_for : Option Token → Option Flow
+flow_for (Some token.Bothway) = Some Bothway
+flow_for (Some token.Isolate) = Some Isolate
+flow_for (Some token.Oneway) = Some Oneway
+flow_for _ = None
+
+-- how media flow, by a word
+abbrev pub flow_of : List ℕ → Option Flow
+flow_of word = flow_for (token_of word)
+
+-- the property that a ContextAudit asks for, by its token
+abbrev pub context_item_for : Option Token → Option ContextItem
+context_item_for (Some token.Topology) = Some item.Topology
+context_item_for (Some token.Priority) = Some item.Priority
+context_item_for (Some token.Emergency) = Some item.Emergency
+context_item_for _ = None
+
+-- the property that a ContextAudit asks for, by a word
+abbrev pub context_item_of : List ℕ → Option ContextItem
+context_item_of word = context_item_for (token_of word)
 
 -- of what may stand in an action, context properties alone begin with one of these letters
 abbrev pub is_context_property_start : ℕ → Bool

@@ -1,15 +1,14 @@
 //! The actions of a transaction and their commands, as they are read.
 
-ghost use Rattle.gw_text.specs.Parts.{Gives, Finds};
-ghost use Rattle.gw_msg.specs.Reading.{details_of, command_at, context_property_at, commands_at, action_at};
+ghost use Rattle.gw_text.specs.Parts.{Gives};
+ghost use Rattle.gw_msg.specs.Reading.{details_of, command_at, contents_at, action_at};
 
-use crate::message::{Action, Command};
+use crate::message::{Action, Command, ContextProp};
 use crate::words::{
-    context_id, has_group, is_context_property, is_context_property_next, mark, may_be_wild, term,
-    verb,
+    context_id, has_group, is_context_property_next, mark, may_be_wild, term, verb,
 };
 use gw_base::Items;
-use gw_desc::{Descriptor, optional_group, tail};
+use gw_desc::{Descriptor, optional_group};
 use gw_text::parts::{Parse, list, optional_braced, sign, token};
 use gw_text::{Cursor, ParseFault, Token};
 use std::alloc::Global;
@@ -54,29 +53,23 @@ impl<'a> Parse<'a> for Command<'a> {
     }
 }
 
-/// A context property, or that they are audited; it is read and dropped.
-#[tactic(auto, unfolding(crate::specs::Reading::context_property_at))]
-fn context_property(cursor: &mut Cursor<'_>) -> Result<(), ParseFault>
-    ensures { Finds result cursor.new (context_property_at cursor.old) }
+/// What an action asks of its context: the properties, and the commands behind them.
+fn contents<'a>(
+    alloc: Global,
+    cursor: &mut Cursor<'a>,
+) -> Result<(Items<ContextProp>, Items<Command<'a>>), ParseFault>
+    ensures { Gives result cursor.new (contents_at cursor.old) }
 {
-    if !is_context_property(token(cursor)?) {
-        return Err(ParseFault::Syntax);
-    }
-    tail(cursor)?;
-    Ok(())
-}
-
-/// The commands behind the properties, if there are any.
-fn commands<'a>(alloc: Global, cursor: &mut Cursor<'a>) -> Result<Items<Command<'a>>, ParseFault>
-    ensures { Gives result cursor.new (commands_at cursor.old) }
-{
+    let mut props = Items::new(alloc);
     while is_context_property_next(cursor) {
-        context_property(cursor)?;
+        let prop = ContextProp::read(alloc, cursor)?;
+        props.push(prop)?;
         if !cursor.sign(b',') {
-            return Ok(Items::new(alloc));
+            return Ok((props, Items::new(alloc)));
         }
     }
-    list(alloc, cursor)
+    let commands = list(alloc, cursor)?;
+    Ok((props, commands))
 }
 
 impl<'a> Parse<'a> for Action<'a> {
@@ -90,8 +83,7 @@ impl<'a> Parse<'a> for Action<'a> {
         sign(cursor, b'=')?;
         let ctx = context_id(cursor)?;
         sign(cursor, b'{')?;
-        let props = is_context_property_next(cursor);
-        let commands = commands(alloc, cursor)?;
+        let (props, commands) = contents(alloc, cursor)?;
         sign(cursor, b'}')?;
         Ok(Action {
             ctx,

@@ -5,9 +5,12 @@ mod actions;
 mod fault;
 mod items;
 mod message;
+mod properties;
 mod read;
 mod words;
 
 pub use fault::ReadFault;
-pub use message::{AckRange, Action, Command, Item, Message, Request};
+pub use message::{
+    AckRange, Action, Command, ContextItem, ContextProp, Item, Message, Request, Triple,
+};
 pub use read::{one_answer, one_message, read_message};

@@ -1,6 +1,6 @@
 //! The tree of a message (RFC 3525, section 8 and Annex B.2).
 
-use gw_base::{CtxRef, Items, Mid, TermRef, TxId, Verb};
+use gw_base::{CtxRef, Flow, Items, Mid, TermRef, TxId, Verb};
 use gw_desc::Descriptor;
 
 /// A message: who sent it, and what it holds in the order sent. What is kept as sent are spans of its datagram, which lives as
@@ -54,10 +54,46 @@ pub struct Request<'a> {
 pub struct Action<'a> {
     /// The context that the commands are for (section 8.1.2).
     pub ctx: CtxRef,
-    /// Whether context properties or a ContextAudit stand in it.
-    pub props: bool,
+    /// The context properties and ContextAudits in the order sent, which stand in front of the commands.
+    pub props: Items<ContextProp>,
     /// The commands in the order sent.
     pub commands: Items<Command<'a>>,
+}
+
+/// What an action asks of its context itself (RFC 3525, section 8.1.2 and Annex B.2, `contextProperty` and `contextAudit`).
+#[derive(Drop)]
+pub enum ContextProp {
+    /// `Priority`: the priority that the context gets.
+    Priority(u16),
+    /// `Emergency`: the context is marked as an emergency.
+    Emergency,
+    /// `Topology`: how media flow between its terminations, two at a time in the order sent, at least once.
+    Topology(Items<Triple>),
+    /// `ContextAudit`: which of its properties are told, in the order sent, at least one.
+    ContextAudit(Items<ContextItem>),
+}
+
+/// How media flow between two terminations (RFC 3525, section 7.1.18 and Annex B.2, `topologyTriple`). What is sent may be a
+/// wildcard.
+#[derive(Clone, Copy)]
+pub struct Triple {
+    /// The first termination.
+    pub a: TermRef,
+    /// The second.
+    pub b: TermRef,
+    /// How media flow between them.
+    pub flow: Flow,
+}
+
+/// A property of a context that a ContextAudit may ask for (RFC 3525, Annex B.2, `contextAuditProperties`).
+#[derive(Clone, Copy, Debug)]
+pub enum ContextItem {
+    /// How media flow between its terminations.
+    Topology,
+    /// Its priority.
+    Priority,
+    /// Whether it is marked as an emergency.
+    Emergency,
 }
 
 /// A command (RFC 3525, section 7.2).

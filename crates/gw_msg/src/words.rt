@@ -5,11 +5,12 @@ ghost use Rattle.gw_text.specs.Runs.{begins};
 ghost use Rattle.gw_text.specs.Reader.{word_as, solid_as};
 ghost use Rattle.gw_text.specs.Parts.{Finds};
 ghost use Rattle.gw_msg.specs.Grammar.{may_be_wild, has_group};
-ghost use Rattle.gw_msg.specs.Words.{verb_of, is_context_property, is_context_property_start, is_error_start};
+ghost use Rattle.gw_msg.specs.Words.{verb_of, flow_of, context_item_of, is_context_property_start, is_error_start};
 ghost use Rattle.gw_msg.specs.NameWords.{term_of, mid_of};
 ghost use Rattle.gw_msg.specs.Reading.{mark_at, context_id_at};
 
-use gw_base::{CtxNum, CtxRef, Mid, TermRef, Verb};
+use crate::message::ContextItem;
+use gw_base::{CtxNum, CtxRef, Flow, Mid, TermRef, Verb};
 use gw_text::{Cursor, ParseFault, Token, token_of};
 
 /// Whether the bytes come next, in any case; they are taken.
@@ -77,14 +78,28 @@ pub fn has_group(verb: Verb) -> bool
     matches!(verb, Verb::AuditCapability | Verb::Notify)
 }
 
-/// Whether the token is a context property's.
-pub fn is_context_property(token: Token) -> bool
-    ensures { result ≡ is_context_property token }
+/// How media flow, in a Topology.
+pub fn flow(cursor: &mut Cursor<'_>) -> Result<Flow, ParseFault>
+    ensures { Finds result cursor.new (word_as flow_of cursor.old) }
 {
-    matches!(
-        token,
-        Token::Topology | Token::Priority | Token::Emergency | Token::ContextAudit
-    )
+    match token_of(cursor.word()?) {
+        Some(Token::Bothway) => Ok(Flow::Bothway),
+        Some(Token::Isolate) => Ok(Flow::Isolate),
+        Some(Token::Oneway) => Ok(Flow::Oneway),
+        _ => Err(ParseFault::Syntax),
+    }
+}
+
+/// A property that a ContextAudit asks for.
+pub fn context_item(cursor: &mut Cursor<'_>) -> Result<ContextItem, ParseFault>
+    ensures { Finds result cursor.new (word_as context_item_of cursor.old) }
+{
+    match token_of(cursor.word()?) {
+        Some(Token::Topology) => Ok(ContextItem::Topology),
+        Some(Token::Priority) => Ok(ContextItem::Priority),
+        Some(Token::Emergency) => Ok(ContextItem::Emergency),
+        _ => Err(ParseFault::Syntax),
+    }
 }
 
 /// The ContextID of an action.
@@ -105,7 +120,7 @@ pub fn context_id(cursor: &mut Cursor<'_>) -> Result<CtxRef, ParseFault>
     Ok(CtxRef::Num(CtxNum(number.value)))
 }
 
-/// The TerminationID of a command.
+/// The TerminationID of a command, or of a Topology.
 #[tactic(auto, using(crate::proofs::WordLemmas::term_read, crate::proofs::WordLemmas::term_not_read))]
 pub fn term(cursor: &mut Cursor<'_>) -> Result<TermRef, ParseFault>
     ensures { Finds result cursor.new (word_as term_of cursor.old) }

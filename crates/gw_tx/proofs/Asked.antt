@@ -10,7 +10,8 @@ use Rattle.gw_desc.specs.Grammar.{SpellsDescriptor}
 use Rattle.gw_desc.specs.KeptTexts.{HasKeptTexts}
 use Rattle.gw_desc.specs.declared.descriptor.Descriptor.{Descriptor}
 use Rattle.gw_desc.proofs.KeptForms.{descriptor_kept}
-use Rattle.gw_msg.specs.Grammar.{SpellsTerm, has_group, SpellsDetailsOf, SpellsCommand, SpellsContents, SpellsAction, SpellsRequest, ContextProperty}
+use Rattle.gw_msg.specs.Grammar.{SpellsTerm, has_group, SpellsDetailsOf, SpellsCommand, SpellsContents, SpellsAction, SpellsRequest}
+use Rattle.gw_msg.specs.declared.message.ContextProp.{ContextProp}
 use Rattle.gw_msg.specs.declared.message.Action.{Action}
 use Rattle.gw_msg.specs.declared.message.Command.{Command}
 use Rattle.gw_msg.specs.declared.message.Request.{Request}
@@ -44,13 +45,13 @@ command_asked c text h =
     let named = h.words.second.second.second.second in
     record { term = term_asked c.term named.front named.first; descriptors = details_asked (has_group c.verb) c.descriptors named.back named.second }
 
-contents_asked : (ps : List ContextProperty) (cs : List Command) (text : List ℕ) → SpellsContents ps cs text → All IsAsked cs
+contents_asked : (ps : List ContextProp) (cs : List Command) (text : List ℕ) → SpellsContents ps cs text → All IsAsked cs
 contents_asked [] cs text h = separated SpellsCommand IsAsked command_asked cs text h
 contents_asked (p ∷ ps) [] text h = All-nil IsAsked
 contents_asked (p ∷ ps) (c ∷ cs) text h = let more = h.second.second in separated SpellsCommand IsAsked command_asked (c ∷ cs) h.second.back more
 
 action_asked : (a : Action) (text : List ℕ) → SpellsAction a text → AreAsked a
-action_asked a text h = let contents = h.words.second.second.second.second in contents_asked h.properties a.commands contents.front contents.first
+action_asked a text h = let contents = h.second.second.second.second in contents_asked a.props a.commands contents.front contents.first
 
 pub request_asked : (r : Request) (text : List ℕ) → SpellsRequest r text → IsAskedRequest r
 request_asked r text h =

@@ -29,7 +29,7 @@ use Rattle.gw_cmd.specs.KeptForms.{AreKept, IsAsked, IsSlot}
 use Rattle.gw_cmd.proofs.FormsKept.{command_kept}
 use Rattle.gw_tx.specs.KeptForms.{AreAsked, IsAskedRequest, AreSlots}
 use Rattle.gw_reserve.specs.Owned.{OwnedAction, first_owned, later_owned, is_adding, with_slots, slots_behind, owning, with_owned}
-use Rattle.gw_tx.specs.Transactions.{attempt, commands, action_reply, refused_action, carried_action, in_each, in_all, action_for_each, action_in, action_for, action_on, action, paired_transaction, transaction}
+use Rattle.gw_tx.specs.Transactions.{has_properties, attempt, commands, action_reply, refused_action, carried_action, in_each, in_all, action_for_each, action_in, action_for, action_on, action, paired_transaction, transaction}
 
 -- ---- in order
 
@@ -147,7 +147,7 @@ module _ (rules : Rules) (address : IsAddress rules.media) where
   on_kept a m ref.All good k = for_each_kept a.commands m (numbers m) good k
 
   action_kept : (u : Unit {0}) (a : OwnedAction) (m : Maps) → IsGoodAction a → AreKept m → Tells (action rules u a m)
-  action_kept u a m good k = by a.sent.props
+  action_kept u a m good k = by (has_properties a.sent)
     where
       by : (b : Bool) → Tells (cond b (refused_action a.sent.ctx NotImplemented m) (action_on rules a m a.sent.ctx))
       by true = refused_kept a.sent.ctx NotImplemented m k

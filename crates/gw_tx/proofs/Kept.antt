@@ -21,7 +21,7 @@ use Rattle.gw_refusal.specs.Places.{made}
 use Rattle.gw_cmd.specs.Commands.{command}
 use Rattle.gw_cmd.specs.Suits.{IsUnused}
 use Rattle.gw_reserve.specs.Owned.{OwnedAction, first_owned, later_owned, paired_commands, paired_action, paired_actions, AreFreeSlots}
-use Rattle.gw_tx.specs.Transactions.{refused_action, attempted, attempt, commands, in_each, in_all, action_for_each, action_in, action_for, action_on, action, actions}
+use Rattle.gw_tx.specs.Transactions.{has_properties, refused_action, attempted, attempt, commands, in_each, in_all, action_for_each, action_in, action_for, action_on, action, actions}
 use Rattle.gw_tx.proofs.FreeSlots.{IsOfKind, makes_none, free_slot, free_later, free_on, free_after, kind_first, kind_later}
 use Rattle.gw_tx.proofs.EachContext.{each_takes_none, stays_each}
 
@@ -145,7 +145,7 @@ module _ {Ok : At → Option ℕ → Command → Type 0} {S : ℕ → Type 0} {Q
 
   pub kept_action : (a : Action) (number : Option CtxNum) (slots : List (Option ℕ)) (m : Maps) → OksIn Ok (paired_commands slots a.commands) a.ctx number → With S Q slots m → With S Q (drop (length a.commands) slots) (action rules tt (paired_action number slots a) m).maps
   kept_action a number slots m o w =
-      one_of (λ x. With S Q (drop (length a.commands) slots) x) a.props (refused_action a.ctx NotImplemented m) (action_on rules (paired_action number slots a) m a.ctx)
+      one_of (λ x. With S Q (drop (length a.commands) slots) x) (has_properties a) (refused_action a.ctx NotImplemented m) (action_on rules (paired_action number slots a) m a.ctx)
       (behind slots (length a.commands) m w) (kept_on a number slots m a.ctx o w)
 
   pub kept_actions : (held : List (Option CtxNum)) (slots : List (Option ℕ)) (asked : List Action) (m : Maps) → AllOks Ok (paired_actions held slots asked) → With S Q slots m → Q (actions rules (paired_actions held slots asked) m).maps

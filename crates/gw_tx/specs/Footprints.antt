@@ -105,4 +105,4 @@ owned_for (Each n) = None
 
 -- the action with this context and this command alone
 abbrev pub alone : At → Option ℕ → Command → OwnedAction
-alone at slot c = record { sent = record { ctx = sent_for at; props = false; commands = c ∷ [] }; number = owned_for at; commands = (slot, c) ∷ [] }
+alone at slot c = record { sent = record { ctx = sent_for at; props = []; commands = c ∷ [] }; number = owned_for at; commands = (slot, c) ∷ [] }

@@ -1,6 +1,6 @@
 -- What an action and a transaction do: left folds with the stop rule (RFC 3525, sections 8.1 and 8.2; the order of errors, and
 -- what a stop under * ends, are own).
-use Rattle.std.specs.Prelude.{ℕ, Bool, true, false, ◌&&◌, ◌||◌, not, if◌then◌else◌, List, [], ◌∷◌, Option, None, Some, Ok, Err}
+use Rattle.std.specs.Prelude.{ℕ, Bool, true, false, ◌&&◌, ◌||◌, ◌==◌, not, if◌then◌else◌, List, [], ◌∷◌, length, Option, None, Some, Ok, Err}
 use Rattle.gw_base.specs.declared.code.Code.{Code}
 use Rattle.gw_base.specs.declared.code.Code.TheVariants.{UnknownContext, NoContextLeft, NoWildcardMatch, NotImplemented}
 use Rattle.gw_base.specs.declared.ids.CtxNum.{CtxNum}
@@ -9,6 +9,7 @@ use Rattle.gw_base.specs.declared.command_words.Rules.{Rules}
 use Rattle.gw_base.specs.declared.command_words.CtxRef.{CtxRef}
 use Rattle.gw_base.specs.declared.command_words.CtxRef.TheVariants as ref
 use Rattle.gw_ctx.specs.Contexts.{ContextRecord}
+use Rattle.gw_msg.specs.declared.message.Action.{Action}
 use Rattle.gw_msg.specs.declared.message.Command.{Command}
 use Rattle.gw_msg.specs.declared.message.Request.{Request}
 use Rattle.gw_reply.specs.declared.reply.CommandReply.{CommandReply}
@@ -113,9 +114,13 @@ action_on rules a m ref.Choose = action_for rules a.number a.commands m
 action_on rules a m ref.Null = carried_action (commands rules Null a.commands m)
 action_on rules a m ref.All = action_for_each rules a.commands m (numbers m)
 
+-- whether an action asks its context for properties, or for a ContextAudit
+abbrev pub has_properties : Action → Bool
+has_properties a = not (length a.props == 0)
+
 -- an action, with what it owns; of one with context properties or a ContextAudit nothing is attempted
 abbrev pub action : Rules → Unit {0} → OwnedAction → Maps → Outcome (Attempts Unit ActionReply)
-action rules u a m = if a.sent.props then refused_action a.sent.ctx NotImplemented m else action_on rules a m a.sent.ctx
+action rules u a m = if has_properties a.sent then refused_action a.sent.ctx NotImplemented m else action_on rules a m a.sent.ctx
 
 -- ---- transactions
 

@@ -38,7 +38,7 @@ fn action(
     ensures answer { IfOk result (λ done. done ≡ counted action_reply_text told (action_done rules.now tt (paired_action number slots.now sent.now) part.old.maps).answer) }
     ensures keys { part.new.keys ≡ part.old.keys }
 {
-    if sent.props {
+    if !sent.props.is_empty() {
         return action_error(told, sent.ctx, Code::NotImplemented);
     }
     let asked = sent.commands.as_slice();

@@ -1,0 +1,63 @@
+//! What an action asks of its context itself, as it is read: its properties, and that they are audited.
+
+ghost use Rattle.gw_text.specs.Parts.{Gives, Finds};
+ghost use Rattle.gw_msg.specs.Reading.{triple_at, context_item_at, priority_at, context_property_at};
+
+use crate::message::{ContextItem, ContextProp, Triple};
+use crate::words::{context_item, flow, term};
+use gw_text::parts::{Parse, braced, sign, token};
+use gw_text::{Cursor, ParseFault, Token};
+use std::alloc::Global;
+
+/// The most digits of a priority, as it is sent.
+const PRIORITY_DIGITS: usize = 5;
+
+/// The greatest number that they write.
+const PRIORITY_MAX: u32 = 65_535;
+
+impl<'a> Parse<'a> for Triple {
+    ghost read_at = { triple_at };
+
+    #[tactic(auto, unfolding(crate::specs::Reading::triple_at))]
+    fn read(_alloc: Global, cursor: &mut Cursor<'a>) -> Result<Triple, ParseFault> {
+        let a = term(cursor)?;
+        sign(cursor, b',')?;
+        let b = term(cursor)?;
+        sign(cursor, b',')?;
+        let flow = flow(cursor)?;
+        Ok(Triple { a, b, flow })
+    }
+}
+
+impl<'a> Parse<'a> for ContextItem {
+    ghost read_at = { context_item_at };
+
+    fn read(_alloc: Global, cursor: &mut Cursor<'a>) -> Result<ContextItem, ParseFault> {
+        context_item(cursor)
+    }
+}
+
+/// What follows the word `Priority`: its number.
+#[tactic(auto, unfolding(crate::specs::Reading::priority_at))]
+fn priority(cursor: &mut Cursor<'_>) -> Result<u16, ParseFault>
+    ensures { Finds result cursor.new (priority_at cursor.old) }
+{
+    sign(cursor, b'=')?;
+    let number = cursor.number(PRIORITY_DIGITS, PRIORITY_MAX)?;
+    Ok(number.value as u16)
+}
+
+impl<'a> Parse<'a> for ContextProp {
+    ghost read_at = { context_property_at };
+
+    #[tactic(auto, using(crate::proofs::ContextLaws::triple_shrinks, crate::proofs::ContextLaws::context_item_shrinks), unfolding(crate::specs::Reading::context_property_at))]
+    fn read(alloc: Global, cursor: &mut Cursor<'a>) -> Result<ContextProp, ParseFault> {
+        match token(cursor)? {
+            Token::Priority => Ok(ContextProp::Priority(priority(cursor)?)),
+            Token::Emergency => Ok(ContextProp::Emergency),
+            Token::Topology => Ok(ContextProp::Topology(braced(alloc, cursor)?)),
+            Token::ContextAudit => Ok(ContextProp::ContextAudit(braced(alloc, cursor)?)),
+            _ => Err(ParseFault::Syntax),
+        }
+    }
+}
