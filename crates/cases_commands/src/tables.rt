@@ -17,6 +17,7 @@ fn tree_of(alloc: Global, replies: Items<CommandReply>) -> Result<TxReply, Alloc
     let mut actions = Items::new(alloc);
     actions.push(ActionReply {
         ctx: CtxRef::Null,
+        parts: Items::new(alloc),
         result: Ok(replies),
     })?;
     Ok(TxReply {

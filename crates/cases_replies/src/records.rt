@@ -37,6 +37,7 @@ fn tree_of(alloc: Global, verb: Verb, parts: Items<ReplyPart>) -> Result<TxReply
     };
     let action = ActionReply {
         ctx: CtxRef::Null,
+        parts: Items::new(alloc),
         result: Ok(one(alloc, command)?),
     };
     Ok(TxReply {

@@ -1,12 +1,12 @@
 //! The tree of a reply, from words: the transaction's number; `!510` for an error in its place; `in:1` for an action reply in a
-//! context, `in:9!411` for one that is an error; `Add=T/1` and `Add=T/9!430` for command replies; `*236` in front of a word
-//! that stands so many times.
+//! context, `in:9!411` for one that is an error; `Priority=3`, `Emergency` and `Topology=T/1,T/2,Oneway` behind it for what is told
+//! of the context; `Add=T/1` and `Add=T/9!430` for command replies; `*236` in front of a word that stands so many times.
 
 use cases_text::{
     CaseFault, Page, as_text, code_of, context_of, number_of, split_at_byte, split_word,
 };
-use gw_base::{Code, Items, Mid, NoMemory, TermRef, TxId, Verb};
-use gw_reply::{ActionReply, CommandReply, TxReply, write_fault, write_reply};
+use gw_base::{Code, Flow, Items, Link, Mid, NoMemory, TermName, TermRef, TxId, Verb};
+use gw_reply::{ActionReply, CommandReply, ContextPart, TxReply, write_fault, write_reply};
 use std::alloc::Global;
 
 /// The command of a word.
@@ -92,6 +92,74 @@ fn add_commands<'a>(
     Ok(rest)
 }
 
+/// A link of a topology, and what stands behind it and a comma.
+fn link_of(words: &[u8]) -> Result<(Link, &[u8]), CaseFault> {
+    let (a, rest) = split_at_byte(words, b',');
+    let (b, rest) = split_at_byte(rest, b',');
+    let (flow, rest) = split_at_byte(rest, b',');
+    let flow = match as_text(flow) {
+        "Bothway" => Flow::Bothway,
+        "Isolate" => Flow::Isolate,
+        "Oneway" => Flow::Oneway,
+        _ => return Err(CaseFault::Form),
+    };
+    let (Ok(a), Ok(b)) = (TermName::read(a), TermName::read(b)) else {
+        return Err(CaseFault::Form);
+    };
+    Ok((Link { a, b, flow }, rest))
+}
+
+/// The links of a topology; none where there is no text.
+fn links_of(alloc: Global, words: &[u8]) -> Result<Items<Link>, CaseFault> {
+    let mut links = Items::new(alloc);
+    let mut rest = words;
+    // Each step takes a byte at least.
+    for _step in words {
+        if rest.is_empty() {
+            break;
+        }
+        let (link, behind) = link_of(rest)?;
+        links.push(link)?;
+        rest = behind;
+    }
+    Ok(links)
+}
+
+/// What a word tells of a context, if it is such a word.
+fn part_of(alloc: Global, word: &[u8]) -> Result<Option<ContextPart>, CaseFault> {
+    if let Some(number) = word.strip_prefix(b"Priority=") {
+        let number = number_of(number).ok_or(CaseFault::Form)?;
+        let priority = u8::try_from(number).map_err(|_| CaseFault::Form)?;
+        return Ok(Some(ContextPart::Priority(priority)));
+    }
+    if let Some(links) = word.strip_prefix(b"Topology=") {
+        return Ok(Some(ContextPart::Topology(links_of(alloc, links)?)));
+    }
+    match as_text(word) {
+        "Emergency" => Ok(Some(ContextPart::Emergency)),
+        _ => Ok(None),
+    }
+}
+
+/// Adds what the words tell of a context up to the first that does not, and gives what stands from there on.
+fn add_parts<'a>(
+    alloc: Global,
+    parts: &mut Items<ContextPart>,
+    words: &'a [u8],
+) -> Result<&'a [u8], CaseFault> {
+    let mut rest = words;
+    // Each step takes a byte at least.
+    for _step in words {
+        let (word, behind) = split_word(rest);
+        let Some(part) = part_of(alloc, word)? else {
+            break;
+        };
+        parts.push(part)?;
+        rest = behind;
+    }
+    Ok(rest)
+}
+
 /// Adds the action reply that the words begin with, and gives what stands behind it.
 fn add_action<'a>(
     alloc: Global,
@@ -102,9 +170,12 @@ fn add_action<'a>(
     let ctx = word.strip_prefix(b"in:").ok_or(CaseFault::Form)?;
     let (ctx, number) = split_at_byte(ctx, b'!');
     let ctx = context_of(ctx).ok_or(CaseFault::Form)?;
+    let mut parts = Items::new(alloc);
+    let rest = add_parts(alloc, &mut parts, rest)?;
     if let Some(code) = error_of(number)? {
         actions.push(ActionReply {
             ctx,
+            parts,
             result: Err(code),
         })?;
         return Ok(rest);
@@ -113,6 +184,7 @@ fn add_action<'a>(
     let rest = add_commands(alloc, &mut commands, rest)?;
     actions.push(ActionReply {
         ctx,
+        parts,
         result: Ok(commands),
     })?;
     Ok(rest)

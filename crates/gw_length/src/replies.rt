@@ -2,12 +2,12 @@
 
 ghost use Rattle.std.specs.Prelude.{◌≡◌, ℕ, length};
 ghost use Rattle.gw_length.specs.Rooms.{Leaves};
-ghost use Rattle.gw_reply.specs.Replies.{body_text, command_reply_text, replies_text};
+ghost use Rattle.gw_reply.specs.Replies.{body_text, command_reply_text, replies_text, later_replies, told_text};
 
-use crate::room::{Length, behind, behind_joined};
+use crate::room::{Length, behind, behind_joined, behind_later, behind_number};
 use crate::words::verb_length;
 use gw_base::{Code, Items};
-use gw_reply::{ActionReply, CommandReply, ReplyPart};
+use gw_reply::{ActionReply, CommandReply, ContextPart, ReplyPart};
 
 /// Behind what follows the TerminationID.
 fn behind_body(room: usize, outcome: &Result<Items<ReplyPart>, Code>) -> Option<usize>
@@ -49,6 +49,55 @@ fn behind_commands(room: usize, outcome: &Result<Items<CommandReply>, Code>) -> 
     }
 }
 
+impl Length for ContextPart {
+    ghost use Rattle.gw_reply.specs.ContextParts.{context_part_text};
+
+    ghost text = { context_part_text };
+
+    fn room_behind(&self, room: usize) -> Option<usize> {
+        match self {
+            ContextPart::Priority(priority) => {
+                let left = behind(room, b"Priority=".len())?;
+                behind_number(left, u32::from(*priority))
+            }
+            ContextPart::Emergency => behind(room, b"Emergency".len()),
+            ContextPart::Topology(links) => {
+                let left = behind(room, b"Topology{}".len())?;
+                behind_joined(left, links.as_slice())
+            }
+        }
+    }
+}
+
+/// Behind the replies of an action, each with a comma before it, or the error that stands for all of them.
+fn behind_later_commands(room: usize, outcome: &Result<Items<CommandReply>, Code>) -> Option<usize>
+    ensures { Leaves result room (length (later_replies command_reply_text outcome.now)) }
+{
+    match outcome {
+        Ok(replies) => behind_later(room, replies.as_slice()),
+        Err(code) => {
+            let left = behind(room, 1)?;
+            code.room_behind(left)
+        }
+    }
+}
+
+/// Behind what an action reply tells: of the context itself, and behind that of the commands.
+fn behind_told(
+    room: usize,
+    parts: &[ContextPart],
+    outcome: &Result<Items<CommandReply>, Code>,
+) -> Option<usize>
+    ensures { Leaves result room (length (told_text parts.now outcome.now)) }
+{
+    let Some((first, rest)) = parts.split_first() else {
+        return behind_commands(room, outcome);
+    };
+    let left = first.room_behind(room)?;
+    let left = behind_later(left, rest)?;
+    behind_later_commands(left, outcome)
+}
+
 impl Length for ActionReply {
     ghost use Rattle.gw_reply.specs.Replies.{action_reply_text};
 
@@ -57,6 +106,6 @@ impl Length for ActionReply {
     fn room_behind(&self, room: usize) -> Option<usize> {
         let left = behind(room, b"Context={}".len())?;
         let left = self.ctx.room_behind(left)?;
-        behind_commands(left, &self.result)
+        behind_told(left, self.parts.as_slice(), &self.result)
     }
 }

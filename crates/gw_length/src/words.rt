@@ -2,13 +2,14 @@
 
 ghost use Rattle.std.specs.Prelude.{◌≡◌, length};
 ghost use Rattle.gw_reply.specs.Commands.{command_word};
+ghost use Rattle.gw_reply.specs.ContextParts.{flow_word, link_text};
 ghost use Rattle.gw_reply.specs.Contexts.{context_text};
 ghost use Rattle.gw_reply.specs.Errors.{error_text};
 ghost use Rattle.gw_reply.specs.Parts.{mode_word, service_word, kind_word, item_word};
 ghost use Rattle.gw_reply.specs.Terminations.{term_text};
 
 use crate::room::{Length, behind, behind_number};
-use gw_base::{Code, CtxNum, CtxRef, Service, TermRef, Verb};
+use gw_base::{Code, CtxNum, CtxRef, Flow, Link, Service, TermRef, Verb};
 use gw_desc::{AuditItem, KeptKind, Mode};
 
 pub(crate) fn mode_length(mode: Mode) -> usize
@@ -68,6 +69,29 @@ pub(crate) fn verb_length(verb: Verb) -> usize
         Verb::AuditCapability => b"AuditCapability".len(),
         Verb::Notify => b"Notify".len(),
         Verb::ServiceChange => b"ServiceChange".len(),
+    }
+}
+
+fn flow_length(flow: Flow) -> usize
+    ensures { result ≡ length (flow_word flow) }
+{
+    match flow {
+        Flow::Bothway => b"Bothway".len(),
+        Flow::Isolate => b"Isolate".len(),
+        Flow::Oneway => b"Oneway".len(),
+    }
+}
+
+impl Length for Link {
+    ghost use Rattle.gw_reply.specs.ContextParts.{link_text};
+
+    ghost text = { link_text };
+
+    fn room_behind(&self, room: usize) -> Option<usize> {
+        let left = behind(room, b",,".len())?;
+        let left = behind(left, self.a.as_bytes().len())?;
+        let left = behind(left, self.b.as_bytes().len())?;
+        behind(left, flow_length(self.flow))
     }
 }
 

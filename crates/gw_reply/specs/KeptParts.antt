@@ -1,5 +1,5 @@
 -- The forms of what a reply tells as it is kept (own): of properties, tails, Locals and Remotes.
-use Rattle.std.specs.Prelude.{ℕ, List, Option, Result, Ok, Err}
+use Rattle.std.specs.Prelude.{List, Result, Ok, Err}
 use Rattle.std.specs.List.{All}
 use Rattle.gw_base.specs.declared.code.Code.{Code}
 use Rattle.gw_desc.specs.KeptTexts.{IsOptional, IsKeptProperty, IsKeptTail, IsKeptOctets}

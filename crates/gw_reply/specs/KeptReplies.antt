@@ -1,9 +1,13 @@
 -- The forms of the texts in a tree of replies (own): of its TerminationIDs, and of what it tells as it is kept.
-use Rattle.std.specs.Prelude.{◌<◌, ℕ, List}
+use Rattle.std.specs.Prelude.{◌<◌, ℕ}
+use Rattle.std.specs.List.{All}
 use Rattle.gw_base.specs.Names.{IsName}
 use Rattle.gw_base.specs.Wildcards.{IsTermText}
 use Rattle.gw_base.specs.declared.term_ref.TermRef.{TermRef}
 use Rattle.gw_base.specs.declared.term_ref.TermRef.TheVariants.{Under, Name, Other}
+use Rattle.gw_base.specs.declared.context_words.Link.{Link}
+use Rattle.gw_reply.specs.declared.context_parts.ContextPart.{ContextPart}
+use Rattle.gw_reply.specs.declared.context_parts.ContextPart.TheVariants.{Topology}
 use Rattle.gw_reply.specs.KeptParts.{HasKeptReply, AllOk}
 use Rattle.gw_reply.specs.declared.reply.TxReply.{TxReply}
 use Rattle.gw_reply.specs.declared.reply.ActionReply.{ActionReply}
@@ -24,8 +28,19 @@ IsWide n = n < 4294967296
 abbrev pub IsKeptCommand : CommandReply → Type 0
 IsKeptCommand c = HasForm c.term × AllOk HasKeptReply c.result
 
-abbrev pub IsKeptAction : ActionReply → Type 0
-IsKeptAction a = AllOk IsKeptCommand a.result
+-- a link of which each name is a TerminationID
+abbrev pub HasNames : Link → Type 0
+HasNames l = IsTermText l.a × IsTermText l.b
+
+-- what is told of a context names TerminationIDs alone
+abbrev pub IsKeptPart : ContextPart → Type 0
+IsKeptPart (Topology links) = All HasNames links
+IsKeptPart _ = Unit {0}
+
+-- what an action reply tells of its context, and of the commands
+pub record IsKeptAction (a : ActionReply) : Type 0 where
+  pub parts : All IsKeptPart a.parts
+  pub commands : AllOk IsKeptCommand a.result
 
 -- a tree whose texts have their forms
 abbrev pub IsKeptTree : TxReply → Type 0

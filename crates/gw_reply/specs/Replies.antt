@@ -4,9 +4,11 @@ use Rattle.gw_base.specs.declared.code.Code.{Code}
 use Rattle.gw_reply.specs.declared.reply.TxReply.{TxReply}
 use Rattle.gw_reply.specs.declared.reply.ActionReply.{ActionReply}
 use Rattle.gw_reply.specs.declared.reply.CommandReply.{CommandReply}
+use Rattle.gw_reply.specs.declared.context_parts.ContextPart.{ContextPart}
 use Rattle.gw_reply.specs.declared.parts.ReplyPart.{ReplyPart}
 use Rattle.gw_reply.specs.Parts.{part_text}
-use Rattle.gw_reply.specs.Lists.{comma_separated, in_braces}
+use Rattle.gw_reply.specs.ContextParts.{context_part_text}
+use Rattle.gw_reply.specs.Lists.{comma, comma_separated, in_braces, later}
 use Rattle.gw_reply.specs.Terminations.{term_text}
 use Rattle.gw_reply.specs.Contexts.{context_text}
 use Rattle.gw_reply.specs.Commands.{command_word}
@@ -27,9 +29,23 @@ body_text (Err code) = in_braces (error_text code)
 abbrev pub command_reply_text : CommandReply → List ℕ
 command_reply_text reply = command_word reply.verb ++ codes "=" ++ term_text reply.term ++ body_text reply.result
 
+-- the text of each reply, or of the error that stands for all of them
+abbrev pub replies_texts : {T : Type 0} → (T → List ℕ) → Result (List T) Code → List (List ℕ)
+replies_texts text (Ok replies) = map text replies
+replies_texts text (Err code) = error_text code ∷ []
+
+-- what an action reply tells: of the context itself, and behind that of the commands, joined by commas
+abbrev pub told_text : List ContextPart → Result (List CommandReply) Code → List ℕ
+told_text parts result = comma_separated (map context_part_text parts ++ replies_texts command_reply_text result)
+
 -- Context=<ContextID>{..}
 abbrev pub action_reply_text : ActionReply → List ℕ
-action_reply_text reply = codes "Context=" ++ context_text reply.ctx ++ in_braces (replies_text command_reply_text reply.result)
+action_reply_text reply = codes "Context=" ++ context_text reply.ctx ++ in_braces (told_text reply.parts reply.result)
+
+-- each of the replies behind a comma, or the error behind one
+abbrev pub later_replies : {T : Type 0} → (T → List ℕ) → Result (List T) Code → List ℕ
+later_replies text (Ok replies) = later text replies
+later_replies text (Err code) = comma ∷ error_text code
 
 -- Reply=<TransactionID>{..}
 abbrev pub transaction_reply_text : TxReply → List ℕ

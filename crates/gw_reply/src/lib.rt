@@ -1,6 +1,8 @@
 //! Replies, and their text in the H.248 text encoding.
 #![tactic(auto)]
 
+mod context_parts;
+mod context_text;
 mod error;
 mod identifiers;
 mod message;
@@ -10,6 +12,7 @@ mod reply;
 mod tree_text;
 mod wire;
 
+pub use context_parts::ContextPart;
 pub use message::{write_fault, write_reply};
 pub use parts::{
     AuditReply, FilledStream, KeptProperty, KeptTail, MediaReply, ReplyPart, StreamReply,

@@ -1,5 +1,6 @@
 //! The tree of a transaction's reply (RFC 3525, section 8.2.2).
 
+use crate::context_parts::ContextPart;
 use crate::parts::ReplyPart;
 use gw_base::{Code, CtxRef, Items, TermRef, TxId, Verb};
 
@@ -17,6 +18,8 @@ pub struct TxReply {
 pub struct ActionReply {
     /// The context: its number once it was made, else as sent.
     pub ctx: CtxRef,
+    /// What is told of the context itself, in front of the command replies.
+    pub parts: Items<ContextPart>,
     /// The command replies in order, or the error that stands for the whole action.
     pub result: Result<Items<CommandReply>, Code>,
 }

@@ -1,11 +1,14 @@
 //! The text of replies to commands, actions and transactions (RFC 3525, section 8.2.2 and Annex B.2).
 
 ghost use Rattle.std.specs.Prelude.{◌≡◌, ◌++◌, OnOk};
-ghost use Rattle.gw_reply.specs.Replies.{body_text};
+ghost use Rattle.gw_reply.specs.Replies.{body_text, told_text};
 
+use crate::context_parts::ContextPart;
 use crate::parts::ReplyPart;
 use crate::reply::{ActionReply, CommandReply, TxReply};
-use crate::wire::{WireText, write_joined, write_number, write_replies};
+use crate::wire::{
+    WireText, write_joined, write_later, write_later_replies, write_number, write_replies,
+};
 use gw_base::{Code, Items};
 use std::alloc::AllocError;
 
@@ -43,6 +46,22 @@ impl WireText for CommandReply {
     }
 }
 
+/// What an action reply tells: of the context itself, and behind that of the commands.
+fn write_told(
+    parts: &[ContextPart],
+    outcome: &Result<Items<CommandReply>, Code>,
+    out: &mut Vec<u8>,
+) -> Result<(), AllocError>
+    ensures { OnOk result (out.new.items ≡ out.old.items ++ told_text parts.now outcome.now) }
+{
+    let Some((first, rest)) = parts.split_first() else {
+        return write_replies(outcome, out);
+    };
+    first.write_to(out)?;
+    write_later(rest, out)?;
+    write_later_replies(outcome, out)
+}
+
 impl WireText for ActionReply {
     ghost use Rattle.gw_reply.specs.Replies.{action_reply_text};
 
@@ -52,7 +71,7 @@ impl WireText for ActionReply {
         out.extend_from_slice(b"Context=")?;
         self.ctx.write_to(out)?;
         out.push(b'{')?;
-        write_replies(&self.result, out)?;
+        write_told(self.parts.as_slice(), &self.result, out)?;
         out.push(b'}')?;
         Ok(())
     }

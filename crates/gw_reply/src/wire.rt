@@ -2,7 +2,7 @@
 
 ghost use Rattle.std.specs.Prelude.{◌≡◌, ◌++◌, ℕ, List, OnOk, map, decimal};
 ghost use Rattle.gw_reply.specs.Lists.{comma_separated, later};
-ghost use Rattle.gw_reply.specs.Replies.{replies_text};
+ghost use Rattle.gw_reply.specs.Replies.{replies_text, later_replies};
 
 use gw_base::{Code, Items};
 use itoa::Buffer;
@@ -60,5 +60,21 @@ pub(crate) fn write_replies<T: WireText + Drop>(
     match replies {
         Ok(parts) => write_joined(parts.as_slice(), out),
         Err(code) => code.write_to(out),
+    }
+}
+
+/// The replies, each behind a comma, or behind one the error that stands for all of them.
+pub(crate) fn write_later_replies<T: WireText + Drop>(
+    replies: &Result<Items<T>, Code>,
+    out: &mut Vec<u8>,
+) -> Result<(), AllocError>
+    ensures { OnOk result (out.new.items ≡ out.old.items ++ later_replies T.text replies.now) }
+{
+    match replies {
+        Ok(parts) => write_later(parts.as_slice(), out),
+        Err(code) => {
+            out.push(b',')?;
+            code.write_to(out)
+        }
     }
 }

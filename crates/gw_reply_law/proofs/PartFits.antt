@@ -23,6 +23,13 @@ use Rattle.gw_desc.specs.declared.values.AuditItem.TheVariants as item
 use Rattle.gw_desc.specs.declared.values.Mode.{Mode}
 use Rattle.gw_desc.specs.declared.values.Mode.TheVariants as mode
 use Rattle.gw_reply.specs.Commands.{command_word}
+use Rattle.gw_base.specs.declared.context_words.Flow.{Flow}
+use Rattle.gw_base.specs.declared.context_words.Flow.TheVariants as flow
+use Rattle.gw_base.specs.declared.context_words.Link.{Link}
+use Rattle.gw_reply.specs.declared.context_parts.ContextPart.{ContextPart}
+use Rattle.gw_reply.specs.declared.context_parts.ContextPart.TheVariants as told
+use Rattle.gw_reply.specs.ContextParts.{flow_word, link_text, context_part_text}
+use Rattle.gw_reply.proofs.Joins.{told_first, told_none}
 use Rattle.gw_reply.specs.Contexts.{context_text}
 use Rattle.gw_reply.specs.Terminations.{term_text}
 use Rattle.gw_reply.specs.Errors.{error_text}
@@ -30,7 +37,7 @@ use Rattle.gw_reply.specs.KeptParts.{IsKeptFilled, IsKeptStreamReply, HasKeptRep
 use Rattle.gw_reply.specs.Lists.{in_braces, comma_separated, later}
 use Rattle.gw_reply.specs.Messages.{message_text, longest_message, too_long, reply_text}
 use Rattle.gw_reply.specs.Parts.{mode_word, service_word, kind_word, item_word, property_text, text_if, equals_text, later_octets, control_text, numbered, stream_parts, stream_text, filled_stream_text, state_text, part_text}
-use Rattle.gw_reply.specs.Replies.{replies_text, body_text, command_reply_text, action_reply_text, transaction_reply_text}
+use Rattle.gw_reply.specs.Replies.{replies_text, later_replies, told_text, body_text, command_reply_text, action_reply_text, transaction_reply_text}
 use Rattle.gw_reply.specs.declared.parts.ReplyPart.{ReplyPart}
 use Rattle.gw_reply.specs.declared.parts.ReplyPart.TheVariants as part
 use Rattle.gw_reply.specs.declared.parts.FilledStream.{FilledStream}
@@ -40,10 +47,10 @@ use Rattle.gw_reply.specs.declared.reply.ActionReply.{ActionReply}
 use Rattle.gw_reply.specs.declared.reply.CommandReply.{CommandReply}
 use Rattle.gw_msg.specs.Grammar.{reply_depth}
 use Rattle.gw_reply_law.specs.Spellings.{SpellsReplyOf, IsReplyMessage}
-use Rattle.gw_reply.specs.KeptReplies.{IsKeptCommand, IsKeptAction, IsKeptTree}
+use Rattle.gw_reply.specs.KeptReplies.{HasNames, IsKeptPart, IsKeptCommand, IsKeptAction, IsKeptTree}
 use Rattle.gw_reply_law.proofs.Spots.{Before, Equals, Other}
 use Rattle.gw_reply_law.proofs.Fits.{Fits, Runs, then, as_runs, then_runs, runs_then_runs, fits_nothing, fits_word, fits_mark, fits_quoted, fits_octets, fits_braces, fits_group, is_group, fits_comma, fits_key}
-use Rattle.gw_reply_law.proofs.Words.{decimal_word}
+use Rattle.gw_reply_law.proofs.Words.{decimal_word, term_word}
 use Rattle.gw_reply_law.proofs.BracketFits.{runs_bracket}
 use Rattle.gw_reply_law.proofs.ReplyFits.{error_fits, command_is_word, context_is_word, term_is_word, replies_run, reply_spelled, message_spelled}
 
@@ -207,11 +214,43 @@ command_runs levels c room h =
     then_runs (then (fits_key levels Other (command_word c.verb) equals_sign (command_is_word c.verb) refl) (fits_word levels Equals (term_text c.term) (term_is_word c.term h.0)))
     (body_runs levels (term_text c.term) c.result room h.1)
 
+-- ---- contexts
+
+flow_is_word : (f : Flow) → IsWord (flow_word f)
+flow_is_word flow.Bothway = record { run = refl; some = omega arith }
+flow_is_word _ = record { run = refl; some = omega arith }
+
+link_runs : (levels : ℕ) (l : Link) → HasNames l → Runs levels Other false (link_text l)
+link_runs levels l h =
+    as_runs (then (then (then (then (fits_word levels Other l.a (term_word l.a h.0)) (fits_comma levels (after_word Other l.a) true))
+    (fits_word levels Other l.b (term_word l.b h.1))) (fits_comma levels (after_word Other l.b) true))
+    (fits_word levels Other (flow_word l.flow) (flow_is_word l.flow)))
+
+context_part_runs : (levels : ℕ) (p : ContextPart) → 0 < levels → IsKeptPart p → Runs levels Other false (context_part_text p)
+unfolding token_of is_spelling
+context_part_runs levels (told.Priority n) room h = as_runs (then (fits_key levels Other (codes "Priority") equals_sign (record { run = refl; some = omega arith }) refl) (fits_word levels Equals (decimal n) (decimal_word n)))
+context_part_runs levels told.Emergency room h = as_runs (fits_word levels Other (codes "Emergency") (record { run = refl; some = omega arith }))
+context_part_runs levels (told.Topology links) room h =
+    as_runs (block levels (codes "Topology") (comma_separated (map link_text links)) room (record { run = refl; some = omega arith }) refl (joined_runs (levels - 1) link_text HasNames (link_runs (levels - 1)) links h))
+
+-- what is told of the context itself, and behind that of the commands
+told_runs : (levels : ℕ) (parts : List ContextPart) (r : Result (List CommandReply) Code) → request_depth + 3 < levels → All IsKeptPart parts → AllOk IsKeptCommand r → Runs levels Other false (told_text parts r)
+told_runs levels [] r room h k =
+    subst (Runs levels Other false) (sym (told_none r)) (replies_run levels command_reply_text IsKeptCommand (omega (arith, room)) (λ c kept. command_runs levels c room kept) r k)
+told_runs levels (p ∷ ps) r room h k =
+    subst (Runs levels Other false) (sym (told_first p ps r))
+    (runs_then_runs (context_part_runs levels p (omega (arith, room)) (All-head IsKeptPart p ps h))
+    (λ b v. runs_then_runs (later_runs levels context_part_text IsKeptPart (λ q kept. context_part_runs levels q (omega (arith, room)) kept) ps (All-tail IsKeptPart p ps h) b v) (λ c u. later_replies_run r k c u)))
+  where
+    later_replies_run : (r : Result (List CommandReply) Code) → AllOk IsKeptCommand r → (b : Before) (v : Bool) → Runs levels b v (later_replies command_reply_text r)
+    later_replies_run (Ok replies) k b v = later_runs levels command_reply_text IsKeptCommand (λ c kept. command_runs levels c room kept) replies k b v
+    later_replies_run (Err code) k b v = as_runs (then (fits_comma levels b v) (error_fits levels code (omega (arith, room))))
+
 action_runs : (levels : ℕ) (a : ActionReply) → request_depth + 4 < levels → IsKeptAction a → Runs levels Other false (action_reply_text a)
 action_runs levels a room h =
     as_runs (then (then (fits_key levels Other (codes "Context") equals_sign (record { run = refl; some = omega arith }) refl) (fits_word levels Equals (context_text a.ctx) (context_is_word a.ctx)))
-    (fits_braces levels (after_word Equals (context_text a.ctx)) true (replies_text command_reply_text a.result) refl (omega arith)
-    (replies_run (levels - 1) command_reply_text IsKeptCommand (omega arith) (λ c k. command_runs (levels - 1) c (omega arith) k) a.result h)))
+    (fits_braces levels (after_word Equals (context_text a.ctx)) true (told_text a.parts a.result) refl (omega arith)
+    (told_runs (levels - 1) a.parts a.result (omega arith) h.parts h.commands)))
 
 tree_group : (t : TxReply) → IsKeptTree t → IsGroup reply_depth (in_braces (replies_text action_reply_text t.result))
 tree_group t h = is_group 16 (replies_text action_reply_text t.result) (omega arith) (replies_run 15 action_reply_text IsKeptAction (omega arith) (λ a k. action_runs 15 a (omega arith) k) t.result h.1)

@@ -15,7 +15,7 @@ use Rattle.gw_ctx.specs.Contexts.{ContextRecord}
 use Rattle.gw_msg.specs.declared.message.Action.{Action}
 use Rattle.gw_msg.specs.declared.message.Command.{Command}
 use Rattle.gw_msg.specs.declared.message.Request.{Request}
-use Rattle.gw_reply.specs.KeptReplies.{IsKeptCommand, IsKeptAction, IsKeptTree}
+use Rattle.gw_reply.specs.KeptReplies.{IsKeptPart, IsKeptCommand, IsKeptAction, IsKeptTree}
 use Rattle.gw_reply.specs.declared.reply.ActionReply.{ActionReply}
 use Rattle.gw_reply.specs.declared.reply.CommandReply.{CommandReply}
 use Rattle.gw_reply.specs.Messages.{reply_text}
@@ -105,10 +105,10 @@ one_told : (r : ActionReply) → IsKeptAction r → All IsKeptAction (r ∷ [])
 one_told r h = All-cons IsKeptAction r [] h (All-nil IsKeptAction)
 
 refused_kept : (sent : CtxRef) (code : Code) (m : Maps) → AreKept m → Tells (refused_action sent code m)
-refused_kept sent code m k = (k, one_told (record { ctx = sent; result = Err code }) tt)
+refused_kept sent code m k = (k, one_told (record { ctx = sent; parts = []; result = Err code }) (record { parts = All-nil IsKeptPart; commands = tt }))
 
 carried_kept : (o : Outcome (Attempts At CommandReply)) → AreKept o.maps → All IsKeptCommand o.answer.answers → Tells (carried_action o)
-carried_kept o k h = (k, one_told (action_reply o.answer) h)
+carried_kept o k h = (k, one_told (action_reply o.answer) (record { parts = All-nil IsKeptPart; commands = h }))
 
 module _ (rules : Rules) (address : IsAddress rules.media) where
   attempt_kept : (at : At) (p : Option ℕ × Command) (m : Maps) → IsGoodPair p → AreKept m → AreKept (attempt rules at p m).maps × All IsKeptCommand (attempt rules at p m).answer.answers
@@ -120,7 +120,7 @@ module _ (rules : Rules) (address : IsAddress rules.media) where
   each_kept : (cs : List (Option ℕ × Command)) → All IsGoodPair cs → (stopped : Bool) (n : CtxNum) (m : Maps) → Unit {0} → AreKept m → Tells (in_each rules cs stopped n m)
   each_kept cs good stopped n m any k =
       let h = commands_kept (Each n) cs m good k in
-      (h.0, one_told (action_reply (commands rules (Each n) cs m).answer) h.1)
+      (h.0, one_told (action_reply (commands rules (Each n) cs m).answer) (record { parts = All-nil IsKeptPart; commands = h.1 }))
 
   any_number : (ns : List CtxNum) → All (λ (n : CtxNum). Unit {0}) ns
   any_number ns k d lt = tt

@@ -51,14 +51,14 @@ answered (Unmade n) = ref.Choose
 answered (Each n) = ref.Num n
 
 abbrev pub action_reply : Attempts At CommandReply → ActionReply
-action_reply done = record { ctx = answered done.next; result = Ok done.answers }
+action_reply done = record { ctx = answered done.next; parts = []; result = Ok done.answers }
 
 abbrev pub one_action_reply : {S : Type 0} → S → ActionReply → Bool → Attempts S ActionReply
 one_action_reply s reply stopped = record { next = s; answers = reply ∷ []; stopped = stopped }
 
 -- an error of the whole action, which ends the transaction
 abbrev pub action_error : CtxRef → Code → Attempts Unit ActionReply
-action_error sent code = one_action_reply tt (record { ctx = sent; result = Err code }) true
+action_error sent code = one_action_reply tt (record { ctx = sent; parts = []; result = Err code }) true
 
 abbrev pub refused_action : CtxRef → Code → Maps → Outcome (Attempts Unit ActionReply)
 refused_action sent code m = record { maps = m; answer = action_error sent code }

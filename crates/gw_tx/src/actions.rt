@@ -39,20 +39,20 @@ fn action(
     ensures keys { part.new.keys ≡ part.old.keys }
 {
     if !sent.props.is_empty() {
-        return action_error(told, sent.ctx, Code::NotImplemented);
+        return action_error(alloc, told, sent.ctx, Code::NotImplemented);
     }
     let asked = sent.commands.as_slice();
     let at = match sent.ctx {
         CtxRef::Null => At::Null,
         CtxRef::Num(number) => {
             if part.ctx(number).is_none() {
-                return action_error(told, sent.ctx, Code::UnknownContext);
+                return action_error(alloc, told, sent.ctx, Code::UnknownContext);
             }
             At::Live(number)
         }
         CtxRef::Choose => match number {
             Some(number) => At::Unmade(number),
-            None => return action_error(told, sent.ctx, Code::NoContextLeft),
+            None => return action_error(alloc, told, sent.ctx, Code::NoContextLeft),
         },
         CtxRef::All => return action_for_each(alloc, rules, part, slots, asked, told),
     };

@@ -103,5 +103,5 @@ pub(crate) fn commands_in(
     ensures keys { part.new.keys ≡ part.old.keys }
 {
     let done = commands(alloc, rules, part, at, slots, asked, inside(alloc, &told))?;
-    replied(told, done)
+    replied(alloc, told, done)
 }

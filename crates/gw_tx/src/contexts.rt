@@ -69,7 +69,7 @@ pub(crate) fn action_for_each(
 {
     let numbers = part.numbers(alloc)?;
     if numbers.is_empty() {
-        return action_error(told, CtxRef::All, Code::NoWildcardMatch);
+        return action_error(alloc, told, CtxRef::All, Code::NoWildcardMatch);
     }
     let done = in_all(alloc, rules, part, slots, asked, &numbers, told)?;
     Ok(Counted {

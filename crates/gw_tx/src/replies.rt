@@ -9,10 +9,11 @@ ghost use Rattle.gw_tx.specs.Told.{counted, inside};
 ghost use Rattle.gw_tx.specs.Transactions.{answered, one_action_reply, replied, action_error};
 
 use crate::told::Counted;
-use gw_base::{Code, CtxRef, NoMemory};
+use gw_base::{Code, CtxRef, Items, NoMemory};
 use gw_cmd::At;
 use gw_length::Telling;
 use gw_reply::{ActionReply, CommandReply};
+use std::alloc::Global;
 
 /// The ContextID of the reply: the number once the context was made, else as sent.
 fn answered(at: At) -> CtxRef
@@ -42,6 +43,7 @@ fn one_action_reply(
 
 /// An error of the whole action, which ends the transaction.
 pub(crate) fn action_error(
+    alloc: Global,
     told: Telling<ActionReply>,
     sent: CtxRef,
     code: Code,
@@ -50,6 +52,7 @@ pub(crate) fn action_error(
 {
     let reply = ActionReply {
         ctx: sent,
+        parts: Items::new(alloc),
         result: Err(code),
     };
     one_action_reply(told, reply, true)
@@ -57,6 +60,7 @@ pub(crate) fn action_error(
 
 /// What an action gave whose commands were attempted. Where they are too long, so is the action.
 pub(crate) fn replied(
+    alloc: Global,
     told: Telling<ActionReply>,
     done: Counted<At, CommandReply>,
 ) -> Result<Counted<(), ActionReply>, NoMemory>
@@ -71,6 +75,7 @@ pub(crate) fn replied(
         Telling::All(replies) | Telling::Within(replies, _) => {
             let reply = ActionReply {
                 ctx: answered(next),
+                parts: Items::new(alloc),
                 result: Ok(replies),
             };
             one_action_reply(told, reply, stopped)
