@@ -92,11 +92,8 @@ fn add_commands<'a>(
     Ok(rest)
 }
 
-/// A link of a topology, and what stands behind it and a comma.
-fn link_of(words: &[u8]) -> Result<(Link, &[u8]), CaseFault> {
-    let (a, rest) = split_at_byte(words, b',');
-    let (b, rest) = split_at_byte(rest, b',');
-    let (flow, rest) = split_at_byte(rest, b',');
+/// A link of a topology, of its two names and its direction.
+fn link_of(a: &[u8], b: &[u8], flow: &[u8]) -> Result<Link, CaseFault> {
     let flow = match as_text(flow) {
         "Bothway" => Flow::Bothway,
         "Isolate" => Flow::Isolate,
@@ -106,7 +103,7 @@ fn link_of(words: &[u8]) -> Result<(Link, &[u8]), CaseFault> {
     let (Ok(a), Ok(b)) = (TermName::read(a), TermName::read(b)) else {
         return Err(CaseFault::Form);
     };
-    Ok((Link { a, b, flow }, rest))
+    Ok(Link { a, b, flow })
 }
 
 /// The links of a topology; none where there is no text.
@@ -118,8 +115,10 @@ fn links_of(alloc: Global, words: &[u8]) -> Result<Items<Link>, CaseFault> {
         if rest.is_empty() {
             break;
         }
-        let (link, behind) = link_of(rest)?;
-        links.push(link)?;
+        let (a, behind) = split_at_byte(rest, b',');
+        let (b, behind) = split_at_byte(behind, b',');
+        let (flow, behind) = split_at_byte(behind, b',');
+        links.push(link_of(a, b, flow)?)?;
         rest = behind;
     }
     Ok(links)
