@@ -4,8 +4,7 @@ ghost use Rattle.std.specs.Prelude.{◌≡◌, ◌*◌, ◌<◌, ◌≤◌, ◌^
 ghost use Rattle.cases_draws.specs.Squares.{AreSquares};
 
 use crate::asked::Asked;
-use crate::meeting::Meeting;
-use crate::tally::Tally;
+use cases_meeting::{Meeting, Tally};
 use cases_text::{CaseFault, Page};
 use gw_base::NoMemory;
 use gw_draw::{Gate, OpenGate, Table, draw_all, draw_map};

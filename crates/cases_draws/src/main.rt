@@ -4,8 +4,6 @@
 mod asked;
 mod cases;
 mod lines;
-mod meeting;
-mod tally;
 
 use lines::transcript;
 use std::io;
