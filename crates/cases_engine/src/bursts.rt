@@ -1,9 +1,8 @@
 //! Bursts of several datagrams, each from a peer of its own: its place.
 
-use crate::answers::write_answers;
 use cases_text::{CaseFault, Page, number_of, split_word};
 use gw_base::Items;
-use gw_engine::{Datagram, Gateway};
+use gw_engine::Datagram;
 use std::alloc::{AllocError, Global};
 
 /// What heads the datagrams of the controller that cases are about.
@@ -69,28 +68,4 @@ impl<'a> Many<'a> {
 pub fn add_many(alloc: Global, burst: &mut Items<Datagram>, words: &[u8]) -> Result<(), CaseFault> {
     let many = Many::read(words).ok_or(CaseFault::Form)?;
     many.add(burst, &mut Page::new(alloc))
-}
-
-/// The answers to a burst, which is empty then: each, or how many there are and the last one. Where memory is refused it says
-/// so, and the burst stays as it is.
-pub fn write_run(
-    gateway: &mut Gateway,
-    burst: &mut Items<Datagram>,
-    is_whole: bool,
-    out: &mut Page,
-) {
-    let Ok(answers) = gateway.run(out.alloc(), burst.as_slice()) else {
-        out.put(b"no memory");
-        return;
-    };
-    burst.clear();
-    let answers = answers.as_slice();
-    if is_whole {
-        write_answers(out, answers);
-        return;
-    }
-    out.number(answers.len() as u64);
-    out.put(b" answers, the last:\n");
-    let from = answers.len().saturating_sub(1);
-    write_answers(out, answers.get(from..).unwrap_or(answers));
 }

@@ -7,11 +7,14 @@ use gw_engine::Gateway;
 use gw_front::{ServeFault, serve_over};
 use std::alloc::Global;
 use std::sync::Wait;
+use std::thread::Threads;
 
-/// Answers cases of serving, and gathers what comes in the next of them.
+/// How many workers the gateway has.
+const WORKERS: u32 = 2;
+
+/// What comes in the next case of serving.
 #[derive(Drop)]
-pub struct Networks<'r, R> {
-    rt: &'r R,
+pub struct Networks {
     line: Line,
 }
 
@@ -40,11 +43,10 @@ fn gateway(alloc: Global) -> Result<Gateway, CaseFault> {
     }
 }
 
-impl<'r, R: Wait> Networks<'r, R> {
+impl Networks {
     /// Nothing comes yet.
-    pub fn new(rt: &'r R, alloc: Global) -> Networks<'r, R> {
+    pub fn new(alloc: Global) -> Networks {
         Networks {
-            rt,
             line: Line::new(alloc),
         }
     }
@@ -60,44 +62,61 @@ impl<'r, R: Wait> Networks<'r, R> {
         Ok(())
     }
 
-    /// Serves a new gateway for so many bursts, or without end where the words name no number.
-    fn serve(&mut self, words: &[u8], out: &mut Page) -> Result<(), CaseFault> {
-        let bursts = number_of(words).map(u64::from);
-        let mut gateway = gateway(out.alloc())?;
-        let mut said = Output::new(Vec::new(out.alloc()), usize::MAX);
-        let mut line = Line::new(out.alloc());
+    /// What comes, of which nothing is left here.
+    fn take(&mut self, alloc: Global) -> Line {
+        let mut line = Line::new(alloc);
         std::mem::swap(&mut line, &mut self.line);
-        let ended = serve_over(
-            self.rt,
-            out.alloc(),
-            &mut line,
-            &mut gateway,
-            bursts,
-            &mut said,
-        );
-        out.encoded(said.as_bytes());
-        out.put(b"\n");
-        line.write(out);
-        out.put(b"\n");
-        write_ended(out, ended);
-        Ok(())
+        line
     }
+}
 
-    /// The answer to a case of serving.
-    pub fn answer(&mut self, call: &str, asked: &[u8], out: &mut Page) -> Result<(), CaseFault> {
-        match call {
-            "from" => return self.add(out.alloc(), 1, asked),
-            "times" => {
-                let (count, words) = split_word(asked);
-                let count = number_of(count).ok_or(CaseFault::Form)?;
-                return self.add(out.alloc(), count, words);
-            }
-            "pause" => self.line.add_nothing()?,
-            "broken" => self.line.add_broken()?,
-            "deaf" => self.line.set_deaf(sender_of(asked)?),
-            "serve" => return self.serve(asked, out),
-            _ => return Err(CaseFault::Call),
+/// Serves a new gateway for so many bursts, or without end where the words name no number.
+fn serve<R: Wait + Threads + Sync>(
+    rt: &R,
+    mut line: Line,
+    words: &[u8],
+    out: &mut Page,
+) -> Result<(), CaseFault> {
+    let bursts = number_of(words).map(u64::from);
+    let mut gateway = gateway(out.alloc())?;
+    let mut said = Output::new(Vec::new(out.alloc()), usize::MAX);
+    let ended = serve_over(
+        rt,
+        out.alloc(),
+        &mut line,
+        &mut gateway,
+        WORKERS,
+        bursts,
+        &mut said,
+    );
+    out.encoded(said.as_bytes());
+    out.put(b"\n");
+    line.write(out);
+    out.put(b"\n");
+    write_ended(out, ended);
+    Ok(())
+}
+
+/// The answer to a case of serving.
+pub fn answer<R: Wait + Threads + Sync>(
+    rt: &R,
+    networks: &mut Networks,
+    call: &str,
+    asked: &[u8],
+    out: &mut Page,
+) -> Result<(), CaseFault> {
+    match call {
+        "from" => return networks.add(out.alloc(), 1, asked),
+        "times" => {
+            let (count, words) = split_word(asked);
+            let count = number_of(count).ok_or(CaseFault::Form)?;
+            return networks.add(out.alloc(), count, words);
         }
-        Ok(())
+        "pause" => networks.line.add_nothing()?,
+        "broken" => networks.line.add_broken()?,
+        "deaf" => networks.line.set_deaf(sender_of(asked)?),
+        "serve" => return serve(rt, networks.take(out.alloc()), asked, out),
+        _ => return Err(CaseFault::Call),
     }
+    Ok(())
 }

@@ -9,11 +9,11 @@ use std::io::{Error, ErrorKind};
 use std::net::Net;
 use std::rt::Files;
 use std::sync::Wait;
+use std::thread::Threads;
 
-/// Answers cases of runs, each of which gets the input that was told last.
+/// The standard input of the runs below, which was told last.
 #[derive(Drop)]
-pub struct Programs<'r, R> {
-    rt: &'r R,
+pub struct Programs {
     input: Vec<u8>,
 }
 
@@ -71,73 +71,90 @@ fn write_unreadable(kind: ErrorKind, out: &mut Page) {
     write_stream(out, b"err ", err.stream.as_bytes());
 }
 
-impl<'r, R: Files + Net + Wait + AllocGlobal> Programs<'r, R> {
-    /// Runs on that system, with no input yet.
-    pub fn new(rt: &'r R) -> Programs<'r, R> {
+impl Programs {
+    /// No input yet.
+    pub fn new(alloc: Global) -> Programs {
         Programs {
-            rt,
-            input: Vec::new(rt.alloc()),
+            input: Vec::new(alloc),
         }
     }
+}
 
-    /// Runs the program on the words: its status, and what each stream got.
-    fn run(&self, line: &[u8], ends: Ends, out: &mut Page) -> Result<(), CaseFault> {
-        let words = words_of(out.alloc(), line)?;
-        let mut input = Input::new(self.input.as_slice(), ends.input_fails);
-        let mut told = Output::new(Vec::new(out.alloc()), ends.room);
-        let mut err = Stream {
-            stream: Output::new(Vec::new(out.alloc()), ends.err_room),
-        };
-        let status = program(self.rt, words.as_slice(), &mut input, &mut told, &mut err);
-        out.put(b"status ");
-        out.number(u64::from(status));
-        write_stream(out, b"out ", told.as_bytes());
-        write_stream(out, b"err ", err.stream.as_bytes());
-        Ok(())
-    }
+/// Runs the program on the words: its status, and what each stream got.
+fn run<R: Files + Net + Wait + Threads + AllocGlobal + Sync>(
+    rt: &R,
+    input: &[u8],
+    line: &[u8],
+    ends: Ends,
+    out: &mut Page,
+) -> Result<(), CaseFault> {
+    let words = words_of(out.alloc(), line)?;
+    let mut input = Input::new(input, ends.input_fails);
+    let mut told = Output::new(Vec::new(out.alloc()), ends.room);
+    let mut err = Stream {
+        stream: Output::new(Vec::new(out.alloc()), ends.err_room),
+    };
+    let status = program(rt, words.as_slice(), &mut input, &mut told, &mut err);
+    out.put(b"status ");
+    out.number(u64::from(status));
+    write_stream(out, b"out ", told.as_bytes());
+    write_stream(out, b"err ", err.stream.as_bytes());
+    Ok(())
+}
 
-    /// Runs the program with an output that has room for so many bytes: the number comes before the words.
-    fn run_short(&self, line: &[u8], out: &mut Page) -> Result<(), CaseFault> {
-        let (room, words) = split_word(line);
-        let room = number_of(room).ok_or(CaseFault::Form)?;
-        let ends = Ends {
-            room: room as usize,
-            ..WELL
-        };
-        self.run(words, ends, out)
-    }
+/// Runs the program with an output that has room for so many bytes: the number comes before the words.
+fn run_short<R: Files + Net + Wait + Threads + AllocGlobal + Sync>(
+    rt: &R,
+    input: &[u8],
+    line: &[u8],
+    out: &mut Page,
+) -> Result<(), CaseFault> {
+    let (room, words) = split_word(line);
+    let room = number_of(room).ok_or(CaseFault::Form)?;
+    let ends = Ends {
+        room: room as usize,
+        ..WELL
+    };
+    run(rt, input, words, ends, out)
+}
 
-    /// Writes a file, into the folder that the cases run in: its name, and its text.
-    fn write_file(&self, line: &[u8], out: &mut Page) -> Result<(), CaseFault> {
-        let (name, text) = split_word(line);
-        let text = decoded(out.alloc(), text)?;
-        match fs::write(self.rt, as_text(name), text.as_slice()) {
-            Ok(()) => Ok(()),
-            Err(_) => Err(CaseFault::Form),
-        }
+/// Writes a file, into the folder that the cases run in: its name, and its text.
+fn write_file<R: Files>(rt: &R, line: &[u8], out: &mut Page) -> Result<(), CaseFault> {
+    let (name, text) = split_word(line);
+    let text = decoded(out.alloc(), text)?;
+    match fs::write(rt, as_text(name), text.as_slice()) {
+        Ok(()) => Ok(()),
+        Err(_) => Err(CaseFault::Form),
     }
+}
 
-    /// The answer to a case of runs.
-    pub fn answer(&mut self, call: &str, asked: &[u8], out: &mut Page) -> Result<(), CaseFault> {
-        let failing = Ends {
-            input_fails: true,
-            ..WELL
-        };
-        let mute = Ends {
-            err_room: 0,
-            ..WELL
-        };
-        match call {
-            "file" => return self.write_file(asked, out),
-            "input" => self.input = decoded(out.alloc(), asked)?,
-            "run" => return self.run(asked, WELL, out),
-            "run-unread" => return self.run(asked, failing, out),
-            "run-mute" => return self.run(asked, mute, out),
-            "run-short" => return self.run_short(asked, out),
-            "no-text" => write_unreadable(ErrorKind::InvalidData, out),
-            "no-memory" => write_unreadable(ErrorKind::OutOfMemory, out),
-            _ => return Err(CaseFault::Call),
-        }
-        Ok(())
+/// The answer to a case of runs.
+pub fn answer<R: Files + Net + Wait + Threads + AllocGlobal + Sync>(
+    rt: &R,
+    programs: &mut Programs,
+    call: &str,
+    asked: &[u8],
+    out: &mut Page,
+) -> Result<(), CaseFault> {
+    let failing = Ends {
+        input_fails: true,
+        ..WELL
+    };
+    let mute = Ends {
+        err_room: 0,
+        ..WELL
+    };
+    let input = programs.input.as_slice();
+    match call {
+        "file" => return write_file(rt, asked, out),
+        "input" => programs.input = decoded(out.alloc(), asked)?,
+        "run" => return run(rt, input, asked, WELL, out),
+        "run-unread" => return run(rt, input, asked, failing, out),
+        "run-mute" => return run(rt, input, asked, mute, out),
+        "run-short" => return run_short(rt, input, asked, out),
+        "no-text" => write_unreadable(ErrorKind::InvalidData, out),
+        "no-memory" => write_unreadable(ErrorKind::OutOfMemory, out),
+        _ => return Err(CaseFault::Call),
     }
+    Ok(())
 }

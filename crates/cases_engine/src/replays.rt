@@ -2,13 +2,18 @@
 
 use crate::pieces::Pieces;
 use crate::repeats::repeated;
+use crate::workers::{EACH, Workers};
 use cases_text::{CaseFault, Page, config_of, decoded};
-use gw_engine::Gateway;
+use gw_engine::{Gateway, OpenGate};
 use gw_front::{Counts, ReplayFault, replay};
 use std::alloc::Global;
+use std::thread::Threads;
 
-/// How many bytes the input gives at a time, in one replay after another.
-const PIECES: [usize; 5] = [65_536, 1, 2, 3, 7];
+/// The most bytes that an input gives at a time.
+const ALL: usize = 65_536;
+
+/// How many bytes the input gives at a time, in replays by one worker.
+const PIECES: [usize; 4] = [1, 2, 3, 7];
 
 /// How a replay ended.
 fn write_ended(out: &mut Page, ended: Result<Counts, ReplayFault>) {
@@ -69,49 +74,95 @@ fn gateway(alloc: Global) -> Result<Gateway, CaseFault> {
     }
 }
 
-/// How the replay of the text ends and what it writes, where the input gives so many bytes at a time.
-fn write_replay(text: &[u8], most: usize, out: &mut Page) -> Result<(), CaseFault> {
+/// How a replay is made.
+#[derive(Clone, Copy)]
+struct Manner {
+    /// How many bytes the input gives at a time.
+    most: usize,
+    workers: Workers,
+}
+
+impl Manner {
+    fn write(&self, out: &mut Page) {
+        out.put(b"differs in pieces of ");
+        out.number(self.most as u64);
+        out.put(b" with ");
+        out.number(u64::from(self.workers.number));
+        out.put(b" workers");
+    }
+}
+
+/// How the replay of the text ends and what it writes.
+fn write_replay<R: Threads + Sync>(
+    rt: &R,
+    text: &[u8],
+    manner: Manner,
+    out: &mut Page,
+) -> Result<(), CaseFault> {
     let mut gateway = gateway(out.alloc())?;
     let mut written = Vec::new(out.alloc());
     let ended = replay(
+        rt,
         out.alloc(),
-        &mut Pieces::new(text, most),
+        &mut Pieces::new(text, manner.most),
         &mut written,
         &mut gateway,
+        manner.workers.number,
+        &OpenGate,
     );
     write_ended(out, ended);
     write_written(out, written.as_slice());
     Ok(())
 }
 
-/// The same for each size of pieces, which must make no difference.
-fn write_replays(text: &[u8], out: &mut Page) -> Result<(), CaseFault> {
+/// The same in another manner, which must make no difference: where it does, that is written.
+fn write_difference<R: Threads + Sync>(
+    rt: &R,
+    text: &[u8],
+    manner: Manner,
+    out: &mut Page,
+) -> Result<(), CaseFault> {
+    let mut other = Page::new(out.alloc());
+    write_replay(rt, text, manner, &mut other)?;
+    if other.whole()? != out.as_bytes() {
+        out.clear();
+        manner.write(out);
+    }
+    Ok(())
+}
+
+/// The same for each number of workers and for each size of pieces.
+fn write_replays<R: Threads + Sync>(rt: &R, text: &[u8], out: &mut Page) -> Result<(), CaseFault> {
+    let [one, others @ ..] = EACH;
+    let alone = Manner {
+        most: ALL,
+        workers: one,
+    };
+    write_replay(rt, text, alone, out)?;
+    for workers in others {
+        write_difference(rt, text, Manner { workers, ..alone }, out)?;
+    }
     for most in PIECES {
-        let mut other = Page::new(out.alloc());
-        write_replay(text, most, &mut other)?;
-        let written = other.whole()?;
-        if most == PIECES[0] {
-            out.put(written);
-        } else if written != out.as_bytes() {
-            out.clear();
-            out.put(b"differs in pieces of ");
-            out.number(most as u64);
-            return Ok(());
-        }
+        write_difference(rt, text, Manner { most, ..alone }, out)?;
     }
     Ok(())
 }
 
 /// The answer to a case of replays.
-pub fn answer(call: &str, asked: &[u8], out: &mut Page) -> Result<(), CaseFault> {
+pub fn answer<R: Threads + Sync>(
+    rt: &R,
+    call: &str,
+    asked: &[u8],
+    out: &mut Page,
+) -> Result<(), CaseFault> {
     match call {
         "input" => {
             let text = decoded(out.alloc(), asked)?;
-            write_replays(text.as_slice(), out)
+            write_replays(rt, text.as_slice(), out)
         }
         "times" => {
             let text = repeated(out.alloc(), asked)?;
-            write_replays(text.whole()?, out)
+            write_replays(rt, text.whole()?, out)
         }
         _ => Err(CaseFault::Call),
     }
