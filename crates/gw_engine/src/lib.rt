@@ -6,6 +6,7 @@ mod asked;
 mod audit;
 mod carry;
 mod classify;
+mod crew;
 mod datagram;
 mod fault;
 mod gateway;
@@ -13,6 +14,7 @@ mod heard;
 mod laws;
 mod reserve;
 mod run;
+mod wave;
 
 pub use datagram::Datagram;
 pub use fault::{ConfigFault, LimitName};
