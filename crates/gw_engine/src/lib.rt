@@ -18,4 +18,5 @@ pub use datagram::Datagram;
 pub use fault::{ConfigFault, LimitName};
 pub use gateway::Gateway;
 pub use gw_base::Config;
+pub use gw_draw::{Gate, OpenGate};
 pub use laws::answers_are_read_as_messages;

@@ -1,6 +1,6 @@
 //! Answering bursts of datagrams.
 
-ghost use Rattle.std.specs.Prelude.{◌≡◌, [], IfOk, OnOk, OnErr};
+ghost use Rattle.std.specs.Prelude.{◌≡◌, ◌≤◌, [], IfOk, OnOk, OnErr};
 ghost use Rattle.gw_board.specs.Results.{slots_of};
 ghost use Rattle.gw_kept.specs.Changes.{changes_of, AreNew};
 ghost use Rattle.gw_reserve.specs.Owners.{AreWithin};
@@ -18,11 +18,13 @@ use crate::gateway::Gateway;
 use crate::heard::{Heard, hear};
 use gw_base::{Items, NoMemory};
 use gw_board::{Asked, Manner};
+use gw_draw::Gate;
 use gw_kept::Turn;
 use gw_reserve::Cursors;
 use gw_table::Tables;
 use std::alloc::Global;
 use std::mem;
+use std::thread::Threads;
 
 /// What is to be carried out of a burst, and how all is answered.
 #[derive(Drop)]
@@ -115,10 +117,22 @@ impl Gateway {
     /// Requests are carried out in waves, each of them all whose footprints meet no earlier one's that waits. The tables are not
     /// copied: what a request may touch leaves them while it is carried out on a copy, and the originals are kept until the burst is over.
     ///
+    /// The work is for so many workers, 1 to 64, who are to pass the gate before each request. So far the caller does it alone, and
+    /// passes none.
+    ///
     /// # Errors
     ///
     /// Want of memory, at any growth. The gateway is then as it was, cursors and kept replies included.
-    pub fn run(&mut self, alloc: Global, burst: &[Datagram]) -> Result<Items<Datagram>, NoMemory>
+    pub fn run<R: Threads + Sync, G: Gate>(
+        &mut self,
+        rt: &R,
+        alloc: Global,
+        workers: u32,
+        burst: &[Datagram],
+        gate: &G,
+    ) -> Result<Items<Datagram>, NoMemory>
+        requires some { 1 ≤ workers }
+        requires limit { workers ≤ 64 }
         ensures ok { IfOk result (λ answers. AnswersBurst self.old burst.now answers self.new) }
         ensures readable { IfOk result (CanBeRead self.old.settings.mid burst.now) }
         ensures err { OnErr result (self.new ≡ self.old) }

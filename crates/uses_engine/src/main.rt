@@ -2,7 +2,7 @@
 #![tactic(auto)]
 
 use gw_base::{Items, MediaAddr, Mid, TermName};
-use gw_engine::{Config, Datagram, Gateway};
+use gw_engine::{Config, Datagram, Gateway, OpenGate};
 use std::alloc::Global;
 use std::io::Write;
 
@@ -32,7 +32,7 @@ fn main(rt: HostRuntime) -> anyhow::Result<()> {
     let mut gateway = gateway(rt.alloc())?;
     let bytes = Items::from_slice(rt.alloc(), CALL)?;
     let burst = [Datagram { peer: PEER, bytes }];
-    let answers = gateway.run(rt.alloc(), burst.as_slice())?;
+    let answers = gateway.run(&rt, rt.alloc(), 1, burst.as_slice(), &OpenGate)?;
     let mut out = rt.stdout();
     for answer in answers.as_slice() {
         writeln!(out, "to peer {}:", answer.peer)?;

@@ -23,13 +23,13 @@ abbrev IsKept : GatewayValue → Type 0
 IsKept g = IsWellFormed g.settings g.state × (g.settings.slots ≤ 4096)
 
 pub perform-requires-clause-unused : goal.perform-requires-clause-unused
-perform-requires-clause-unused c =
+perform-requires-clause-unused types c =
     let g : GatewayValue = c.args.self.now in
     let kept : IsKept g = subst IsKept c.self.view_is (c.self.invariant.well_formed, few_slots (value_of c.self.inside).settings.slots c.self.invariant.slots) in
     jobs_unused g (new_of g c.as_slice.result.now) c.in_ok-plan.plan.jobs c.in_ok-plan.ensures.jobs kept.0 kept.1
 
 pub perform-requires-clause-new : goal.perform-requires-clause-new
-perform-requires-clause-new c =
+perform-requires-clause-new types c =
     let g : GatewayValue = c.args.self.now in
     let heard : List Heard = c.as_slice.result.now in
     let jobs : List Asked = c.in_ok-plan.plan.jobs in
@@ -40,7 +40,7 @@ perform-requires-clause-new c =
     out.new
 
 pub perform-requires-clause-fits : goal.perform-requires-clause-fits
-perform-requires-clause-fits c =
+perform-requires-clause-fits types c =
     let g : GatewayValue = c.args.self.now in
     let heard : List Heard = c.as_slice.result.now in
     let jobs : List Asked = c.in_ok-plan.plan.jobs in
@@ -51,7 +51,7 @@ perform-requires-clause-fits c =
     out.fits
 
 pub returns-clause-ok : goal.returns-clause-ok
-returns-clause-ok c =
+returns-clause-ok types c =
     let g : GatewayValue = c.args.self.now in
     let heard : List Heard = c.as_slice.result.now in
     let jobs : List Asked = c.in_ok-plan.plan.jobs in
@@ -68,7 +68,7 @@ returns-clause-ok c =
     })
 
 pub returns-clause-readable : goal.returns-clause-readable
-returns-clause-readable c =
+returns-clause-readable types c =
     let g : GatewayValue = c.args.self.now in
     let heard : List Heard = c.as_slice.result.now in
     let jobs : List Asked = c.in_ok-plan.plan.jobs in
