@@ -1,13 +1,15 @@
 -- Each request of a burst is answered with a message with its reply, and each text that is no message with its error.
-use Rattle.std.proofs.Common.{◌≡◌, ℕ, ◌<◌, ◌≤◌, nat_lt, Bool, true, false, cond, List, [], ◌∷◌, ◌++◌, Option, None, Some, Result, Ok, Err, refl, sym, subst, arith}
+use Rattle.std.proofs.Common.{◌≡◌, ℕ, ◌<◌, ◌≤◌, nat_lt, not, Bool, true, false, cond, List, [], ◌∷◌, ◌++◌, Option, None, Some, Result, Ok, Err, refl, sym, subst, arith}
 use Rattle.std.specs.List.{All, AllZip, flat_map}
-use Rattle.std.proofs.lemmas.List.Elements.{All-nil, All-cons, All-head, All-tail, All-take, All-drop}
+use Rattle.std.proofs.lemmas.List.Elements.{All-nil, All-cons, All-head, All-tail, All-take, All-drop, All-filter}
 use Rattle.gw_base.specs.Addresses.{IsAddress}
 use Rattle.gw_base.specs.Mids.{IsMid}
 use Rattle.gw_base.specs.declared.code.Code.{Code}
 use Rattle.gw_cmd.specs.KeptForms.{AreKept, IsSlot}
 use Rattle.gw_kept.specs.Classes.{most_new}
-use Rattle.gw_kept.specs.Pairs.{bytes_for}
+use Rattle.gw_kept.specs.Forgotten.{is_named}
+use Rattle.gw_kept.specs.Pairs.{bytes_for, key_of}
+use Rattle.gw_kept.specs.declared.entry.Entry.{Entry}
 use Rattle.gw_msg.specs.declared.message.Item.{Item}
 use Rattle.gw_msg.specs.declared.message.Item.TheVariants as item
 use Rattle.gw_msg.specs.declared.message.Message.{Message}
@@ -87,7 +89,10 @@ module _ (s : Settings) (is_mid : IsMid s.mid) (address : IsAddress s.rules.medi
   item_answered : (peer : ℕ) (from : List ℕ) (i : Item) (p : Progress) → IsItemInForm i → IsSound s p → IsAnswered s (question_in peer i) (item_step s peer from i p)
   unfolding item_step
   item_answered peer from (item.Request r) p asked h = request_answered peer from r p (bytes_for (key_of_request from r) p.state.kept.pairs) asked h refl
-  item_answered peer from (item.Ack ranges) p asked h = record { answers = tt; after = h }
+  item_answered peer from (item.Ack ranges) p asked h = record {
+    answers = tt;
+    after = record { maps = h.maps; replies = All-filter (λ (e : Entry). not (is_named from ranges (key_of e))) (IsKeptReply s.mid) p.state.kept.pairs h.replies; slots = h.slots };
+  }
   item_answered peer from item.Ignored p asked h = record { answers = tt; after = h }
 
   turn_answered : {X : Type 0} (step : X → Progress → Step) (ask : X → List Question) (Good : X → Type 0) → ((x : X) (p : Progress) → Good x → IsSound s p → IsAnswered s (ask x) (step x p)) → (xs : List X) (p : Progress) → All Good xs → IsSound s p → IsAnswered s (flat_map ask xs) (in_turn step xs p)

@@ -2,9 +2,9 @@
 use Rattle.std.proofs.Common.{◌≡◌, ℕ, ◌≤◌, List, [], map, length, refl, sym, ap, subst, ◌∙◌, arith}
 use Rattle.std.specs.List.{All, AllZip}
 use Rattle.gw_cmd.specs.KeptForms.{AreKept}
-use Rattle.gw_kept.proofs.Last.{few_after, most_after}
-use Rattle.gw_kept.proofs.Repeats.{distinct_after}
-use Rattle.gw_kept.specs.Pairs.{kept_after, AreNew}
+use Rattle.gw_kept.proofs.Changed.{few_after, most_after, distinct_after}
+use Rattle.gw_kept.specs.Changes.{Change, changes_of, kept_after, AreNew}
+use Rattle.gw_kept.specs.declared.change.Turn.{Turn}
 use Rattle.gw_kept.specs.declared.entry.Entry.{Entry}
 use Rattle.gw_msg.specs.declared.message.Request.{Request}
 use Rattle.gw_reply.specs.declared.reply.TxReply.{TxReply}
@@ -24,7 +24,7 @@ use Rattle.gw_board.specs.declared.asked.Asked.{Asked}
 use Rattle.gw_engine.specs.Bursts.{cursors_of, burst_outcome}
 use Rattle.gw_engine.specs.Carried.{carried}
 use Rattle.gw_engine.specs.Forms.{AreInForm}
-use Rattle.gw_engine.specs.Phases.{asks_of, told, new_of, tasks_in, requests_of, ids_in, paired_job, paired_requests, AreJobs, cursors_behind, done_by, kept_of, entries_of, answers_of, adopted, phased, IsOutcome}
+use Rattle.gw_engine.specs.Phases.{asks_of, told, new_of, tasks_in, turns_of, requests_of, ids_in, paired_job, paired_requests, AreJobs, cursors_behind, done_by, kept_of, entries_of, answers_of, adopted, phased, IsOutcome}
 use Rattle.gw_engine.specs.Readable.{IsAnswerTo, questions}
 use Rattle.gw_engine.specs.State.{State, GatewayValue, IsKeptReply, IsWellFormed}
 use Rattle.gw_engine.proofs.Answered.{all_answered}
@@ -44,28 +44,35 @@ jobs_unused g new jobs are w small =
 
 -- ---- what the phases gave
 
-pub record ComesOf (g : GatewayValue) (heard : List Heard) (tasks : List Task) (jobs : List Asked) (cursors : Cursors) (m : Maps) (entries : List Entry) (answers : List Datagram) : Type 0 where
+pub record ComesOf (g : GatewayValue) (heard : List Heard) (tasks : List Task) (jobs : List Asked) (cursors : Cursors) (m : Maps) (turns : List Turn) (entries : List Entry) (answers : List Datagram) : Type 0 where
   pub tasks_are : tasks ≡ tasks_in 0 (told g.state.kept (asks_of heard))
   pub jobs_are : AreJobs (new_of g heard) (ids_in g (new_of g heard)) jobs
   pub cursors_are : cursors ≡ cursors_behind g heard
   pub maps_are : m ≡ (done_by g.settings.rules jobs g.state.maps).maps
   pub entries_are : entries ≡ kept_of g jobs
+  pub turns_are : turns ≡ turns_of g heard
   pub answers_are : answers ≡ answers_of g.settings.mid g.state.kept entries tasks
   pub whole : AreWellFormed g.settings.rules.members m
   pub within : AreWithin g.settings.contexts g.settings.slots cursors
 
-pub outcome : (g : GatewayValue) (heard : List Heard) (tasks : List Task) (jobs : List Asked) (cursors : Cursors) (m : Maps) (entries : List Entry) (answers : List Datagram) → IsWellFormed g.settings g.state → g.settings.slots ≤ 4096 → AreInForm heard → ComesOf g heard tasks jobs cursors m entries answers
-    → IsOutcome g heard answers m cursors entries
+-- the pairs of the new requests
+abbrev new_entries : GatewayValue → List Heard → List Entry
+new_entries g heard = entries_of g.settings.mid (new_of g heard) (carried g.settings.rules (paired_requests (new_of g heard) (ids_in g (new_of g heard))) g.state.maps).answer
+
+pub outcome : (g : GatewayValue) (heard : List Heard) (tasks : List Task) (jobs : List Asked) (cursors : Cursors) (m : Maps) (turns : List Turn) (entries : List Entry) (answers : List Datagram) → IsWellFormed g.settings g.state → g.settings.slots ≤ 4096 → AreInForm heard → ComesOf g heard tasks jobs cursors m turns entries answers
+    → IsOutcome g heard answers m cursors (changes_of turns entries)
 unfolding phased
-outcome g heard tasks jobs cursors m entries answers w small forms c =
+outcome g heard tasks jobs cursors m turns entries answers w small forms c =
     let bounded : length g.state.kept.pairs ≤ g.state.kept.most = omega (arith, w.kept, w.most) in
     let done : carried g.settings.rules (map paired_job jobs) g.state.maps ≡ carried g.settings.rules (paired_requests (new_of g heard) (ids_in g (new_of g heard))) g.state.maps = ap (λ (l : List (Request × List OwnedAction)). carried g.settings.rules l g.state.maps) c.jobs_are.pairs in
-    let kept : entries ≡ (phased g heard).entries = c.entries_are ∙ (λ i. entries_of g.settings.mid (c.jobs_are.sent i) (done i).answer) in
-    let are : answers ≡ (burst_outcome g heard).answers = c.answers_are ∙ (λ i. answers_of g.settings.mid g.state.kept (kept i) (c.tasks_are i)) ∙ phased_answers g heard bounded w.distinct in
-    let state : adopted g.state m cursors entries ≡ (burst_outcome g heard).after.state = (λ i. adopted g.state ((c.maps_are ∙ ap (λ (o : Outcome (List TxReply)). o.maps) done) i) (c.cursors_are i) (kept i)) ∙ phased_state g heard bounded w.distinct in
-    let new : AreNew g.state.kept entries = subst (λ (l : List Entry). AreNew g.state.kept l) (sym kept) (phased_new g heard bounded w.distinct) in
+    let kept : entries ≡ new_entries g heard = c.entries_are ∙ (λ i. entries_of g.settings.mid (c.jobs_are.sent i) (done i).answer) in
+    let changes : List Change = changes_of turns entries in
+    let changed : changes ≡ (phased g heard).changes = λ i. changes_of (c.turns_are i) (kept i) in
+    let are : answers ≡ (burst_outcome g heard).answers = c.answers_are ∙ (λ i. answers_of g.settings.mid g.state.kept (kept i) (c.tasks_are i)) ∙ phased_answers g heard w.distinct in
+    let state : adopted g.state m cursors changes ≡ (burst_outcome g heard).after.state = (λ i. adopted g.state ((c.maps_are ∙ ap (λ (o : Outcome (List TxReply)). o.maps) done) i) (c.cursors_are i) (changed i)) ∙ phased_state g heard w.distinct in
+    let new : AreNew g.state.kept changes = subst (λ (l : List Change). AreNew g.state.kept l) (sym changed) (phased_new g heard w.distinct) in
     let answered = all_answered g heard w small forms in
-    let few : length (kept_after g.state.kept entries).pairs ≤ g.state.kept.most = few_after g.state.kept entries bounded in
+    let few : length (kept_after g.state.kept changes).pairs ≤ g.state.kept.most = few_after g.state.kept changes bounded in
     record {
       answers_are = are;
       readable = subst (λ (l : List Datagram). AllZip (IsAnswerTo g.settings.mid) (questions heard) l) (sym are) answered.answers;
@@ -78,25 +85,26 @@ outcome g heard tasks jobs cursors m entries answers w small forms c =
         forms = subst (λ (s : State). AreKept s.maps) (sym state) answered.after.maps;
         context_cursor = c.within.context;
         slot_cursor = c.within.slot;
-        most = most_after g.state.kept entries ∙ w.most;
+        most = most_after g.state.kept changes ∙ w.most;
         kept = omega (arith, few, w.most);
-        distinct = distinct_after g.state.kept entries w.distinct new;
+        distinct = distinct_after g.state.kept changes w.distinct new;
         replies = subst (λ (s : State). All (IsKeptReply g.settings.mid) s.kept.pairs) (sym state) answered.after.replies;
       };
     }
 
 -- the same of what is kept and answered of jobs
-pub outcome_of_jobs : (g : GatewayValue) (heard : List Heard) (tasks : List Task) (jobs : List Asked) (cursors : Cursors) → IsWellFormed g.settings g.state → g.settings.slots ≤ 4096 → AreInForm heard
-    → tasks ≡ tasks_in 0 (told g.state.kept (asks_of heard)) → AreJobs (new_of g heard) (ids_in g (new_of g heard)) jobs → cursors ≡ cursors_behind g heard → AreWithin g.settings.contexts g.settings.slots cursors
-    → IsOutcome g heard (answers_of g.settings.mid g.state.kept (kept_of g jobs) tasks) (done_by g.settings.rules jobs g.state.maps).maps cursors (kept_of g jobs)
-outcome_of_jobs g heard tasks jobs cursors w small forms tasks_are jobs_are cursors_are within =
-    outcome g heard tasks jobs cursors (done_by g.settings.rules jobs g.state.maps).maps (kept_of g jobs) (answers_of g.settings.mid g.state.kept (kept_of g jobs) tasks) w small forms
+pub outcome_of_jobs : (g : GatewayValue) (heard : List Heard) (tasks : List Task) (jobs : List Asked) (cursors : Cursors) (turns : List Turn) → IsWellFormed g.settings g.state → g.settings.slots ≤ 4096 → AreInForm heard
+    → tasks ≡ tasks_in 0 (told g.state.kept (asks_of heard)) → AreJobs (new_of g heard) (ids_in g (new_of g heard)) jobs → cursors ≡ cursors_behind g heard → AreWithin g.settings.contexts g.settings.slots cursors → turns ≡ turns_of g heard
+    → IsOutcome g heard (answers_of g.settings.mid g.state.kept (kept_of g jobs) tasks) (done_by g.settings.rules jobs g.state.maps).maps cursors (changes_of turns (kept_of g jobs))
+outcome_of_jobs g heard tasks jobs cursors turns w small forms tasks_are jobs_are cursors_are within turns_are =
+    outcome g heard tasks jobs cursors (done_by g.settings.rules jobs g.state.maps).maps turns (kept_of g jobs) (answers_of g.settings.mid g.state.kept (kept_of g jobs) tasks) w small forms
     (record {
       tasks_are = tasks_are;
       jobs_are = jobs_are;
       cursors_are = cursors_are;
       maps_are = refl;
       entries_are = refl;
+      turns_are = turns_are;
       answers_are = refl;
       whole = stay_whole g.settings.rules jobs g.state.maps w.maps (jobs_unused g (new_of g heard) jobs jobs_are w small);
       within = within;

@@ -6,6 +6,7 @@ use Rattle.gw_base.specs.declared.code.Code.{Code}
 use Rattle.gw_base.specs.declared.code.Code.TheVariants.{SyntaxError, VersionNotSupported, InsufficientResources}
 use Rattle.gw_base.specs.declared.ids.CtxNum.{CtxNum}
 use Rattle.gw_reserve.specs.Ids.{Ids}
+use Rattle.gw_msg.specs.declared.message.AckRange.{AckRange}
 use Rattle.gw_msg.specs.declared.message.Request.{Request}
 use Rattle.gw_msg.specs.declared.message.Item.{Item}
 use Rattle.gw_msg.specs.declared.message.Item.TheVariants as item
@@ -15,6 +16,7 @@ use Rattle.gw_msg.specs.Grammar.{IsReadingOf}
 use Rattle.gw_reply.specs.declared.reply.TxReply.{TxReply}
 use Rattle.gw_reply.specs.Messages.{reply_text, fault_text}
 use Rattle.gw_kept.specs.Classes.{most_new}
+use Rattle.gw_kept.specs.Forgotten.{forgotten}
 use Rattle.gw_kept.specs.Pairs.{bytes_for, with_pair}
 use Rattle.gw_kept.specs.declared.entry.Entry.{Entry}
 use Rattle.gw_kept.specs.declared.entry.RequestKey.{RequestKey}
@@ -103,6 +105,19 @@ new_step s peer mid r p = record {
   after = record { state = state_after s mid r p; numbers = drop (number_choices r) p.numbers; slots = drop (slot_choices r) p.slots; count = p.count + 1 };
 }
 
+-- ---- an acknowledgement
+
+-- what it names is kept no longer; nothing else changes
+abbrev pub state_without : State → (mid : List ℕ) → List AckRange → State
+state_without s mid ranges = record { maps = s.maps; context_cursor = s.context_cursor; slot_cursor = s.slot_cursor; kept = forgotten s.kept mid ranges }
+
+-- It gets no answer.
+abbrev pub ack_step : (mid : List ℕ) → List AckRange → Progress → Step
+ack_step mid ranges p = record {
+  answers = [];
+  after = record { state = state_without p.state mid ranges; numbers = p.numbers; slots = p.slots; count = p.count };
+}
+
 -- ---- one item after another
 
 -- the reply to a request that comes behind too many new ones
@@ -121,10 +136,10 @@ request_step s peer mid r p None = if nat_lt p.count most_new then new_step s pe
 abbrev pub key_of_request : List ℕ → Request → RequestKey
 key_of_request mid r = record { id = r.id.0; mid = mid }
 
--- an item of a message: what is no request gets no answer
+-- an item of a message: what is neither a request nor an acknowledgement is of no effect
 unfoldable pub item_step : Settings → (peer : ℕ) → (mid : List ℕ) → Item → Progress → Step
 item_step s peer mid (item.Request r) p = request_step s peer mid r p (bytes_for (key_of_request mid r) p.state.kept.pairs)
-item_step s peer mid (item.Ack ranges) p = unchanged p []
+item_step s peer mid (item.Ack ranges) p = ack_step mid ranges p
 item_step s peer mid item.Ignored p = unchanged p []
 
 -- one after another, each where the one before it left the burst

@@ -1,5 +1,5 @@
--- A burst in phases (own), each over the whole burst before the next begins: what is asked; the classes, from the keys alone; who
--- owns which identifiers; the transactions; their texts, kept and answered.
+-- A burst in phases (own), each over the whole burst before the next begins: what is asked; the classes, from keys and
+-- acknowledgements alone; who owns which identifiers; the transactions; their texts, answered; what changes in the kept replies.
 use Rattle.std.specs.Prelude.{◌≡◌, ◌+◌, ℕ, List, [], ◌∷◌, ◌++◌, map, length, flat_map, Option, None, Some, Result, Ok, Err}
 use Rattle.std.specs.List.{zip, AllZip}
 use Rattle.gw_base.specs.declared.code.Code.{Code}
@@ -9,13 +9,17 @@ use Rattle.gw_base.specs.declared.ids.TxId.{TxId}
 use Rattle.gw_board.specs.Results.{slots_of}
 use Rattle.gw_board.specs.declared.asked.Asked.{Asked}
 use Rattle.gw_kept.specs.Classes.{classes_of}
-use Rattle.gw_kept.specs.Pairs.{KeptList, kept_after, AreNew}
+use Rattle.gw_kept.specs.Changes.{Change, changes_of, kept_after, AreNew}
+use Rattle.gw_kept.specs.Pairs.{KeptList}
 use Rattle.gw_kept.specs.Repeats.{bytes_of}
 use Rattle.gw_kept.specs.declared.class.Class.{Class}
 use Rattle.gw_kept.specs.declared.class.Class.TheVariants.{New, Repeat, Over, Nothing}
 use Rattle.gw_kept.specs.declared.class.Source.TheVariants as source
 use Rattle.gw_kept.specs.declared.entry.Entry.{Entry}
-use Rattle.gw_kept.specs.declared.entry.RequestKey.{RequestKey}
+use Rattle.gw_kept.specs.declared.change.Turn.{Turn}
+use Rattle.gw_kept.specs.declared.change.Turn.TheVariants as turn
+use Rattle.gw_kept.specs.declared.point.Point.{Point}
+use Rattle.gw_kept.specs.declared.point.Point.TheVariants as point
 use Rattle.gw_msg.specs.declared.message.Item.{Item}
 use Rattle.gw_msg.specs.declared.message.Item.TheVariants as item
 use Rattle.gw_msg.specs.declared.message.Message.{Message}
@@ -28,6 +32,8 @@ use Rattle.gw_reserve.specs.Owners.{owners, owned_slots, new_cursors}
 use Rattle.gw_reserve.specs.declared.owners.Cursors.{Cursors}
 use Rattle.gw_table.specs.Maps.{Maps, Outcome}
 use Rattle.gw_engine.specs.declared.asked.Ask.{Ask}
+use Rattle.gw_engine.specs.declared.asked.Said.{Said}
+use Rattle.gw_engine.specs.declared.asked.Said.TheVariants as said
 use Rattle.gw_engine.specs.declared.asked.Sent.{Sent}
 use Rattle.gw_engine.specs.declared.classify.Task.{Task}
 use Rattle.gw_engine.specs.declared.classify.Work.{Work}
@@ -41,16 +47,16 @@ use Rattle.gw_engine.specs.State.{State, GatewayValue, IsWellFormed}
 
 -- ---- what is asked
 
--- a request is to be answered, and no other item
+-- a request is to be answered, an acknowledgement changes what is kept, and no other item asks anything
 abbrev pub asks_in : (peer : ℕ) → (mid : List ℕ) → Item → List Ask
-asks_in peer mid (item.Request r) = record { peer = peer; sent = Ok (record { mid = mid; request = r }) } ∷ []
-asks_in peer mid (item.Ack ranges) = []
+asks_in peer mid (item.Request r) = record { peer = peer; said = said.Request (record { mid = mid; request = r }) } ∷ []
+asks_in peer mid (item.Ack ranges) = record { peer = peer; said = said.Ack (record { mid = mid; ranges = ranges }) } ∷ []
 asks_in peer mid item.Ignored = []
 
--- so is a text that is no message
+-- a text that is no message is to be answered
 abbrev pub asks_from : (peer : ℕ) → Result Message Code → List Ask
 asks_from peer (Ok m) = flat_map (asks_in peer m.mid) m.items
-asks_from peer (Err code) = record { peer = peer; sent = Err code } ∷ []
+asks_from peer (Err code) = record { peer = peer; said = said.Fault code } ∷ []
 
 -- what a burst asks, in order of arrival
 abbrev pub asks_of : List Heard → List Ask
@@ -58,44 +64,61 @@ asks_of heard = flat_map (λ h. asks_from h.peer h.message) heard
 
 -- ---- classes
 
-abbrev pub key_asked : Result Sent Code → Option RequestKey
-key_asked (Ok s) = Some (key_of_request s.mid s.request)
-key_asked (Err code) = None
+-- what it is to the kept replies
+abbrev pub point_of : Said → Point
+point_of (said.Request s) = point.Request (key_of_request s.mid s.request)
+point_of (said.Ack r) = point.Ack r
+point_of (said.Fault code) = point.Nothing
 
-abbrev pub keys_asked : List Ask → List (Option RequestKey)
-keys_asked asks = map (λ a. key_asked a.sent) asks
+abbrev pub points_of : List Ask → List Point
+points_of asks = map (λ a. point_of a.said) asks
 
--- each with its class, told from the keys alone
+-- each with its class, told from keys and acknowledgements alone
 abbrev pub told : KeptList → List Ask → List (Ask × Class)
-told k asks = zip asks (classes_of k (keys_asked asks))
+told k asks = zip asks (classes_of k (points_of asks))
 
 -- the request, if it is carried out
-abbrev pub new_for : Result Sent Code → Class → List Sent
-new_for (Ok s) New = s ∷ []
-new_for (Ok s) (Repeat from) = []
-new_for (Ok s) Over = []
-new_for (Ok s) Nothing = []
-new_for (Err code) class = []
+abbrev pub new_for : Said → Class → List Sent
+new_for (said.Request s) New = s ∷ []
+new_for (said.Request s) (Repeat from) = []
+new_for (said.Request s) Over = []
+new_for (said.Request s) Nothing = []
+new_for (said.Ack r) class = []
+new_for (said.Fault code) class = []
 
 -- the requests that are carried out, in order
 abbrev pub new_in : List (Ask × Class) → List Sent
-new_in asked = flat_map (λ a. new_for a.0.sent a.1) asked
+new_in asked = flat_map (λ a. new_for a.0.said a.1) asked
+
+-- What it changes in the kept replies: that of a new request is kept, and an acknowledgement removes what it names.
+abbrev pub turns_for : Said → Class → List Turn
+turns_for (said.Request s) New = turn.Keep ∷ []
+turns_for (said.Request s) (Repeat from) = []
+turns_for (said.Request s) Over = []
+turns_for (said.Request s) Nothing = []
+turns_for (said.Ack r) class = turn.Forget r ∷ []
+turns_for (said.Fault code) class = []
+
+-- all that changes in the kept replies, in order
+abbrev pub turns_in : List (Ask × Class) → List Turn
+turns_in asked = flat_map (λ a. turns_for a.0.said a.1) asked
 
 abbrev pub task_for : (peer : ℕ) → Work → List Task
 task_for peer w = record { peer = peer; work = w } ∷ []
 
 -- How one is answered that has so many new requests before it: with an error, or with a reply, a new request with its own.
-abbrev pub tasks_for : (before : ℕ) → (peer : ℕ) → Result Sent Code → Class → List Task
-tasks_for before peer (Ok s) New = task_for peer (work.Reply (source.Place before))
-tasks_for before peer (Ok s) (Repeat from) = task_for peer (work.Reply from)
-tasks_for before peer (Ok s) Over = task_for peer (work.Over s.request.id)
-tasks_for before peer (Ok s) Nothing = []
-tasks_for before peer (Err code) class = task_for peer (work.Fault code)
+abbrev pub tasks_for : (before : ℕ) → (peer : ℕ) → Said → Class → List Task
+tasks_for before peer (said.Request s) New = task_for peer (work.Reply (source.Place before))
+tasks_for before peer (said.Request s) (Repeat from) = task_for peer (work.Reply from)
+tasks_for before peer (said.Request s) Over = task_for peer (work.Over s.request.id)
+tasks_for before peer (said.Request s) Nothing = []
+tasks_for before peer (said.Ack r) class = []
+tasks_for before peer (said.Fault code) class = task_for peer (work.Fault code)
 
 -- how all are answered
 abbrev pub tasks_in : (before : ℕ) → List (Ask × Class) → List Task
 tasks_in before [] = []
-tasks_in before (a ∷ rest) = tasks_for before a.0.peer a.0.sent a.1 ++ tasks_in (before + length (new_for a.0.sent a.1)) rest
+tasks_in before (a ∷ rest) = tasks_for before a.0.peer a.0.said a.1 ++ tasks_in (before + length (new_for a.0.said a.1)) rest
 
 -- ---- who owns what
 
@@ -161,13 +184,17 @@ answers_of mid k entries tasks = flat_map (λ t. answer_for t.peer (text_of mid 
 
 -- ---- a burst
 
--- the state with other tables and cursors, and more pairs kept
-abbrev pub adopted : State → Maps → Cursors → List Entry → State
-adopted s m cursors entries = record { maps = m; context_cursor = cursors.context; slot_cursor = cursors.slot; kept = kept_after s.kept entries }
+-- the state with other tables and cursors, and its kept replies changed
+abbrev pub adopted : State → Maps → Cursors → List Change → State
+adopted s m cursors changes = record { maps = m; context_cursor = cursors.context; slot_cursor = cursors.slot; kept = kept_after s.kept changes }
 
 -- the new requests of a burst
 abbrev pub new_of : GatewayValue → List Heard → List Sent
 new_of g heard = new_in (told g.state.kept (asks_of heard))
+
+-- what a burst changes in the kept replies
+abbrev pub turns_of : GatewayValue → List Heard → List Turn
+turns_of g heard = turns_in (told g.state.kept (asks_of heard))
 
 -- where the next burst's search for identifiers begins
 abbrev pub cursors_behind : GatewayValue → List Heard → Cursors
@@ -180,7 +207,7 @@ kept_of g jobs = entries_of g.settings.mid (map sent_of jobs) (done_by g.setting
 -- what comes of the phases
 pub record Phased : Type 0 where
   pub answers : List Datagram
-  pub entries : List Entry
+  pub changes : List Change
   pub state : State
 
 unfoldable pub phased : GatewayValue → List Heard → Phased
@@ -188,16 +215,17 @@ phased g heard =
     let new = new_of g heard in
     let done = carried g.settings.rules (paired_requests new (ids_in g new)) g.state.maps in
     let entries = entries_of g.settings.mid new done.answer in
+    let changes = changes_of (turns_of g heard) entries in
     record {
       answers = answers_of g.settings.mid g.state.kept entries (tasks_in 0 (told g.state.kept (asks_of heard)));
-      entries = entries;
-      state = adopted g.state done.maps (cursors_behind g heard) entries;
+      changes = changes;
+      state = adopted g.state done.maps (cursors_behind g heard) changes;
     }
 
 -- What came of a burst is what comes of its items one after another: it can be read, and may be adopted.
-pub record IsOutcome (g : GatewayValue) (heard : List Heard) (answers : List Datagram) (m : Maps) (cursors : Cursors) (entries : List Entry) : Type 0 where
+pub record IsOutcome (g : GatewayValue) (heard : List Heard) (answers : List Datagram) (m : Maps) (cursors : Cursors) (changes : List Change) : Type 0 where
   pub answers_are : answers ≡ (burst_outcome g heard).answers
   pub readable : AllZip (IsAnswerTo g.settings.mid) (questions heard) answers
-  pub state : adopted g.state m cursors entries ≡ (burst_outcome g heard).after.state
-  pub new : AreNew g.state.kept entries
-  pub fits : IsWellFormed g.settings (adopted g.state m cursors entries)
+  pub state : adopted g.state m cursors changes ≡ (burst_outcome g heard).after.state
+  pub new : AreNew g.state.kept changes
+  pub fits : IsWellFormed g.settings (adopted g.state m cursors changes)

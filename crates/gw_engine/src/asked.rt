@@ -1,12 +1,13 @@
-//! What a burst asks: one entry for each request, and for each text that is no message, in order of arrival.
+//! What a burst asks: one entry for each request, for each acknowledgement, and for each text that is no message, in order of
+//! arrival.
 
 ghost use Rattle.std.specs.Prelude.{◌≡◌, ◌++◌, OnOk, IfOk};
-ghost use Rattle.gw_engine.specs.Phases.{asks_from, asks_of, key_asked, keys_asked};
+ghost use Rattle.gw_engine.specs.Phases.{asks_from, asks_of, point_of, points_of};
 
 use crate::heard::Heard;
 use gw_base::{Code, Items, Mid, NoMemory};
 use gw_board::Lent;
-use gw_kept::RequestKey;
+use gw_kept::{Point, Ranges, Removal, RequestKey};
 use gw_msg::Item;
 use std::alloc::Global;
 
@@ -29,24 +30,36 @@ impl<'h, 'a> Sent<'h, 'a> {
     }
 }
 
-/// What is to be answered, and to whom: a request, or a text that has this error.
+/// What was said.
+#[derive(Drop)]
+pub(crate) enum Said<'h, 'a> {
+    /// A request, which is to be answered.
+    Request(Sent<'h, 'a>),
+    /// An acknowledgement, which is not.
+    Ack(Removal<'h>),
+    /// A text that has this error, which is to be answered.
+    Fault(Code),
+}
+
+/// What was said, and by whom.
 #[derive(Drop)]
 pub(crate) struct Ask<'h, 'a> {
     pub(crate) peer: u32,
-    pub(crate) sent: Result<Sent<'h, 'a>, Code>,
+    pub(crate) said: Said<'h, 'a>,
 }
 
-impl Ask<'_, '_> {
-    /// What a repeat is told by. An error asks for no reply.
-    fn key(&self) -> Option<RequestKey>
-        ensures { result ≡ key_asked self.now.sent }
+impl<'h> Ask<'h, '_> {
+    /// What it is to the kept replies. An error is nothing to them.
+    fn point(&self) -> Point<'h>
+        ensures { result ≡ point_of self.now.said }
     {
-        match &self.sent {
-            Ok(sent) => Some(RequestKey {
+        match &self.said {
+            Said::Request(sent) => Point::Request(RequestKey {
                 id: sent.request.get().id.0,
                 mid: sent.mid,
             }),
-            Err(_) => None,
+            Said::Ack(removal) => Point::Ack(removal.again()),
+            Said::Fault(_) => Point::Nothing,
         }
     }
 }
@@ -61,7 +74,7 @@ fn push_asks<'h, 'a>(asks: &mut Items<Ask<'h, 'a>>, datagram: &'h Heard<'a>) -> 
         Err(code) => {
             asks.push(Ask {
                 peer,
-                sent: Err(*code),
+                said: Said::Fault(*code),
             })?;
             return Ok(());
         }
@@ -69,18 +82,28 @@ fn push_asks<'h, 'a>(asks: &mut Items<Ask<'h, 'a>>, datagram: &'h Heard<'a>) -> 
     let mid = message.mid;
     let items = message.items.as_slice();
     for item in items {
-        if let Item::Request(request) = item {
-            let request = Lent::new(request);
-            asks.push(Ask {
+        match item {
+            Item::Request(request) => asks.push(Ask {
                 peer,
-                sent: Ok(Sent { mid, request }),
-            })?;
+                said: Said::Request(Sent {
+                    mid,
+                    request: Lent::new(request),
+                }),
+            })?,
+            Item::Ack(ranges) => asks.push(Ask {
+                peer,
+                said: Said::Ack(Removal {
+                    mid,
+                    ranges: Ranges::new(ranges),
+                }),
+            })?,
+            Item::Ignored => {}
         }
     }
     Ok(())
 }
 
-/// What the messages of a burst ask, and the errors of its other texts. An acknowledgement and a reply ask nothing.
+/// What the messages of a burst ask, and the errors of its other texts. A reply asks nothing.
 pub(crate) fn asks_of<'h, 'a>(
     alloc: Global,
     heard: &'h [Heard<'a>],
@@ -94,16 +117,16 @@ pub(crate) fn asks_of<'h, 'a>(
     Ok(asks)
 }
 
-/// The keys of what is asked.
-pub(crate) fn keys_of(
+/// What is asked, as it is to the kept replies.
+pub(crate) fn points_of<'h>(
     alloc: Global,
-    asks: &[Ask<'_, '_>],
-) -> Result<Items<Option<RequestKey>>, NoMemory>
-    ensures { IfOk result (λ keys. keys ≡ keys_asked asks.now) }
+    asks: &[Ask<'h, '_>],
+) -> Result<Items<Point<'h>>, NoMemory>
+    ensures { IfOk result (λ points. points ≡ points_of asks.now) }
 {
-    let mut keys = Items::new(alloc);
+    let mut points = Items::new(alloc);
     for ask in asks {
-        keys.push(ask.key())?;
+        points.push(ask.point())?;
     }
-    Ok(keys)
+    Ok(points)
 }

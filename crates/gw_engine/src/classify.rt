@@ -1,11 +1,11 @@
-//! Which requests of a burst are carried out, and how each is answered.
+//! Which requests of a burst are carried out, how each is answered, and what changes in the kept replies.
 
 ghost use Rattle.std.specs.Prelude.{◌≡◌, ◌++◌, [], length, OnOk, IfOk};
-ghost use Rattle.gw_engine.specs.Phases.{told, new_for, new_in, tasks_for, tasks_in};
+ghost use Rattle.gw_engine.specs.Phases.{told, new_for, new_in, tasks_for, tasks_in, turns_for, turns_in};
 
-use crate::asked::{Ask, Sent, keys_of};
+use crate::asked::{Ask, Said, Sent, points_of};
 use gw_base::{Code, Items, NoMemory, TxId};
-use gw_kept::{Class, Kept, Source};
+use gw_kept::{Class, Kept, Source, Turn};
 use std::alloc::Global;
 
 /// How one is answered.
@@ -33,24 +33,32 @@ pub(crate) struct Classified<'h, 'a> {
     pub(crate) tasks: Items<Task>,
     /// The requests that are carried out, in order.
     pub(crate) requests: Items<Sent<'h, 'a>>,
+    /// What changes in the kept replies, in order.
+    pub(crate) turns: Items<Turn<'h>>,
 }
 
 impl<'h, 'a> Classified<'h, 'a> {
     /// Notes one more, which is of this class.
     fn push(&mut self, ask: &Ask<'h, 'a>, class: Class) -> Result<(), NoMemory>
-        ensures tasks { OnOk result (self.new.tasks ≡ self.old.tasks ++ tasks_for (length self.old.requests) ask.now.peer ask.now.sent class) }
-        ensures requests { OnOk result (self.new.requests ≡ self.old.requests ++ new_for ask.now.sent class) }
+        ensures tasks { OnOk result (self.new.tasks ≡ self.old.tasks ++ tasks_for (length self.old.requests) ask.now.peer ask.now.said class) }
+        ensures requests { OnOk result (self.new.requests ≡ self.old.requests ++ new_for ask.now.said class) }
+        ensures turns { OnOk result (self.new.turns ≡ self.old.turns ++ turns_for ask.now.said class) }
     {
-        let work = match (&ask.sent, class) {
-            (Err(code), _) => Work::Fault(*code),
-            (Ok(sent), Class::New) => {
+        let work = match (&ask.said, class) {
+            (Said::Fault(code), _) => Work::Fault(*code),
+            (Said::Ack(removal), _) => {
+                self.turns.push(Turn::Forget(removal.again()))?;
+                return Ok(());
+            }
+            (Said::Request(sent), Class::New) => {
                 let place = self.requests.len();
                 self.requests.push(sent.again())?;
+                self.turns.push(Turn::Keep)?;
                 Work::Reply(Source::Place(place))
             }
-            (Ok(_), Class::Repeat(source)) => Work::Reply(source),
-            (Ok(sent), Class::Over) => Work::Over(sent.request.get().id),
-            (Ok(_), Class::Nothing) => return Ok(()),
+            (Said::Request(_), Class::Repeat(source)) => Work::Reply(source),
+            (Said::Request(sent), Class::Over) => Work::Over(sent.request.get().id),
+            (Said::Request(_), Class::Nothing) => return Ok(()),
         };
         self.tasks.push(Task {
             peer: ask.peer,
@@ -60,7 +68,8 @@ impl<'h, 'a> Classified<'h, 'a> {
     }
 }
 
-/// Tells of all that a burst asks how it is answered, and which requests are carried out. It is told from the keys alone.
+/// Tells of all that a burst asks how it is answered, which requests are carried out, and what changes in the kept replies. It is
+/// told from keys and acknowledgements alone.
 pub(crate) fn classify<'h, 'a>(
     alloc: Global,
     kept: &Kept,
@@ -68,12 +77,14 @@ pub(crate) fn classify<'h, 'a>(
 ) -> Result<Classified<'h, 'a>, NoMemory>
     ensures tasks { IfOk result (λ c. c.tasks ≡ tasks_in 0 (told kept.now asks.now)) }
     ensures requests { IfOk result (λ c. c.requests ≡ new_in (told kept.now asks.now)) }
+    ensures turns { IfOk result (λ c. c.turns ≡ turns_in (told kept.now asks.now)) }
 {
-    let keys = keys_of(alloc, asks)?;
-    let classes = kept.classify(alloc, keys.as_slice())?;
+    let points = points_of(alloc, asks)?;
+    let classes = kept.classify(alloc, points.as_slice())?;
     let mut classified = Classified {
         tasks: Items::from(Vec::with_capacity(alloc, asks.len())?),
         requests: Items::new(alloc),
+        turns: Items::new(alloc),
     };
     for (ask, class) in asks.iter().zip(classes.as_slice()) {
         classified.push(ask, *class)?;

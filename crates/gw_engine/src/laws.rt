@@ -1,7 +1,8 @@
 //! What follows from the definitions alone.
 
 ghost use Rattle.std.specs.Prelude.{◌≡◌, ◌≤◌, ℕ, List, length, Ok as Read};
-ghost use Rattle.gw_kept.specs.Pairs.{AreDistinct, AreNew};
+ghost use Rattle.gw_kept.specs.Changes.{AreNew};
+ghost use Rattle.gw_kept.specs.Pairs.{AreDistinct};
 ghost use Rattle.gw_msg.specs.Reading.{message_of};
 ghost use Rattle.gw_reply_law.specs.Spellings.{IsReplyMessage, reply_message};
 ghost use Rattle.gw_engine.specs.Bursts.{burst_outcome};
@@ -18,11 +19,12 @@ pub fn answers_are_read_as_messages()
 {}
 
 /// What a burst gives, one item after another, it gives in phases, each over the whole burst before the next begins: the classes, from
-/// the keys alone and the pairs that are kept at its start; what each new request owns of what is free then (`owners`); one fold of
-/// the transactions (`carried`), which knows of no answers and no pairs; the pairs of the new requests, each with a key of its own;
-/// the answers, each from an error, a kept pair or one of the new ones; and the state.
+/// keys and acknowledgements alone and the pairs that are kept at its start; what each new request owns of what is free then (`owners`); one fold of
+/// the transactions (`carried`), which knows of no answers and no pairs; the pairs of the new requests;
+/// the answers, each from an error, a kept pair or one of the new ones; what changes in the kept pairs, where each new one has a key
+/// of its own at its turn; and the state.
 pub fn bursts_go_in_phases()
-    ensures answers { (g : GatewayValue) (heard : List Heard) → length g.state.kept.pairs ≤ g.state.kept.most → AreDistinct g.state.kept.pairs → (phased g heard).answers ≡ (burst_outcome g heard).answers }
-    ensures state { (g : GatewayValue) (heard : List Heard) → length g.state.kept.pairs ≤ g.state.kept.most → AreDistinct g.state.kept.pairs → (phased g heard).state ≡ (burst_outcome g heard).after.state }
-    ensures new { (g : GatewayValue) (heard : List Heard) → length g.state.kept.pairs ≤ g.state.kept.most → AreDistinct g.state.kept.pairs → AreNew g.state.kept (phased g heard).entries }
+    ensures answers { (g : GatewayValue) (heard : List Heard) → AreDistinct g.state.kept.pairs → (phased g heard).answers ≡ (burst_outcome g heard).answers }
+    ensures state { (g : GatewayValue) (heard : List Heard) → AreDistinct g.state.kept.pairs → (phased g heard).state ≡ (burst_outcome g heard).after.state }
+    ensures new { (g : GatewayValue) (heard : List Heard) → AreDistinct g.state.kept.pairs → AreNew g.state.kept (phased g heard).changes }
 {}

@@ -2,11 +2,11 @@
 
 ghost use Rattle.std.specs.Prelude.{◌≡◌, ◌≤◌, [], IfOk, OnOk, OnErr};
 ghost use Rattle.gw_board.specs.Results.{slots_of};
-ghost use Rattle.gw_kept.specs.Pairs.{AreNew};
+ghost use Rattle.gw_kept.specs.Changes.{changes_of, AreNew};
 ghost use Rattle.gw_reserve.specs.Owners.{AreWithin};
 ghost use Rattle.gw_table.specs.Unused.{AreUnused};
 ghost use Rattle.gw_engine.specs.Bursts.{AnswersBurst};
-ghost use Rattle.gw_engine.specs.Phases.{asks_of, told, new_of, ids_in, tasks_in, AreJobs, cursors_behind, done_by, kept_of, answers_of, adopted};
+ghost use Rattle.gw_engine.specs.Phases.{asks_of, told, new_of, ids_in, tasks_in, turns_of, AreJobs, cursors_behind, done_by, kept_of, answers_of, adopted};
 ghost use Rattle.gw_engine.specs.Readable.{CanBeRead};
 ghost use Rattle.gw_engine.specs.State.{IsWellFormed};
 
@@ -20,6 +20,7 @@ use crate::heard::{Heard, hear};
 use gw_base::{Items, NoMemory};
 use gw_board::{Asked, Manner};
 use gw_draw::Gate;
+use gw_kept::Turn;
 use gw_reserve::Cursors;
 use gw_table::Tables;
 use std::alloc::Global;
@@ -32,6 +33,7 @@ struct Plan<'h, 'a> {
     tasks: Items<Task>,
     jobs: Items<Asked<'h, 'a>>,
     cursors: Cursors,
+    turns: Items<Turn<'h>>,
 }
 
 impl Gateway {
@@ -41,6 +43,7 @@ impl Gateway {
         ensures jobs { IfOk result (λ plan. AreJobs (new_of self.now heard.now) (ids_in self.now (new_of self.now heard.now)) plan.jobs) }
         ensures cursors { IfOk result (λ plan. plan.cursors ≡ cursors_behind self.now heard.now) }
         ensures within { IfOk result (λ plan. AreWithin self.now.settings.contexts self.now.settings.slots plan.cursors) }
+        ensures turns { IfOk result (λ plan. plan.turns ≡ turns_of self.now heard.now) }
     {
         let asks = asks_of(alloc, heard)?;
         let asked = classify(alloc, &self.kept, asks.as_slice())?;
@@ -49,6 +52,7 @@ impl Gateway {
             tasks: asked.tasks,
             jobs: reserved.jobs,
             cursors: reserved.cursors,
+            turns: asked.turns,
         })
     }
 
@@ -66,11 +70,11 @@ impl Gateway {
         plan: Plan<'_, '_>,
     ) -> Result<Items<Datagram>, NoMemory>
         requires unused { AreUnused self.old.state.maps [] (slots_of plan.jobs) }
-        requires new { AreNew self.old.state.kept (kept_of self.old plan.jobs) }
-        requires fits { IsWellFormed self.old.settings (adopted self.old.state (done_by self.old.settings.rules plan.jobs self.old.state.maps).maps plan.cursors (kept_of self.old plan.jobs)) }
+        requires new { AreNew self.old.state.kept (changes_of plan.turns (kept_of self.old plan.jobs)) }
+        requires fits { IsWellFormed self.old.settings (adopted self.old.state (done_by self.old.settings.rules plan.jobs self.old.state.maps).maps plan.cursors (changes_of plan.turns (kept_of self.old plan.jobs))) }
         ensures answers { IfOk result (λ answers. answers ≡ answers_of self.old.settings.mid self.old.state.kept (kept_of self.old plan.entry.jobs) plan.entry.tasks) }
         ensures settings { self.new.settings ≡ self.old.settings }
-        ensures state { OnOk result (self.new.state ≡ adopted self.old.state (done_by self.old.settings.rules plan.entry.jobs self.old.state.maps).maps plan.entry.cursors (kept_of self.old plan.entry.jobs)) }
+        ensures state { OnOk result (self.new.state ≡ adopted self.old.state (done_by self.old.settings.rules plan.entry.jobs self.old.state.maps).maps plan.entry.cursors (changes_of plan.entry.turns (kept_of self.old plan.entry.jobs))) }
         ensures err { OnErr result (self.new ≡ self.old) }
         ensures well_formed { IsWellFormed self.new.settings self.new.state }
     {
@@ -82,6 +86,7 @@ impl Gateway {
             tasks,
             jobs,
             cursors,
+            turns,
         } = plan;
         let tables = mem::replace(&mut self.tables, Tables::new(alloc));
         match carried_out(
@@ -101,7 +106,7 @@ impl Gateway {
                 } = done;
                 self.tables = tables;
                 self.cursors = cursors;
-                self.kept.push_all(entries);
+                self.kept.change(turns.as_slice(), entries);
                 Ok(answers)
             }
             Err(tables) => {
@@ -113,7 +118,7 @@ impl Gateway {
 
     /// Answers a burst: its items in order of arrival, one after another. A text that is no message is answered with error 406 or
     /// 400. A request whose reply is kept gets it again and changes nothing; any other is carried out and its reply kept, but
-    /// those behind 1,024 new ones, which get error 510. Nothing else is answered. Each answer is for the peer of the datagram that
+    /// those behind 1,024 new ones, which get error 510. An acknowledgement lets the replies go that it names. Nothing else is answered. Each answer is for the peer of the datagram that
     /// asked, and is a message of the grammar. The burst may have any number of datagrams, each of any length.
     ///
     /// Requests are carried out in waves, each of them all whose footprints meet no earlier one's that waits. The tables are not

@@ -1,64 +1,106 @@
 -- The classes of a burst, from one item to the next.
-use Rattle.std.proofs.Common.{◌≡◌, ℕ, ◌+◌, ◌<◌, List, [], ◌∷◌, ◌++◌, map, length, drop, get_or, Option, Some, None, refl, ap, sym, subst, ◌∙◌, append_assoc}
+use Rattle.std.proofs.Common.{◌≡◌, ℕ, ◌+◌, ◌<◌, not, Bool, true, false, List, [], ◌∷◌, ◌++◌, map, length, drop, get_or, refl, ap, sym, ◌∙◌, append_assoc}
 use Rattle.std.proofs.lemmas.List.{append-nil, map-append, drop_more}
+use Rattle.circular_buffer.specs.Buffer.{keep_last}
 use Rattle.gw_kept.specs.declared.entry.Entry.{Entry}
 use Rattle.gw_kept.specs.declared.entry.RequestKey.{RequestKey}
+use Rattle.gw_kept.specs.declared.point.Point.{Point}
+use Rattle.gw_kept.specs.declared.point.Point.TheVariants as point
+use Rattle.gw_kept.specs.declared.point.Removal.{Removal}
 use Rattle.gw_kept.specs.declared.class.Class.{Class}
 use Rattle.gw_kept.specs.declared.class.Class.TheVariants.{New, Repeat, Over, Nothing}
-use Rattle.gw_kept.specs.declared.index.Index.{Index}
-use Rattle.gw_kept.specs.Index.{IsIndex}
 use Rattle.gw_kept.specs.Pairs.{KeptList, key_of}
-use Rattle.gw_kept.specs.Classes.{class_at, pairs_after, classes_behind, classes_of}
-use Rattle.gw_kept.specs.Repeats.{keys_after, class_after, classes_after}
-
-pub step_none : (most before : ℕ) (pairs : List RequestKey) (o : Option RequestKey) (c : Class) (rest : List (Option RequestKey)) → o ≡ None → c ≡ Nothing
-    → classes_behind most before pairs (o ∷ rest) ≡ c ∷ classes_behind most before pairs rest
-step_none most before pairs o c rest e f =
-    ap (λ (k : Option RequestKey). classes_behind most before pairs (k ∷ rest)) e ∙ ap (λ (k : Class). k ∷ classes_behind most before pairs rest) (sym f)
-
-pub step_some : (most before : ℕ) (pairs : List RequestKey) (o : Option RequestKey) (key : RequestKey) (c : Class) (rest : List (Option RequestKey)) → o ≡ Some key → c ≡ class_at most before key pairs
-    → classes_behind most before pairs (o ∷ rest) ≡ c ∷ classes_behind most before (pairs_after c key pairs) rest
-step_some most before pairs o key c rest e f =
-    ap (λ (k : Option RequestKey). classes_behind most before pairs (k ∷ rest)) e ∙ ap (λ (k : Class). k ∷ classes_behind most before (pairs_after k key pairs) rest) (sym f)
-
-pub goes_on : (most before : ℕ) (asked : List (Option RequestKey)) (i : ℕ) (x : Option RequestKey) (classes : List Class) (c : Class) (pairs next : List RequestKey) (total : List Class) → i < length asked → x ≡ get_or asked i x
-    → classes ++ classes_behind most before pairs (drop i asked) ≡ total
-    → classes_behind most before pairs (x ∷ drop (i + 1) asked) ≡ c ∷ classes_behind most before next (drop (i + 1) asked)
-    → (classes ++ c ∷ []) ++ classes_behind most before next (drop (i + 1) asked) ≡ total
-goes_on most before asked i x classes c pairs next total h is so_far one =
-    append_assoc classes (c ∷ []) (classes_behind most before next (drop (i + 1) asked))
-    ∙ ap (λ (l : List Class). classes ++ l) (sym one)
-    ∙ ap (λ (y : Option RequestKey). classes ++ classes_behind most before pairs (y ∷ drop (i + 1) asked)) is
-    ∙ ap (λ (l : List (Option RequestKey)). classes ++ classes_behind most before pairs l) (sym (drop_more asked i x h))
-    ∙ so_far
-
--- the index after a request, where class and index are known by other names
-pub same_class : (asked : List (Option RequestKey)) (c d : Class) (key : RequestKey) (pairs : List RequestKey) (index other : Index) → c ≡ d → index ≡ other → IsIndex asked index (pairs_after c key pairs) → IsIndex asked other (pairs_after d key pairs)
-same_class asked c d key pairs index other e f h =
-    subst (λ (i : Index). IsIndex asked i (pairs_after d key pairs)) f (subst (λ (k : Class). IsIndex asked index (pairs_after k key pairs)) e h)
+use Rattle.gw_kept.specs.Forgotten.{is_named}
+use Rattle.gw_kept.specs.Changes.{Change, Keep, Remove, kept_after, entries_in}
+use Rattle.gw_kept.specs.Classes.{Standing, standing_of, keys_of, class_at, with_key, without, behind, behind_request, classes_behind, classes_of}
+use Rattle.gw_kept.specs.Index.{asks_behind, seen}
+use Rattle.gw_kept.specs.Repeats.{standing_after, class_after, classes_after}
+use Rattle.gw_kept.proofs.Changed.{one_more_after, entries_more, most_after}
+use Rattle.gw_kept.proofs.Last.{keys_last}
+use Rattle.gw_kept.proofs.Left.{filter_map_is}
 
 -- ---- in turn
 
-pub from_start : (k : KeptList) (asked : List (Option RequestKey)) → classes_of k asked ≡ classes_after k [] asked
-from_start k asked = ap (λ (es : List Entry). classes_behind k.most (length k.pairs) (map key_of es) asked) (sym (append-nil k.pairs))
+abbrev standing : List RequestKey → List RequestKey → Standing
+standing pairs kept = record { pairs = pairs; kept = kept }
 
-pub then_nothing : (k : KeptList) (es : List Entry) (rest : List (Option RequestKey)) → classes_after k es (None ∷ rest) ≡ Nothing ∷ classes_after k es rest
-then_nothing k es rest = refl
+pub from_start : (k : KeptList) (items : List Point) → classes_of k items ≡ classes_after k [] items
+from_start k items = ap (λ (es : List Entry). classes_behind k.most (length k.pairs) (standing (map key_of es) (keys_of k)) items) (sym (append-nil k.pairs))
 
-keys_with : (k : KeptList) (es : List Entry) (e : Entry) → keys_after k es ++ key_of e ∷ [] ≡ keys_after k (es ++ e ∷ [])
-keys_with k es e = sym (map-append key_of (k.pairs ++ es) (e ∷ [])) ∙ ap (map key_of) (append_assoc k.pairs es (e ∷ []))
+pub then_nothing : (k : KeptList) (cs : List Change) (rest : List Point) → classes_after k cs (point.Nothing ∷ rest) ≡ Nothing ∷ classes_after k cs rest
+then_nothing k cs rest = refl
 
-pub then_new : (k : KeptList) (es : List Entry) (e : Entry) (rest : List (Option RequestKey)) → class_after k es (key_of e) ≡ New → classes_after k es (Some (key_of e) ∷ rest) ≡ New ∷ classes_after k (es ++ e ∷ []) rest
-then_new k es e rest new =
-    ap (λ (c : Class). c ∷ classes_behind k.most (length k.pairs) (pairs_after c (key_of e) (keys_after k es)) rest) new
-    ∙ ap (λ (keys : List RequestKey). New ∷ classes_behind k.most (length k.pairs) keys rest) (keys_with k es e)
+keys_without : (k : KeptList) (cs : List Change) (r : Removal) → without r (standing_after k cs) ≡ standing_after k (cs ++ Remove r ∷ [])
+keys_without k cs r =
+    ap (λ (l : List RequestKey). standing (map key_of (k.pairs ++ entries_in cs)) l) (filter_map_is (λ (q : RequestKey). not (is_named r.mid r.ranges q)) key_of (kept_after k cs).pairs)
+    ∙ ap (λ (l : KeptList). standing (map key_of (k.pairs ++ entries_in cs)) (keys_of l)) (sym (one_more_after k cs (Remove r)))
+    ∙ ap (λ (es : List Entry). standing (map key_of (k.pairs ++ es)) (keys_of (kept_after k (cs ++ Remove r ∷ [])))) (sym (entries_more cs (Remove r) ∙ append-nil (entries_in cs)))
 
-same_pairs : (c : Class) (key : RequestKey) (pairs : List RequestKey) → (c ≡ New → ⊥) → pairs_after c key pairs ≡ pairs
-same_pairs New key pairs h = absurd (h refl)
-same_pairs (Repeat s) key pairs h = refl
-same_pairs Over key pairs h = refl
-same_pairs Nothing key pairs h = refl
+pub then_acknowledged : (k : KeptList) (cs : List Change) (r : Removal) (rest : List Point) → classes_after k cs (point.Ack r ∷ rest) ≡ Nothing ∷ classes_after k (cs ++ Remove r ∷ []) rest
+then_acknowledged k cs r rest = ap (λ (s : Standing). Nothing ∷ classes_behind k.most (length k.pairs) s rest) (keys_without k cs r)
 
-pub then_other : (k : KeptList) (es : List Entry) (key : RequestKey) (rest : List (Option RequestKey)) → (class_after k es key ≡ New → ⊥) → classes_after k es (Some key ∷ rest) ≡ class_after k es key ∷ classes_after k es rest
-then_other k es key rest h =
-    ap (λ (keys : List RequestKey). class_after k es key ∷ classes_behind k.most (length k.pairs) keys rest) (same_pairs (class_after k es key) key (keys_after k es) h)
+keys_with : (k : KeptList) (cs : List Change) (e : Entry) → with_key k.most (key_of e) (standing_after k cs) ≡ standing_after k (cs ++ Keep e ∷ [])
+keys_with k cs e =
+    let kept : KeptList = kept_after k cs in
+    let pairs : map key_of (k.pairs ++ entries_in cs) ++ key_of e ∷ [] ≡ map key_of (k.pairs ++ entries_in (cs ++ Keep e ∷ [])) =
+    sym (map-append key_of (k.pairs ++ entries_in cs) (e ∷ [])) ∙ ap (map key_of) (append_assoc k.pairs (entries_in cs) (e ∷ []) ∙ ap (λ (l : List Entry). k.pairs ++ l) (sym (entries_more cs (Keep e))))
+    in
+    let last : keep_last k.most (keys_of kept ++ key_of e ∷ []) ≡ keys_of (kept_after k (cs ++ Keep e ∷ [])) =
+    ap (λ (m : ℕ). keep_last m (keys_of kept ++ key_of e ∷ [])) (sym (most_after k cs)) ∙ keys_last kept.most kept.pairs e ∙ ap keys_of (sym (one_more_after k cs (Keep e)))
+    in
+    λ i. standing (pairs i) (last i)
+
+pub then_new : (k : KeptList) (cs : List Change) (e : Entry) (rest : List Point) → class_after k cs (key_of e) ≡ New → classes_after k cs (point.Request (key_of e) ∷ rest) ≡ New ∷ classes_after k (cs ++ Keep e ∷ []) rest
+then_new k cs e rest new =
+    ap (λ (c : Class). c ∷ classes_behind k.most (length k.pairs) (behind_request k.most c (key_of e) (standing_after k cs)) rest) new
+    ∙ ap (λ (s : Standing). New ∷ classes_behind k.most (length k.pairs) s rest) (keys_with k cs e)
+
+same_standing : (most : ℕ) (c : Class) (key : RequestKey) (s : Standing) → (c ≡ New → ⊥) → behind_request most c key s ≡ s
+same_standing most New key s h = absurd (h refl)
+same_standing most (Repeat from) key s h = refl
+same_standing most Over key s h = refl
+same_standing most Nothing key s h = refl
+
+pub then_other : (k : KeptList) (cs : List Change) (key : RequestKey) (rest : List Point) → (class_after k cs key ≡ New → ⊥) → classes_after k cs (point.Request key ∷ rest) ≡ class_after k cs key ∷ classes_after k cs rest
+then_other k cs key rest h =
+    ap (λ (s : Standing). class_after k cs key ∷ classes_behind k.most (length k.pairs) s rest) (same_standing k.most (class_after k cs key) key (standing_after k cs) h)
+
+-- ---- where no request comes behind an acknowledgement
+
+-- nothing is asked any more
+all_nothing : (most old : ℕ) (s t : Standing) (items : List Point) → asks_behind true items ≡ false → classes_behind most old s items ≡ classes_behind most old t (map (seen false) items)
+all_nothing most old s t [] none = refl
+all_nothing most old s t (point.Request key ∷ rest) none = absurd cc
+all_nothing most old s t (point.Ack r ∷ rest) none = ap (λ (l : List Class). Nothing ∷ l) (all_nothing most old (without r s) t rest none)
+all_nothing most old s t (point.Nothing ∷ rest) none = ap (λ (l : List Class). Nothing ∷ l) (all_nothing most old s t rest none)
+
+no_say : (most old : ℕ) (s : Standing) (items : List Point) → asks_behind false items ≡ false → classes_behind most old s items ≡ classes_behind most old s (map (seen false) items)
+no_say most old s [] none = refl
+no_say most old s (point.Request key ∷ rest) none = ap (λ (l : List Class). class_at old (point.Request key) s ∷ l) (no_say most old (behind most old (point.Request key) s) rest none)
+no_say most old s (point.Ack r ∷ rest) none = ap (λ (l : List Class). Nothing ∷ l) (all_nothing most old (without r s) s rest none)
+no_say most old s (point.Nothing ∷ rest) none = ap (λ (l : List Class). Nothing ∷ l) (no_say most old s rest none)
+
+all_seen : (items : List Point) → map (seen true) items ≡ items
+all_seen [] = refl
+all_seen (point.Request key ∷ rest) = ap (λ (l : List Point). point.Request key ∷ l) (all_seen rest)
+all_seen (point.Ack r ∷ rest) = ap (λ (l : List Point). point.Ack r ∷ l) (all_seen rest)
+all_seen (point.Nothing ∷ rest) = ap (λ (l : List Point). point.Nothing ∷ l) (all_seen rest)
+
+-- the classes are those of what is seen
+pub as_seen : (b : Bool) (k : KeptList) (items : List Point) → b ≡ asks_behind false items → classes_of k items ≡ classes_of k (map (seen b) items)
+as_seen true k items is = ap (classes_of k) (sym (all_seen items))
+as_seen false k items is = no_say k.most (length k.pairs) (standing_of k) items (sym is)
+
+-- ---- one item more
+
+pub goes_on : (most before : ℕ) (b : Bool) (asked : List Point) (i : ℕ) (x : Point) (classes : List Class) (c : Class) (s : Standing) (total : List Class) → i < length asked → x ≡ get_or asked i x
+    → classes ++ classes_behind most before s (map (seen b) (drop i asked)) ≡ total
+    → c ≡ class_at before (seen b x) s
+    → (classes ++ c ∷ []) ++ classes_behind most before (behind most before (seen b x) s) (map (seen b) (drop (i + 1) asked)) ≡ total
+goes_on most before b asked i x classes c s total h is so_far class =
+    let next : List Class = classes_behind most before (behind most before (seen b x) s) (map (seen b) (drop (i + 1) asked)) in
+    append_assoc classes (c ∷ []) next
+    ∙ ap (λ (d : Class). classes ++ d ∷ next) class
+    ∙ ap (λ (y : Point). classes ++ classes_behind most before s (map (seen b) (y ∷ drop (i + 1) asked))) is
+    ∙ ap (λ (l : List Point). classes ++ classes_behind most before s (map (seen b) l)) (sym (drop_more asked i x h))
+    ∙ so_far

@@ -1,89 +1,130 @@
 -- What an index tells, and the index with one more pair.
-use Rattle.std.proofs.Common.{◌≡◌, ℕ, zero, suc, ◌+◌, ◌-◌, ◌<◌, ◌≤◌, ◌||◌, nat_le, nat_lt, Bool, true, false, cond, List, [], ◌∷◌, ◌++◌, length, take, get_or, Option, Some, None, refl, ap, sym, ◌∙◌, length-append, arith}
-use Rattle.std.proofs.lemmas.List.{take_more}
+use Rattle.std.proofs.Common.{◌≡◌, ℕ, zero, suc, ◌+◌, ◌-◌, ◌<◌, ◌≤◌, ◌||◌, nat_le, nat_lt, not, Bool, true, false, cond, List, [], ◌∷◌, ◌++◌, length, take, drop, get_or, Option, Some, None, Result, Ok, Err, IfOk, refl, ap, sym, subst, ◌∙◌, length-append, length-drop, arith}
+use Rattle.std.proofs.lemmas.List.{take_more, drop-append-le, drop-drop}
 use Rattle.std.proofs.lemmas.Bool.Decides.{nat_tests}
 use Rattle.std.specs.BTreeMap.{get, is_at}
+use Rattle.std.specs.List.{filter}
+use Rattle.std.specs.Option.{is_some}
+use Rattle.circular_buffer.specs.Buffer.{keep_last}
 use Rattle.gw_kept.specs.declared.entry.RequestKey.{RequestKey}
 use Rattle.gw_kept.specs.declared.index.Index.{Index}
-use Rattle.gw_kept.specs.declared.class.Class.TheVariants.{New, Over}
-use Rattle.gw_kept.specs.Pairs.{is_same}
-use Rattle.gw_kept.specs.Classes.{last_place, kept_place, class_of, most_new}
-use Rattle.gw_kept.specs.Index.{is_asked, IsIndex}
+use Rattle.gw_kept.specs.declared.point.Point.{Point}
+use Rattle.gw_kept.specs.declared.point.Point.TheVariants as point
+use Rattle.gw_kept.specs.declared.point.Removal.{Removal}
+use Rattle.gw_kept.specs.declared.class.Class.{Class}
+use Rattle.gw_kept.specs.declared.class.Class.TheVariants.{New, Over, Nothing}
+use Rattle.gw_kept.specs.Pairs.{KeptList, key_of, is_same}
+use Rattle.gw_kept.specs.Forgotten.{is_named, forgotten}
+use Rattle.gw_kept.specs.Classes.{Standing, keys_of, or_here, last_place, has_pair, kept_place, class_of, class_at, behind, behind_request, with_key, without, most_new}
+use Rattle.gw_kept.specs.Index.{is_asked, seen, IsAsked, AreLeft, IsIndex}
 use Rattle.gw_kept.specs.Order.{key_cmp}
+use Rattle.gw_kept.proofs.Left.{filter_map_is}
 use Rattle.gw_kept.proofs.Places.{within, among_last, one_more, key_test, same_key, same_itself}
 
 -- ---- what is asked
 
-asked_end : (q k : RequestKey) (t : Bool) → (t || false) ≡ cond t true false
-asked_end q k true = refl
-asked_end q k false = refl
+asked_end : (t : Bool) → (t || false) ≡ cond t true false
+asked_end true = refl
+asked_end false = refl
 
 asked_step : (s t u : Bool) → (s || cond t true u) ≡ cond t true (s || u)
 asked_step true true u = refl
 asked_step true false u = refl
 asked_step false t u = refl
 
-pub asked_more : (q k : RequestKey) (xs : List (Option RequestKey)) → is_asked q (xs ++ Some k ∷ []) ≡ cond (is_same k q) true (is_asked q xs)
-asked_more q k [] = asked_end q k (is_same k q)
-asked_more q k (None ∷ xs) = asked_more q k xs
-asked_more q k (Some j ∷ xs) = ap (λ (t : Bool). is_same j q || t) (asked_more q k xs) ∙ asked_step (is_same j q) (is_same k q) (is_asked q xs)
+pub asked_more : (q k : RequestKey) (xs : List Point) → is_asked q (xs ++ point.Request k ∷ []) ≡ cond (is_same k q) true (is_asked q xs)
+asked_more q k [] = asked_end (is_same k q)
+asked_more q k (point.Request j ∷ xs) = ap (λ (t : Bool). is_same j q || t) (asked_more q k xs) ∙ asked_step (is_same j q) (is_same k q) (is_asked q xs)
+asked_more q k (point.Ack r ∷ xs) = asked_more q k xs
+asked_more q k (point.Nothing ∷ xs) = asked_more q k xs
 
-pub asked_none : (q : RequestKey) (xs : List (Option RequestKey)) → is_asked q (xs ++ None ∷ []) ≡ is_asked q xs
-asked_none q [] = refl
-asked_none q (None ∷ xs) = asked_none q xs
-asked_none q (Some j ∷ xs) = ap (λ (t : Bool). is_same j q || t) (asked_none q xs)
+-- what asks nothing
+abbrev pub asks : Point → Bool
+asks (point.Request k) = true
+asks (point.Ack r) = false
+asks point.Nothing = false
+
+pub asks_not : (x : Point) → ((k : RequestKey) → x ≡ point.Request k → ⊥) → asks x ≡ false
+asks_not (point.Request k) f = absurd (f k refl)
+asks_not (point.Ack r) f = refl
+asks_not point.Nothing f = refl
+
+asks_none : (q : RequestKey) (x : Point) → asks x ≡ false → is_asked q (x ∷ []) ≡ false
+asks_none q (point.Request k) e = absurd cc
+asks_none q (point.Ack r) e = refl
+asks_none q point.Nothing e = refl
+
+pub asked_none : (q : RequestKey) (xs : List Point) (x : Point) → asks x ≡ false → is_asked q (xs ++ x ∷ []) ≡ is_asked q xs
+asked_none q [] x e = asks_none q x e
+asked_none q (point.Request j ∷ xs) x e = ap (λ (t : Bool). is_same j q || t) (asked_none q xs x e)
+asked_none q (point.Ack r ∷ xs) x e = asked_none q xs x e
+asked_none q (point.Nothing ∷ xs) x e = asked_none q xs x e
 
 or_true : (t : Bool) → (t || true) ≡ true
 or_true true = refl
 or_true false = refl
 
-at_head : (key k : RequestKey) (t : Bool) → k ≡ key → (is_same k key || t) ≡ true
-at_head key k t e = let same : is_same k key ≡ true = ap (λ (j : RequestKey). is_same j key) e ∙ same_itself key in rw same refl
+at_head : (k : RequestKey) (t : Bool) → (is_same k k || t) ≡ true
+at_head k t = rw (same_itself k) refl
 
-pub asked_here : (key : RequestKey) (xs : List (Option RequestKey)) (i : ℕ) (x : Option RequestKey) → i < length xs → x ≡ get_or xs i x → x ≡ Some key → is_asked key xs ≡ true
-asked_here key [] i x h is some = absurd (omega arith)
-asked_here key (None ∷ xs) zero x h is some = absurd cc
-asked_here key (Some k ∷ xs) zero x h is some = let e : k ≡ key = cc in at_head key k (is_asked key xs) e
-asked_here key (None ∷ xs) (suc i) x h is some = asked_here key xs i x (omega arith) is some
-asked_here key (Some k ∷ xs) (suc i) x h is some = ap (λ (t : Bool). is_same k key || t) (asked_here key xs i x (omega arith) is some) ∙ or_true (is_same k key)
+asked_first : (x : Point) (xs : List Point) → IsAsked x (x ∷ xs)
+asked_first (point.Request k) xs = at_head k (is_asked k xs)
+asked_first (point.Ack r) xs = tt
+asked_first point.Nothing xs = tt
+
+asked_behind : (y x : Point) (xs : List Point) → IsAsked x xs → IsAsked x (y ∷ xs)
+asked_behind (point.Request j) (point.Request k) xs e = ap (λ (t : Bool). is_same j k || t) e ∙ or_true (is_same j k)
+asked_behind (point.Ack r) (point.Request k) xs e = e
+asked_behind point.Nothing (point.Request k) xs e = e
+asked_behind y (point.Ack r) xs e = tt
+asked_behind y point.Nothing xs e = tt
+
+pub asked_here : (xs : List Point) (i : ℕ) (x : Point) → i < length xs → x ≡ get_or xs i x → IsAsked x xs
+asked_here [] i x h is = absurd (omega arith)
+asked_here (y ∷ ys) zero x h is = subst (λ (z : Point). IsAsked z (y ∷ ys)) (sym is) (asked_first y ys)
+asked_here (y ∷ ys) (suc i) x h is = asked_behind y x ys (asked_here ys i x (omega arith) is)
 
 -- ---- the kept place
 
 le_true : (d p : ℕ) → d ≤ p → nat_le d p ≡ true
 le_true d p h = grind (arith, nat_tests)
 
-le_false : (d p : ℕ) → p < d → nat_le d p ≡ false
-le_false d p h = grind (arith, nat_tests)
+some_within : (d p : ℕ) (o : Option ℕ) (b : Bool) → nat_le d p ≡ b → or_here d o None ≡ cond (nat_le d p) (Some p) None → b ≡ is_some o
+some_within d p (Some q) true is e = refl
+some_within d p None false is e = refl
+some_within d p (Some q) false is e =
+    let clash : Some (q + d) ≡ None = e ∙ ap (λ (t : Bool). cond t (Some p) None) is in
+    absurd cc
+some_within d p None true is e =
+    let clash : None ≡ Some p = e ∙ ap (λ (t : Bool). cond t (Some p) None) is in
+    absurd cc
 
-kept_is : (index : Index) (pairs : List RequestKey) (key : RequestKey) (o : Option ℕ) → o ≡ last_place key pairs → kept_place index.most key pairs ≡ within (length pairs - index.most) o
-kept_is index pairs key o e =
-    let d : ℕ = length pairs - index.most in
-    among_last key d pairs ∙ ap (within d) (sym e)
+-- where nothing was removed, a key's last pair is kept if it is one of the last so many
+pub kept_by_place : (asked : List Point) (index : Index) (s : Standing) (key : RequestKey) (p : ℕ) → IsIndex asked index s → index.left ≡ None → last_place key s.pairs ≡ Some p → nat_le (index.total - index.most) p ≡ has_pair key s.kept
+kept_by_place asked index s key p h none at =
+    let d : ℕ = length s.pairs - index.most in
+    let kept : s.kept ≡ keep_last index.most s.pairs = subst (λ (o : Option KeptList). AreLeft index.most o s) none h.left in
+    ap (λ (n : ℕ). nat_le (n - index.most) p) h.total
+    ∙ some_within d p (last_place key (drop d s.pairs)) (nat_le d p) refl (among_last key d s.pairs ∙ ap (within d) at)
+    ∙ ap (λ (l : List RequestKey). is_some (last_place key l)) (sym kept)
 
-pub place_kept : (asked : List (Option RequestKey)) (index : Index) (pairs : List RequestKey) (key : RequestKey) (p : ℕ) → IsIndex asked index pairs → Some p ≡ last_place key pairs → index.total - index.most ≤ p → Some p ≡ kept_place index.most key pairs
-place_kept asked index pairs key p h e le =
-    let t : nat_le (length pairs - index.most) p ≡ true = le_true (length pairs - index.most) p (omega (arith, h.total, le)) in
-    sym (kept_is index pairs key (Some p) e ∙ ap (λ (b : Bool). cond b (Some p) None) t)
+pub place_kept : (s : Standing) (key : RequestKey) (p : ℕ) → Some p ≡ last_place key s.pairs → true ≡ has_pair key s.kept → Some p ≡ kept_place key s
+place_kept s key p at is = at ∙ ap (λ (t : Bool). cond t (last_place key s.pairs) None) is
 
-pub place_gone : (asked : List (Option RequestKey)) (index : Index) (pairs : List RequestKey) (key : RequestKey) (p : ℕ) → IsIndex asked index pairs → Some p ≡ last_place key pairs → p < index.total - index.most → None ≡ kept_place index.most key pairs
-place_gone asked index pairs key p h e less =
-    let t : nat_le (length pairs - index.most) p ≡ false = le_false (length pairs - index.most) p (omega (arith, h.total, less)) in
-    sym (kept_is index pairs key (Some p) e ∙ ap (λ (b : Bool). cond b (Some p) None) t)
-
-pub place_none : (index : Index) (pairs : List RequestKey) (key : RequestKey) → None ≡ last_place key pairs → None ≡ kept_place index.most key pairs
-place_none index pairs key e = sym (kept_is index pairs key None e)
+pub place_gone : (s : Standing) (key : RequestKey) → false ≡ has_pair key s.kept → None ≡ kept_place key s
+place_gone s key is = ap (λ (t : Bool). cond t (last_place key s.pairs) None) is
 
 -- ---- a place for each key that is asked
 
-abbrev pub Places : List (Option RequestKey) → List RequestKey → (RequestKey → Option (Option ℕ)) → Type 0
+abbrev pub Places : List Point → List RequestKey → (RequestKey → Option (Option ℕ)) → Type 0
 Places asked pairs places = (q : RequestKey) → places q ≡ cond (is_asked q asked) (Some (last_place q pairs)) None
 
-other_pair : (asked : List (Option RequestKey)) (pairs : List RequestKey) (key q : RequestKey) → is_same key q ≡ false → cond (is_asked q asked) (Some (last_place q pairs)) None ≡ cond (is_asked q asked) (Some (last_place q (pairs ++ key ∷ []))) None
+other_pair : (asked : List Point) (pairs : List RequestKey) (key q : RequestKey) → is_same key q ≡ false → cond (is_asked q asked) (Some (last_place q pairs)) None ≡ cond (is_asked q asked) (Some (last_place q (pairs ++ key ∷ []))) None
 other_pair asked pairs key q e =
     let same : last_place q (pairs ++ key ∷ []) ≡ last_place q pairs = one_more q key pairs ∙ ap (λ (t : Bool). cond t (Some (length pairs)) (last_place q pairs)) e in
     ap (λ (l : Option ℕ). cond (is_asked q asked) (Some l) None) (sym same)
 
-put_at : (t : Bool) (asked : List (Option RequestKey)) (old : Option (Option ℕ)) (pairs : List RequestKey) (key q : RequestKey) → is_same key q ≡ t → is_asked key asked ≡ true → old ≡ cond (is_asked q asked) (Some (last_place q pairs)) None
+put_at : (t : Bool) (asked : List Point) (old : Option (Option ℕ)) (pairs : List RequestKey) (key q : RequestKey) → is_same key q ≡ t → is_asked key asked ≡ true → old ≡ cond (is_asked q asked) (Some (last_place q pairs)) None
     → cond t (Some (Some (length pairs))) old ≡ cond (is_asked q asked) (Some (last_place q (pairs ++ key ∷ []))) None
 put_at true asked old pairs key q is known h =
     let same : last_place q (pairs ++ key ∷ []) ≡ Some (length pairs) = one_more q key pairs ∙ ap (λ (t : Bool). cond t (Some (length pairs)) (last_place q pairs)) is in
@@ -92,7 +133,7 @@ put_at true asked old pairs key q is known h =
 put_at false asked old pairs key q is known h = h ∙ other_pair asked pairs key q is
 
 -- one more pair of a key that is asked
-pub put : (asked : List (Option RequestKey)) (old new : RequestKey → Option (Option ℕ)) (pairs : List RequestKey) (key : RequestKey) (place : ℕ) → is_asked key asked ≡ true → place ≡ length pairs → Places asked pairs old
+pub put : (asked : List Point) (old new : RequestKey → Option (Option ℕ)) (pairs : List RequestKey) (key : RequestKey) (place : ℕ) → is_asked key asked ≡ true → place ≡ length pairs → Places asked pairs old
     → ((q : RequestKey) → new q ≡ cond (is_at (key_cmp key) q) (Some (Some place)) (old q)) → Places asked (pairs ++ key ∷ []) new
 put asked old new pairs key place known size h u q =
     u q
@@ -110,23 +151,23 @@ put_key : (s t : Bool) (key q : RequestKey) (pairs : List RequestKey) → is_sam
 put_key true t key q pairs is = ap (λ (k : RequestKey). Some (last_place k pairs)) (same_key key q is)
 put_key false t key q pairs is = refl
 
-pub key_more : (old new : RequestKey → Option (Option ℕ)) (pairs : List RequestKey) (xs : List (Option RequestKey)) (i : ℕ) (x : Option RequestKey) (key : RequestKey) (place : Option ℕ) → i < length xs → x ≡ get_or xs i x → x ≡ Some key → place ≡ last_place key pairs
+pub key_more : (old new : RequestKey → Option (Option ℕ)) (pairs : List RequestKey) (xs : List Point) (i : ℕ) (x : Point) (key : RequestKey) (place : Option ℕ) → i < length xs → x ≡ get_or xs i x → x ≡ point.Request key → place ≡ last_place key pairs
     → ((q : RequestKey) → old q ≡ placed q pairs (is_asked q (take i xs))) → ((q : RequestKey) → new q ≡ cond (is_at (key_cmp key) q) (Some place) (old q)) → (q : RequestKey) → new q ≡ placed q pairs (is_asked q (take (i + 1) xs))
 key_more old new pairs xs i x key place h is some there f u q =
-    let last : take (i + 1) xs ≡ take i xs ++ Some key ∷ [] = take_more xs i x h ∙ ap (λ (y : Option RequestKey). take i xs ++ y ∷ []) (sym is ∙ some) in
+    let last : take (i + 1) xs ≡ take i xs ++ point.Request key ∷ [] = take_more xs i x h ∙ ap (λ (y : Point). take i xs ++ y ∷ []) (sym is ∙ some) in
     u q
     ∙ ap (λ (t : Bool). cond t (Some place) (old q)) (key_test key q)
     ∙ ap (λ (p : Option ℕ). cond (is_same key q) (Some p) (old q)) there
     ∙ ap (cond (is_same key q) (Some (last_place key pairs))) (f q)
     ∙ put_key (is_same key q) (is_asked q (take i xs)) key q pairs refl
     ∙ ap (placed q pairs) (sym (asked_more q key (take i xs)))
-    ∙ ap (λ (l : List (Option RequestKey)). placed q pairs (is_asked q l)) (sym last)
+    ∙ ap (λ (l : List Point). placed q pairs (is_asked q l)) (sym last)
 
-pub no_key_more : (old : RequestKey → Option (Option ℕ)) (pairs : List RequestKey) (xs : List (Option RequestKey)) (i : ℕ) (x : Option RequestKey) → i < length xs → x ≡ get_or xs i x → x ≡ None
+pub no_key_more : (old : RequestKey → Option (Option ℕ)) (pairs : List RequestKey) (xs : List Point) (i : ℕ) (x : Point) → i < length xs → x ≡ get_or xs i x → asks x ≡ false
     → ((q : RequestKey) → old q ≡ placed q pairs (is_asked q (take i xs))) → (q : RequestKey) → old q ≡ placed q pairs (is_asked q (take (i + 1) xs))
 no_key_more old pairs xs i x h is none f q =
-    let last : take (i + 1) xs ≡ take i xs ++ None ∷ [] = take_more xs i x h ∙ ap (λ (y : Option RequestKey). take i xs ++ y ∷ []) (sym is ∙ none) in
-    f q ∙ ap (placed q pairs) (sym (asked_none q (take i xs))) ∙ ap (λ (l : List (Option RequestKey)). placed q pairs (is_asked q l)) (sym last)
+    let last : take (i + 1) xs ≡ take i xs ++ x ∷ [] = take_more xs i x h ∙ ap (λ (y : Point). take i xs ++ y ∷ []) (sym is) in
+    f q ∙ ap (placed q pairs) (sym (asked_none q (take i xs) x none)) ∙ ap (λ (l : List Point). placed q pairs (is_asked q l)) (sym last)
 
 -- ---- a new request
 
@@ -135,15 +176,119 @@ is_new before pairs o e less =
     let t : nat_lt (length pairs - before) most_new ≡ true = grind (arith, nat_tests) in
     sym (ap (class_of before pairs) e ∙ ap (λ (b : Bool). cond b New Over) t)
 
-pub noted : (asked : List (Option RequestKey)) (index next : Index) (pairs : List RequestKey) (key : RequestKey) → IsIndex asked index pairs → is_asked key asked ≡ true
+-- the last so many, with one more
+pub last_more : (most : ℕ) (keys : List RequestKey) (key : RequestKey) → keep_last most (keep_last most keys ++ key ∷ []) ≡ keep_last most (keys ++ key ∷ [])
+last_more most keys key =
+    let d : ℕ = length keys - most in
+    let within : d ≤ length keys = omega arith in
+    let same : d + (length (drop d (keys ++ key ∷ [])) - most) ≡ length (keys ++ key ∷ []) - most = omega (arith, length-drop d (keys ++ key ∷ []), length-append keys (key ∷ [])) in
+    ap (keep_last most) (sym (drop-append-le d keys (key ∷ []) within))
+    ∙ drop-drop (length (drop d (keys ++ key ∷ [])) - most) d (keys ++ key ∷ [])
+    ∙ ap (λ (n : ℕ). drop n (keys ++ key ∷ [])) same
+
+none_parts : (o : Option ℕ) (t : Bool) → or_here 1 o (cond t (Some 0) None) ≡ None → (t ≡ false) × (o ≡ None)
+none_parts (Some q) t e = absurd cc
+none_parts None true e = absurd cc
+none_parts None false e = (refl, refl)
+
+-- what no key of a list is, none of the last so many is, and none that passes a test
+none_step : (key : RequestKey) (k : RequestKey) (ks : List RequestKey) → last_place key (k ∷ ks) ≡ None → (is_same k key ≡ false) × (last_place key ks ≡ None)
+none_step key k ks e = none_parts (last_place key ks) (is_same k key) e
+
+pub none_last : (key : RequestKey) (n : ℕ) (ks : List RequestKey) → last_place key ks ≡ None → last_place key (drop n ks) ≡ None
+none_last key zero ks e = e
+none_last key (suc n) [] e = e
+none_last key (suc n) (k ∷ ks) e = none_last key n ks (none_step key k ks e).1
+
+left_step : (b : Bool) (t : RequestKey → Bool) (key k : RequestKey) (ks : List RequestKey) → t k ≡ b → is_same k key ≡ false → last_place key (filter t ks) ≡ None → last_place key (cond (t k) (k ∷ filter t ks) (filter t ks)) ≡ None
+left_step true t key k ks is other none = rw (is, none, other) refl
+left_step false t key k ks is other none = rw is none
+
+pub none_left : (key : RequestKey) (t : RequestKey → Bool) (ks : List RequestKey) → last_place key ks ≡ None → last_place key (filter t ks) ≡ None
+none_left key t [] e = e
+none_left key t (k ∷ ks) e = let h = none_step key k ks e in left_step (t k) t key k ks refl h.0 (none_left key t ks h.1)
+
+more_parts : (t : Bool) (n : ℕ) (o : Option ℕ) → cond t (Some n) o ≡ None → (t ≡ false) × (o ≡ None)
+more_parts true n o e = absurd cc
+more_parts false n o e = (refl, e)
+
+with_none : (t : Bool) (n : ℕ) (o : Option ℕ) → t ≡ false → o ≡ None → cond t (Some n) o ≡ None
+with_none true n o e f = absurd cc
+with_none false n o e f = f
+
+among_more : (most : ℕ) (key q : RequestKey) (s : Standing) → (last_place q s.pairs ≡ None → last_place q s.kept ≡ None) → last_place q (s.pairs ++ key ∷ []) ≡ None → last_place q (keep_last most (s.kept ++ key ∷ [])) ≡ None
+among_more most key q s h none =
+    let parts = more_parts (is_same key q) (length s.pairs) (last_place q s.pairs) (sym (one_more q key s.pairs) ∙ none) in
+    none_last q (length (s.kept ++ key ∷ []) - most) (s.kept ++ key ∷ []) (one_more q key s.kept ∙ with_none (is_same key q) (length s.kept) (last_place q s.kept) parts.0 (h parts.1))
+
+pub noted : (asked : List Point) (index next : Index) (s : Standing) (key : RequestKey) → IsIndex asked index s → is_asked key asked ≡ true
     → ((q : RequestKey) → get key_cmp next.places q ≡ cond (is_at (key_cmp key) q) (Some (Some index.total)) (get key_cmp index.places q))
-    → next.before ≡ index.before → next.total ≡ index.total + 1 → length pairs - index.before < most_new → IsIndex asked next (pairs ++ key ∷ [])
-noted asked index next pairs key h known u same more less =
-    let size : length (pairs ++ key ∷ []) ≡ length pairs + 1 = omega (arith, length-append pairs (key ∷ [])) in
+    → next.before ≡ index.before → next.total ≡ index.total + 1 → length s.pairs - index.before < most_new → AreLeft next.most next.left (with_key index.most key s) → IsIndex asked next (with_key index.most key s)
+noted asked index next s key h known u same more less left =
+    let size : length (s.pairs ++ key ∷ []) ≡ length s.pairs + 1 = omega (arith, length-append s.pairs (key ∷ [])) in
     record {
-      places = put asked (λ q. get key_cmp index.places q) (λ q. get key_cmp next.places q) pairs key index.total known h.total h.places u;
+      places = put asked (λ q. get key_cmp index.places q) (λ q. get key_cmp next.places q) s.pairs key index.total known h.total h.places u;
       total = more ∙ omega (arith, size, h.total);
       before = omega (arith, size, same, h.before);
       few = omega (arith, size, same, h.before, less);
       small = omega (arith, same, h.small);
+      left = left;
+      among = λ q. among_more index.most key q s (h.among q);
     }
+
+-- ---- what is left
+
+-- a key without a kept place is not kept
+absent_now : (o : Option ℕ) (s : Standing) (key : RequestKey) → last_place key s.kept ≡ o → kept_place key s ≡ None → (last_place key s.pairs ≡ None → last_place key s.kept ≡ None) → last_place key s.kept ≡ None
+absent_now (Some q) s key is none among = among (ap (λ (o : Option ℕ). cond (is_some o) (last_place key s.pairs) None) (sym is) ∙ none)
+absent_now None s key is none among = is
+
+pub left_by_place : (asked : List Point) (index : Index) (s : Standing) (key : RequestKey) → IsIndex asked index s → index.left ≡ None → AreLeft index.most index.left (with_key index.most key s)
+left_by_place asked index s key h none =
+    let kept : s.kept ≡ keep_last index.most s.pairs = subst (λ (o : Option KeptList). AreLeft index.most o s) none h.left in
+    let now : AreLeft index.most None (with_key index.most key s) = ap (λ (l : List RequestKey). keep_last index.most (l ++ key ∷ [])) kept ∙ last_more index.most s.pairs key in
+    subst (λ (o : Option KeptList). AreLeft index.most o (with_key index.most key s)) (sym none) now
+
+pub left_by_list : (asked : List Point) (index : Index) (s : Standing) (key : RequestKey) (old new : KeptList) → IsIndex asked index s → index.left ≡ Some old → kept_place key s ≡ None
+    → (last_place key (keys_of old) ≡ None → keys_of new ≡ keep_last old.most (keys_of old ++ key ∷ [])) → new.most ≡ old.most → AreLeft index.most (Some new) (with_key index.most key s)
+left_by_list asked index s key old new h some none keys most =
+    let left : AreLeft index.most (Some old) s = subst (λ (o : Option KeptList). AreLeft index.most o s) some h.left in
+    let gone : last_place key s.kept ≡ None = absent_now (last_place key s.kept) s key refl none (h.among key) in (
+      keys (ap (last_place key) left.0 ∙ gone) ∙ ap (λ (m : ℕ). keep_last m (keys_of old ++ key ∷ [])) left.1 ∙ ap (λ (l : List RequestKey). keep_last index.most (l ++ key ∷ [])) left.0,
+      most ∙ left.1,
+    )
+
+pub acknowledged : (asked : List Point) (index next : Index) (s : Standing) (r : Removal) (old new : KeptList) → IsIndex asked index s → index.left ≡ Some old → new ≡ forgotten old r.mid r.ranges
+    → next ≡ record { places = index.places; most = index.most; before = index.before; total = index.total; left = Some new } → IsIndex asked next (without r s)
+acknowledged asked index next s r old new h some is same =
+    let left : AreLeft index.most (Some old) s = subst (λ (o : Option KeptList). AreLeft index.most o s) some h.left in
+    let t : RequestKey → Bool = λ k. not (is_named r.mid r.ranges k) in
+    subst (λ (i : Index). IsIndex asked i (without r s)) (sym same) (record {
+      places = h.places;
+      total = h.total;
+      before = h.before;
+      few = h.few;
+      small = h.small;
+      left = (ap keys_of is ∙ sym (filter_map_is t key_of old.pairs) ∙ ap (filter t) left.0, ap (λ (k : KeptList). k.most) is ∙ left.1);
+      among = λ q none. none_left q t s.kept (h.among q none);
+    })
+
+-- ---- the class of an item
+
+pub request_told : {E : Type 0} (r : Result Class E) (most before : ℕ) (b : Bool) (asked : List Point) (new : Index) (s : Standing) (p : Point) (key : RequestKey) → p ≡ point.Request key
+    → IfOk r (λ class. (class ≡ class_of before s.pairs (kept_place key s)) × IsIndex asked new (behind_request most class key s))
+    → IfOk r (λ class. (class ≡ class_at before (seen b p) s) × IsIndex asked new (behind most before (seen b p) s))
+request_told (Ok c) most before b asked new s p key is h =
+    subst (λ (q : Point). (c ≡ class_at before (seen b q) s) × IsIndex asked new (behind most before (seen b q) s)) (sym is)
+    (h.0, subst (λ (d : Class). IsIndex asked new (behind_request most d key s)) h.0 h.1)
+request_told (Err e) most before b asked new s p key is h = tt
+
+ack_seen : (b : Bool) (most before : ℕ) (asked : List Point) (new : Index) (s : Standing) (r : Removal) → (b ≡ true → IsIndex asked new (without r s)) → (b ≡ false → IsIndex asked new s)
+    → (Nothing ≡ class_at before (seen b (point.Ack r)) s) × IsIndex asked new (behind most before (seen b (point.Ack r)) s)
+ack_seen true most before asked new s r f g = (refl, f refl)
+ack_seen false most before asked new s r f g = (refl, g refl)
+
+pub ack_told : (b : Bool) (most before : ℕ) (asked : List Point) (new : Index) (s : Standing) (p : Point) (r : Removal) → p ≡ point.Ack r → (b ≡ true → IsIndex asked new (without r s)) → (b ≡ false → IsIndex asked new s)
+    → (Nothing ≡ class_at before (seen b p) s) × IsIndex asked new (behind most before (seen b p) s)
+ack_told b most before asked new s p r is f g =
+    subst (λ (q : Point). (Nothing ≡ class_at before (seen b q) s) × IsIndex asked new (behind most before (seen b q) s)) (sym is) (ack_seen b most before asked new s r f g)

@@ -1,47 +1,21 @@
--- The last so many of a list, and what is kept after several pairs.
-use Rattle.std.proofs.Common.{◌≡◌, ℕ, zero, suc, ◌+◌, ◌-◌, ◌<◌, ◌≤◌, List, [], ◌∷◌, ◌++◌, length, drop, refl, ap, sym, ◌∙◌, append_assoc, length-append, length-drop, arith}
-use Rattle.std.proofs.lemmas.List.{append-nil, drop-append-le, drop-drop}
+-- The last so many of a list, and the item at a place.
+use Rattle.std.proofs.Common.{◌≡◌, ℕ, zero, suc, ◌-◌, ◌<◌, ◌≤◌, List, [], ◌∷◌, ◌++◌, map, length, drop, get_or, Some, refl, ap, sym, ◌∙◌, length-drop, arith}
+use Rattle.std.proofs.lemmas.List.{drop-map, length-map, map-append}
 use Rattle.std.specs.List.{slice_get}
 use Rattle.circular_buffer.specs.Buffer.{keep_last}
 use Rattle.gw_kept.specs.declared.entry.Entry.{Entry}
-use Rattle.gw_kept.specs.Pairs.{KeptList, with_pair, kept_after}
-
--- ---- the last so many
-
-pub last_of_last : (m : ℕ) (xs ys : List Entry) → keep_last m (keep_last m xs ++ ys) ≡ keep_last m (xs ++ ys)
-last_of_last m xs ys =
-    let d : ℕ = length xs - m in
-    let within : d ≤ length xs = omega arith in
-    let same : d + (length (drop d (xs ++ ys)) - m) ≡ length (xs ++ ys) - m = omega (arith, length-drop d (xs ++ ys), length-append xs ys) in
-    ap (keep_last m) (sym (drop-append-le d xs ys within))
-    ∙ drop-drop (length (drop d (xs ++ ys)) - m) d (xs ++ ys)
-    ∙ ap (λ (n : ℕ). drop n (xs ++ ys)) same
+use Rattle.gw_kept.specs.declared.entry.RequestKey.{RequestKey}
+use Rattle.gw_kept.specs.Pairs.{key_of}
 
 pub few_last : (m : ℕ) (xs : List Entry) → length (keep_last m xs) ≤ m
 few_last m xs = omega (arith, length-drop (length xs - m) xs)
 
--- ---- after several pairs
-
-pub after : (k : KeptList) (es : List Entry) → length k.pairs ≤ k.most → (kept_after k es).pairs ≡ keep_last k.most (k.pairs ++ es)
-after k [] h =
-    let none : length (k.pairs ++ []) - k.most ≡ 0 = omega (arith, ap length (append-nil k.pairs)) in
-    sym (ap (λ (n : ℕ). drop n (k.pairs ++ [])) none ∙ append-nil k.pairs)
-after k (e ∷ es) h =
-    after (with_pair k e) es (few_last k.most (k.pairs ++ e ∷ []))
-    ∙ last_of_last k.most (k.pairs ++ e ∷ []) es
-    ∙ ap (keep_last k.most) (append_assoc k.pairs (e ∷ []) es)
-
-pub one_more_after : (k : KeptList) (es : List Entry) (e : Entry) → kept_after k (es ++ e ∷ []) ≡ with_pair (kept_after k es) e
-one_more_after k [] e = refl
-one_more_after k (x ∷ xs) e = one_more_after (with_pair k x) xs e
-
-pub most_after : (k : KeptList) (es : List Entry) → (kept_after k es).most ≡ k.most
-most_after k [] = refl
-most_after k (e ∷ es) = most_after (with_pair k e) es
-
-pub few_after : (k : KeptList) (es : List Entry) → length k.pairs ≤ k.most → length (kept_after k es).pairs ≤ k.most
-few_after k [] h = h
-few_after k (e ∷ es) h = few_after (with_pair k e) es (few_last k.most (k.pairs ++ e ∷ []))
+-- the keys of the last so many
+pub keys_last : (m : ℕ) (es : List Entry) (e : Entry) → keep_last m (map key_of es ++ key_of e ∷ []) ≡ map key_of (keep_last m (es ++ e ∷ []))
+keys_last m es e =
+    ap (keep_last m) (sym (map-append key_of es (e ∷ [])))
+    ∙ ap (λ (n : ℕ). drop (n - m) (map key_of (es ++ e ∷ []))) (length-map (es ++ e ∷ []) key_of)
+    ∙ drop-map key_of (length (es ++ e ∷ []) - m) (es ++ e ∷ [])
 
 -- ---- the item at a place
 
@@ -55,7 +29,16 @@ at_back [] ys i h = let e : i - 0 ≡ i = omega arith in ap (slice_get ys) (sym 
 at_back (x ∷ xs) ys zero h = absurd (omega arith)
 at_back (x ∷ xs) ys (suc i) h = let e : suc i - suc (length xs) ≡ i - length xs = omega arith in at_back xs ys i (omega arith) ∙ ap (slice_get ys) (sym e)
 
-pub at_drop : (d i : ℕ) (xs : List Entry) → slice_get (drop d xs) i ≡ slice_get xs (i + d)
-at_drop zero i xs = let e : i + 0 ≡ i = omega arith in ap (slice_get xs) (sym e)
-at_drop (suc d) i [] = refl
-at_drop (suc d) i (x ∷ xs) = let e : i + suc d ≡ suc (i + d) = omega arith in at_drop d i xs ∙ ap (slice_get (x ∷ xs)) (sym e)
+pub stays_there : (xs ys : List Entry) (i : ℕ) (e : Entry) → slice_get xs i ≡ Some e → slice_get (xs ++ ys) i ≡ Some e
+stays_there [] ys i e at = absurd cc
+stays_there (x ∷ xs) ys zero e at = at
+stays_there (x ∷ xs) ys (suc i) e at = stays_there xs ys i e at
+
+pub next_there : (xs ys : List Entry) (e : Entry) → slice_get (xs ++ e ∷ ys) (length xs) ≡ Some e
+next_there [] ys e = refl
+next_there (x ∷ xs) ys e = next_there xs ys e
+
+pub key_at : (es : List Entry) (i : ℕ) (e : Entry) (d : RequestKey) → slice_get es i ≡ Some e → get_or (map key_of es) i d ≡ key_of e
+key_at [] i e d at = absurd cc
+key_at (x ∷ xs) zero e d at = let is : x ≡ e = cc in ap key_of is
+key_at (x ∷ xs) (suc i) e d at = key_at xs i e d at

@@ -1,12 +1,15 @@
 pub mod Places
 pub mod Lists
 pub mod Circle
+pub mod Found
 pub mod Last
-pub mod Repeats
 pub mod Orders
+pub mod Copied
 pub mod Spans
 pub mod Forgetting
 pub mod Left
+pub mod Changed
+pub mod Repeats
 pub mod Turned
 pub mod Indexes
 pub mod Bursts

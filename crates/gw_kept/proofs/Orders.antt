@@ -25,7 +25,7 @@ use Rattle.gw_kept.specs.Classes.{or_here, last_place}
 use Rattle.gw_kept.specs.Order.{key_cmp, number_at, place_of, Before, IsSorted, IsOrder, IsStand}
 use Rattle.gw_kept.proofs.Circle.{place_back, number_next, next_around}
 use Rattle.gw_kept.proofs.Lists.{three_ways, below_or_not, all_insert, contains_insert, contains_itself, all_pairs_insert, all_pairs_weaker, all_weaker_here, all_pairs_map, map_agree, map_map, map_insert, map_remove}
-use Rattle.gw_kept.proofs.Repeats.{IsAt, kept_at}
+use Rattle.gw_kept.proofs.Found.{IsAt, kept_at}
 use Rattle.gw_kept.proofs.Places.{key_test, same_key, same_itself, same_back}
 
 -- ---- the order of keys
@@ -362,7 +362,7 @@ absent_behind key [] e = refl
 absent_behind key (x ∷ xs) e = (absent_first (is_same key (key_of x)) x.bytes (bytes_for key xs) e).1
 
 -- with room for one more pair, it goes last, and none falls out
-all_of : (most : ℕ) (es : List Entry) (e : Entry) → length es < most → es ++ e ∷ [] ≡ keep_last most (es ++ e ∷ [])
+pub all_of : (most : ℕ) (es : List Entry) (e : Entry) → length es < most → es ++ e ∷ [] ≡ keep_last most (es ++ e ∷ [])
 all_of most es e room =
     let none : length (es ++ e ∷ []) - most ≡ 0 = omega (arith, length-append es (e ∷ [])) in
     ap (λ (n : ℕ). drop n (es ++ e ∷ [])) (sym none)

@@ -1,81 +1,148 @@
 -- What the classes mean for the list that is kept meanwhile.
-use Rattle.std.proofs.Common.{◌≡◌, ℕ, zero, suc, ◌+◌, ◌-◌, ◌<◌, ◌≤◌, nat_lt, Bool, true, false, cond, List, [], ◌∷◌, ◌++◌, map, length, drop, Option, Some, None, refl, ap, sym, subst, ◌∙◌, add-one, length-append, arith}
-use Rattle.std.proofs.lemmas.List.{length-map, drop-map}
+use Rattle.std.proofs.Common.{◌≡◌, ℕ, zero, suc, ◌+◌, ◌-◌, ◌<◌, ◌≤◌, nat_lt, not, Bool, true, false, cond, List, [], ◌∷◌, ◌++◌, map, length, get_or, Option, Some, None, refl, ap, sym, subst, ◌∙◌, add-one, append_assoc, length-append, arith}
+use Rattle.std.proofs.lemmas.List.{append-nil, length-map, map-append}
+use Rattle.std.proofs.lemmas.List.Elements.{All-append, All-cons, All-nil, All-drop, All-filter}
 use Rattle.std.proofs.lemmas.Bool.Decides.{nat_tests}
-use Rattle.std.specs.List.{slice_get}
-use Rattle.std.specs.Option.{option_map}
-use Rattle.circular_buffer.specs.Buffer.{keep_last}
+use Rattle.std.specs.List.{All, slice_get}
+use Rattle.std.specs.Option.{option_map, is_some}
 use Rattle.gw_kept.specs.declared.entry.Entry.{Entry}
 use Rattle.gw_kept.specs.declared.entry.RequestKey.{RequestKey}
 use Rattle.gw_kept.specs.declared.class.Class.{Class}
 use Rattle.gw_kept.specs.declared.class.Class.TheVariants.{New, Repeat, Over, Nothing}
 use Rattle.gw_kept.specs.declared.class.Source.{Source}
 use Rattle.gw_kept.specs.declared.class.Source.TheVariants as source
-use Rattle.gw_kept.specs.Pairs.{KeptList, key_of, is_same, bytes_for, bytes_at, with_pair, kept_after, AreDistinct, AreNew}
+use Rattle.gw_kept.specs.Pairs.{KeptList, key_of, is_same, bytes_for, bytes_at, AreDistinct}
+use Rattle.gw_kept.specs.Forgotten.{is_named}
+use Rattle.gw_kept.specs.Changes.{Change, Keep, Remove, changed, kept_after, entries_in, IsNew, AreNew}
 use Rattle.gw_kept.specs.Classes.{or_here, last_place, source_at, class_of, most_new}
-use Rattle.gw_kept.specs.Repeats.{keys_after, class_after, bytes_of}
-use Rattle.gw_kept.proofs.Places.{same_key, same_back}
-use Rattle.gw_kept.proofs.Last.{after, one_more_after, at_front, at_back, at_drop}
+use Rattle.gw_kept.specs.Repeats.{class_after, bytes_of}
+use Rattle.gw_kept.proofs.Places.{one_more, same_itself}
+use Rattle.gw_kept.proofs.Found.{not_kept, IsAt, kept_at}
+use Rattle.gw_kept.proofs.Orders.{no_place, last_is}
+use Rattle.gw_kept.proofs.Last.{at_front, at_back, key_at, stays_there, next_there}
+use Rattle.gw_kept.proofs.Changed.{absent_head, distinct_after, new_more}
 
--- ---- the last pair of a key, and the first
+-- ---- each pair that is kept is the last of its key among all that there were
 
--- no place, no bytes
-no_bytes : (t : Bool) (o : Option ℕ) (b : List ℕ) (rest : Option (List ℕ)) → or_here 1 o (cond t (Some 0) None) ≡ None → (o ≡ None → rest ≡ None) → cond t (Some b) rest ≡ None
-no_bytes t (Some p) b rest e h = absurd cc
-no_bytes true None b rest e h = absurd cc
-no_bytes false None b rest e h = h refl
+pub record IsLast (all : List Entry) (x : Entry) : Type 0 where
+  pub place : ℕ
+  pub last : last_place (key_of x) (map key_of all) ≡ Some place
+  pub there : slice_get all place ≡ Some x
 
-pub not_kept : (key : RequestKey) (es : List Entry) → last_place key (map key_of es) ≡ None → bytes_for key es ≡ None
-not_kept key [] e = refl
-not_kept key (x ∷ xs) e =
-    rw (same_back key (key_of x)) (no_bytes (is_same (key_of x) key) (last_place key (map key_of xs)) x.bytes (bytes_for key xs) e (not_kept key xs))
+last_behind : (x y : Entry) (xs : List Entry) → IsLast xs y → IsLast (x ∷ xs) y
+last_behind x y xs l = record {
+  place = l.place + 1;
+  last = ap (λ (o : Option ℕ). or_here 1 o (cond (is_same (key_of x) (key_of y)) (Some 0) None)) l.last;
+  there = ap (slice_get (x ∷ xs)) (add-one l.place) ∙ l.there;
+}
 
--- the pair at a place, and the key's bytes
-pub record IsAt (key : RequestKey) (es : List Entry) (place : ℕ) : Type 0 where
+last_alone : (x : Entry) (xs : List Entry) → bytes_for (key_of x) xs ≡ None → IsLast (x ∷ xs) x
+last_alone x xs none = record {
+  place = 0;
+  last = ap (λ (o : Option ℕ). or_here 1 o (cond (is_same (key_of x) (key_of x)) (Some 0) None)) (no_place (key_of x) xs none) ∙ ap (λ (t : Bool). cond t (Some 0) None) (same_itself (key_of x));
+  there = refl;
+}
+
+module _ (all : List Entry) where
+  all_last_behind : (x : Entry) (xs : List Entry) → All (IsLast all) xs → All (IsLast (x ∷ all)) xs
+  all_last_behind x xs h i d l = last_behind x (get_or xs i d) all (h i d l)
+
+pub all_are_last : (es : List Entry) → AreDistinct es → All (IsLast es) es
+all_are_last [] d = All-nil (IsLast [])
+all_are_last (x ∷ xs) d = All-cons (IsLast (x ∷ xs)) x xs (last_alone x xs d.0) (all_last_behind xs x xs (all_are_last xs d.1))
+
+others : (key : RequestKey) (es : List Entry) → bytes_for key es ≡ None → All (λ x. is_same key (key_of x) ≡ false) es
+others key [] none = All-nil (λ x. is_same key (key_of x) ≡ false)
+others key (x ∷ xs) none =
+    let h = absent_head (is_same key (key_of x)) x.bytes (bytes_for key xs) none in
+    All-cons (λ x. is_same key (key_of x) ≡ false) x xs h.0 (others key xs h.1)
+
+last_stays : (all : List Entry) (e x : Entry) → is_same (key_of e) (key_of x) ≡ false → IsLast all x → IsLast (all ++ e ∷ []) x
+last_stays all e x other l = record {
+  place = l.place;
+  last = ap (last_place (key_of x)) (map-append key_of all (e ∷ []))
+      ∙ one_more (key_of x) (key_of e) (map key_of all)
+      ∙ ap (λ (t : Bool). cond t (Some (length (map key_of all))) (last_place (key_of x) (map key_of all))) other
+      ∙ l.last;
+  there = stays_there all (e ∷ []) l.place x l.there;
+}
+
+last_now : (all : List Entry) (e : Entry) → IsLast (all ++ e ∷ []) e
+last_now all e = record {
+  place = length all;
+  last = ap (last_place (key_of e)) (map-append key_of all (e ∷ []))
+      ∙ one_more (key_of e) (key_of e) (map key_of all)
+      ∙ ap (λ (t : Bool). cond t (Some (length (map key_of all))) (last_place (key_of e) (map key_of all))) (same_itself (key_of e))
+      ∙ ap (λ (n : ℕ). Some n) (length-map all key_of);
+  there = next_there all [] e;
+}
+
+last_changed : (all : List Entry) (k : KeptList) (c : Change) → All (IsLast all) k.pairs → IsNew k c → All (IsLast (all ++ entries_in (c ∷ []))) (changed k c).pairs
+last_changed all k (Keep e) h new =
+    All-drop (IsLast (all ++ e ∷ [])) (length (k.pairs ++ e ∷ []) - k.most) (k.pairs ++ e ∷ [])
+    (All-append (IsLast (all ++ e ∷ [])) k.pairs (e ∷ [])
+    (λ i d l. last_stays all e (get_or k.pairs i d) (others (key_of e) k.pairs new i d l) (h i d l))
+    (All-cons (IsLast (all ++ e ∷ [])) e [] (last_now all e) (All-nil (IsLast (all ++ e ∷ [])))))
+last_changed all k (Remove r) h new =
+    subst (λ (l : List Entry). All (IsLast l) (changed k (Remove r)).pairs) (sym (append-nil all))
+    (All-filter (λ (e : Entry). not (is_named r.mid r.ranges (key_of e))) (IsLast all) k.pairs h)
+
+entries-cons : (c : Change) (cs : List Change) → entries_in (c ∷ []) ++ entries_in cs ≡ entries_in (c ∷ cs)
+entries-cons (Keep e) cs = refl
+entries-cons (Remove r) cs = refl
+
+last_after : (all : List Entry) (k : KeptList) (cs : List Change) → All (IsLast all) k.pairs → AreNew k cs → All (IsLast (all ++ entries_in cs)) (kept_after k cs).pairs
+last_after all k [] h new = subst (λ (l : List Entry). All (IsLast l) k.pairs) (sym (append-nil all)) h
+last_after all k (c ∷ cs) h new =
+    subst (λ (l : List Entry). All (IsLast l) (kept_after (changed k c) cs).pairs) (append_assoc all (entries_in (c ∷ [])) (entries_in cs) ∙ ap (λ (l : List Entry). all ++ l) (entries-cons c cs))
+    (last_after (all ++ entries_in (c ∷ [])) (changed k c) cs (last_changed all k c h new.0) new.1)
+
+-- ---- a key that is kept
+
+-- its pair, by its place among all that there were
+pub record IsKept (k : KeptList) (cs : List Change) (key : RequestKey) : Type 0 where
+  pub place : ℕ
   pub entry : Entry
-  pub there : slice_get es place ≡ Some entry
-  pub bytes : bytes_for key es ≡ Some entry.bytes
+  pub last : last_place key (map key_of (k.pairs ++ entries_in cs)) ≡ Some place
+  pub there : slice_get (k.pairs ++ entries_in cs) place ≡ Some entry
+  pub bytes : bytes_for key (kept_after k cs).pairs ≡ Some entry.bytes
 
-kept_here : (t : Bool) (key : RequestKey) (x : Entry) (xs : List Entry) (place : ℕ) → is_same key (key_of x) ≡ t → Some place ≡ cond t (Some 0) None → IsAt key (x ∷ xs) place
-kept_here true key x xs place is e =
-    let zero_is : place ≡ 0 = cc in
-    subst (λ (n : ℕ). IsAt key (x ∷ xs) n) (sym zero_is) (record { entry = x; there = refl; bytes = rw is refl })
-kept_here false key x xs place is e = absurd cc
+all_at : (P : Entry → Type 0) (es : List Entry) (i : ℕ) (e : Entry) → All P es → slice_get es i ≡ Some e → P e
+all_at P [] i e h at = absurd cc
+all_at P (x ∷ xs) zero e h at = let is : x ≡ e = cc in subst P is (h 0 x (omega arith))
+all_at P (x ∷ xs) (suc i) e h at = all_at P xs i e (λ j d l. h (suc j) d (omega arith)) at
 
-kept_behind : (t : Bool) (key : RequestKey) (x : Entry) (xs : List Entry) (q : ℕ) → is_same key (key_of x) ≡ t → bytes_for (key_of x) xs ≡ None → IsAt key xs q → IsAt key (x ∷ xs) (q + 1)
-kept_behind true key x xs q is none at =
-    let same : key ≡ key_of x = same_key key (key_of x) is in
-    let clash : None ≡ Some at.entry.bytes = sym none ∙ ap (λ (k : RequestKey). bytes_for k xs) (sym same) ∙ at.bytes in
-    absurd cc
-kept_behind false key x xs q is none at =
+pub is_kept : (k : KeptList) (cs : List Change) (key : RequestKey) (q : ℕ) → AreDistinct k.pairs → AreNew k cs → last_place key (map key_of (kept_after k cs).pairs) ≡ Some q → IsKept k cs key
+is_kept k cs key q distinct new at =
+    let kept : List Entry = (kept_after k cs).pairs in
+    let found : IsAt key kept q = kept_at key kept q (distinct_after k cs distinct new) at in
+    let same : key_of found.entry ≡ key = sym (key_at kept q found.entry key found.there) ∙ (last_is key (map key_of kept) q at).1 key in
+    let last : IsLast (k.pairs ++ entries_in cs) found.entry = all_at (IsLast (k.pairs ++ entries_in cs)) kept q found.entry (last_after k.pairs k cs (all_are_last k.pairs distinct) new) found.there in
     record {
-      entry = at.entry;
-      there = ap (slice_get (x ∷ xs)) (add-one q) ∙ at.there;
-      bytes = rw is at.bytes;
+      place = last.place;
+      entry = found.entry;
+      last = ap (λ (l : RequestKey). last_place l (map key_of (k.pairs ++ entries_in cs))) (sym same) ∙ last.last;
+      there = last.there;
+      bytes = found.bytes;
     }
-
-kept_step : (o : Option ℕ) (key : RequestKey) (x : Entry) (xs : List Entry) (place : ℕ) → ((q : ℕ) → o ≡ Some q → IsAt key xs q) → bytes_for (key_of x) xs ≡ None → or_here 1 o (cond (is_same (key_of x) key) (Some 0) None) ≡ Some place → IsAt key (x ∷ xs) place
-kept_step (Some q) key x xs place h none e =
-    let is : q + 1 ≡ place = cc in
-    subst (λ (n : ℕ). IsAt key (x ∷ xs) n) is (kept_behind (is_same key (key_of x)) key x xs q refl none (h q refl))
-kept_step None key x xs place h none e =
-    kept_here (is_same key (key_of x)) key x xs place refl (sym e ∙ ap (λ (t : Bool). cond t (Some 0) None) (same_back (key_of x) key))
-
-pub kept_at : (key : RequestKey) (es : List Entry) (place : ℕ) → AreDistinct es → last_place key (map key_of es) ≡ Some place → IsAt key es place
-kept_at key [] place d e = absurd cc
-kept_at key (x ∷ xs) place d e = kept_step (last_place key (map key_of xs)) key x xs place (λ q. kept_at key xs q d.1) d.0 e
 
 -- ---- where a class comes from
 
--- a class is told by the place among the kept pairs
-abbrev told : KeptList → List Entry → Option ℕ → Class
-told k es o = class_of (length k.pairs) (keys_after k es) (or_here (length (k.pairs ++ es) - k.most) o None)
+-- a class is told by the place among all, where it is kept
+abbrev told : KeptList → List Change → (kept all : Option ℕ) → Class
+told k cs kept all = class_of (length k.pairs) (map key_of (k.pairs ++ entries_in cs)) (cond (is_some kept) all None)
 
-class_is : (k : KeptList) (es : List Entry) (key : RequestKey) → class_after k es key ≡ told k es (last_place key (map key_of (keep_last k.most (k.pairs ++ es))))
-class_is k es key =
-    let n : length (keys_after k es) ≡ length (k.pairs ++ es) = length-map (k.pairs ++ es) key_of in
-    ap (λ (d : ℕ). class_of (length k.pairs) (keys_after k es) (or_here (d - k.most) (last_place key (drop (d - k.most) (keys_after k es))) None)) n
-    ∙ ap (λ (l : List RequestKey). told k es (last_place key l)) (drop-map key_of (length (k.pairs ++ es) - k.most) (k.pairs ++ es))
+abbrev kept_at_point : KeptList → List Change → RequestKey → Option ℕ
+kept_at_point k cs key = last_place key (map key_of (kept_after k cs).pairs)
+
+abbrev among_all : KeptList → List Change → RequestKey → Option ℕ
+among_all k cs key = last_place key (map key_of (k.pairs ++ entries_in cs))
+
+told_kept : (k : KeptList) (cs : List Change) (key : RequestKey) (q : ℕ) (h : IsKept k cs key) → kept_at_point k cs key ≡ Some q → class_after k cs key ≡ Repeat (source_at (length k.pairs) h.place)
+told_kept k cs key q h at = ap (λ (o : Option ℕ). told k cs o (among_all k cs key)) at ∙ ap (λ (o : Option ℕ). told k cs (Some q) o) h.last
+
+told_other : (k : KeptList) (cs : List Change) (key : RequestKey) → kept_at_point k cs key ≡ None → class_after k cs key ≡ class_of (length k.pairs) (map key_of (k.pairs ++ entries_in cs)) None
+told_other k cs key at = ap (λ (o : Option ℕ). told k cs o (among_all k cs key)) at
 
 no_repeat : (b : Bool) (s : Source) → cond b New Over ≡ Repeat s → (P : Type 0) → P
 no_repeat true s e P = absurd cc
@@ -91,29 +158,27 @@ sourced false k es place e is at =
     let more : length k.pairs ≤ place = grind (arith, nat_tests) in
     ap (option_map (λ (x : Entry). x.bytes)) (sym (at_back k.pairs es place more) ∙ at)
 
-abbrev HasReply : KeptList → List Entry → RequestKey → Source → Type 0
-HasReply k es key source = (bytes : List ℕ) × (bytes_of source k es ≡ Some bytes) × (bytes_for key (kept_after k es).pairs ≡ Some bytes)
+abbrev HasReply : KeptList → List Change → RequestKey → Source → Type 0
+HasReply k cs key source = (bytes : List ℕ) × (bytes_of source k (entries_in cs) ≡ Some bytes) × (bytes_for key (kept_after k cs).pairs ≡ Some bytes)
 
-replied : (o : Option ℕ) (k : KeptList) (es : List Entry) (key : RequestKey) (source : Source) → length k.pairs ≤ k.most → AreDistinct (keep_last k.most (k.pairs ++ es)) → last_place key (map key_of (keep_last k.most (k.pairs ++ es))) ≡ o → told k es o ≡ Repeat source → HasReply k es key source
-replied (Some q) k es key source few distinct at e =
-    let last = keep_last k.most (k.pairs ++ es) in
-    let d : ℕ = length (k.pairs ++ es) - k.most in
-    let found : IsAt key last q = kept_at key last q distinct at in
-    let is : source_at (length k.pairs) (q + d) ≡ source = cc in
-    let there : slice_get (k.pairs ++ es) (q + d) ≡ Some found.entry = sym (at_drop d q (k.pairs ++ es)) ∙ found.there in (
-      found.entry.bytes,
-      ap (λ (s : Source). bytes_of s k es) (sym is) ∙ sourced (nat_lt (q + d) (length k.pairs)) k es (q + d) found.entry refl there,
-      ap (bytes_for key) (after k es few) ∙ found.bytes,
+replied : (o : Option ℕ) (k : KeptList) (cs : List Change) (key : RequestKey) (source : Source) → AreDistinct k.pairs → AreNew k cs → kept_at_point k cs key ≡ o → class_after k cs key ≡ Repeat source → HasReply k cs key source
+replied (Some q) k cs key source distinct new at e =
+    let h : IsKept k cs key = is_kept k cs key q distinct new at in
+    let both : Repeat (source_at (length k.pairs) h.place) ≡ Repeat source = sym (told_kept k cs key q h at) ∙ e in
+    let is : source_at (length k.pairs) h.place ≡ source = cc in (
+      h.entry.bytes,
+      ap (λ (s : Source). bytes_of s k (entries_in cs)) (sym is) ∙ sourced (nat_lt h.place (length k.pairs)) k (entries_in cs) h.place h.entry refl h.there,
+      h.bytes,
     )
-replied None k es key source few distinct at e = no_repeat (nat_lt (length (keys_after k es) - length k.pairs) most_new) source e (HasReply k es key source)
+replied None k cs key source distinct new at e =
+    no_repeat (nat_lt (length (map key_of (k.pairs ++ entries_in cs)) - length k.pairs) most_new) source (sym (told_other k cs key at) ∙ e) (HasReply k cs key source)
 
-pub has_reply : (k : KeptList) (es : List Entry) (key : RequestKey) (source : Source) → length k.pairs ≤ k.most → AreDistinct (kept_after k es).pairs → class_after k es key ≡ Repeat source → HasReply k es key source
-has_reply k es key source few distinct e =
-    replied (last_place key (map key_of (keep_last k.most (k.pairs ++ es)))) k es key source few (subst AreDistinct (after k es few) distinct) refl (sym (class_is k es key) ∙ e)
+pub has_reply : (k : KeptList) (cs : List Change) (key : RequestKey) (source : Source) → AreDistinct k.pairs → AreNew k cs → class_after k cs key ≡ Repeat source → HasReply k cs key source
+has_reply k cs key source distinct new e = replied (kept_at_point k cs key) k cs key source distinct new refl e
 
 -- ---- what is no repeat
 
-came : (k : KeptList) (es : List Entry) → length (keys_after k es) - length k.pairs ≡ length es
+came : (k : KeptList) (es : List Entry) → length (map key_of (k.pairs ++ es)) - length k.pairs ≡ length es
 came k es = omega (arith, length-map (k.pairs ++ es) key_of, length-append k.pairs es)
 
 when_new : (b : Bool) → cond b New Over ≡ New → b ≡ true
@@ -130,73 +195,39 @@ lt_is a b e = grind (arith, nat_tests)
 lt_not : (a b : ℕ) → nat_lt a b ≡ false → b ≤ a
 lt_not a b e = grind (arith, nat_tests)
 
-newly : (o : Option ℕ) (k : KeptList) (es : List Entry) → told k es o ≡ New → (o ≡ None) × (length es < most_new)
-newly (Some q) k es e = absurd cc
-newly None k es e = (refl, subst (λ (n : ℕ). n < most_new) (came k es) (lt_is (length (keys_after k es) - length k.pairs) most_new (when_new _ e)))
+-- the key of what is no repeat has no pair
+not_repeat : (o : Option ℕ) (c : Class) (k : KeptList) (cs : List Change) (key : RequestKey) → AreDistinct k.pairs → AreNew k cs → kept_at_point k cs key ≡ o → class_after k cs key ≡ c → ((s : Source) → c ≡ Repeat s → ⊥) → kept_at_point k cs key ≡ None
+not_repeat (Some q) c k cs key distinct new at e other =
+    let h : IsKept k cs key = is_kept k cs key q distinct new at in
+    absurd (other (source_at (length k.pairs) h.place) (sym e ∙ told_kept k cs key q h at))
+not_repeat None c k cs key distinct new at e other = at
 
-beyond : (o : Option ℕ) (k : KeptList) (es : List Entry) → told k es o ≡ Over → (o ≡ None) × (most_new ≤ length es)
-beyond (Some q) k es e = absurd cc
-beyond None k es e = (refl, subst (λ (n : ℕ). most_new ≤ n) (came k es) (lt_not (length (keys_after k es) - length k.pairs) most_new (when_over _ e)))
+pub new_is_not_kept : (k : KeptList) (cs : List Change) (key : RequestKey) → AreDistinct k.pairs → AreNew k cs → class_after k cs key ≡ New → (bytes_for key (kept_after k cs).pairs ≡ None) × (length (entries_in cs) < most_new)
+new_is_not_kept k cs key distinct new e =
+    let none = not_repeat (kept_at_point k cs key) New k cs key distinct new refl e (λ s f. absurd cc) in
+    let few = when_new (nat_lt (length (map key_of (k.pairs ++ entries_in cs)) - length k.pairs) most_new) (sym (told_other k cs key none) ∙ e) in
+    (not_kept key (kept_after k cs).pairs none, subst (λ (n : ℕ). n < most_new) (came k (entries_in cs)) (lt_is (length (map key_of (k.pairs ++ entries_in cs)) - length k.pairs) most_new few))
+
+pub over_is_not_kept : (k : KeptList) (cs : List Change) (key : RequestKey) → AreDistinct k.pairs → AreNew k cs → class_after k cs key ≡ Over → (bytes_for key (kept_after k cs).pairs ≡ None) × (most_new ≤ length (entries_in cs))
+over_is_not_kept k cs key distinct new e =
+    let none = not_repeat (kept_at_point k cs key) Over k cs key distinct new refl e (λ s f. absurd cc) in
+    let many = when_over (nat_lt (length (map key_of (k.pairs ++ entries_in cs)) - length k.pairs) most_new) (sym (told_other k cs key none) ∙ e) in
+    (not_kept key (kept_after k cs).pairs none, subst (λ (n : ℕ). most_new ≤ n) (came k (entries_in cs)) (lt_not (length (map key_of (k.pairs ++ entries_in cs)) - length k.pairs) most_new many))
 
 unasked : (b : Bool) → cond b New Over ≡ Nothing → ⊥
 unasked true e = absurd cc
 unasked false e = absurd cc
 
-never : (o : Option ℕ) (k : KeptList) (es : List Entry) → told k es o ≡ Nothing → ⊥
+never : (o : Option ℕ) (k : KeptList) (es : List RequestKey) → class_of (length k.pairs) es o ≡ Nothing → ⊥
 never (Some q) k es e = absurd cc
-never None k es e = unasked (nat_lt (length (keys_after k es) - length k.pairs) most_new) e
+never None k es e = unasked (nat_lt (length es - length k.pairs) most_new) e
 
-none_after : (k : KeptList) (es : List Entry) (key : RequestKey) → length k.pairs ≤ k.most → last_place key (map key_of (keep_last k.most (k.pairs ++ es))) ≡ None → bytes_for key (kept_after k es).pairs ≡ None
-none_after k es key few e = ap (bytes_for key) (after k es few) ∙ not_kept key (keep_last k.most (k.pairs ++ es)) e
+pub never_nothing : (k : KeptList) (cs : List Change) (key : RequestKey) → class_after k cs key ≡ Nothing → ⊥
+never_nothing k cs key e = never (cond (is_some (kept_at_point k cs key)) (among_all k cs key) None) k (map key_of (k.pairs ++ entries_in cs)) e
 
-pub new_is_not_kept : (k : KeptList) (es : List Entry) (key : RequestKey) → length k.pairs ≤ k.most → class_after k es key ≡ New → (bytes_for key (kept_after k es).pairs ≡ None) × (length es < most_new)
-new_is_not_kept k es key few e =
-    let n = newly (last_place key (map key_of (keep_last k.most (k.pairs ++ es)))) k es (sym (class_is k es key) ∙ e) in
-    (none_after k es key few n.0, n.1)
-
-pub over_is_not_kept : (k : KeptList) (es : List Entry) (key : RequestKey) → length k.pairs ≤ k.most → class_after k es key ≡ Over → (bytes_for key (kept_after k es).pairs ≡ None) × (most_new ≤ length es)
-over_is_not_kept k es key few e =
-    let n = beyond (last_place key (map key_of (keep_last k.most (k.pairs ++ es)))) k es (sym (class_is k es key) ∙ e) in
-    (none_after k es key few n.0, n.1)
-
-pub never_nothing : (k : KeptList) (es : List Entry) (key : RequestKey) → class_after k es key ≡ Nothing → ⊥
-never_nothing k es key e = never (last_place key (map key_of (keep_last k.most (k.pairs ++ es)))) k es (sym (class_is k es key) ∙ e)
-
--- ---- keys stay distinct
-
-absent_head : (t : Bool) (b : List ℕ) (rest : Option (List ℕ)) → cond t (Some b) rest ≡ None → (t ≡ false) × (rest ≡ None)
-absent_head true b rest e = absurd cc
-absent_head false b rest e = (refl, e)
-
-absent_more : (key : RequestKey) (xs : List Entry) (e : Entry) → bytes_for key xs ≡ None → is_same key (key_of e) ≡ false → bytes_for key (xs ++ e ∷ []) ≡ None
-absent_more key [] e none other = rw other refl
-absent_more key (x ∷ xs) e none other =
-    let h = absent_head (is_same key (key_of x)) x.bytes (bytes_for key xs) none in
-    rw h.0 (absent_more key xs e h.1 other)
-
-distinct_more : (xs : List Entry) (e : Entry) → AreDistinct xs → bytes_for (key_of e) xs ≡ None → AreDistinct (xs ++ e ∷ [])
-distinct_more [] e d none = (refl, tt)
-distinct_more (x ∷ xs) e d none =
-    let h = absent_head (is_same (key_of e) (key_of x)) x.bytes (bytes_for (key_of e) xs) none in
-    (absent_more (key_of x) xs e d.0 (same_back (key_of x) (key_of e) ∙ h.0), distinct_more xs e d.1 h.1)
-
-distinct_drop : (n : ℕ) (xs : List Entry) → AreDistinct xs → AreDistinct (drop n xs)
-distinct_drop zero xs d = d
-distinct_drop (suc n) [] d = tt
-distinct_drop (suc n) (x ∷ xs) d = distinct_drop n xs d.1
-
--- one more pair, whose key none has
-distinct_with : (k : KeptList) (e : Entry) → AreDistinct k.pairs → bytes_for (key_of e) k.pairs ≡ None → AreDistinct (with_pair k e).pairs
-distinct_with k e d none = distinct_drop (length (k.pairs ++ e ∷ []) - k.most) (k.pairs ++ e ∷ []) (distinct_more k.pairs e d none)
-
-pub stays_distinct : (k : KeptList) (es : List Entry) (e : Entry) → length k.pairs ≤ k.most → class_after k es (key_of e) ≡ New → AreDistinct (kept_after k es).pairs → AreDistinct (kept_after k (es ++ e ∷ [])).pairs
-stays_distinct k es e few new d =
-    subst (λ (l : KeptList). AreDistinct l.pairs) (sym (one_more_after k es e)) (distinct_with (kept_after k es) e d (new_is_not_kept k es (key_of e) few new).0)
-
--- and several, one after another
-pub distinct_after : (k : KeptList) (es : List Entry) → AreDistinct k.pairs → AreNew k es → AreDistinct (kept_after k es).pairs
-distinct_after k [] d new = d
-distinct_after k (e ∷ es) d new = distinct_after (with_pair k e) es (distinct_with k e d new.0) new.1
+-- the reply of a new request may be kept next
+pub next_is_new : (k : KeptList) (cs : List Change) (e : Entry) → AreDistinct k.pairs → AreNew k cs → class_after k cs (key_of e) ≡ New → AreNew k (cs ++ Keep e ∷ [])
+next_is_new k cs e distinct new is = new_more k cs (Keep e) new (new_is_not_kept k cs (key_of e) distinct new is).0
 
 -- ---- what a source names stays, whatever comes behind
 
@@ -211,5 +242,4 @@ source_stays (source.Place place) k es more bytes e = bytes_stay place es more b
 
 -- the reply of the next new request
 pub next_bytes : (es more : List Entry) (e : Entry) → bytes_at (length es) (es ++ e ∷ more) ≡ Some e.bytes
-next_bytes [] more e = refl
-next_bytes (x ∷ xs) more e = next_bytes xs more e
+next_bytes es more e = ap (option_map (λ (x : Entry). x.bytes)) (next_there es more e)

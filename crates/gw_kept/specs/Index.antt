@@ -1,22 +1,53 @@
 -- The index by which a burst's classes are found (own): the place of the last pair of each key that is asked.
-use Rattle.std.specs.Prelude.{◌≡◌, ◌≤◌, ◌<◌, ◌+◌, ◌^◌, ◌||◌, Bool, false, if◌then◌else◌, List, [], ◌∷◌, length, Option, Some, None}
+use Rattle.std.specs.Prelude.{◌≡◌, ◌≤◌, ◌<◌, ◌+◌, ◌^◌, ◌||◌, Bool, true, false, if◌then◌else◌, ℕ, List, [], ◌∷◌, length, Option, Some, None}
 use Rattle.std.specs.BTreeMap.{get}
+use Rattle.circular_buffer.specs.Buffer.{keep_last}
 use Rattle.gw_kept.specs.declared.entry.RequestKey.{RequestKey}
+use Rattle.gw_kept.specs.declared.point.Point.{Point}
+use Rattle.gw_kept.specs.declared.point.Point.TheVariants as point
 use Rattle.gw_kept.specs.declared.index.Index.{Index}
-use Rattle.gw_kept.specs.Pairs.{is_same}
-use Rattle.gw_kept.specs.Classes.{last_place, most_new}
+use Rattle.gw_kept.specs.Pairs.{KeptList, is_same}
+use Rattle.gw_kept.specs.Classes.{Standing, keys_of, last_place, most_new}
 use Rattle.gw_kept.specs.Order.{key_cmp}
 
 -- the key is one of those that are asked
-abbrev pub is_asked : RequestKey → List (Option RequestKey) → Bool
+abbrev pub is_asked : RequestKey → List Point → Bool
 is_asked key [] = false
-is_asked key (None ∷ rest) = is_asked key rest
-is_asked key (Some k ∷ rest) = is_same k key || is_asked key rest
+is_asked key (point.Request k ∷ rest) = is_same k key || is_asked key rest
+is_asked key (point.Ack r ∷ rest) = is_asked key rest
+is_asked key (point.Nothing ∷ rest) = is_asked key rest
 
--- an index of what is asked over these pairs, of which at most so many are new
-pub record IsIndex (asked : List (Option RequestKey)) (index : Index) (pairs : List RequestKey) : Type 0 where
-  pub places : (q : RequestKey) → get key_cmp index.places q ≡ (if is_asked q asked then Some (last_place q pairs) else None)
-  pub total : index.total ≡ length pairs
-  pub before : index.before ≤ length pairs
-  pub few : length pairs ≤ index.before + most_new
+-- a request is one of those
+abbrev pub IsAsked : Point → List Point → Type 0
+IsAsked (point.Request k) asked = is_asked k asked ≡ true
+IsAsked (point.Ack r) asked = Unit {0}
+IsAsked point.Nothing asked = Unit {0}
+
+-- A request comes behind an acknowledgement: one of these, or one before them.
+abbrev pub asks_behind : (acknowledged : Bool) → List Point → Bool
+asks_behind acknowledged [] = false
+asks_behind true (point.Request k ∷ rest) = true
+asks_behind false (point.Request k ∷ rest) = asks_behind false rest
+asks_behind acknowledged (point.Ack r ∷ rest) = asks_behind true rest
+asks_behind acknowledged (point.Nothing ∷ rest) = asks_behind acknowledged rest
+
+-- what an item is to an index: where acknowledgements have no say, they are nothing
+abbrev pub seen : (acknowledged : Bool) → Point → Point
+seen acknowledged (point.Request k) = point.Request k
+seen acknowledged (point.Ack r) = if acknowledged then point.Ack r else point.Nothing
+seen acknowledged point.Nothing = point.Nothing
+
+-- What is kept at a point: the last so many of all pairs there were, where nothing was removed, or else the pairs of a list.
+abbrev pub AreLeft : (most : ℕ) → Option KeptList → Standing → Type 0
+AreLeft most None s = s.kept ≡ keep_last most s.pairs
+AreLeft most (Some k) s = (keys_of k ≡ s.kept) × (k.most ≡ most)
+
+-- an index of what is asked, where a burst stands so; at most so many of the pairs are new
+pub record IsIndex (asked : List Point) (index : Index) (s : Standing) : Type 0 where
+  pub places : (q : RequestKey) → get key_cmp index.places q ≡ (if is_asked q asked then Some (last_place q s.pairs) else None)
+  pub total : index.total ≡ length s.pairs
+  pub before : index.before ≤ length s.pairs
+  pub few : length s.pairs ≤ index.before + most_new
   pub small : index.before < 2 ^ 63
+  pub left : AreLeft index.most index.left s
+  pub among : (q : RequestKey) → last_place q s.pairs ≡ None → last_place q s.kept ≡ None

@@ -1,9 +1,10 @@
 pub use Rattle.gw_msg.specs.Grammar
 pub use Rattle.circular_buffer.specs.Buffer
 pub mod Pairs
+pub mod Forgotten
+pub mod Changes
 pub mod Classes
 pub mod Order
-pub mod Forgotten
 pub mod Marks
 pub mod Index
 pub mod Repeats

@@ -53,16 +53,6 @@ none_kept most = kept_list [] most
 abbrev pub with_pair : KeptList → Entry → KeptList
 with_pair k e = kept_list (keep_last k.most (k.pairs ++ e ∷ [])) k.most
 
--- one pair after another
-abbrev pub kept_after : KeptList → List Entry → KeptList
-kept_after k [] = k
-kept_after k (e ∷ es) = kept_after (with_pair k e) es
-
--- at its turn, each pair has a key that no kept pair has
-abbrev pub AreNew : KeptList → List Entry → Type 0
-AreNew k [] = Unit {0}
-AreNew k (e ∷ es) = (bytes_for (key_of e) k.pairs ≡ None) × AreNew (with_pair k e) es
-
 -- the pair that is dropped then, the oldest
 abbrev pub dropped_by : KeptList → Entry → Option Entry
 dropped_by k e = if nat_lt (length k.pairs) k.most then None else slice_get (k.pairs ++ e ∷ []) 0

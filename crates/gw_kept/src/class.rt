@@ -9,7 +9,7 @@ pub enum Class {
     Repeat(Source),
     /// A request that comes behind 1,024 new ones: it is refused with error 510 and not kept.
     Over,
-    /// An item that is no request and gets no answer.
+    /// An item that is no request and gets no answer: an acknowledgement, or one of no effect.
     Nothing,
 }
 

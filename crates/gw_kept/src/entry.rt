@@ -1,11 +1,10 @@
 //! A reply that is kept, and the key by which a repeat finds it.
 
 ghost use Rattle.std.specs.Prelude.{◌≡◌};
-ghost use Rattle.gw_kept.specs.Pairs.{key_of, is_same};
-ghost use Rattle.gw_kept.specs.Classes.{key_in};
+ghost use Rattle.gw_kept.specs.Pairs.{key_of};
 
 use gw_base::{Items, Mid, TxId};
-use gw_msg::Item;
+use std::alloc::Global;
 
 /// A reply that is kept for repeats (own to this profile; RFC 3525, Annex D.1, asks that a repeat is not carried out again).
 #[derive(Drop)]
@@ -29,16 +28,14 @@ pub struct RequestKey {
 }
 
 impl RequestKey {
-    /// The key of a request in a message of this sender. Another item asks nothing and has none.
-    pub fn of(mid: Mid, item: &Item<'_>) -> Option<RequestKey>
-        ensures { result ≡ key_in mid item.now }
+    /// A pair of this key, with an empty reply.
+    pub(crate) fn alone(self, alloc: Global) -> Entry
+        ensures { key_of result ≡ self }
     {
-        match item {
-            Item::Request(request) => Some(RequestKey {
-                id: request.id.0,
-                mid,
-            }),
-            Item::Ack(_) | Item::Ignored => None,
+        Entry {
+            mid: self.mid,
+            id: TxId(self.id),
+            bytes: Items::new(alloc),
         }
     }
 }

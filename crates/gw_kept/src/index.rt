@@ -1,17 +1,17 @@
 //! Which requests of a burst are repeats: an index of the burst's keys, made once for a burst.
 
-ghost use Rattle.std.specs.Prelude.{◌≡◌, List, Option, Some, None, IfOk, if◌then◌else◌, length, map, true};
+ghost use Rattle.std.specs.Prelude.{◌≡◌, ◌-◌, ◌<◌, List, Some, None, IfOk, OnOk, if◌then◌else◌, is_some, length, true, false};
 ghost use Rattle.std.specs.BTreeMap.{get};
 ghost use Rattle.gw_kept.specs.declared.entry.RequestKey.{RequestKey as Key};
-ghost use Rattle.gw_kept.specs.Pairs.{key_of};
-ghost use Rattle.gw_kept.specs.Classes.{source_at, last_place, kept_place, class_at, pairs_after};
-ghost use Rattle.gw_kept.specs.Index.{is_asked, IsIndex};
-ghost use Rattle.gw_kept.specs.Order.{key_cmp, IsOrder};
+ghost use Rattle.gw_kept.specs.declared.point.Point.{Point as Item};
+ghost use Rattle.gw_kept.specs.Classes.{Standing, standing_of, keys_of, most_new, source_at, has_pair, last_place, kept_place, class_at, class_of, behind, behind_request, with_key, without};
+ghost use Rattle.gw_kept.specs.Index.{is_asked, seen, IsAsked, IsIndex};
+ghost use Rattle.gw_kept.specs.Order.{key_cmp};
 
 use crate::class::{Class, Source};
-use crate::entry::{Entry, RequestKey};
-use crate::order::Order;
-use circular_buffer::HeapCircularBuffer;
+use crate::entry::RequestKey;
+use crate::kept::Kept;
+use crate::point::{Point, Removal};
 use std::alloc::{AllocError, Global};
 use std::collections::BTreeMap;
 
@@ -29,49 +29,56 @@ pub struct Index {
     pub(crate) before: usize,
     /// How many there were and have come since.
     pub(crate) total: usize,
+    /// What is kept at this point, without the replies, where acknowledgements have a say.
+    pub(crate) left: Option<Kept>,
 }
 
 /// The keys that are asked, each with the place of its pair, if it has one.
 fn asked_places(
     alloc: Global,
-    ring: &HeapCircularBuffer<Entry>,
-    order: &Order,
-    asked: &[Option<RequestKey>],
+    kept: &Kept,
+    points: &[Point<'_>],
 ) -> Result<BTreeMap<RequestKey, Option<usize>>, AllocError>
-    requires { IsOrder (map key_of ring.now.items) order.now.first order.now.numbers.items }
-    ensures { IfOk result (λ places. (q : Key) → get key_cmp places q ≡ (if is_asked q asked.now then Some (last_place q (map key_of ring.now.items)) else None)) }
+    ensures { IfOk result (λ places. (q : Key) → get key_cmp places q ≡ (if is_asked q points.now then Some (last_place q (keys_of kept.now)) else None)) }
 {
     let mut places = BTreeMap::new(alloc);
-    for item in asked {
-        if let Some(key) = item {
-            places.insert(*key, order.find(ring, key))?;
+    for point in points {
+        if let Point::Request(key) = point {
+            places.insert(*key, kept.place(key))?;
         }
     }
     Ok(places)
 }
 
 impl Index {
-    /// The index of what a burst asks, before its first item: each key is looked up among the kept pairs.
+    /// The index of what a burst asks, before its first item: each key is looked up among the kept pairs. The caller says whether
+    /// acknowledgements have a say.
     ///
     /// # Errors
     ///
     /// `AllocError` where a growth was refused.
     pub fn of(
         alloc: Global,
-        ring: &HeapCircularBuffer<Entry>,
-        order: &Order,
-        asked: &[Option<RequestKey>],
+        kept: &Kept,
+        points: &[Point<'_>],
+        acknowledged: bool,
     ) -> Result<Index, AllocError>
-        requires { IsOrder (map key_of ring.now.items) order.now.first order.now.numbers.items }
-        ensures index { IfOk result (λ index. IsIndex asked.now index (map key_of ring.now.items)) }
-        ensures most { IfOk result (λ index. index.most ≡ ring.now.capacity) }
-        ensures before { IfOk result (λ index. index.before ≡ length ring.now.items) }
+        ensures index { IfOk result (λ index. IsIndex points.now index (standing_of kept.now)) }
+        ensures most { IfOk result (λ index. index.most ≡ kept.now.most) }
+        ensures before { IfOk result (λ index. index.before ≡ length kept.now.pairs) }
+        ensures left { IfOk result (λ index. is_some index.left ≡ acknowledged) }
     {
+        let left = if acknowledged {
+            Some(kept.keys(alloc)?)
+        } else {
+            None
+        };
         Ok(Index {
-            places: asked_places(alloc, ring, order, asked)?,
-            most: ring.capacity(),
-            before: ring.len(),
-            total: ring.len(),
+            places: asked_places(alloc, kept, points)?,
+            most: kept.most(),
+            before: kept.len(),
+            total: kept.len(),
+            left,
         })
     }
 
@@ -88,7 +95,7 @@ impl Index {
 
     /// The place of the key's last pair, kept or not.
     fn last_place(&self, key: &RequestKey) -> Option<usize>
-        ensures { (asked : List (Option Key)) (pairs : List Key) → IsIndex asked self.now pairs → is_asked key.now asked ≡ true → result ≡ last_place key.now pairs }
+        ensures { (asked : List Item) (s : Standing) → IsIndex asked self.now s → is_asked key.now asked ≡ true → result ≡ last_place key.now s.pairs }
     {
         match self.places.get(key) {
             Some(place) => *place,
@@ -96,14 +103,43 @@ impl Index {
         }
     }
 
+    /// Whether a key's last pair, which has this place, is kept.
+    fn is_kept(&self, key: &RequestKey, place: usize) -> bool
+        ensures { (asked : List Item) (s : Standing) → IsIndex asked self.now s → last_place key.now s.pairs ≡ Some place → result ≡ has_pair key.now s.kept }
+    {
+        match &self.left {
+            Some(kept) => kept.place(key).is_some(),
+            None => self.total.saturating_sub(self.most) <= place,
+        }
+    }
+
     /// The place of the key's last pair, if that is kept.
     fn kept_place(&self, key: &RequestKey) -> Option<usize>
-        ensures { (asked : List (Option Key)) (pairs : List Key) → IsIndex asked self.now pairs → is_asked key.now asked ≡ true → result ≡ kept_place self.now.most key.now pairs }
+        ensures { (asked : List Item) (s : Standing) → IsIndex asked self.now s → is_asked key.now asked ≡ true → result ≡ kept_place key.now s }
     {
         match self.last_place(key) {
-            Some(place) if self.total.saturating_sub(self.most) <= place => Some(place),
+            Some(place) if self.is_kept(key, place) => Some(place),
             _ => None,
         }
+    }
+
+    /// Notes that a key has a pair now, the last of all.
+    ///
+    /// # Errors
+    ///
+    /// `AllocError` where a growth was refused.
+    fn note(&mut self, alloc: Global, key: &RequestKey) -> Result<(), AllocError>
+        ensures exact { (asked : List Item) (s : Standing) → IsIndex asked self.old s → is_asked key.now asked ≡ true → kept_place key.now s ≡ None → length s.pairs - self.old.before < most_new → OnOk result (IsIndex asked self.new (with_key self.old.most key.now s)) }
+        ensures most { self.new.most ≡ self.old.most }
+        ensures before { self.new.before ≡ self.old.before }
+        ensures left { is_some self.new.left ≡ is_some self.old.left }
+    {
+        self.places.insert(*key, Some(self.total))?;
+        self.total = self.total.saturating_add(1);
+        if let Some(kept) = &mut self.left {
+            kept.push_key(alloc, key);
+        }
+        Ok(())
     }
 
     /// The class of a request that is asked, which is noted if it is new.
@@ -111,19 +147,53 @@ impl Index {
     /// # Errors
     ///
     /// `AllocError` where a growth was refused.
-    pub fn class(&mut self, key: RequestKey) -> Result<Class, AllocError>
-        ensures exact { (asked : List (Option Key)) (pairs : List Key) → IsIndex asked self.old pairs → is_asked key asked ≡ true → IfOk result (λ class. (class ≡ class_at self.old.most self.old.before key pairs) × IsIndex asked self.new (pairs_after class key pairs)) }
+    fn request_class(&mut self, alloc: Global, key: &RequestKey) -> Result<Class, AllocError>
+        ensures exact { (asked : List Item) (s : Standing) → IsIndex asked self.old s → is_asked key.now asked ≡ true → IfOk result (λ class. (class ≡ class_of self.old.before s.pairs (kept_place key.now s)) × IsIndex asked self.new (behind_request self.old.most class key.now s)) }
         ensures most { self.new.most ≡ self.old.most }
         ensures before { self.new.before ≡ self.old.before }
+        ensures left { is_some self.new.left ≡ is_some self.old.left }
     {
-        if let Some(place) = self.kept_place(&key) {
+        if let Some(place) = self.kept_place(key) {
             return Ok(Class::Repeat(self.source(place)));
         }
         if self.total.saturating_sub(self.before) >= MOST_NEW {
             return Ok(Class::Over);
         }
-        self.places.insert(key, Some(self.total))?;
-        self.total = self.total.saturating_add(1);
+        self.note(alloc, key)?;
         Ok(Class::New)
+    }
+
+    /// Lets go what an acknowledgement names, where acknowledgements have a say.
+    fn acknowledge(&mut self, removal: &Removal<'_>)
+        ensures exact { (asked : List Item) (s : Standing) → IsIndex asked self.old s → is_some self.old.left ≡ true → IsIndex asked self.new (without removal.now s) }
+        ensures none { (asked : List Item) (s : Standing) → IsIndex asked self.old s → is_some self.old.left ≡ false → IsIndex asked self.new s }
+        ensures most { self.new.most ≡ self.old.most }
+        ensures before { self.new.before ≡ self.old.before }
+        ensures left { is_some self.new.left ≡ is_some self.old.left }
+    {
+        if let Some(kept) = &mut self.left {
+            kept.forget(&removal.mid, removal.ranges.as_slice());
+        }
+    }
+
+    /// The class of the next item, which changes what is kept behind it.
+    ///
+    /// # Errors
+    ///
+    /// `AllocError` where a growth was refused.
+    pub fn class(&mut self, alloc: Global, point: &Point<'_>) -> Result<Class, AllocError>
+        ensures exact { (asked : List Item) (s : Standing) → IsIndex asked self.old s → IsAsked point.now asked → IfOk result (λ class. (class ≡ class_at self.old.before (seen (is_some self.old.left) point.now) s) × IsIndex asked self.new (behind self.old.most self.old.before (seen (is_some self.old.left) point.now) s)) }
+        ensures most { self.new.most ≡ self.old.most }
+        ensures before { self.new.before ≡ self.old.before }
+        ensures left { is_some self.new.left ≡ is_some self.old.left }
+    {
+        match point {
+            Point::Request(key) => self.request_class(alloc, key),
+            Point::Ack(removal) => {
+                self.acknowledge(removal);
+                Ok(Class::Nothing)
+            }
+            Point::Nothing => Ok(Class::Nothing),
+        }
     }
 }

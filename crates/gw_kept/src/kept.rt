@@ -1,19 +1,18 @@
 //! The kept replies: the last so many, in a ring, and the order of their keys.
 
-ghost use Rattle.std.specs.Prelude.{◌≡◌, ◌≤◌, None, length, IfOk, option_copied};
-ghost use Rattle.gw_kept.specs.Classes.{classes_of};
+ghost use Rattle.std.specs.Prelude.{◌≡◌, ◌≤◌, ◌++◌, ◌∷◌, [], None, length, IfOk, option_copied};
+ghost use Rattle.circular_buffer.specs.Buffer.{keep_last};
+ghost use Rattle.gw_kept.specs.Classes.{keys_of, last_place};
 ghost use Rattle.gw_kept.specs.Forgotten.{forgotten};
-ghost use Rattle.gw_kept.specs.Pairs.{key_of, bytes_for, bytes_at, none_kept, with_pair, kept_after, dropped_by, AreNew, IsBounded};
+ghost use Rattle.gw_kept.specs.Pairs.{key_of, bytes_for, bytes_at, none_kept, with_pair, dropped_by, IsBounded};
 
-use crate::class::Class;
 use crate::entry::{Entry, RequestKey};
 use crate::forget::turn;
-use crate::index::Index;
 use crate::order::Order;
 use circular_buffer::HeapCircularBuffer;
-use gw_base::{Items, Mid, NoMemory, TxId};
+use gw_base::{Mid, NoMemory, TxId};
 use gw_msg::AckRange;
-use std::alloc::Global;
+use std::alloc::{AllocError, Global};
 use std::marker::Model;
 
 /// The last replies, for requests that are sent again. Contracts see the pairs, oldest first, and how many are kept at most.
@@ -80,17 +79,6 @@ impl Kept {
         dropped
     }
 
-    /// Keeps the pairs of a burst's new requests, one after another; what falls out is let go. The caller knows that at its turn
-    /// each has a key that no kept pair has. It takes no memory.
-    pub fn push_all(&mut self, entries: Vec<Entry>)
-        requires { AreNew self.old entries.items }
-        ensures { self.new ≡ kept_after self.old entries.items }
-    {
-        for entry in entries {
-            self.push(entry);
-        }
-    }
-
     /// Removes each pair of this sender whose number is in one of the ranges, both ends included; the others keep their order.
     /// A range whose first number is above its last has none. It takes no memory. For n ranges and k pairs it costs n log k
     /// steps, and where a pair is removed, one pass over the pairs.
@@ -128,31 +116,47 @@ impl Kept {
         }
     }
 
-    /// The classes of a burst's items, in order of arrival, each told by its key: `RequestKey::of` has it, and what asks
-    /// nothing has none. They are told from the keys alone, before anything is carried out. A request is a repeat where its
-    /// reply is among the last kept ones at that point, those of the burst's new requests included. An index of the burst's
-    /// keys is made first, each looked up among the kept pairs: n log n and n log k steps for n requests and k pairs.
+    /// The place of a key's pair, counted from the oldest on.
+    pub(crate) fn place(&self, key: &RequestKey) -> Option<usize>
+        ensures { result ≡ last_place key.now (keys_of self.now) }
+    {
+        self.order.find(&self.ring, key)
+    }
+
+    /// How many pairs are kept at most.
+    pub(crate) fn most(&self) -> usize
+        ensures { result ≡ self.now.most }
+    {
+        self.ring.capacity()
+    }
+
+    /// The same keys, without the replies.
     ///
     /// # Errors
     ///
-    /// Want of memory.
-    pub fn classify(
-        &self,
-        alloc: Global,
-        asked: &[Option<RequestKey>],
-    ) -> Result<Items<Class>, NoMemory>
-        ensures classes { IfOk result (λ classes. classes ≡ classes_of self.now asked.now) }
-        ensures bounded { IsBounded self.now }
+    /// `AllocError` where its memory was refused.
+    pub(crate) fn keys(&self, alloc: Global) -> Result<Kept, AllocError>
+        ensures keys { IfOk result (λ kept. keys_of kept ≡ keys_of self.now) }
+        ensures most { IfOk result (λ kept. kept.most ≡ self.now.most) }
     {
-        let mut index = Index::of(alloc, &self.ring, &self.order, asked)?;
-        let mut classes = Items::new(alloc);
-        for item in asked {
-            let class = match item {
-                Some(key) => index.class(*key)?,
-                None => Class::Nothing,
-            };
-            classes.push(class)?;
+        let most = self.ring.capacity();
+        let mut ring = HeapCircularBuffer::with_capacity(alloc, most)?;
+        for at in 0..self.ring.len() {
+            if let Some(entry) = self.ring.get(at) {
+                ring.push_back(entry.key().alone(alloc));
+            }
         }
-        Ok(classes)
+        let order = self.order.copy(alloc, most)?;
+        Ok(Kept { ring, order })
+    }
+
+    /// Keeps a key, without a reply, where no pair has it.
+    pub(crate) fn push_key(&mut self, alloc: Global, key: &RequestKey)
+        ensures keys { last_place key.now (keys_of self.old) ≡ None → keys_of self.new ≡ keep_last self.old.most (keys_of self.old ++ key.now ∷ []) }
+        ensures most { self.new.most ≡ self.old.most }
+    {
+        if let None = self.place(key) {
+            self.push(key.alone(alloc));
+        }
     }
 }

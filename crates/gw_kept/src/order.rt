@@ -36,6 +36,26 @@ impl Order {
         })
     }
 
+    /// The same order, with room for so many.
+    ///
+    /// # Errors
+    ///
+    /// `AllocError` where its memory was refused.
+    pub fn copy(&self, alloc: Global, most: usize) -> Result<Order, AllocError>
+        ensures first { IfOk result (λ order. order.first ≡ self.now.first) }
+        ensures numbers { IfOk result (λ order. order.numbers.items ≡ self.now.numbers.items) }
+        ensures room { IfOk result (λ order. most ≤ vec_capacity order.numbers) }
+    {
+        let mut numbers = Vec::with_capacity(alloc, most)?;
+        for number in &self.numbers {
+            numbers.push(*number)?;
+        }
+        Ok(Order {
+            numbers,
+            first: self.first,
+        })
+    }
+
     /// The place of the pair that has this number.
     pub fn place(&self, number: u16) -> usize
         ensures { result ≡ place_of self.now.first number }

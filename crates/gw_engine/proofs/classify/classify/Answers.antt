@@ -1,12 +1,12 @@
-use Rattle.std.proofs.Common.{◌≡◌, List, [], ◌∷◌, ◌++◌, length, Option, ap, ◌∙◌}
+use Rattle.std.proofs.Common.{◌≡◌, List, [], ◌∷◌, ◌++◌, length, ap, ◌∙◌}
 use Rattle.std.specs.Iterator.Adapters.{zip_first, zip_second}
 use Rattle.std.specs.List.{zip}
 use Rattle.std.specs.Slice.Iter.{iter_rest}
 use Rattle.gw_kept.specs.Classes.{classes_of}
 use Rattle.gw_kept.specs.declared.class.Class.{Class}
-use Rattle.gw_kept.specs.declared.entry.RequestKey.{RequestKey}
+use Rattle.gw_kept.specs.declared.point.Point.{Point}
 use Rattle.gw_engine.specs.declared.asked.Ask.{Ask}
-use Rattle.gw_engine.specs.Phases.{told, keys_asked, new_for, new_in, tasks_in}
+use Rattle.gw_engine.specs.Phases.{told, points_of, new_for, new_in, tasks_in, turns_for, turns_in}
 use Rattle.gw_engine.proofs.Classifying.{tasks_go_on, tasks_end}
 use Rattle.gw_engine.proofs.Zipped.{left_of, at_start, one_left, none_left, goes_on, ends}
 use Rattle.gw_engine.proofs.classify.classify.Goals as goal
@@ -18,13 +18,14 @@ loop-ask-init c =
     let asks : List Ask = c.args.asks.now in
     let first : iter_rest (zip_first it) ≡ asks = ap (λ z. iter_rest (zip_first z)) same ∙ ap iter_rest c.zip-ask-items.ensures.first ∙ c.iter.ensures.rest in
     let second : iter_rest (zip_second it) ≡ c.as_slice-2.result.now = ap (λ z. iter_rest (zip_second z)) same ∙ c.zip-ask-items.ensures.second.0 in
-    let keys : c.as_slice.result.now ≡ keys_asked asks = c.as_slice.ensures ∙ c.in_ok-keys.ensures in
-    let classes : c.as_slice-2.result.now ≡ classes_of c.args.kept.now (keys_asked asks) = c.as_slice-2.ensures ∙ c.in_ok-classes.ensures.classes ∙ ap (λ (l : List (Option RequestKey)). classes_of c.args.kept.now l) keys in
+    let points : c.as_slice.result.now ≡ points_of asks = c.as_slice.ensures ∙ c.in_ok-points.ensures in
+    let classes : c.as_slice-2.result.now ≡ classes_of c.args.kept.now (points_of asks) = c.as_slice-2.ensures ∙ c.in_ok-classes.ensures.classes ∙ ap (λ (l : List Point). classes_of c.args.kept.now l) points in
     let all : left_of it ≡ told c.args.kept.now asks = at_start asks c.as_slice-2.result.now it first second ∙ ap (λ (l : List Class). zip asks l) classes in
     let none : c.from.result ≡ [] = c.from.ensures ∙ c.in_ok-with_capacity.ensures.items in
     record {
       tasks = λ i. none i ++ tasks_in (length (c.new.ensures i)) (all i);
       requests = λ i. c.new.ensures i ++ new_in (all i);
+      turns = λ i. c.new-2.ensures i ++ turns_in (all i);
     }
 
 pub loop-ask-preserved : goal.loop-ask-preserved
@@ -36,7 +37,8 @@ loop-ask-preserved c =
     let split : left_of c.loop-ask.ask-iterator ≡ a ∷ left_of c.next.new.self = one_left c.loop-ask.ask-iterator c.next.new.self c.next.result (c.in-Some.ask, c.in-Some.class) c.in-Some.is c.next.ensures.steps in
     record {
       tasks = tasks_go_on now.tasks now.requests (left_of c.loop-ask.ask-iterator) (left_of c.next.new.self) (tasks_in 0 asked) inv.tasks a c.push.new.self.tasks c.push.new.self.requests split c.in_ok-push.ensures.tasks c.in_ok-push.ensures.requests;
-      requests = goes_on (λ (b : Ask × Class). new_for b.0.sent b.1) now.requests (left_of c.loop-ask.ask-iterator) (left_of c.next.new.self) (new_in asked) inv.requests a c.push.new.self.requests split c.in_ok-push.ensures.requests;
+      requests = goes_on (λ (b : Ask × Class). new_for b.0.said b.1) now.requests (left_of c.loop-ask.ask-iterator) (left_of c.next.new.self) (new_in asked) inv.requests a c.push.new.self.requests split c.in_ok-push.ensures.requests;
+      turns = goes_on (λ (b : Ask × Class). turns_for b.0.said b.1) now.turns (left_of c.loop-ask.ask-iterator) (left_of c.next.new.self) (turns_in asked) inv.turns a c.push.new.self.turns split c.in_ok-push.ensures.turns;
     }
 
 pub returns-clause-tasks : goal.returns-clause-tasks
@@ -46,5 +48,10 @@ returns-clause-tasks c =
 
 pub returns-clause-requests : goal.returns-clause-requests
 returns-clause-requests c =
-    ends (λ (b : Ask × Class). new_for b.0.sent b.1) c.loop-ask.classified.requests (left_of c.loop-ask.ask-iterator) [] (new_in (told c.args.kept.now c.args.asks.now)) c.loop-ask.invariant.requests
+    ends (λ (b : Ask × Class). new_for b.0.said b.1) c.loop-ask.classified.requests (left_of c.loop-ask.ask-iterator) [] (new_in (told c.args.kept.now c.args.asks.now)) c.loop-ask.invariant.requests
+    (none_left c.loop-ask.ask-iterator c.next.new.self c.next.result c.in-None.is c.next.ensures.steps)
+
+pub returns-clause-turns : goal.returns-clause-turns
+returns-clause-turns c =
+    ends (λ (b : Ask × Class). turns_for b.0.said b.1) c.loop-ask.classified.turns (left_of c.loop-ask.ask-iterator) [] (turns_in (told c.args.kept.now c.args.asks.now)) c.loop-ask.invariant.turns
     (none_left c.loop-ask.ask-iterator c.next.new.self c.next.result c.in-None.is c.next.ensures.steps)

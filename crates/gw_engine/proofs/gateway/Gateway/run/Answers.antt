@@ -1,6 +1,7 @@
 use Rattle.std.proofs.Common.{◌≡◌, ℕ, ◌≤◌, true, List, sym, subst, ◌∙◌, rules}
 use Rattle.std.specs.List.{AllZip}
 use Rattle.gw_board.specs.declared.asked.Asked.{Asked}
+use Rattle.gw_kept.specs.Changes.{changes_of}
 use Rattle.gw_engine.specs.declared.datagram.Datagram.{Datagram}
 use Rattle.gw_engine.specs.declared.heard.Heard.{Heard}
 use Rattle.gw_engine.specs.Bursts.{IsHeard}
@@ -34,8 +35,8 @@ perform-requires-clause-new types c = λ lifetimes outlive.
     let jobs : List Asked = c.in_ok-plan.plan.jobs in
     let kept : IsKept g = subst IsKept c.self.view_is (c.self.invariant.well_formed, few_slots (value_of c.self.inside).settings.slots c.self.invariant.slots) in
     let read : AllZip IsHeard c.args.burst.now heard = subst (λ (l : List Heard). AllZip IsHeard c.args.burst.now l) (sym c.as_slice.ensures) c.in_ok-heard.ensures in
-    let out : IsOutcome g heard (answers_of g.settings.mid g.state.kept (kept_of g jobs) c.in_ok-plan.plan.tasks) (done_by g.settings.rules jobs g.state.maps).maps c.in_ok-plan.plan.cursors (kept_of g jobs) =
-    outcome_of_jobs g heard c.in_ok-plan.plan.tasks jobs c.in_ok-plan.plan.cursors kept.0 kept.1 (heard_asked c.args.burst.now heard read) c.in_ok-plan.ensures.tasks c.in_ok-plan.ensures.jobs c.in_ok-plan.ensures.cursors c.in_ok-plan.ensures.within in
+    let out : IsOutcome g heard (answers_of g.settings.mid g.state.kept (kept_of g jobs) c.in_ok-plan.plan.tasks) (done_by g.settings.rules jobs g.state.maps).maps c.in_ok-plan.plan.cursors (changes_of c.in_ok-plan.plan.turns (kept_of g jobs)) =
+    outcome_of_jobs g heard c.in_ok-plan.plan.tasks jobs c.in_ok-plan.plan.cursors c.in_ok-plan.plan.turns kept.0 kept.1 (heard_asked c.args.burst.now heard read) c.in_ok-plan.ensures.tasks c.in_ok-plan.ensures.jobs c.in_ok-plan.ensures.cursors c.in_ok-plan.ensures.within c.in_ok-plan.ensures.turns in
     out.new
 
 pub perform-requires-clause-fits : goal.perform-requires-clause-fits
@@ -45,8 +46,8 @@ perform-requires-clause-fits types c = λ lifetimes outlive.
     let jobs : List Asked = c.in_ok-plan.plan.jobs in
     let kept : IsKept g = subst IsKept c.self.view_is (c.self.invariant.well_formed, few_slots (value_of c.self.inside).settings.slots c.self.invariant.slots) in
     let read : AllZip IsHeard c.args.burst.now heard = subst (λ (l : List Heard). AllZip IsHeard c.args.burst.now l) (sym c.as_slice.ensures) c.in_ok-heard.ensures in
-    let out : IsOutcome g heard (answers_of g.settings.mid g.state.kept (kept_of g jobs) c.in_ok-plan.plan.tasks) (done_by g.settings.rules jobs g.state.maps).maps c.in_ok-plan.plan.cursors (kept_of g jobs) =
-    outcome_of_jobs g heard c.in_ok-plan.plan.tasks jobs c.in_ok-plan.plan.cursors kept.0 kept.1 (heard_asked c.args.burst.now heard read) c.in_ok-plan.ensures.tasks c.in_ok-plan.ensures.jobs c.in_ok-plan.ensures.cursors c.in_ok-plan.ensures.within in
+    let out : IsOutcome g heard (answers_of g.settings.mid g.state.kept (kept_of g jobs) c.in_ok-plan.plan.tasks) (done_by g.settings.rules jobs g.state.maps).maps c.in_ok-plan.plan.cursors (changes_of c.in_ok-plan.plan.turns (kept_of g jobs)) =
+    outcome_of_jobs g heard c.in_ok-plan.plan.tasks jobs c.in_ok-plan.plan.cursors c.in_ok-plan.plan.turns kept.0 kept.1 (heard_asked c.args.burst.now heard read) c.in_ok-plan.ensures.tasks c.in_ok-plan.ensures.jobs c.in_ok-plan.ensures.cursors c.in_ok-plan.ensures.within c.in_ok-plan.ensures.turns in
     out.fits
 
 pub returns-clause-ok : goal.returns-clause-ok
@@ -56,8 +57,8 @@ returns-clause-ok types c =
     let jobs : List Asked = c.in_ok-plan.plan.jobs in
     let kept : IsKept g = subst IsKept c.self.view_is (c.self.invariant.well_formed, few_slots (value_of c.self.inside).settings.slots c.self.invariant.slots) in
     let read : AllZip IsHeard c.args.burst.now heard = subst (λ (l : List Heard). AllZip IsHeard c.args.burst.now l) (sym c.as_slice.ensures) c.in_ok-heard.ensures in
-    let out : IsOutcome g heard (answers_of g.settings.mid g.state.kept (kept_of g jobs) c.in_ok-plan.plan.tasks) (done_by g.settings.rules jobs g.state.maps).maps c.in_ok-plan.plan.cursors (kept_of g jobs) =
-    outcome_of_jobs g heard c.in_ok-plan.plan.tasks jobs c.in_ok-plan.plan.cursors kept.0 kept.1 (heard_asked c.args.burst.now heard read) c.in_ok-plan.ensures.tasks c.in_ok-plan.ensures.jobs c.in_ok-plan.ensures.cursors c.in_ok-plan.ensures.within in
+    let out : IsOutcome g heard (answers_of g.settings.mid g.state.kept (kept_of g jobs) c.in_ok-plan.plan.tasks) (done_by g.settings.rules jobs g.state.maps).maps c.in_ok-plan.plan.cursors (changes_of c.in_ok-plan.plan.turns (kept_of g jobs)) =
+    outcome_of_jobs g heard c.in_ok-plan.plan.tasks jobs c.in_ok-plan.plan.cursors c.in_ok-plan.plan.turns kept.0 kept.1 (heard_asked c.args.burst.now heard read) c.in_ok-plan.ensures.tasks c.in_ok-plan.ensures.jobs c.in_ok-plan.ensures.cursors c.in_ok-plan.ensures.within c.in_ok-plan.ensures.turns in
     ok_with c.perform.result c.perform.ensures.answers c.perform.ensures.state
     (λ answers are state. record {
       heard = heard;
@@ -73,8 +74,8 @@ returns-clause-readable types c =
     let jobs : List Asked = c.in_ok-plan.plan.jobs in
     let kept : IsKept g = subst IsKept c.self.view_is (c.self.invariant.well_formed, few_slots (value_of c.self.inside).settings.slots c.self.invariant.slots) in
     let read : AllZip IsHeard c.args.burst.now heard = subst (λ (l : List Heard). AllZip IsHeard c.args.burst.now l) (sym c.as_slice.ensures) c.in_ok-heard.ensures in
-    let out : IsOutcome g heard (answers_of g.settings.mid g.state.kept (kept_of g jobs) c.in_ok-plan.plan.tasks) (done_by g.settings.rules jobs g.state.maps).maps c.in_ok-plan.plan.cursors (kept_of g jobs) =
-    outcome_of_jobs g heard c.in_ok-plan.plan.tasks jobs c.in_ok-plan.plan.cursors kept.0 kept.1 (heard_asked c.args.burst.now heard read) c.in_ok-plan.ensures.tasks c.in_ok-plan.ensures.jobs c.in_ok-plan.ensures.cursors c.in_ok-plan.ensures.within in
+    let out : IsOutcome g heard (answers_of g.settings.mid g.state.kept (kept_of g jobs) c.in_ok-plan.plan.tasks) (done_by g.settings.rules jobs g.state.maps).maps c.in_ok-plan.plan.cursors (changes_of c.in_ok-plan.plan.turns (kept_of g jobs)) =
+    outcome_of_jobs g heard c.in_ok-plan.plan.tasks jobs c.in_ok-plan.plan.cursors c.in_ok-plan.plan.turns kept.0 kept.1 (heard_asked c.args.burst.now heard read) c.in_ok-plan.ensures.tasks c.in_ok-plan.ensures.jobs c.in_ok-plan.ensures.cursors c.in_ok-plan.ensures.within c.in_ok-plan.ensures.turns in
     ok_with c.perform.result c.perform.ensures.answers c.perform.ensures.state
     (λ answers are state. record {
       heard = heard;

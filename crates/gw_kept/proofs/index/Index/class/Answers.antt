@@ -1,11 +1,19 @@
-use Rattle.std.proofs.Common.{sym, ◌∙◌, refl, arith}
-use Rattle.gw_kept.proofs.Indexes.{is_new, noted}
+use Rattle.std.proofs.Common.{subst}
+use Rattle.std.specs.Option.{is_some}
+use Rattle.gw_kept.specs.declared.point.Point.{Point}
+use Rattle.gw_kept.specs.Index.{IsAsked}
+use Rattle.gw_kept.proofs.Indexes.{request_told, ack_told}
 use Rattle.gw_kept.proofs.index.Index.class.Goals as goal
 
-pub returns-clause-exact : goal.returns-clause-exact
-returns-clause-exact c =
-    λ asked pairs h known. (
-      is_new c.args.self.now.before pairs _ (sym (c.kept_place.ensures asked pairs h known) ∙ c.in_default.is) (omega (arith, h.total, c.saturating_sub.ensures, c.if-saturating_sub-ge-MOST_NEW.false)),
-      noted asked c.args.self.now _ pairs c.args.key h known c.in_ok-insert.ensures.updates.0 refl (omega (arith, h.total, h.before, h.small, c.saturating_sub.ensures, c.if-saturating_sub-ge-MOST_NEW.false, c.saturating_add-self.ensures))
-          (omega (arith, h.total, c.saturating_sub.ensures, c.if-saturating_sub-ge-MOST_NEW.false)),
-    )
+pub returns-in-Request-clause-exact : goal.returns-in-Request-clause-exact
+returns-in-Request-clause-exact c =
+    let self = c.args.self.now in
+    λ asked s h known.
+    request_told c.request_class.result self.most self.before (is_some self.left) asked c.request_class.new.self s c.args.point.now c.in-Request.key c.in-Request.is
+    (c.request_class.ensures.exact asked s h (subst (λ (p : Point). IsAsked p asked) c.in-Request.is known))
+
+pub returns-in-Ack-clause-exact : goal.returns-in-Ack-clause-exact
+returns-in-Ack-clause-exact c =
+    let self = c.args.self.now in
+    λ asked s h known.
+    ack_told (is_some self.left) self.most self.before asked c.acknowledge.new.self s c.args.point.now c.in-Ack.removal c.in-Ack.is (c.acknowledge.ensures.exact asked s h) (c.acknowledge.ensures.none asked s h)

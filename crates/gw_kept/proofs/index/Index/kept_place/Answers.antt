@@ -1,12 +1,9 @@
-use Rattle.std.proofs.Common.{arith}
-use Rattle.gw_kept.proofs.Indexes.{place_kept, place_gone, place_none}
+use Rattle.std.proofs.Common.{sym}
+use Rattle.gw_kept.proofs.Indexes.{place_kept, place_gone}
 use Rattle.gw_kept.proofs.index.Index.kept_place.Goals as goal
 
 pub returns-in-Some : goal.returns-in-Some
-returns-in-Some c = λ asked pairs h known. place_kept asked c.args.self.now pairs c.args.key.now c.in-Some.place h (c.in-Some.ensures asked pairs h known) (omega (arith, c.saturating_sub.ensures, c.if-saturating_sub-place.true))
+returns-in-Some c = λ asked s h known. let at = c.in-Some.ensures asked s h known in place_kept s c.args.key.now c.in-Some.place at (c.if-is_kept.ensures asked s h (sym at))
 
 pub returns-in_default : goal.returns-in_default
-returns-in_default c = λ asked pairs h known. place_gone asked c.args.self.now pairs c.args.key.now c.in-Some.place h (c.in-Some.ensures asked pairs h known) (omega (arith, c.saturating_sub.ensures, c.if-saturating_sub-place.false))
-
-pub returns-in_default-2 : goal.returns-in_default-2
-returns-in_default-2 c = λ asked pairs h known. place_none c.args.self.now pairs c.args.key.now (c.in_default.ensures asked pairs h known)
+returns-in_default c = λ asked s h known. place_gone s c.args.key.now (c.if-is_kept.ensures asked s h (sym (c.in-Some.ensures asked s h known)))

@@ -2,7 +2,7 @@ use Rattle.std.proofs.Common.{◌≡◌, sym, ap, ◌∙◌}
 use Rattle.gw_kept.specs.declared.entry.RequestKey.{RequestKey}
 use Rattle.gw_kept.specs.Pairs.{KeptList, bytes_at, bytes_for}
 use Rattle.gw_kept.proofs.Orders.{distinct_in_order, found_bytes}
-use Rattle.gw_kept.proofs.Repeats.{not_kept}
+use Rattle.gw_kept.proofs.Found.{not_kept}
 use Rattle.gw_kept.proofs.kept.Kept.find.Goals as goal
 
 pub returns-in-Some : goal.returns-in-Some

@@ -1,5 +1,5 @@
-use Rattle.gw_kept.proofs.Last.{one_more_after, few_after, most_after}
-use Rattle.gw_kept.proofs.laws.pairs_go_in_turn.Goals as goal
+use Rattle.gw_kept.proofs.Changed.{one_more_after, few_after, most_after}
+use Rattle.gw_kept.proofs.laws.changes_go_in_turn.Goals as goal
 
 pub returns-clause-turn : goal.returns-clause-turn
 returns-clause-turn c = one_more_after

@@ -1,0 +1,52 @@
+//! The classes of a burst's items.
+
+ghost use Rattle.std.specs.Prelude.{◌≡◌, IfOk, false};
+ghost use Rattle.gw_kept.specs.Classes.{classes_of};
+ghost use Rattle.gw_kept.specs.Index.{asks_behind};
+
+use crate::class::Class;
+use crate::index::Index;
+use crate::kept::Kept;
+use crate::point::Point;
+use gw_base::{Items, NoMemory};
+use std::alloc::Global;
+
+/// Tells whether a request comes behind an acknowledgement. Else acknowledgements have no say in the classes.
+fn asks_behind(points: &[Point<'_>]) -> bool
+    ensures { result ≡ asks_behind false points.now }
+{
+    let mut acknowledged = false;
+    for point in points {
+        match point {
+            Point::Request(_) if acknowledged => return true,
+            Point::Ack(_) => acknowledged = true,
+            _ => {}
+        }
+    }
+    false
+}
+
+impl Kept {
+    /// The classes of a burst's items, in order of arrival, each told by what it is to the kept replies: `Point::of` has it. They
+    /// are told from keys and ranges alone, before anything is carried out. A request is a repeat where its reply is kept at that
+    /// point: it is among the last ones, those of the burst's new requests included, and no acknowledgement has removed it.
+    ///
+    /// An index of the burst's keys is made first, each looked up among the kept pairs: n log n and n log k steps for n requests
+    /// and k pairs. Where a request comes behind an acknowledgement, the keys of the kept pairs are copied once, and each
+    /// acknowledgement costs what `forget` does.
+    ///
+    /// # Errors
+    ///
+    /// Want of memory.
+    pub fn classify(&self, alloc: Global, points: &[Point<'_>]) -> Result<Items<Class>, NoMemory>
+        ensures classes { IfOk result (λ classes. classes ≡ classes_of self.now points.now) }
+    {
+        let mut index = Index::of(alloc, self, points, asks_behind(points))?;
+        let mut classes = Items::new(alloc);
+        for point in points {
+            let class = index.class(alloc, point)?;
+            classes.push(class)?;
+        }
+        Ok(classes)
+    }
+}
