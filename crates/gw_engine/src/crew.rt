@@ -23,4 +23,14 @@ impl<'r, R: Threads + Sync, G: Gate> Crew<'r, R, G> {
     {
         Crew { rt, gate, workers }
     }
+
+    /// How many of them so much work is worth: one, and one more for each whole share.
+    pub(crate) fn for_work(&self, work: usize, share: usize) -> u32
+        requires { 1 ≤ share }
+        ensures some { 1 ≤ result }
+        ensures limit { result ≤ 64 }
+    {
+        let worth = u32::try_from(work / share).unwrap_or(u32::MAX);
+        worth.saturating_add(1).min(self.workers)
+    }
 }

@@ -8,6 +8,7 @@ mod carry;
 mod classify;
 mod crew;
 mod datagram;
+mod drawn;
 mod fault;
 mod gateway;
 mod heard;

@@ -128,7 +128,7 @@ impl Gateway {
     /// others. Each draws the next request until none is left, and passes the gate just before it, with the request's number within
     /// its wave, from 0. A wave has as many workers as requests at most, and with one no thread is started. Answers and state are the
     /// same for every number of workers, however they are scheduled. A worker that cannot be started is no fault. A `pass` that never
-    /// returns holds up the call.
+    /// returns holds up the call. A burst of 4,096 bytes or more is read by workers, too, who pass no gate then.
     ///
     /// # Errors
     ///
@@ -151,7 +151,7 @@ impl Gateway {
         // No effect at run time. The proof reads here that the state is well-formed.
         let _ = &self.tables;
         let crew = Crew::new(rt, workers, gate);
-        let heard = hear(alloc, burst)?;
+        let heard = hear(&crew, alloc, burst)?;
         let plan = self.plan(alloc, heard.as_slice())?;
         self.perform(&crew, alloc, plan)
     }

@@ -4,6 +4,7 @@ ghost use Rattle.std.specs.Prelude.{IfOk};
 ghost use Rattle.gw_board.specs.OpenJobs.{AreAnswers, IsAnswer};
 
 use crate::crew::Crew;
+use crate::drawn::MOST_DRAWN;
 use gw_base::{Items, NoMemory};
 use gw_board::{Job, carry};
 use gw_draw::{Gate, draw_map};
@@ -13,9 +14,6 @@ use std::thread::Threads;
 
 /// What a job came to: its new entries and the text of its reply, unless memory was wanting.
 type Answer = Result<(Part, Items<u8>), NoMemory>;
-
-/// The most jobs that are drawn.
-const MOST_DRAWN: usize = 4_294_967_295;
 
 /// Carries a job out.
 fn answer_to(alloc: Global, job: &Job<'_, '_, '_>) -> Answer
