@@ -78,7 +78,7 @@ fn answered<R: Threads + Sync, G: Gate>(
     ensures same { IsSameBurst board.old board.new }
 {
     carry_all(crew, alloc, board)?;
-    answers(alloc, &manner.mid, kept, board, tasks)
+    answers(crew, alloc, &manner.mid, kept, board, tasks)
 }
 
 /// The pair of each request and its text. The caller knows that there is room for all, and none yet.
