@@ -10,9 +10,10 @@ use crate::inbox::LONGEST_DATAGRAM;
 use crate::replay_fault::ReplayFault;
 use crate::writing::{finish, put};
 use gw_base::Items;
-use gw_engine::{Datagram, Gateway};
+use gw_engine::{Datagram, Gateway, OpenGate};
 use std::alloc::Global;
 use std::io::{ErrorKind, Read, Write};
+use std::thread::Threads;
 
 /// How many bytes are gathered for one write.
 const PIECE: usize = 65_536;
@@ -49,14 +50,15 @@ fn write_bare<W: Write>(
 }
 
 /// Reads an input to its end as one datagram, answers it, and writes the bytes of the answer; nothing where there is none, and of
-/// several one behind the other.
+/// several one behind the other. One worker carries it out.
 ///
 /// # Errors
 ///
 /// `TooLong` where the input has more than 65,507 bytes, `Read` where a read failed, `NoMemory` where a growth was refused: the
 /// datagram was not carried out, and nothing is out. `Write` where a write failed or took 0 bytes: it was carried out, and a
 /// front of the answers is out.
-pub fn answer<R: Read, W: Write>(
+pub fn answer<T: Threads + Sync, R: Read, W: Write>(
+    rt: &T,
     alloc: Global,
     reader: &mut R,
     writer: &mut W,
@@ -67,6 +69,6 @@ pub fn answer<R: Read, W: Write>(
     let bytes = read_input(alloc, reader)?;
     let mut held = Vec::with_capacity(alloc, PIECE)?;
     let burst = [Datagram { peer: 0, bytes }];
-    let answers = gateway.run(alloc, burst.as_slice())?;
+    let answers = gateway.run(rt, alloc, 1, burst.as_slice(), &OpenGate)?;
     write_bare(writer, &mut held, answers.as_slice())
 }

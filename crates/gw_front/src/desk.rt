@@ -6,14 +6,16 @@ ghost use Rattle.gw_front.specs.Inboxes.{Holds, Gathers};
 ghost use Rattle.gw_front.specs.Serving.{IsAtStart, IsAnswered, letters_to};
 ghost use Rattle.gw_front.specs.declared.serve_fault.ServeFault.TheVariants.{Receive, Poll as Refused};
 
+use crate::crew::Crew;
 use crate::exchange::Exchange;
 use crate::inbox::{Inbox, LARGEST_BURST, LONGEST_DATAGRAM};
 use crate::losses::{Loss, Losses};
 use crate::serve_fault::ServeFault;
-use gw_engine::{Datagram, Gateway};
+use gw_engine::{Datagram, Gate, Gateway};
 use std::alloc::{AllocError, Global};
 use std::io::{ErrorKind, Write};
 use std::sync::Wait;
+use std::thread::Threads;
 
 /// What serving takes beside the network. All of it is made once.
 #[derive(Drop)]
@@ -138,8 +140,9 @@ impl Desk {
     }
 
     /// Carries the burst out and sends its answers. A burst that is refused for memory is let go.
-    pub(crate) fn answer_burst<S: Exchange, W: Write>(
+    pub(crate) fn answer_burst<T: Threads + Sync, G: Gate, S: Exchange, W: Write>(
         &mut self,
+        crew: &Crew<'_, T, G>,
         alloc: Global,
         exchange: &mut S,
         gateway: &mut Gateway,
@@ -150,7 +153,7 @@ impl Desk {
         ensures holds { Holds self.new.inbox [] }
         ensures senders { self.new.inbox.senders.items ≡ [] }
     {
-        match self.inbox.run(alloc, gateway) {
+        match self.inbox.run(crew, alloc, gateway) {
             Ok(answers) => self.send(exchange, answers.as_slice(), out),
             Err(_) => self.losses.lose(Loss::Burst, out),
         }

@@ -5,12 +5,14 @@ ghost use Rattle.gw_engine.specs.Bursts.{AnswersBurst};
 ghost use Rattle.gw_front.specs.Events.{Letter};
 ghost use Rattle.gw_front.specs.Serving.{IsWithinLimits, burst_of};
 
+use crate::crew::Crew;
 use crate::exchange::Exchange;
 use gw_base::{Items, NoMemory};
-use gw_engine::{Datagram, Gateway};
+use gw_engine::{Datagram, Gate, Gateway};
 use std::alloc::{AllocError, Global};
 use std::io;
 use std::net::SocketAddr;
+use std::thread::Threads;
 
 /// The most datagrams of a burst.
 pub(crate) const LARGEST_BURST: u32 = 256;
@@ -130,8 +132,9 @@ impl Inbox {
     /// # Errors
     ///
     /// Want of memory, also where it was refused to a datagram of the burst. The gateway is then as it was.
-    pub(crate) fn run(
+    pub(crate) fn run<T: Threads + Sync, G: Gate>(
         &self,
+        crew: &Crew<'_, T, G>,
         alloc: Global,
         gateway: &mut Gateway,
     ) -> Result<Items<Datagram>, NoMemory>
@@ -143,6 +146,6 @@ impl Inbox {
         if self.is_refused {
             return Err(NoMemory);
         }
-        gateway.run(alloc, self.datagrams.as_slice())
+        crew.run(alloc, gateway, self.datagrams.as_slice())
     }
 }

@@ -6,6 +6,7 @@ mod answers;
 mod burst_reading;
 mod counted;
 mod counts;
+mod crew;
 mod desk;
 mod exchange;
 mod header;

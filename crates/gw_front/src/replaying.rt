@@ -1,6 +1,6 @@
 //! Replays: bursts read from an input, carried out, and answered to an output.
 
-ghost use Rattle.std.specs.Prelude.{◌≡◌, [], OnOk};
+ghost use Rattle.std.specs.Prelude.{◌≡◌, ◌≤◌, [], OnOk};
 ghost use Rattle.gw_front.specs.Replaying.{IsBurstDone};
 ghost use Rattle.gw_front.specs.Replays.{IsReplay};
 
@@ -8,10 +8,12 @@ use crate::answers::write_answers;
 use crate::burst_reading::{Next, next_burst};
 use crate::counted::Counted;
 use crate::counts::Counts;
+use crate::crew::Crew;
 use crate::replay_fault::ReplayFault;
-use gw_engine::{Datagram, Gateway};
+use gw_engine::{Datagram, Gate, Gateway};
 use std::alloc::Global;
 use std::io::{BufReader, Read, Write};
+use std::thread::Threads;
 
 /// How many bytes are read ahead. More than that goes straight into its place.
 const READ_AHEAD: usize = 8_192;
@@ -20,7 +22,8 @@ const READ_AHEAD: usize = 8_192;
 const PIECE: usize = 65_536;
 
 /// Carries a burst out and writes its answers; the counts with it.
-fn carry_out<W: Write>(
+fn carry_out<T: Threads + Sync, G: Gate, W: Write>(
+    crew: &Crew<'_, T, G>,
     alloc: Global,
     out: &mut W,
     held: &mut Vec<u8>,
@@ -32,7 +35,7 @@ fn carry_out<W: Write>(
     ensures done { IsBurstDone burst.now counts (W.contents out.old) (W.contents out.new) gateway.old gateway.new result }
     ensures empty { OnOk result (held.new.items ≡ []) }
 {
-    let answers = gateway.run(alloc, burst)?;
+    let answers = crew.run(alloc, gateway, burst)?;
     // No replay lives to see so many answers. They could not be told, so this burst's are not written.
     let Some(counts) = counts.with_burst(burst.len(), answers.len()) else {
         return Err(ReplayFault::Write);
@@ -42,7 +45,8 @@ fn carry_out<W: Write>(
 }
 
 /// Carries out the bursts of an input, one after another.
-fn replay_all<R: Read, W: Write>(
+fn replay_all<T: Threads + Sync, G: Gate, R: Read, W: Write>(
+    crew: &Crew<'_, T, G>,
     alloc: Global,
     input: &mut R,
     out: &mut W,
@@ -56,10 +60,10 @@ fn replay_all<R: Read, W: Write>(
     for _turn in 0..u64::MAX {
         match next_burst(alloc, input)? {
             Next::Burst(burst) => {
-                counts = carry_out(alloc, out, held, gateway, burst.as_slice(), counts)?;
+                counts = carry_out(crew, alloc, out, held, gateway, burst.as_slice(), counts)?;
             }
             Next::Last(burst) => {
-                return carry_out(alloc, out, held, gateway, burst.as_slice(), counts);
+                return carry_out(crew, alloc, out, held, gateway, burst.as_slice(), counts);
             }
             Next::End => return Ok(counts),
         }
@@ -69,7 +73,9 @@ fn replay_all<R: Read, W: Write>(
 
 /// Carries out the bursts of an input, one after another, and writes the answers of each, when all of them stand, in the form
 /// in which bursts are read: `D <peer> <length>` and a line feed, so many bytes, a line feed; `.` and a line feed end a burst.
-/// At most one burst is kept in memory. Reads and writes that a signal interrupts are tried again.
+/// The transactions of a burst are carried out by so many workers, 1 to 64, each of which passes the gate before each; how many
+/// makes no difference to what is answered. At most one burst is kept in memory. Reads and writes that a signal interrupts are tried
+/// again.
 ///
 /// # Errors
 ///
@@ -77,17 +83,23 @@ fn replay_all<R: Read, W: Write>(
 /// that is wrong first in what follows them; `Read` where a read failed, or after 4,294,967,295 reads; `NoMemory` where a growth
 /// was refused: of the burst in hand nothing was carried out, and nothing is out. `Write` where a write failed or took 0 bytes:
 /// the burst in hand was carried out, and a front of the text of its answers is out.
-pub fn replay<R: Read, W: Write>(
+pub fn replay<T: Threads + Sync, R: Read, W: Write, G: Gate>(
+    rt: &T,
     alloc: Global,
     reader: &mut R,
     writer: &mut W,
     gateway: &mut Gateway,
+    workers: u32,
+    gate: &G,
 ) -> Result<Counts, ReplayFault>
+    requires some { 1 ≤ workers }
+    requires limit { workers ≤ 64 }
     ensures { IsReplay (R.remaining reader.old) (W.contents writer.old) (W.contents writer.new) gateway.old gateway.new result }
 {
     let Ok(mut input) = BufReader::with_capacity(alloc, READ_AHEAD, Counted::new(reader)) else {
         return Err(ReplayFault::NoMemory);
     };
     let mut held = Vec::with_capacity(alloc, PIECE)?;
-    replay_all(alloc, &mut input, writer, &mut held, gateway)
+    let crew = Crew::new(rt, workers, gate);
+    replay_all(&crew, alloc, &mut input, writer, &mut held, gateway)
 }

@@ -1,5 +1,5 @@
 -- What the words ask for, from what `clap` tells.
-use Rattle.std.proofs.Common.{◌≡◌, ◌∙◌, ◌&&◌, ◌||◌, ℕ, Bool, cond, true, false, not, List, [], ◌∷◌, Option, Some, None, Result, Ok, Err, IfOk, refl, sym, ap, ap₂, subst, inl, inr, codes, is_some, true≢false, find}
+use Rattle.std.proofs.Common.{◌≡◌, ◌≤◌, ◌∙◌, ◌&&◌, ◌||◌, ℕ, Bool, arith, cond, true, false, not, List, [], ◌∷◌, Option, Some, None, Result, Ok, Err, IfOk, refl, sym, ap, ap₂, subst, inl, inr, codes, is_some, true≢false, find}
 use Rattle.std.specs.Prelude.{IfSome, IsOkAnd, option_map, unwrap_or, fold}
 use Rattle.std.specs.Borrow.{Bor}
 use Rattle.std.proofs.lemmas.Slice.Eq.{bytes_eq-Decides}
@@ -20,7 +20,7 @@ use Rattle.clap.specs.declared.parser.matches.ArgMatches.TheViews.{out-ArgMatche
 use Rattle.clap.specs.declared.parser.matches.Found.{Found}
 use Rattle.std.specs.Box.{box_value}
 use Rattle.gw_program.specs.Commands.{alone, program_app}
-use Rattle.gw_program.specs.Words.{IsCommand, IsFlag, IsNumber, given, mistakes}
+use Rattle.gw_program.specs.Words.{AreAsked, IsCommand, IsFlag, IsNumber, given, mistakes}
 
 -- ---- the commands
 
@@ -55,6 +55,13 @@ number_given {E} f id number gives parses none read = subst (λ (o : Option Text
     go : (o : Option Text) → (o ≡ None → number ≡ None) → ((text : Text) → o ≡ Some text → ReadsOne gives text number) → IsNumber o number
     go None n r = n refl
     go (Some text) n r = at text number (r text refl)
+
+-- as many workers as the number says
+pub workers_given : (text : Option Text) (number : Option ℕ) (workers : ℕ) → IsNumber text number → ((count : ℕ) → number ≡ Some count → 1 ≤ count → count ≤ 64 → workers ≡ count)
+    → (number ≡ None → workers ≡ 1) → AreAsked text workers
+workers_given None number workers read said alone = alone read
+workers_given (Some text) (Some count) workers read said alone = λ fits. said count refl (subst (λ (n : ℕ). 1 ≤ n) (sym read) fits.2) (subst (λ (n : ℕ). n ≤ 64) (sym read) fits.3) ∙ read
+workers_given (Some text) None workers read said alone = λ fits. absurd (read (fits.0, fits.1, omega arith, omega (arith, fits.1)))
 
 -- two parts of what may be there, and both
 pub in_both : {A B X Y : Type 0} (f : A → X) (g : A → Y) (a : Option A) (h : B → X) (k : B → Y) (b : Option B)

@@ -9,12 +9,12 @@ use Rattle.clap.specs.Simple.{subcommand_of}
 use Rattle.clap.specs.Walk.{Row, Text, first_of, one_of}
 use Rattle.std.proofs.lemmas.Bool.{ne_eqb}
 use Rattle.gw_program.specs.Commands.{program_app}
-use Rattle.clap.proofs.ValueTestLemmas.{Accepts-accepts}
+use Rattle.clap.proofs.ValueTestLemmas.{Accepts-accepts, accepts-Accepts}
 use Rattle.clap.specs.ValueTests.{is_unsigned_in}
 use Rattle.clap.specs.Values.{refused_kind}
 use Rattle.clap.specs.declared.builder.value_parser.ValueParser.TheVariants.{Unsigned}
-use Rattle.gw_program.specs.Forms.{Asks, IsCount, IsPlain, Request, answer, answers, answers_by, check, checks, everywhere, nothing, number_of, replay, replays, replays_and_tells, request_of, serve, serves, serves_at, serves_at_so_long, serves_so_long}
-use Rattle.gw_program.specs.Words.{IsAsked, IsFlag, IsJobOf, IsNumber, given, mistakes}
+use Rattle.gw_program.specs.Forms.{Asks, IsCount, IsCrew, IsPlain, Request, answer, answers, answers_by, check, checks, everywhere, nothing, number_of, replay, replays, replays_and_tells, replays_and_tells_by, replays_by, request_of, serve, serves, serves_at, serves_at_by, serves_at_so_long, serves_by, serves_by_so_long, serves_so_long}
+use Rattle.gw_program.specs.Words.{AreAsked, IsAsked, IsFlag, IsJobOf, IsNumber, given, mistakes}
 use Rattle.gw_program.specs.declared.command_line.Job.{Job}
 use Rattle.gw_program.specs.declared.command_line.Job.TheVariants as job
 
@@ -36,6 +36,7 @@ record Seen : Type 0 where
   listen : Text
   config : Option Text
   audit : Option Text
+  workers : Option Text
   bursts : Option Text
 
 abbrev seen : Option (Text × List Row) → Option Seen
@@ -45,18 +46,40 @@ seen = option_map (λ p. record {
   listen = given (codes "ADDR") p.1;
   config = first_of (codes "CONFIG") p.1;
   audit = one_of (codes "audit") p.1;
+  workers = one_of (codes "WORKERS") p.1;
   bursts = one_of (codes "N") p.1;
 })
 
 abbrev no_more : Text → Text → Seen
-no_more name file = record { name = name; file = file; listen = []; config = None; audit = None; bursts = None }
+no_more name file = record { name = name; file = file; listen = []; config = None; audit = None; workers = None; bursts = None }
 
-abbrev served : Text → Text → Option Text → Seen
-served file listen bursts = record { name = codes "serve"; file = file; listen = listen; config = None; audit = None; bursts = bursts }
+-- one worker, where the words name no number
+abbrev alone : Text
+alone = codes "1"
+
+abbrev replayed : Text → Text → Text → Seen
+replayed file audit workers = record (no_more (codes "replay") file) { audit = Some audit; workers = Some workers }
+
+abbrev served : Text → Text → Text → Option Text → Seen
+served file listen workers bursts = record (no_more (codes "serve") file) { listen = listen; workers = Some workers; bursts = bursts }
 
 -- a number passes the test of its argument
 counts : (word : Text) → IsCount word → is_unsigned_in 0 18446744073709551615 word ≡ true
 counts word h = Accepts-accepts false (Unsigned 0 18446744073709551615) word h
+
+crews : (word : Text) → IsCrew word → is_unsigned_in 1 64 word ≡ true
+crews word h = Accepts-accepts false (Unsigned 1 64) word h
+
+alone_is_crew : IsCrew alone
+alone_is_crew = accepts-Accepts false (Unsigned 1 64) alone refl
+
+-- the kinds of mistake that a number has behind the words before it, by whether it passes the test of its argument
+abbrev number_kinds : Bool → Kinds
+number_kinds passes = or_else (or_else (or_else (cond passes [] (refused_kind (Unsigned 0 18446744073709551615) ∷ [])) []) []) []
+
+-- the same of a number of workers
+abbrev crew_kinds : Bool → Kinds
+crew_kinds passes = or_else (or_else (or_else (cond passes [] (refused_kind (Unsigned 1 64) ∷ [])) []) []) []
 
 nothing_sound : mistakes [] ≡ []
 unfolding clap_on_literals
@@ -94,7 +117,7 @@ replay_sound : (f : Text) → IsWord f → mistakes (codes "replay" ∷ (f ∷ [
 unfolding clap_on_literals
 replay_sound f w = rw (w.plain, w.other) (rw w.plain refl)
 
-replay_found : (f : Text) → IsWord f → seen (subcommand_of program_app (codes "replay" ∷ (f ∷ []))) ≡ Some (record (no_more (codes "replay") f) { audit = Some (codes "false") })
+replay_found : (f : Text) → IsWord f → seen (subcommand_of program_app (codes "replay" ∷ (f ∷ []))) ≡ Some (replayed f (codes "false") alone)
 unfolding clap_on_literals
 replay_found f w = rw (w.plain, w.other) (rw w.plain refl)
 
@@ -102,15 +125,34 @@ audit_sound : (f : Text) → IsWord f → mistakes (codes "replay" ∷ (f ∷ (c
 unfolding clap_on_literals
 audit_sound f w = rw (w.plain, w.other) (rw w.plain refl)
 
-audit_found : (f : Text) → IsWord f → seen (subcommand_of program_app (codes "replay" ∷ (f ∷ (codes "--audit" ∷ [])))) ≡ Some (record (no_more (codes "replay") f) { audit = Some (codes "true") })
+audit_found : (f : Text) → IsWord f → seen (subcommand_of program_app (codes "replay" ∷ (f ∷ (codes "--audit" ∷ [])))) ≡ Some (replayed f (codes "true") alone)
 unfolding clap_on_literals
 audit_found f w = rw (w.plain, w.other) (rw w.plain refl)
+
+crew_sound : (f n : Text) → IsWord f → IsWord n → is_unsigned_in 1 64 n ≡ true → mistakes (codes "replay" ∷ (f ∷ (codes "--workers" ∷ (n ∷ [])))) ≡ []
+unfolding clap_on_literals
+crew_sound f n w v c = rw (w.plain, w.other) (rw w.plain (rw (v.plain, v.other) (rw v.plain (rw c refl))))
+
+crew_found : (f n : Text) → IsWord f → IsWord n → seen (subcommand_of program_app (codes "replay" ∷ (f ∷ (codes "--workers" ∷ (n ∷ []))))) ≡ Some (replayed f (codes "false") n)
+unfolding clap_on_literals
+crew_found f n w v = rw (w.plain, w.other) (rw w.plain (rw (v.plain, v.other) (rw v.plain refl)))
+
+audit_crew_kinds : (f n : Text) → IsWord f → IsWord n → mistakes (codes "replay" ∷ (f ∷ (codes "--audit" ∷ (codes "--workers" ∷ (n ∷ []))))) ≡ crew_kinds (is_unsigned_in 1 64 n)
+unfolding clap_on_literals
+audit_crew_kinds f n w v = rw (w.plain, w.other) (rw w.plain (rw (v.plain, v.other) (rw v.plain refl)))
+
+audit_crew_sound : (f n : Text) → IsWord f → IsWord n → is_unsigned_in 1 64 n ≡ true → mistakes (codes "replay" ∷ (f ∷ (codes "--audit" ∷ (codes "--workers" ∷ (n ∷ []))))) ≡ []
+audit_crew_sound f n w v c = audit_crew_kinds f n w v ∙ ap crew_kinds c
+
+audit_crew_found : (f n : Text) → IsWord f → IsWord n → seen (subcommand_of program_app (codes "replay" ∷ (f ∷ (codes "--audit" ∷ (codes "--workers" ∷ (n ∷ [])))))) ≡ Some (replayed f (codes "true") n)
+unfolding clap_on_literals
+audit_crew_found f n w v = rw (w.plain, w.other) (rw w.plain (rw (v.plain, v.other) (rw v.plain refl)))
 
 serve_sound : (f : Text) → IsWord f → mistakes (codes "serve" ∷ (f ∷ [])) ≡ []
 unfolding clap_on_literals
 serve_sound f w = rw (w.plain, w.other) (rw w.plain refl)
 
-serve_found : (f : Text) → IsWord f → seen (subcommand_of program_app (codes "serve" ∷ (f ∷ []))) ≡ Some (served f everywhere None)
+serve_found : (f : Text) → IsWord f → seen (subcommand_of program_app (codes "serve" ∷ (f ∷ []))) ≡ Some (served f everywhere alone None)
 unfolding clap_on_literals
 serve_found f w = rw (w.plain, w.other) (rw w.plain refl)
 
@@ -118,21 +160,28 @@ listen_sound : (f a : Text) → IsWord f → IsWord a → mistakes (codes "serve
 unfolding clap_on_literals
 listen_sound f a w v = rw (w.plain, w.other) (rw w.plain (rw (v.plain, v.other) (rw v.plain refl)))
 
-listen_found : (f a : Text) → IsWord f → IsWord a → seen (subcommand_of program_app (codes "serve" ∷ (f ∷ (codes "--listen" ∷ (a ∷ []))))) ≡ Some (served f a None)
+listen_found : (f a : Text) → IsWord f → IsWord a → seen (subcommand_of program_app (codes "serve" ∷ (f ∷ (codes "--listen" ∷ (a ∷ []))))) ≡ Some (served f a alone None)
 unfolding clap_on_literals
 listen_found f a w v = rw (w.plain, w.other) (rw w.plain (rw (v.plain, v.other) (rw v.plain refl)))
 
-bursts_sound : (f n : Text) → IsWord f → IsWord n → is_unsigned_in 0 18446744073709551615 n ≡ true → mistakes (codes "serve" ∷ (f ∷ (codes "--bursts" ∷ (n ∷ [])))) ≡ []
+serve_crew_sound : (f n : Text) → IsWord f → IsWord n → is_unsigned_in 1 64 n ≡ true → mistakes (codes "serve" ∷ (f ∷ (codes "--workers" ∷ (n ∷ [])))) ≡ []
 unfolding clap_on_literals
-bursts_sound f n w v c = rw (w.plain, w.other) (rw w.plain (rw (v.plain, v.other) (rw v.plain (rw c refl))))
+serve_crew_sound f n w v c = rw (w.plain, w.other) (rw w.plain (rw (v.plain, v.other) (rw v.plain (rw c refl))))
 
-bursts_found : (f n : Text) → IsWord f → IsWord n → seen (subcommand_of program_app (codes "serve" ∷ (f ∷ (codes "--bursts" ∷ (n ∷ []))))) ≡ Some (served f everywhere (Some n))
+serve_crew_found : (f n : Text) → IsWord f → IsWord n → seen (subcommand_of program_app (codes "serve" ∷ (f ∷ (codes "--workers" ∷ (n ∷ []))))) ≡ Some (served f everywhere n None)
+unfolding clap_on_literals
+serve_crew_found f n w v = rw (w.plain, w.other) (rw w.plain (rw (v.plain, v.other) (rw v.plain refl)))
+
+bursts_kinds : (f n : Text) → IsWord f → IsWord n → mistakes (codes "serve" ∷ (f ∷ (codes "--bursts" ∷ (n ∷ [])))) ≡ number_kinds (is_unsigned_in 0 18446744073709551615 n)
+unfolding clap_on_literals
+bursts_kinds f n w v = rw (w.plain, w.other) (rw w.plain (rw (v.plain, v.other) (rw v.plain refl)))
+
+bursts_sound : (f n : Text) → IsWord f → IsWord n → is_unsigned_in 0 18446744073709551615 n ≡ true → mistakes (codes "serve" ∷ (f ∷ (codes "--bursts" ∷ (n ∷ [])))) ≡ []
+bursts_sound f n w v c = bursts_kinds f n w v ∙ ap number_kinds c
+
+bursts_found : (f n : Text) → IsWord f → IsWord n → seen (subcommand_of program_app (codes "serve" ∷ (f ∷ (codes "--bursts" ∷ (n ∷ []))))) ≡ Some (served f everywhere alone (Some n))
 unfolding clap_on_literals
 bursts_found f n w v = rw (w.plain, w.other) (rw w.plain (rw (v.plain, v.other) (rw v.plain refl)))
-
--- the kinds of mistake that a number has behind the words before it, by whether it passes the test of its argument
-abbrev number_kinds : Bool → Kinds
-number_kinds passes = or_else (or_else (or_else (cond passes [] (refused_kind (Unsigned 0 18446744073709551615) ∷ [])) []) []) []
 
 both_kinds : (f a n : Text) → IsWord f → IsWord a → IsWord n
     → mistakes (codes "serve" ∷ (f ∷ (codes "--listen" ∷ (a ∷ (codes "--bursts" ∷ (n ∷ [])))))) ≡ number_kinds (is_unsigned_in 0 18446744073709551615 n)
@@ -143,9 +192,35 @@ both_sound : (f a n : Text) → IsWord f → IsWord a → IsWord n → is_unsign
     → mistakes (codes "serve" ∷ (f ∷ (codes "--listen" ∷ (a ∷ (codes "--bursts" ∷ (n ∷ [])))))) ≡ []
 both_sound f a n w v u c = both_kinds f a n w v u ∙ ap number_kinds c
 
-both_found : (f a n : Text) → IsWord f → IsWord a → IsWord n → seen (subcommand_of program_app (codes "serve" ∷ (f ∷ (codes "--listen" ∷ (a ∷ (codes "--bursts" ∷ (n ∷ []))))))) ≡ Some (served f a (Some n))
+both_found : (f a n : Text) → IsWord f → IsWord a → IsWord n → seen (subcommand_of program_app (codes "serve" ∷ (f ∷ (codes "--listen" ∷ (a ∷ (codes "--bursts" ∷ (n ∷ []))))))) ≡ Some (served f a alone (Some n))
 unfolding clap_on_literals
 both_found f a n w v u = rw (w.plain, w.other) (rw w.plain (rw (v.plain, v.other) (rw v.plain (rw (u.plain, u.other) (rw u.plain refl)))))
+
+crew_at_kinds : (f a n : Text) → IsWord f → IsWord a → IsWord n
+    → mistakes (codes "serve" ∷ (f ∷ (codes "--listen" ∷ (a ∷ (codes "--workers" ∷ (n ∷ [])))))) ≡ crew_kinds (is_unsigned_in 1 64 n)
+unfolding clap_on_literals
+crew_at_kinds f a n w v u = rw (w.plain, w.other) (rw w.plain (rw (v.plain, v.other) (rw v.plain (rw (u.plain, u.other) (rw u.plain refl)))))
+
+crew_at_sound : (f a n : Text) → IsWord f → IsWord a → IsWord n → is_unsigned_in 1 64 n ≡ true
+    → mistakes (codes "serve" ∷ (f ∷ (codes "--listen" ∷ (a ∷ (codes "--workers" ∷ (n ∷ [])))))) ≡ []
+crew_at_sound f a n w v u c = crew_at_kinds f a n w v u ∙ ap crew_kinds c
+
+crew_at_found : (f a n : Text) → IsWord f → IsWord a → IsWord n → seen (subcommand_of program_app (codes "serve" ∷ (f ∷ (codes "--listen" ∷ (a ∷ (codes "--workers" ∷ (n ∷ []))))))) ≡ Some (served f a n None)
+unfolding clap_on_literals
+crew_at_found f a n w v u = rw (w.plain, w.other) (rw w.plain (rw (v.plain, v.other) (rw v.plain (rw (u.plain, u.other) (rw u.plain refl)))))
+
+crew_bursts_kinds : (f n b : Text) → IsWord f → IsWord n → is_unsigned_in 1 64 n ≡ true → IsWord b
+    → mistakes (codes "serve" ∷ (f ∷ (codes "--workers" ∷ (n ∷ (codes "--bursts" ∷ (b ∷ [])))))) ≡ number_kinds (is_unsigned_in 0 18446744073709551615 b)
+unfolding clap_on_literals
+crew_bursts_kinds f n b w v c u = rw (w.plain, w.other) (rw w.plain (rw (v.plain, v.other) (rw v.plain (rw c (rw (u.plain, u.other) (rw u.plain refl))))))
+
+crew_bursts_sound : (f n b : Text) → IsWord f → IsWord n → is_unsigned_in 1 64 n ≡ true → IsWord b → is_unsigned_in 0 18446744073709551615 b ≡ true
+    → mistakes (codes "serve" ∷ (f ∷ (codes "--workers" ∷ (n ∷ (codes "--bursts" ∷ (b ∷ [])))))) ≡ []
+crew_bursts_sound f n b w v c u d = crew_bursts_kinds f n b w v c u ∙ ap number_kinds d
+
+crew_bursts_found : (f n b : Text) → IsWord f → IsWord n → IsWord b → seen (subcommand_of program_app (codes "serve" ∷ (f ∷ (codes "--workers" ∷ (n ∷ (codes "--bursts" ∷ (b ∷ []))))))) ≡ Some (served f everywhere n (Some b))
+unfolding clap_on_literals
+crew_bursts_found f n b w v u = rw (w.plain, w.other) (rw w.plain (rw (v.plain, v.other) (rw v.plain (rw (u.plain, u.other) (rw u.plain refl)))))
 
 -- ---- the job of what is seen
 
@@ -154,16 +229,16 @@ IsSeenJob None asked = asked ≡ job.BuiltIn
 IsSeenJob (Some s) job.BuiltIn = ⊥
 IsSeenJob (Some s) (job.Answer file) = (s.name ≡ codes "answer") × (option_map (λ f. f.now) file ≡ s.config)
 IsSeenJob (Some s) (job.Check file) = (s.name ≡ codes "check") × (file.now ≡ s.file)
-IsSeenJob (Some s) (job.Replay file audit) = (s.name ≡ codes "replay") × (file.now ≡ s.file) × IsFlag s.audit audit
-IsSeenJob (Some s) (job.Serve file listen bursts) = (s.name ≡ codes "serve") × (file.now ≡ s.file) × (listen.now ≡ s.listen) × IsNumber s.bursts bursts
+IsSeenJob (Some s) (job.Replay file audit workers) = (s.name ≡ codes "replay") × (file.now ≡ s.file) × IsFlag s.audit audit × AreAsked s.workers workers.count
+IsSeenJob (Some s) (job.Serve file listen workers bursts) = (s.name ≡ codes "serve") × (file.now ≡ s.file) × (listen.now ≡ s.listen) × AreAsked s.workers workers.count × IsNumber s.bursts bursts
 
 by_seen : (found : Option (Text × List Row)) (asked : Job) → IsJobOf found asked → IsSeenJob (seen found) asked
 by_seen None asked h = h
 by_seen (Some p) job.BuiltIn h = h
 by_seen (Some p) (job.Answer file) h = h
 by_seen (Some p) (job.Check file) h = h
-by_seen (Some p) (job.Replay file audit) h = h
-by_seen (Some p) (job.Serve file listen bursts) h = h
+by_seen (Some p) (job.Replay file audit workers) h = h
+by_seen (Some p) (job.Serve file listen workers bursts) h = h
 
 as_seen : (words : List Text) (asked : Job) (s : Option Seen) → seen (subcommand_of program_app words) ≡ s → IsAsked words asked → IsSeenJob s asked
 as_seen words asked s e h = subst (λ (o : Option Seen). IsSeenJob o asked) e (by_seen (subcommand_of program_app words) asked h.found)
@@ -176,33 +251,43 @@ of_answer : (s : Seen) (asked : Job) → s.name ≡ codes "answer" → IsSeenJob
 of_answer s job.BuiltIn n h = absurd h
 of_answer s (job.Answer file) n h = ap answer h.1
 of_answer s (job.Check file) n h = absurd (apart _ _ 97 99 (sym n ∙ h.0) refl refl (λ e. omega (arith, e)))
-of_answer s (job.Replay file audit) n h = absurd (apart _ _ 97 114 (sym n ∙ h.0) refl refl (λ e. omega (arith, e)))
-of_answer s (job.Serve file listen bursts) n h = absurd (apart _ _ 97 115 (sym n ∙ h.0) refl refl (λ e. omega (arith, e)))
+of_answer s (job.Replay file audit workers) n h = absurd (apart _ _ 97 114 (sym n ∙ h.0) refl refl (λ e. omega (arith, e)))
+of_answer s (job.Serve file listen workers bursts) n h = absurd (apart _ _ 97 115 (sym n ∙ h.0) refl refl (λ e. omega (arith, e)))
 
 of_check : (s : Seen) (asked : Job) → s.name ≡ codes "check" → IsSeenJob (Some s) asked → request_of asked ≡ check s.file
 of_check s job.BuiltIn n h = absurd h
 of_check s (job.Answer file) n h = absurd (apart _ _ 99 97 (sym n ∙ h.0) refl refl (λ e. omega (arith, e)))
 of_check s (job.Check file) n h = ap check h.1
-of_check s (job.Replay file audit) n h = absurd (apart _ _ 99 114 (sym n ∙ h.0) refl refl (λ e. omega (arith, e)))
-of_check s (job.Serve file listen bursts) n h = absurd (apart _ _ 99 115 (sym n ∙ h.0) refl refl (λ e. omega (arith, e)))
+of_check s (job.Replay file audit workers) n h = absurd (apart _ _ 99 114 (sym n ∙ h.0) refl refl (λ e. omega (arith, e)))
+of_check s (job.Serve file listen workers bursts) n h = absurd (apart _ _ 99 115 (sym n ∙ h.0) refl refl (λ e. omega (arith, e)))
 
-of_replay : (s : Seen) (asked : Job) (told : Bool) → s.name ≡ codes "replay" → ((flag : Bool) → IsFlag s.audit flag → flag ≡ told) → IsSeenJob (Some s) asked → request_of asked ≡ replay s.file told
-of_replay s job.BuiltIn told n flag h = absurd h
-of_replay s (job.Answer file) told n flag h = absurd (apart _ _ 114 97 (sym n ∙ h.0) refl refl (λ e. omega (arith, e)))
-of_replay s (job.Check file) told n flag h = absurd (apart _ _ 114 99 (sym n ∙ h.0) refl refl (λ e. omega (arith, e)))
-of_replay s (job.Replay file audit) told n flag h = ap₂ replay h.1 (flag audit h.2)
-of_replay s (job.Serve file listen bursts) told n flag h = absurd (apart _ _ 114 115 (sym n ∙ h.0) refl refl (λ e. omega (arith, e)))
+of_replay : (s : Seen) (asked : Job) (told : Bool) (crew : ℕ) → s.name ≡ codes "replay" → ((flag : Bool) → IsFlag s.audit flag → flag ≡ told) → ((n : ℕ) → AreAsked s.workers n → n ≡ crew) → IsSeenJob (Some s) asked
+    → request_of asked ≡ replay s.file told crew
+of_replay s job.BuiltIn told crew n flag by h = absurd h
+of_replay s (job.Answer file) told crew n flag by h = absurd (apart _ _ 114 97 (sym n ∙ h.0) refl refl (λ e. omega (arith, e)))
+of_replay s (job.Check file) told crew n flag by h = absurd (apart _ _ 114 99 (sym n ∙ h.0) refl refl (λ e. omega (arith, e)))
+of_replay s (job.Replay file audit workers) told crew n flag by h = ap₂ (λ (f : Text) (r : Bool × ℕ). replay f r.0 r.1) h.1 (ap₂ (λ (a : Bool) (b : ℕ). (a, b)) (flag audit h.2) (by workers.count h.3))
+of_replay s (job.Serve file listen workers bursts) told crew n flag by h = absurd (apart _ _ 114 115 (sym n ∙ h.0) refl refl (λ e. omega (arith, e)))
 
-of_serve : (s : Seen) (asked : Job) (most : Option ℕ) → s.name ≡ codes "serve" → ((n : Option ℕ) → IsNumber s.bursts n → n ≡ most) → IsSeenJob (Some s) asked → request_of asked ≡ serve s.file s.listen most
-of_serve s job.BuiltIn most n read h = absurd h
-of_serve s (job.Answer file) most n read h = absurd (apart _ _ 115 97 (sym n ∙ h.0) refl refl (λ e. omega (arith, e)))
-of_serve s (job.Check file) most n read h = absurd (apart _ _ 115 99 (sym n ∙ h.0) refl refl (λ e. omega (arith, e)))
-of_serve s (job.Replay file audit) most n read h = absurd (apart _ _ 115 114 (sym n ∙ h.0) refl refl (λ e. omega (arith, e)))
-of_serve s (job.Serve file listen bursts) most n read h = ap₂ (λ (f : Text) (r : Text × Option ℕ). serve f r.0 r.1) h.1 (ap₂ (λ (a : Text) (b : Option ℕ). (a, b)) h.2 (read bursts h.3))
+of_serve : (s : Seen) (asked : Job) (crew : ℕ) (most : Option ℕ) → s.name ≡ codes "serve" → ((n : ℕ) → AreAsked s.workers n → n ≡ crew) → ((n : Option ℕ) → IsNumber s.bursts n → n ≡ most) → IsSeenJob (Some s) asked
+    → request_of asked ≡ serve s.file s.listen crew most
+of_serve s job.BuiltIn crew most n by read h = absurd h
+of_serve s (job.Answer file) crew most n by read h = absurd (apart _ _ 115 97 (sym n ∙ h.0) refl refl (λ e. omega (arith, e)))
+of_serve s (job.Check file) crew most n by read h = absurd (apart _ _ 115 99 (sym n ∙ h.0) refl refl (λ e. omega (arith, e)))
+of_serve s (job.Replay file audit workers) crew most n by read h = absurd (apart _ _ 115 114 (sym n ∙ h.0) refl refl (λ e. omega (arith, e)))
+of_serve s (job.Serve file listen workers bursts) crew most n by read h =
+    ap₂ (λ (f : Text × Text) (r : ℕ × Option ℕ). serve f.0 f.1 r.0 r.1) (ap₂ (λ (a b : Text). (a, b)) h.1 h.2) (ap₂ (λ (a : ℕ) (b : Option ℕ). (a, b)) (by workers.count h.3) (read bursts h.4))
 
 read_number : (word : Text) (n : Option ℕ) → IsCount word → IsNumber (Some word) n → n ≡ Some (number_of word)
 read_number word (Some n) count h = ap (λ (x : ℕ). Some x) h
 read_number word None count h = absurd (h count)
+
+-- one worker
+by_one : (n : ℕ) → AreAsked (Some alone) n → n ≡ 1
+by_one n h = h alone_is_crew
+
+by_many : (word : Text) → IsCrew word → (n : ℕ) → AreAsked (Some word) n → n ≡ number_of word
+by_many word crew n h = h crew
 
 -- each form is without a mistake, and its job is what it asks for
 pub form_asks : (words : List Text) (request : Request) → Asks words request → (mistakes words ≡ []) × ((asked : Job) → IsAsked words asked → request_of asked ≡ request)
@@ -210,15 +295,36 @@ form_asks _ _ nothing = (nothing_sound, λ asked h. ap request_of (as_seen [] as
 form_asks _ _ answers = (answer_sound, λ asked h. of_answer (no_more (codes "answer") []) asked refl (as_seen _ asked (Some (no_more (codes "answer") [])) answer_found h))
 form_asks _ _ (answers_by f p) = (config_sound f (word_of f p), λ asked h. of_answer (record (no_more (codes "answer") []) { config = Some f }) asked refl (as_seen _ asked (Some (record (no_more (codes "answer") []) { config = Some f })) (config_found f (word_of f p)) h))
 form_asks _ _ (checks f p) = (check_sound f (word_of f p), λ asked h. of_check (no_more (codes "check") f) asked refl (as_seen _ asked (Some (no_more (codes "check") f)) (check_found f (word_of f p)) h))
-form_asks _ _ (replays f p) = (replay_sound f (word_of f p), λ asked h. of_replay (record (no_more (codes "replay") f) { audit = Some (codes "false") }) asked false refl (λ flag g. g.1 refl) (as_seen _ asked (Some (record (no_more (codes "replay") f) { audit = Some (codes "false") })) (replay_found f (word_of f p)) h))
-form_asks _ _ (replays_and_tells f p) = (audit_sound f (word_of f p), λ asked h. of_replay (record (no_more (codes "replay") f) { audit = Some (codes "true") }) asked true refl (λ flag g. g.0 refl) (as_seen _ asked (Some (record (no_more (codes "replay") f) { audit = Some (codes "true") })) (audit_found f (word_of f p)) h))
-form_asks _ _ (serves f p) = (serve_sound f (word_of f p), λ asked h. of_serve (served f everywhere None) asked None refl (λ n g. g) (as_seen _ asked (Some (served f everywhere None)) (serve_found f (word_of f p)) h))
-form_asks _ _ (serves_at f a p q) = (listen_sound f a (word_of f p) (word_of a q), λ asked h. of_serve (served f a None) asked None refl (λ n g. g) (as_seen _ asked (Some (served f a None)) (listen_found f a (word_of f p) (word_of a q)) h))
+form_asks _ _ (replays f p) = (replay_sound f (word_of f p), λ asked h. of_replay (replayed f (codes "false") alone) asked false 1 refl (λ flag g. g.1 refl) by_one (as_seen _ asked (Some (replayed f (codes "false") alone)) (replay_found f (word_of f p)) h))
+form_asks _ _ (replays_and_tells f p) = (audit_sound f (word_of f p), λ asked h. of_replay (replayed f (codes "true") alone) asked true 1 refl (λ flag g. g.0 refl) by_one (as_seen _ asked (Some (replayed f (codes "true") alone)) (audit_found f (word_of f p)) h))
+form_asks _ _ (replays_by f n p q c) = (
+  crew_sound f n (word_of f p) (word_of n q) (crews n c),
+  λ asked h. of_replay (replayed f (codes "false") n) asked false (number_of n) refl (λ flag g. g.1 refl) (by_many n c) (as_seen _ asked (Some (replayed f (codes "false") n)) (crew_found f n (word_of f p) (word_of n q)) h),
+)
+form_asks _ _ (replays_and_tells_by f n p q c) = (
+  audit_crew_sound f n (word_of f p) (word_of n q) (crews n c),
+  λ asked h. of_replay (replayed f (codes "true") n) asked true (number_of n) refl (λ flag g. g.0 refl) (by_many n c) (as_seen _ asked (Some (replayed f (codes "true") n)) (audit_crew_found f n (word_of f p) (word_of n q)) h),
+)
+form_asks _ _ (serves f p) = (serve_sound f (word_of f p), λ asked h. of_serve (served f everywhere alone None) asked 1 None refl by_one (λ n g. g) (as_seen _ asked (Some (served f everywhere alone None)) (serve_found f (word_of f p)) h))
+form_asks _ _ (serves_at f a p q) = (listen_sound f a (word_of f p) (word_of a q), λ asked h. of_serve (served f a alone None) asked 1 None refl by_one (λ n g. g) (as_seen _ asked (Some (served f a alone None)) (listen_found f a (word_of f p) (word_of a q)) h))
+form_asks _ _ (serves_by f n p q c) = (
+  serve_crew_sound f n (word_of f p) (word_of n q) (crews n c),
+  λ asked h. of_serve (served f everywhere n None) asked (number_of n) None refl (by_many n c) (λ n g. g) (as_seen _ asked (Some (served f everywhere n None)) (serve_crew_found f n (word_of f p) (word_of n q)) h),
+)
+form_asks _ _ (serves_at_by f a n p q r c) = (
+  crew_at_sound f a n (word_of f p) (word_of a q) (word_of n r) (crews n c),
+  λ asked h. of_serve (served f a n None) asked (number_of n) None refl (by_many n c) (λ n g. g) (as_seen _ asked (Some (served f a n None)) (crew_at_found f a n (word_of f p) (word_of a q) (word_of n r)) h),
+)
 form_asks _ _ (serves_so_long f b p r c) = (
   bursts_sound f b (word_of f p) (word_of b r) (counts b c),
-  λ asked h. of_serve (served f everywhere (Some b)) asked (Some (number_of b)) refl (λ n g. read_number b n c g) (as_seen _ asked (Some (served f everywhere (Some b))) (bursts_found f b (word_of f p) (word_of b r)) h),
+  λ asked h. of_serve (served f everywhere alone (Some b)) asked 1 (Some (number_of b)) refl by_one (λ n g. read_number b n c g) (as_seen _ asked (Some (served f everywhere alone (Some b))) (bursts_found f b (word_of f p) (word_of b r)) h),
 )
 form_asks _ _ (serves_at_so_long f a b p q r c) = (
   both_sound f a b (word_of f p) (word_of a q) (word_of b r) (counts b c),
-  λ asked h. of_serve (served f a (Some b)) asked (Some (number_of b)) refl (λ n g. read_number b n c g) (as_seen _ asked (Some (served f a (Some b))) (both_found f a b (word_of f p) (word_of a q) (word_of b r)) h),
+  λ asked h. of_serve (served f a alone (Some b)) asked 1 (Some (number_of b)) refl by_one (λ n g. read_number b n c g) (as_seen _ asked (Some (served f a alone (Some b))) (both_found f a b (word_of f p) (word_of a q) (word_of b r)) h),
+)
+form_asks _ _ (serves_by_so_long f n b p q c r d) = (
+  crew_bursts_sound f n b (word_of f p) (word_of n q) (crews n c) (word_of b r) (counts b d),
+  λ asked h. of_serve (served f everywhere n (Some b)) asked (number_of n) (Some (number_of b)) refl (by_many n c) (λ m g. read_number b m d g)
+      (as_seen _ asked (Some (served f everywhere n (Some b))) (crew_bursts_found f n b (word_of f p) (word_of n q) (word_of b r)) h),
 )

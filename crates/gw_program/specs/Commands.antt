@@ -25,6 +25,10 @@ listen_rule = record (new_rule (codes "ADDR")) { long = Some (codes "listen"); d
 abbrev pub bursts_rule : Rule
 bursts_rule = record (new_rule (codes "N")) { long = Some (codes "bursts"); parser = Some (Unsigned 0 18446744073709551615) }
 
+-- `--workers N`, a number from 1 to 64; 1 without it
+abbrev pub workers_rule : Rule
+workers_rule = record (new_rule (codes "WORKERS")) { long = Some (codes "workers"); value_names = 1; parser = Some (Unsigned 1 64); defaults = codes "1" ∷ [] }
+
 -- a command with these arguments
 abbrev pub command_of : List ℕ → List Rule → Shape
 command_of name rules = record (new_shape name) { rules = rules }
@@ -40,10 +44,10 @@ abbrev pub check_command : Shape
 check_command = command_of (codes "check") (file_rule ∷ [])
 
 abbrev pub replay_command : Shape
-replay_command = command_of (codes "replay") (file_rule ∷ (audit_rule ∷ []))
+replay_command = command_of (codes "replay") (file_rule ∷ (audit_rule ∷ (workers_rule ∷ [])))
 
 abbrev pub serve_command : Shape
-serve_command = command_of (codes "serve") (file_rule ∷ (listen_rule ∷ (bursts_rule ∷ [])))
+serve_command = command_of (codes "serve") (file_rule ∷ (listen_rule ∷ (workers_rule ∷ (bursts_rule ∷ []))))
 
 -- the program: its words come without its name, and it has a version
 abbrev pub program_app : App

@@ -1,4 +1,4 @@
--- The forms of the command line that docs/OPERATIONS.md shows, and what each asks for (own).
+-- The forms of the command line that docs/OPERATIONS.md shows, and what each asks for (own): `serve` with two of its three options at most.
 use Rattle.std.specs.Prelude.{◌≢◌, ⊤, ℕ, Bool, true, false, List, [], ◌∷◌, codes, Option, Some, None, option_map}
 use Rattle.std.specs.Str.Parse.{digits_value, without_leading_plus}
 use Rattle.clap.specs.Values.{IsUnsignedIn}
@@ -11,15 +11,15 @@ pub data Request : Type 0 where
   built_in : Request
   answer : Option Text → Request
   check : Text → Request
-  replay : Text → Bool → Request
-  serve : Text → Text → Option ℕ → Request
+  replay : Text → Bool → ℕ → Request
+  serve : Text → Text → ℕ → Option ℕ → Request
 
 abbrev pub request_of : Job → Request
 request_of job.BuiltIn = built_in
 request_of (job.Answer file) = answer (option_map (λ f. f.now) file)
 request_of (job.Check file) = check file.now
-request_of (job.Replay file audit) = replay file.now audit
-request_of (job.Serve file listen bursts) = serve file.now listen.now bursts
+request_of (job.Replay file audit workers) = replay file.now audit workers.count
+request_of (job.Serve file listen workers bursts) = serve file.now listen.now workers.count bursts
 
 -- the word does not begin with a hyphen
 abbrev pub IsPlain : Text → Type 0
@@ -29,6 +29,10 @@ IsPlain (first ∷ rest) = first ≢ 45
 -- the word is a number of 64 bits
 abbrev pub IsCount : Text → Type 0
 IsCount word = IsUnsignedIn 0 18446744073709551615 word
+
+-- the word is a number of workers
+abbrev pub IsCrew : Text → Type 0
+IsCrew word = IsUnsignedIn 1 64 word
 
 abbrev pub number_of : Text → ℕ
 number_of word = digits_value 10 (without_leading_plus word)
@@ -43,9 +47,14 @@ pub data Asks : List Text → Request → Type 0 where
   answers : Asks (codes "answer" ∷ []) (answer None)
   answers_by : (file : Text) → IsPlain file → Asks (codes "answer" ∷ (codes "--config" ∷ (file ∷ []))) (answer (Some file))
   checks : (file : Text) → IsPlain file → Asks (codes "check" ∷ (file ∷ [])) (check file)
-  replays : (file : Text) → IsPlain file → Asks (codes "replay" ∷ (file ∷ [])) (replay file false)
-  replays_and_tells : (file : Text) → IsPlain file → Asks (codes "replay" ∷ (file ∷ (codes "--audit" ∷ []))) (replay file true)
-  serves : (file : Text) → IsPlain file → Asks (codes "serve" ∷ (file ∷ [])) (serve file everywhere None)
-  serves_at : (file listen : Text) → IsPlain file → IsPlain listen → Asks (codes "serve" ∷ (file ∷ (codes "--listen" ∷ (listen ∷ [])))) (serve file listen None)
-  serves_so_long : (file bursts : Text) → IsPlain file → IsPlain bursts → IsCount bursts → Asks (codes "serve" ∷ (file ∷ (codes "--bursts" ∷ (bursts ∷ [])))) (serve file everywhere (Some (number_of bursts)))
-  serves_at_so_long : (file listen bursts : Text) → IsPlain file → IsPlain listen → IsPlain bursts → IsCount bursts → Asks (codes "serve" ∷ (file ∷ (codes "--listen" ∷ (listen ∷ (codes "--bursts" ∷ (bursts ∷ [])))))) (serve file listen (Some (number_of bursts)))
+  replays : (file : Text) → IsPlain file → Asks (codes "replay" ∷ (file ∷ [])) (replay file false 1)
+  replays_and_tells : (file : Text) → IsPlain file → Asks (codes "replay" ∷ (file ∷ (codes "--audit" ∷ []))) (replay file true 1)
+  replays_by : (file workers : Text) → IsPlain file → IsPlain workers → IsCrew workers → Asks (codes "replay" ∷ (file ∷ (codes "--workers" ∷ (workers ∷ [])))) (replay file false (number_of workers))
+  replays_and_tells_by : (file workers : Text) → IsPlain file → IsPlain workers → IsCrew workers → Asks (codes "replay" ∷ (file ∷ (codes "--audit" ∷ (codes "--workers" ∷ (workers ∷ []))))) (replay file true (number_of workers))
+  serves : (file : Text) → IsPlain file → Asks (codes "serve" ∷ (file ∷ [])) (serve file everywhere 1 None)
+  serves_at : (file listen : Text) → IsPlain file → IsPlain listen → Asks (codes "serve" ∷ (file ∷ (codes "--listen" ∷ (listen ∷ [])))) (serve file listen 1 None)
+  serves_by : (file workers : Text) → IsPlain file → IsPlain workers → IsCrew workers → Asks (codes "serve" ∷ (file ∷ (codes "--workers" ∷ (workers ∷ [])))) (serve file everywhere (number_of workers) None)
+  serves_at_by : (file listen workers : Text) → IsPlain file → IsPlain listen → IsPlain workers → IsCrew workers → Asks (codes "serve" ∷ (file ∷ (codes "--listen" ∷ (listen ∷ (codes "--workers" ∷ (workers ∷ [])))))) (serve file listen (number_of workers) None)
+  serves_so_long : (file bursts : Text) → IsPlain file → IsPlain bursts → IsCount bursts → Asks (codes "serve" ∷ (file ∷ (codes "--bursts" ∷ (bursts ∷ [])))) (serve file everywhere 1 (Some (number_of bursts)))
+  serves_by_so_long : (file workers bursts : Text) → IsPlain file → IsPlain workers → IsCrew workers → IsPlain bursts → IsCount bursts → Asks (codes "serve" ∷ (file ∷ (codes "--workers" ∷ (workers ∷ (codes "--bursts" ∷ (bursts ∷ [])))))) (serve file everywhere (number_of workers) (Some (number_of bursts)))
+  serves_at_so_long : (file listen bursts : Text) → IsPlain file → IsPlain listen → IsPlain bursts → IsCount bursts → Asks (codes "serve" ∷ (file ∷ (codes "--listen" ∷ (listen ∷ (codes "--bursts" ∷ (bursts ∷ [])))))) (serve file listen 1 (Some (number_of bursts)))

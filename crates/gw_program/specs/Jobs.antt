@@ -162,16 +162,16 @@ abbrev pub file_of : Job → Option (List ℕ)
 file_of job.BuiltIn = None
 file_of (job.Answer file) = option_map (λ f. f.now) file
 file_of (job.Check file) = Some file.now
-file_of (job.Replay file audit) = Some file.now
-file_of (job.Serve file listen bursts) = Some file.now
+file_of (job.Replay file audit workers) = Some file.now
+file_of (job.Serve file listen workers bursts) = Some file.now
 
 -- what a job does with its gateway
 abbrev pub IsDoneWith : Job → GatewayValue → (input out out′ : Option (List ℕ)) → Result Unit Fault → Type 0
 IsDoneWith job.BuiltIn gateway input out out′ ended = IsReplayJob false gateway input out out′ ended
 IsDoneWith (job.Answer file) gateway input out out′ ended = IsAnswerJob gateway input out out′ ended
 IsDoneWith (job.Check file) gateway input out out′ ended = ⊤
-IsDoneWith (job.Replay file audit) gateway input out out′ ended = IsReplayJob audit gateway input out out′ ended
-IsDoneWith (job.Serve file listen bursts) gateway input out out′ ended = IsServeJob listen.now bursts gateway out out′ ended
+IsDoneWith (job.Replay file audit workers) gateway input out out′ ended = IsReplayJob audit gateway input out out′ ended
+IsDoneWith (job.Serve file listen workers bursts) gateway input out out′ ended = IsServeJob listen.now bursts gateway out out′ ended
 
 -- the fault of a job whose gateway could not be made, and nothing is out
 abbrev pub IsNotBegun : Fault → (out out′ : Option (List ℕ)) → Result Unit Fault → Type 0

@@ -25,6 +25,11 @@ IsNumber None number = number ≡ None
 IsNumber (Some text) (Some number) = number ≡ digits_value 10 (without_leading_plus text)
 IsNumber (Some text) None = IsUnsignedIn 0 18446744073709551615 text → ⊥
 
+-- the number of workers that a text says; one where there is none
+abbrev pub AreAsked : Option Text → ℕ → Type 0
+AreAsked None workers = workers ≡ 1
+AreAsked (Some text) workers = IsUnsignedIn 1 64 text → workers ≡ digits_value 10 (without_leading_plus text)
+
 -- one of the commands
 abbrev pub IsCommand : Text → Type 0
 IsCommand name = (name ≡ codes "answer") ⊎ ((name ≡ codes "check") ⊎ ((name ≡ codes "replay") ⊎ (name ≡ codes "serve")))
@@ -34,8 +39,8 @@ abbrev pub IsAskedBy : Text → List Row → Job → Type 0
 IsAskedBy name rows job.BuiltIn = ⊥
 IsAskedBy name rows (job.Answer file) = (name ≡ codes "answer") × (option_map (λ f. f.now) file ≡ first_of (codes "CONFIG") rows)
 IsAskedBy name rows (job.Check file) = (name ≡ codes "check") × (file.now ≡ given (codes "FILE") rows)
-IsAskedBy name rows (job.Replay file audit) = (name ≡ codes "replay") × (file.now ≡ given (codes "FILE") rows) × IsFlag (one_of (codes "audit") rows) audit
-IsAskedBy name rows (job.Serve file listen bursts) = (name ≡ codes "serve") × (file.now ≡ given (codes "FILE") rows) × (listen.now ≡ given (codes "ADDR") rows) × IsNumber (one_of (codes "N") rows) bursts
+IsAskedBy name rows (job.Replay file audit workers) = (name ≡ codes "replay") × (file.now ≡ given (codes "FILE") rows) × IsFlag (one_of (codes "audit") rows) audit × AreAsked (one_of (codes "WORKERS") rows) workers.count
+IsAskedBy name rows (job.Serve file listen workers bursts) = (name ≡ codes "serve") × (file.now ≡ given (codes "FILE") rows) × (listen.now ≡ given (codes "ADDR") rows) × AreAsked (one_of (codes "WORKERS") rows) workers.count × IsNumber (one_of (codes "N") rows) bursts
 
 -- the job of the command that was found, or the built-in replay where none was
 abbrev pub IsJobOf : Option (Text × List Row) → Job → Type 0

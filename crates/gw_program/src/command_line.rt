@@ -1,11 +1,13 @@
 //! The command line: its words, and what they ask for.
 
-ghost use Rattle.std.specs.Prelude.{◌≡◌, false, IfOk, IfErr, IfSome, IsOkAnd, map};
+ghost use Rattle.std.specs.Prelude.{◌≡◌, false, IfOk, IfErr, IfSome, IsOkAnd, codes, map};
 ghost use Rattle.clap.specs.Words.{AddsSubcommand, HasKind, found_of, app_of, rows_of, rule_of, subcommand_rows_of};
+ghost use Rattle.clap.specs.Walk.{one_of};
 ghost use Rattle.clap.specs.declared.builder.command.Command.TheViews.{out-Command as fields_of};
-ghost use Rattle.gw_program.specs.Commands.{alone, answer_command, audit_rule, bursts_rule, check_command, config_rule, file_rule, listen_rule, program_app, replay_command, serve_command};
-ghost use Rattle.gw_program.specs.Words.{IsAsked, IsAskedBy, IsCommand, IsJobOf, given, mistakes};
+ghost use Rattle.gw_program.specs.Commands.{alone, answer_command, audit_rule, bursts_rule, check_command, config_rule, file_rule, listen_rule, program_app, replay_command, serve_command, workers_rule};
+ghost use Rattle.gw_program.specs.Words.{AreAsked, IsAsked, IsAskedBy, IsCommand, IsJobOf, given, mistakes};
 
+use crate::workers::Workers;
 use clap::{Arg, ArgAction, ArgMatches, Command, Error, value_parser};
 use std::alloc::{AllocError, Global};
 use std::convert::AsStr;
@@ -51,7 +53,8 @@ const REPLAY_LONG: &str = "Answers recorded datagrams
 Reads FILE and makes its gateway. Reads bursts of datagrams from standard input and writes the answers to standard output, both as
   D <peer> <length>   a line, then so many bytes and a line feed: a datagram from, or to, a peer
   .                   a line: the burst ends, and is answered
-With --audit the tables follow behind the last answers.";
+With --audit the tables follow behind the last answers. How many threads carry out the transactions of a burst makes no difference
+to what is answered.";
 
 const SERVE: &str = "Answers controllers over UDP";
 
@@ -74,15 +77,17 @@ pub enum Job<'a> {
     Check {
         file: &'a str,
     },
-    /// A replay, and the tables behind its answers where they are asked for.
+    /// A replay by so many workers, and the tables behind its answers where they are asked for.
     Replay {
         file: &'a str,
         audit: bool,
+        workers: Workers,
     },
-    /// Controllers over UDP, for so many bursts or without end.
+    /// Controllers over UDP, served by so many workers, for so many bursts or without end.
     Serve {
         file: &'a str,
         listen: &'a str,
+        workers: Workers,
         bursts: Option<u64>,
     },
 }
@@ -139,6 +144,19 @@ fn audit<'a>(alloc: Global) -> Arg<'a>
         .help("Tells the tables behind the last answers")
 }
 
+/// How many workers carry a burst out.
+fn workers<'a>(alloc: Global) -> Arg<'a>
+    ensures rule { rule_of result ≡ workers_rule }
+    ensures own { result.global ≡ false }
+{
+    Arg::new(alloc, "WORKERS")
+        .long("workers")
+        .value_name("N")
+        .value_parser(value_parser!(u64).range(1..=64))
+        .default_value("1")
+        .help("How many threads carry out the transactions of a burst, 1 to 64")
+}
+
 fn replay<'a>(alloc: Global) -> Result<Command<'a>, AllocError>
     ensures shape { IfOk result (λ command. app_of command ≡ alone replay_command) }
     ensures own { IfOk result (λ command. (fields_of command).has_globals ≡ false) }
@@ -147,7 +165,8 @@ fn replay<'a>(alloc: Global) -> Result<Command<'a>, AllocError>
         .about(REPLAY)
         .long_about(REPLAY_LONG)
         .arg(file(alloc))?
-        .arg(audit(alloc))
+        .arg(audit(alloc))?
+        .arg(workers(alloc))
 }
 
 /// The address that is served.
@@ -181,6 +200,7 @@ fn serve<'a>(alloc: Global) -> Result<Command<'a>, AllocError>
         .long_about(SERVE_LONG)
         .arg(file(alloc))?
         .arg(listen(alloc))?
+        .arg(workers(alloc))?
         .arg(bursts(alloc))
 }
 
@@ -220,6 +240,13 @@ fn text_of<'a>(matches: &ArgMatches<'a>, id: &str) -> &'a str
     }
 }
 
+/// The number of workers.
+fn workers_in(matches: &ArgMatches<'_>) -> Workers
+    ensures { AreAsked (one_of (codes "WORKERS") (rows_of (found_of matches.now))) result.count }
+{
+    Workers::of(matches.get_one::<u64>("WORKERS"))
+}
+
 /// What the matches of a command ask for.
 fn job_of<'a>(name: &str, matches: &ArgMatches<'a>) -> Job<'a>
     requires { IsCommand name.now }
@@ -234,10 +261,12 @@ fn job_of<'a>(name: &str, matches: &ArgMatches<'a>) -> Job<'a>
         "replay" => Job::Replay {
             file,
             audit: matches.get_flag("audit"),
+            workers: workers_in(matches),
         },
         _ => Job::Serve {
             file,
             listen: text_of(matches, "ADDR"),
+            workers: workers_in(matches),
             bursts: matches.get_one::<u64>("N"),
         },
     }

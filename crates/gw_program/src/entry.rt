@@ -16,7 +16,8 @@ use crate::file::gateway_of;
 use crate::gateway::gateway;
 use crate::standard_error::StandardError;
 use crate::telling::{explained, told};
-use gw_engine::Gateway;
+use crate::workers::Workers;
+use gw_engine::{Gateway, OpenGate};
 use gw_front::{answer, replay, serve};
 use std::alloc::Global;
 use std::convert::AsStr;
@@ -24,6 +25,7 @@ use std::io::{Read, Write};
 use std::net::{Net, SocketAddr};
 use std::rt::Files;
 use std::sync::Wait;
+use std::thread::Threads;
 
 /// The gateway before the first datagram: that of the file, or the built-in one.
 fn start<'a, R: Files>(rt: &R, alloc: Global, file: Option<&'a str>) -> Result<Gateway, Fault<'a>>
@@ -54,16 +56,18 @@ fn tell_tables<W: Write>(
 }
 
 /// A replay, and behind its answers the tables where they are asked for.
-fn replay_with<I: Read, W: Write>(
+fn replay_with<R: Threads + Sync, I: Read, W: Write>(
+    rt: &R,
     alloc: Global,
     gateway: &mut Gateway,
     audit: bool,
+    workers: Workers,
     reader: &mut I,
     out: &mut W,
 ) -> Result<(), Fault<'static>>
     ensures { IsReplayJob audit gateway.old (I.remaining reader.old) (W.contents out.old) (W.contents out.new) result }
 {
-    replay(alloc, reader, out, gateway)?;
+    replay(rt, alloc, reader, out, gateway, workers.count(), &OpenGate)?;
     if audit {
         tell_tables(alloc, gateway, out)?;
     }
@@ -71,7 +75,8 @@ fn replay_with<I: Read, W: Write>(
 }
 
 /// One datagram, answered.
-fn answer_with<I: Read, W: Write>(
+fn answer_with<R: Threads + Sync, I: Read, W: Write>(
+    rt: &R,
     alloc: Global,
     gateway: &mut Gateway,
     reader: &mut I,
@@ -79,16 +84,17 @@ fn answer_with<I: Read, W: Write>(
 ) -> Result<(), Fault<'static>>
     ensures { IsAnswerJob gateway.old (I.remaining reader.old) (W.contents out.old) (W.contents out.new) result }
 {
-    answer(alloc, reader, out, gateway)?;
+    answer(rt, alloc, reader, out, gateway)?;
     Ok(())
 }
 
 /// Serves a gateway at the address that a text is.
-fn serve_with<R: Net + Wait, W: Write>(
+fn serve_with<R: Net + Wait + Threads + Sync, W: Write>(
     rt: &R,
     alloc: Global,
     gateway: &mut Gateway,
     listen: &str,
+    workers: Workers,
     bursts: Option<u64>,
     out: &mut W,
 ) -> Result<(), Fault<'static>>
@@ -97,12 +103,12 @@ fn serve_with<R: Net + Wait, W: Write>(
     let Ok(addr) = listen.parse::<SocketAddr>() else {
         return Err(Fault::ServeBind);
     };
-    serve(rt, alloc, addr, gateway, bursts, out)?;
+    serve(rt, alloc, addr, gateway, workers.count(), bursts, out)?;
     Ok(())
 }
 
 /// A replay with the built-in gateway.
-fn run_built_in<'a, R: Files, I: Read, W: Write>(
+fn run_built_in<'a, R: Files + Threads + Sync, I: Read, W: Write>(
     rt: &R,
     alloc: Global,
     reader: &mut I,
@@ -111,11 +117,11 @@ fn run_built_in<'a, R: Files, I: Read, W: Write>(
     ensures { IsJob R.File.Read.remaining Job.BuiltIn (I.remaining reader.old) (W.contents out.old) (W.contents out.new) result }
 {
     let mut gateway = start(rt, alloc, None)?;
-    replay_with(alloc, &mut gateway, false, reader, out)
+    replay_with(rt, alloc, &mut gateway, false, Workers::ONE, reader, out)
 }
 
 /// One datagram, answered by the file's gateway or the built-in one.
-fn run_answer<'a, R: Files, I: Read, W: Write>(
+fn run_answer<'a, R: Files + Threads + Sync, I: Read, W: Write>(
     rt: &R,
     alloc: Global,
     file: Option<&'a str>,
@@ -125,41 +131,43 @@ fn run_answer<'a, R: Files, I: Read, W: Write>(
     ensures { IsJob R.File.Read.remaining (Job.Answer file.entry) (I.remaining reader.old) (W.contents out.old) (W.contents out.new) result }
 {
     let mut gateway = start(rt, alloc, file)?;
-    answer_with(alloc, &mut gateway, reader, out)
+    answer_with(rt, alloc, &mut gateway, reader, out)
 }
 
 /// A replay with the file's gateway.
-fn run_replay<'a, R: Files, I: Read, W: Write>(
+fn run_replay<'a, R: Files + Threads + Sync, I: Read, W: Write>(
     rt: &R,
     alloc: Global,
     file: &'a str,
     audit: bool,
+    workers: Workers,
     reader: &mut I,
     out: &mut W,
 ) -> Result<(), Fault<'a>>
-    ensures { IsJob R.File.Read.remaining (Job.Replay file.entry audit) (I.remaining reader.old) (W.contents out.old) (W.contents out.new) result }
+    ensures { IsJob R.File.Read.remaining (Job.Replay file.entry audit workers) (I.remaining reader.old) (W.contents out.old) (W.contents out.new) result }
 {
     let mut gateway = start(rt, alloc, Some(file))?;
-    replay_with(alloc, &mut gateway, audit, reader, out)
+    replay_with(rt, alloc, &mut gateway, audit, workers, reader, out)
 }
 
 /// Controllers, served by the file's gateway.
-fn run_serve<'a, R: Files + Net + Wait, W: Write>(
+fn run_serve<'a, R: Files + Net + Wait + Threads + Sync, W: Write>(
     rt: &R,
     alloc: Global,
     file: &'a str,
     listen: &'a str,
+    workers: Workers,
     bursts: Option<u64>,
     out: &mut W,
 ) -> Result<(), Fault<'a>>
-    ensures { (input : Option (List ℕ)) → IsJob R.File.Read.remaining (Job.Serve file.entry listen.entry bursts) input (W.contents out.old) (W.contents out.new) result }
+    ensures { (input : Option (List ℕ)) → IsJob R.File.Read.remaining (Job.Serve file.entry listen.entry workers bursts) input (W.contents out.old) (W.contents out.new) result }
 {
     let mut gateway = start(rt, alloc, Some(file))?;
-    serve_with(rt, alloc, &mut gateway, listen, bursts, out)
+    serve_with(rt, alloc, &mut gateway, listen, workers, bursts, out)
 }
 
 /// Does what the words ask for.
-fn run<'a, R: Files + Net + Wait, I: Read, W: Write>(
+fn run<'a, R: Files + Net + Wait + Threads + Sync, I: Read, W: Write>(
     rt: &R,
     alloc: Global,
     job: Job<'a>,
@@ -172,24 +180,29 @@ fn run<'a, R: Files + Net + Wait, I: Read, W: Write>(
         Job::BuiltIn => run_built_in(rt, alloc, reader, out),
         Job::Answer { file } => run_answer(rt, alloc, file, reader, out),
         Job::Check { file } => check(rt, alloc, file, out),
-        Job::Replay { file, audit } => run_replay(rt, alloc, file, audit, reader, out),
+        Job::Replay {
+            file,
+            audit,
+            workers,
+        } => run_replay(rt, alloc, file, audit, workers, reader, out),
         Job::Serve {
             file,
             listen,
+            workers,
             bursts,
-        } => run_serve(rt, alloc, file, listen, bursts, out),
+        } => run_serve(rt, alloc, file, listen, workers, bursts, out),
     }
 }
 
 /// How the program ends on words.
-fn end_of<'a, R: Files + Net + Wait, S: AsStr, I: Read, W: Write, E: StandardError>(
-    rt: &R,
-    alloc: Global,
-    words: &'a [S],
-    reader: &mut I,
-    out: &mut W,
-    err: &mut E,
-) -> Ended<'a>
+fn end_of<
+    'a,
+    R: Files + Net + Wait + Threads + Sync,
+    S: AsStr,
+    I: Read,
+    W: Write,
+    E: StandardError,
+>(rt: &R, alloc: Global, words: &'a [S], reader: &mut I, out: &mut W, err: &mut E) -> Ended<'a>
     ensures { IsEnd R.File.Read.remaining (map S.text words.entry.now) (I.remaining reader.old) (W.contents out.old) (W.contents out.new) (E.standing err.old) (E.standing err.new) result }
 {
     let job = match read_words(alloc, words) {
@@ -203,13 +216,13 @@ fn end_of<'a, R: Files + Net + Wait, S: AsStr, I: Read, W: Write, E: StandardErr
 /// Runs the program on the words behind its name, and answers its exit status: 0 when what they ask for is done, help and the
 /// version too; 1 after a fault, whose one line goes to `err`; 2 where the words ask for nothing that there is, which is told on
 /// `err`. With no words it replays with the built-in configuration.
-pub fn program<R: Files + Net + Wait + AllocGlobal, S: AsStr, I: Read, W: Write, E: StandardError>(
-    rt: &R,
-    words: &[S],
-    reader: &mut I,
-    out: &mut W,
-    err: &mut E,
-) -> u8
+pub fn program<
+    R: Files + Net + Wait + Threads + Sync + AllocGlobal,
+    S: AsStr,
+    I: Read,
+    W: Write,
+    E: StandardError,
+>(rt: &R, words: &[S], reader: &mut I, out: &mut W, err: &mut E) -> u8
     ensures { (ended : Ending) × (result ≡ status_of ended) × IsEnd R.File.Read.remaining (map S.text words.now) (I.remaining reader.old) (W.contents out.old) (W.contents out.new) (E.standing err.old) (E.standing err.new) ended }
 {
     end_of(rt, rt.alloc(), words, reader, out, err).status()

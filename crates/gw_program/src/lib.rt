@@ -11,6 +11,7 @@ mod gateway;
 mod laws;
 mod standard_error;
 mod telling;
+mod workers;
 
 pub use command_line::Job;
 pub use ended::Ended;
@@ -19,3 +20,4 @@ pub use fault::Fault;
 pub use laws::words_of_each_form_ask_for_their_job;
 pub use standard_error::{StandardError, Stream};
 pub use telling::unreadable_words;
+pub use workers::Workers;
