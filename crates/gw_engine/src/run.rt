@@ -123,7 +123,8 @@ impl Gateway {
     /// others. Each draws the next request until none is left, and passes the gate just before it, with the request's number within
     /// its wave, from 0. A wave has as many workers as requests at most, and with one no thread is started. Answers and state are the
     /// same for every number of workers, however they are scheduled. A worker that cannot be started is no fault. A `pass` that never
-    /// returns holds up the call. A burst of 4,096 bytes or more is read by workers, too, who pass no gate then.
+    /// returns holds up the call. A burst of 4,096 bytes or more is read by workers too, and 128 answers
+    /// or more are written by them; there they pass no gate.
     ///
     /// # Errors
     ///
