@@ -118,8 +118,9 @@ impl Gateway {
 
     /// Answers a burst: its items in order of arrival, one after another. A text that is no message is answered with error 406 or
     /// 400. A request whose reply is kept gets it again and changes nothing; any other is carried out and its reply kept, but
-    /// those behind 1,024 new ones, which get error 510. An acknowledgement lets the replies go that it names. Nothing else is answered. Each answer is for the peer of the datagram that
-    /// asked, and is a message of the grammar. The burst may have any number of datagrams, each of any length.
+    /// those behind 1,024 new ones, which get error 510. An acknowledgement lets the replies go that it names, and has no answer;
+    /// neither has anything else. Each answer is for the peer of the datagram that asked, and is a message of the grammar. The burst
+    /// may have any number of datagrams, each of any length.
     ///
     /// Requests are carried out in waves, each of them all whose footprints meet no earlier one's that waits. The tables are not
     /// copied: what a request may touch leaves them while it is carried out on a copy, and the originals are kept until the burst is over.
@@ -128,7 +129,8 @@ impl Gateway {
     /// others. Each draws the next request until none is left, and passes the gate just before it, with the request's number within
     /// its wave, from 0. A wave has as many workers as requests at most, and with one no thread is started. Answers and state are the
     /// same for every number of workers, however they are scheduled. A worker that cannot be started is no fault. A `pass` that never
-    /// returns holds up the call. A burst of 4,096 bytes or more is read by workers, too, who pass no gate then.
+    /// returns holds up the call. A burst of 4,096 bytes or more is read by workers too, and 128 answers or more are written by them;
+    /// there they pass no gate.
     ///
     /// # Errors
     ///
