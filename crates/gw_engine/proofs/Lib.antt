@@ -1,5 +1,6 @@
 pub mod Configured
 pub mod Hearing
+pub mod Beside
 pub mod NewForms
 pub mod InForm
 pub mod RepliesKept

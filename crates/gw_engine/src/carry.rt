@@ -2,7 +2,7 @@
 
 ghost use Rattle.std.specs.Prelude.{◌≡◌, [], map, IfOk, IfErr, OnOk, OnErr, List, length, vec_len, vec_capacity, ◌≤◌, ◌+◌};
 ghost use Rattle.gw_board.specs.Boards.{core_of, AllClosed};
-ghost use Rattle.gw_board.specs.OpenJobs.{AreAnswers, IsSameBurst};
+ghost use Rattle.gw_board.specs.OpenJobs.{IsSameBurst};
 ghost use Rattle.gw_board.specs.Results.{NothingIsOpen, slots_of};
 ghost use Rattle.gw_kept.specs.declared.entry.Entry.{Entry as Pair};
 ghost use Rattle.gw_table.specs.Stored.{maps_of, NoneIsOut};
@@ -13,12 +13,16 @@ ghost use Rattle.gw_engine.specs.Replies.{AreTold, entries_with};
 
 use crate::answer::answers;
 use crate::classify::Task;
+use crate::crew::Crew;
 use crate::datagram::Datagram;
+use crate::wave::answers_to;
 use gw_base::{Items, NoMemory};
-use gw_board::{Asked, Board, BoardFault, Job, Manner, carry};
+use gw_board::{Asked, Board, BoardFault, Manner};
+use gw_draw::Gate;
 use gw_kept::{Entry, Kept};
-use gw_table::{Part, Tables};
+use gw_table::Tables;
 use std::alloc::Global;
+use std::thread::Threads;
 
 /// What came of a burst: all that takes memory is done.
 #[derive(Drop)]
@@ -29,27 +33,17 @@ pub(crate) struct Done {
     pub(crate) answers: Items<Datagram>,
 }
 
-/// An answer for each job: its new entries, and the text of its reply.
-fn answers_to(
-    alloc: Global,
-    jobs: &[Job<'_, '_, '_>],
-) -> Result<Vec<Result<(Part, Items<u8>), NoMemory>>, NoMemory>
-    ensures { IfOk result (λ answers. AreAnswers jobs.now answers.items) }
-{
-    let mut answers = Vec::with_capacity(alloc, jobs.len())?;
-    for job in jobs {
-        answers.push(carry(alloc, job))?;
-    }
-    Ok(answers)
-}
-
 /// Carries out what is pending on the board, wave after wave: a wave is all that may be carried out side by side. The caller knows
 /// that nothing is open. There are at most as many waves as requests.
 ///
 /// # Errors
 ///
 /// Want of memory. Nothing is open then.
-fn carry_all(alloc: Global, board: &mut Board<'_, '_, '_>) -> Result<(), NoMemory>
+fn carry_all<R: Threads + Sync, G: Gate>(
+    crew: &Crew<'_, R, G>,
+    alloc: Global,
+    board: &mut Board<'_, '_, '_>,
+) -> Result<(), NoMemory>
     requires { NothingIsOpen (core_of board.old) }
     ensures ok { OnOk result (AllClosed board.new.places) }
     ensures err { OnErr result (NothingIsOpen (core_of board.new)) }
@@ -60,7 +54,7 @@ fn carry_all(alloc: Global, board: &mut Board<'_, '_, '_>) -> Result<(), NoMemor
         if jobs.is_empty() {
             return Ok(());
         }
-        let Ok(answers) = answers_to(alloc, &jobs) else {
+        let Ok(answers) = answers_to(crew, alloc, &jobs) else {
             board.close_unchanged(jobs);
             return Err(NoMemory);
         };
@@ -69,7 +63,8 @@ fn carry_all(alloc: Global, board: &mut Board<'_, '_, '_>) -> Result<(), NoMemor
 }
 
 /// Carries out what is pending on the board, and writes the answers.
-fn answered(
+fn answered<R: Threads + Sync, G: Gate>(
+    crew: &Crew<'_, R, G>,
     alloc: Global,
     manner: &Manner,
     kept: &Kept,
@@ -82,7 +77,7 @@ fn answered(
     ensures err { OnErr result (NothingIsOpen (core_of board.new)) }
     ensures same { IsSameBurst board.old board.new }
 {
-    carry_all(alloc, board)?;
+    carry_all(crew, alloc, board)?;
     answers(alloc, &manner.mid, kept, board, tasks)
 }
 
@@ -112,7 +107,8 @@ fn with_texts(mut entries: Vec<Entry>, jobs: &[Asked<'_, '_>], texts: Vec<Items<
 /// # Errors
 ///
 /// Want of memory, which hands the tables back as they were.
-pub(crate) fn carried_out(
+pub(crate) fn carried_out<R: Threads + Sync, G: Gate>(
+    crew: &Crew<'_, R, G>,
     alloc: Global,
     tables: Tables,
     manner: Manner,
@@ -137,7 +133,7 @@ pub(crate) fn carried_out(
         Ok(board) => board,
         Err(BoardFault::NoMemory(tables)) => return Err(tables),
     };
-    match answered(alloc, &manner, kept, tasks, &mut board) {
+    match answered(crew, alloc, &manner, kept, tasks, &mut board) {
         Ok(answers) => {
             let (tables, texts) = board.finish();
             Ok(Done {

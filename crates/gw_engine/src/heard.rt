@@ -1,14 +1,18 @@
 //! The datagrams of a burst as they are read.
 
-ghost use Rattle.std.specs.Prelude.{ℕ, List, Err, IfOk};
+ghost use Rattle.std.specs.Prelude.{◌≡◌, ◌<◌, ◌≤◌, ◌^◌, ℕ, List, Err, IfOk, length};
 ghost use Rattle.std.specs.List.{AllZip};
 ghost use Rattle.gw_msg.specs.Grammar.{IsReadingOf};
 ghost use Rattle.gw_engine.specs.Bursts.{IsHeard, IsMessageOf};
 
-use crate::datagram::Datagram;
+use crate::crew::Crew;
+use crate::datagram::{Datagram, LentDatagram};
+use crate::drawn::{MOST_DRAWN, all_of};
 use gw_base::{Code, Items, NoMemory};
+use gw_draw::{Gate, OpenGate, draw_map};
 use gw_msg::{Message, ReadFault, read_message};
 use std::alloc::Global;
+use std::thread::Threads;
 
 /// A datagram that was read: who sent it, and its message, or the error that it is answered with.
 #[derive(Drop)]
@@ -16,6 +20,9 @@ pub(crate) struct Heard<'a> {
     pub(crate) peer: u32,
     pub(crate) message: Result<Message<'a>, Code>,
 }
+
+/// So many bytes of a burst are worth one more worker.
+const BYTES_FOR_ONE: usize = 4096;
 
 /// The error that a text without a message is answered with.
 fn code_of(fault: ReadFault) -> Result<Code, NoMemory>
@@ -45,8 +52,15 @@ fn heard_of<'a>(alloc: Global, datagram: &'a Datagram) -> Result<Heard<'a>, NoMe
     }
 }
 
-/// Reads the datagrams of a burst.
-pub(crate) fn hear<'a>(alloc: Global, burst: &'a [Datagram]) -> Result<Items<Heard<'a>>, NoMemory>
+/// Reads a datagram that is lent.
+fn heard_of_lent<'a>(alloc: Global, datagram: &LentDatagram<'a>) -> Result<Heard<'a>, NoMemory>
+    ensures { IfOk result (IsHeard datagram.now) }
+{
+    heard_of(alloc, datagram.get())
+}
+
+/// Reads datagrams, one after another.
+fn in_turn<'a>(alloc: Global, burst: &'a [Datagram]) -> Result<Items<Heard<'a>>, NoMemory>
     ensures { IfOk result (AllZip IsHeard burst.now) }
 {
     let mut heard = Items::new(alloc);
@@ -54,4 +68,57 @@ pub(crate) fn hear<'a>(alloc: Global, burst: &'a [Datagram]) -> Result<Items<Hea
         heard.push(heard_of(alloc, datagram)?)?;
     }
     Ok(heard)
+}
+
+/// Reads datagrams by so many workers.
+fn by_workers<'a, R: Threads + Sync>(
+    rt: &R,
+    alloc: Global,
+    workers: u32,
+    burst: &'a [Datagram],
+) -> Result<Items<Heard<'a>>, NoMemory>
+    requires some { 1 ≤ workers }
+    requires limit { workers ≤ 64 }
+    requires few { length burst.now < 2 ^ 32 }
+    ensures { IfOk result (AllZip IsHeard burst.now) }
+{
+    let lent = LentDatagram::each_of(alloc, burst)?;
+    let heard = draw_map(
+        rt,
+        alloc,
+        workers,
+        lent.as_slice(),
+        move |datagram| heard_of_lent(alloc, datagram),
+        &OpenGate,
+    )?;
+    all_of(alloc, heard)
+}
+
+/// How long the datagrams are, together.
+fn bytes_in(burst: &[Datagram]) -> usize {
+    burst.iter().fold(0usize, |sum, datagram| {
+        sum.saturating_add(datagram.bytes.len())
+    })
+}
+
+/// Reads the datagrams of a burst, by as many workers as its length is worth. One needs no thread.
+///
+/// # Errors
+///
+/// Want of memory.
+pub(crate) fn hear<'a, R: Threads + Sync, G: Gate>(
+    crew: &Crew<'_, R, G>,
+    alloc: Global,
+    burst: &'a [Datagram],
+) -> Result<Items<Heard<'a>>, NoMemory>
+    ensures { IfOk result (AllZip IsHeard burst.now) }
+{
+    if crew.workers == 1 || burst.len() > MOST_DRAWN {
+        return in_turn(alloc, burst);
+    }
+    let workers = crew.for_work(bytes_in(burst), BYTES_FOR_ONE);
+    if workers == 1 {
+        return in_turn(alloc, burst);
+    }
+    by_workers(crew.rt, alloc, workers, burst)
 }

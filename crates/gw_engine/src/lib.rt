@@ -6,13 +6,16 @@ mod asked;
 mod audit;
 mod carry;
 mod classify;
+mod crew;
 mod datagram;
+mod drawn;
 mod fault;
 mod gateway;
 mod heard;
 mod laws;
 mod reserve;
 mod run;
+mod wave;
 
 pub use datagram::Datagram;
 pub use fault::{ConfigFault, LimitName};

@@ -13,6 +13,7 @@ ghost use Rattle.gw_engine.specs.State.{IsWellFormed};
 use crate::asked::asks_of;
 use crate::carry::{Done, carried_out};
 use crate::classify::{Task, classify};
+use crate::crew::Crew;
 use crate::datagram::Datagram;
 use crate::gateway::Gateway;
 use crate::heard::{Heard, hear};
@@ -62,7 +63,12 @@ impl Gateway {
     /// # Errors
     ///
     /// Want of memory. The gateway is as it was.
-    fn perform(&mut self, alloc: Global, plan: Plan<'_, '_>) -> Result<Items<Datagram>, NoMemory>
+    fn perform<R: Threads + Sync, G: Gate>(
+        &mut self,
+        crew: &Crew<'_, R, G>,
+        alloc: Global,
+        plan: Plan<'_, '_>,
+    ) -> Result<Items<Datagram>, NoMemory>
         requires unused { AreUnused self.old.state.maps [] (slots_of plan.jobs) }
         requires new { AreNew self.old.state.kept (changes_of plan.turns (kept_of self.old plan.jobs)) }
         requires fits { IsWellFormed self.old.settings (adopted self.old.state (done_by self.old.settings.rules plan.jobs self.old.state.maps).maps plan.cursors (changes_of plan.turns (kept_of self.old plan.jobs))) }
@@ -84,6 +90,7 @@ impl Gateway {
         } = plan;
         let tables = mem::replace(&mut self.tables, Tables::new(alloc));
         match carried_out(
+            crew,
             alloc,
             tables,
             manner,
@@ -117,8 +124,11 @@ impl Gateway {
     /// Requests are carried out in waves, each of them all whose footprints meet no earlier one's that waits. The tables are not
     /// copied: what a request may touch leaves them while it is carried out on a copy, and the originals are kept until the burst is over.
     ///
-    /// The work is for so many workers, 1 to 64, who are to pass the gate before each request. So far the caller does it alone, and
-    /// passes none.
+    /// The requests of a wave are carried out by so many workers, 1 to 64, in threads; the caller is one of them and waits for the
+    /// others. Each draws the next request until none is left, and passes the gate just before it, with the request's number within
+    /// its wave, from 0. A wave has as many workers as requests at most, and with one no thread is started. Answers and state are the
+    /// same for every number of workers, however they are scheduled. A worker that cannot be started is no fault. A `pass` that never
+    /// returns holds up the call. A burst of 4,096 bytes or more is read by workers, too, who pass no gate then.
     ///
     /// # Errors
     ///
@@ -140,8 +150,9 @@ impl Gateway {
     {
         // No effect at run time. The proof reads here that the state is well-formed.
         let _ = &self.tables;
-        let heard = hear(alloc, burst)?;
+        let crew = Crew::new(rt, workers, gate);
+        let heard = hear(&crew, alloc, burst)?;
         let plan = self.plan(alloc, heard.as_slice())?;
-        self.perform(alloc, plan)
+        self.perform(&crew, alloc, plan)
     }
 }

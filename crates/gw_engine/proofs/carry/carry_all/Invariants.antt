@@ -5,11 +5,11 @@ use Rattle.gw_engine.proofs.carry.carry_all.Given as goal
 
 -- nothing is open between two waves
 abbrev pub invariant-loop-jobs : goal.invariant-loop-jobs
-invariant-loop-jobs l = record {
+invariant-loop-jobs g l = record {
   none : NothingIsOpen (core_of l.board);
   same : IsSameBurst l.fn.board l.board;
 }
 
 -- each wave closes a place at least
 abbrev pub decreases-loop-jobs : goal.decreases-loop-jobs
-decreases-loop-jobs l = unclosed l.board.places
+decreases-loop-jobs g l = unclosed l.board.places

@@ -23,13 +23,13 @@ abbrev IsKept : GatewayValue → Type 0
 IsKept g = IsWellFormed g.settings g.state × (g.settings.slots ≤ 4096)
 
 pub perform-requires-clause-unused : goal.perform-requires-clause-unused
-perform-requires-clause-unused types c =
+perform-requires-clause-unused types c = λ lifetimes outlive.
     let g : GatewayValue = c.args.self.now in
     let kept : IsKept g = subst IsKept c.self.view_is (c.self.invariant.well_formed, few_slots (value_of c.self.inside).settings.slots c.self.invariant.slots) in
     jobs_unused g (new_of g c.as_slice.result.now) c.in_ok-plan.plan.jobs c.in_ok-plan.ensures.jobs kept.0 kept.1
 
 pub perform-requires-clause-new : goal.perform-requires-clause-new
-perform-requires-clause-new types c =
+perform-requires-clause-new types c = λ lifetimes outlive.
     let g : GatewayValue = c.args.self.now in
     let heard : List Heard = c.as_slice.result.now in
     let jobs : List Asked = c.in_ok-plan.plan.jobs in
@@ -40,7 +40,7 @@ perform-requires-clause-new types c =
     out.new
 
 pub perform-requires-clause-fits : goal.perform-requires-clause-fits
-perform-requires-clause-fits types c =
+perform-requires-clause-fits types c = λ lifetimes outlive.
     let g : GatewayValue = c.args.self.now in
     let heard : List Heard = c.as_slice.result.now in
     let jobs : List Asked = c.in_ok-plan.plan.jobs in

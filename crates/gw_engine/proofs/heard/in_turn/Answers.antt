@@ -4,7 +4,7 @@ use Rattle.gw_engine.proofs.Hearing.{one_more}
 use Rattle.gw_engine.specs.declared.datagram.Datagram.{Datagram}
 use Rattle.gw_engine.specs.declared.heard.Heard.{Heard}
 use Rattle.gw_engine.specs.Bursts.{IsHeard}
-use Rattle.gw_engine.proofs.heard.hear.Goals as goal
+use Rattle.gw_engine.proofs.heard.in_turn.Goals as goal
 
 pub loop-datagram-preserved : goal.loop-datagram-preserved
 loop-datagram-preserved c =

@@ -1,0 +1,66 @@
+//! Carrying out the jobs of a wave, by workers.
+
+ghost use Rattle.std.specs.Prelude.{IfOk};
+ghost use Rattle.gw_board.specs.OpenJobs.{AreAnswers, IsAnswer};
+
+use crate::crew::Crew;
+use crate::drawn::MOST_DRAWN;
+use gw_base::{Items, NoMemory};
+use gw_board::{Job, carry};
+use gw_draw::{Gate, draw_map};
+use gw_table::Part;
+use std::alloc::Global;
+use std::thread::Threads;
+
+/// What a job came to: its new entries and the text of its reply, unless memory was wanting.
+type Answer = Result<(Part, Items<u8>), NoMemory>;
+
+/// Carries a job out.
+fn answer_to(alloc: Global, job: &Job<'_, '_, '_>) -> Answer
+    ensures { IsAnswer job.now result }
+{
+    carry(alloc, job)
+}
+
+/// An answer for each job, one after another.
+fn in_turn<G: Gate>(
+    alloc: Global,
+    jobs: &[Job<'_, '_, '_>],
+    gate: &G,
+) -> Result<Vec<Answer>, NoMemory>
+    ensures { IfOk result (λ answers. AreAnswers jobs.now answers.items) }
+{
+    let mut answers = Vec::with_capacity(alloc, jobs.len())?;
+    for job in jobs {
+        gate.pass(answers.len());
+        answers.push(answer_to(alloc, job))?;
+    }
+    Ok(answers)
+}
+
+/// An answer for each job, in the job's place, by as many workers as there are and as the jobs allow. Each passes the gate with the
+/// job's number just before the job. One worker, and one job, needs no thread.
+///
+/// # Errors
+///
+/// Want of memory for the answers. An answer may be that, too.
+pub(crate) fn answers_to<R: Threads + Sync, G: Gate>(
+    crew: &Crew<'_, R, G>,
+    alloc: Global,
+    jobs: &[Job<'_, '_, '_>],
+) -> Result<Vec<Answer>, NoMemory>
+    ensures { IfOk result (λ answers. AreAnswers jobs.now answers.items) }
+{
+    if crew.workers == 1 || jobs.len() < 2 || jobs.len() > MOST_DRAWN {
+        return in_turn(alloc, jobs, crew.gate);
+    }
+    let drawn = draw_map(
+        crew.rt,
+        alloc,
+        crew.workers,
+        jobs,
+        move |job| answer_to(alloc, job),
+        crew.gate,
+    )?;
+    Ok(drawn)
+}
