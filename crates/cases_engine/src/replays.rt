@@ -2,7 +2,7 @@
 
 use crate::pieces::Pieces;
 use crate::repeats::repeated;
-use crate::workers::{EACH, Workers};
+use crate::workers::{ALONE, EACH, Workers};
 use cases_text::{CaseFault, Page, config_of, decoded};
 use gw_engine::{Gateway, OpenGate};
 use gw_front::{Counts, ReplayFault, replay};
@@ -131,19 +131,37 @@ fn write_difference<R: Threads + Sync>(
     Ok(())
 }
 
+/// The same for each of these numbers of workers.
+fn write_crews<R: Threads + Sync>(
+    rt: &R,
+    text: &[u8],
+    numbers: &[Workers],
+    out: &mut Page,
+) -> Result<(), CaseFault> {
+    for workers in numbers {
+        let manner = Manner {
+            most: ALL,
+            workers: *workers,
+        };
+        write_difference(rt, text, manner, out)?;
+    }
+    Ok(())
+}
+
 /// The same for each number of workers and for each size of pieces.
 fn write_replays<R: Threads + Sync>(rt: &R, text: &[u8], out: &mut Page) -> Result<(), CaseFault> {
-    let [one, others @ ..] = EACH;
     let alone = Manner {
         most: ALL,
-        workers: one,
+        workers: ALONE,
     };
     write_replay(rt, text, alone, out)?;
-    for workers in others {
-        write_difference(rt, text, Manner { workers, ..alone }, out)?;
-    }
+    write_crews(rt, text, &EACH, out)?;
     for most in PIECES {
-        write_difference(rt, text, Manner { most, ..alone }, out)?;
+        let manner = Manner {
+            most,
+            workers: ALONE,
+        };
+        write_difference(rt, text, manner, out)?;
     }
     Ok(())
 }

@@ -15,6 +15,9 @@ pub struct Workers {
     ghost limit: { number ≤ 64 },
 }
 
+/// One worker.
+pub const ALONE: Workers = Workers { number: 1 };
+
 /// The numbers that each case is tried with.
 pub const EACH: [Workers; 4] = [
     Workers { number: 1 },

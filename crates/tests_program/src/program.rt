@@ -8,12 +8,13 @@ use std::net::Net;
 use std::rt::Files;
 use std::sync::Wait;
 use std::test::Fail;
+use std::thread::Threads;
 
 /// A file that is not there, since its folder is none.
 const MISSING: &str = "/dev/null/missing.conf";
 
 /// The program fails so on a file of so many bytes: the line, and the file's name behind it where that is told.
-fn fails_at<R: Files + Net + Wait + AllocGlobal>(
+fn fails_at<R: Files + Net + Wait + Threads + Sync + AllocGlobal>(
     rt: &R,
     length: u64,
     line: &str,
@@ -38,10 +39,13 @@ fn words_and_their_statuses(rt: HostRuntime) -> Result<(), Fail> {
     for (words, part) in explained {
         Run::of(&rt, words).explains(part)?;
     }
-    let misused: [(&[&str], &[u8]); 3] = [
+    let misused: [(&[&str], &[u8]); 6] = [
         (&["check"], b"<FILE>"),
         (&["nonsense"], b"nonsense"),
         (&["serve", MISSING, "--bursts", "-1"], b"-1"),
+        (&["replay", MISSING, "--workers", "0"], b"1..=64"),
+        (&["replay", MISSING, "--workers", "65"], b"1..=64"),
+        (&["serve", MISSING, "--workers", "x"], b"'x'"),
     ];
     for (words, part) in misused {
         Run::of(&rt, words).is_misused(part)?;

@@ -5,6 +5,7 @@ use std::net::Net;
 use std::rt::Files;
 use std::sync::Wait;
 use std::test::Fail;
+use std::thread::Threads;
 use tests_wanted::{is_so, is_text};
 
 /// A configuration: the one that is built in, as a text.
@@ -36,7 +37,10 @@ fn holds(bytes: &[u8], text: &[u8]) -> bool {
 
 impl Run {
     /// A run on the words.
-    pub(crate) fn of<R: Files + Net + Wait + AllocGlobal>(rt: &R, words: &[&str]) -> Run {
+    pub(crate) fn of<R: Files + Net + Wait + Threads + Sync + AllocGlobal>(
+        rt: &R,
+        words: &[&str],
+    ) -> Run {
         let mut out = Vec::new(rt.alloc());
         let mut err = Stream {
             stream: Vec::new(rt.alloc()),

@@ -10,6 +10,7 @@ use std::net::{IpAddr, Ipv4Addr, Ipv6Addr, Net, SocketAddr, UdpSocket};
 use std::rt::Files;
 use std::sync::Wait;
 use std::test::Fail;
+use std::thread::Threads;
 use std::time::Duration;
 use std::{fs, thread};
 use tests_wanted::{is_so, is_text};
@@ -72,7 +73,7 @@ impl Write for Starter<'_> {
 
 /// Runs the program on an address of the host that nobody has, until it ends after so many bursts; whether it could bind the
 /// address, which somebody may have taken meanwhile. It is sent these datagrams first, and says this.
-fn is_served<R: Files + Net + Wait + AllocGlobal>(
+fn is_served<R: Files + Net + Wait + Threads + Sync + AllocGlobal>(
     rt: &R,
     host: IpAddr,
     bursts: &str,
@@ -110,7 +111,7 @@ fn is_served<R: Files + Net + Wait + AllocGlobal>(
 }
 
 /// Serves so many bursts of datagrams, which wait when it begins, and says this.
-fn serves<R: Files + Net + Wait + AllocGlobal>(
+fn serves<R: Files + Net + Wait + Threads + Sync + AllocGlobal>(
     rt: &R,
     host: IpAddr,
     bursts: &str,
