@@ -119,7 +119,7 @@ fn add_each_own(
 }
 
 /// The number of the one context that an action is for, by its ContextID and by the number that it owns.
-fn one_context(sent: CtxRef, owned: Option<CtxNum>) -> Option<CtxNum>
+pub fn one_context(sent: CtxRef, owned: Option<CtxNum>) -> Option<CtxNum>
     ensures { result ≡ one_context sent owned }
 {
     match sent {

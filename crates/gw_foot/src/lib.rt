@@ -7,6 +7,7 @@ mod laws;
 mod merge;
 mod requests;
 
+pub use gather::one_context;
 pub use laws::{
     a_part_with_its_footprint_covers_a_request, footprints_are_the_same_while_others_are_out,
     keys_after_another, keys_that_do_not_meet_are_apart, requests_keep_to_their_keys,

@@ -6,7 +6,7 @@ ghost use Rattle.gw_base.specs.NameLists.{is_in};
 ghost use Rattle.gw_ctx.specs.Contexts.{joined};
 ghost use Rattle.gw_table.specs.Maps.{term, ctx, put_term, put_ctx, names, numbers, members_of, context_of};
 ghost use Rattle.gw_table.specs.Members.{put_service, with_member, without_member};
-ghost use Rattle.gw_table.specs.Parts.{holds};
+ghost use Rattle.gw_table.specs.Parts.{holds, list_of};
 
 use crate::cell::{
     Cell, copy_cells, exchange_ctx_cell, exchange_term_cell, find_name, find_number,
@@ -67,6 +67,13 @@ impl Part {
             keys: self.keys.clone()?,
             cells: copy_cells(*self.keys.allocator(), &self.cells)?,
         })
+    }
+
+    /// The keys of the part, in order.
+    pub fn keys(&self) -> &[Key]
+        ensures { result.now ≡ list_of self.now.keys }
+    {
+        &self.keys
     }
 
     /// The termination of a name.
