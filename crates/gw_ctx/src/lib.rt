@@ -1,8 +1,9 @@
-//! Contexts: who is in one, in joining order.
+//! Contexts: who is in one, in joining order, and their properties.
 #![tactic(auto)]
 
 mod context;
 mod fault;
+mod links;
 
 pub use context::Context;
 pub use fault::JoinFault;
