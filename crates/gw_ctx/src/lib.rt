@@ -3,7 +3,9 @@
 
 mod context;
 mod fault;
+mod laws;
 mod links;
 
 pub use context::Context;
 pub use fault::JoinFault;
+pub use laws::contexts_stay_fit;
