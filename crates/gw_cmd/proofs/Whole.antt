@@ -6,7 +6,9 @@ use Rattle.gw_base.specs.NameLists.{is_in, NoDoubles}
 use Rattle.gw_base.proofs.NameTests.{same_name, same_number, number_itself}
 use Rattle.gw_base.proofs.NamesInLists.{last_in_pushed, stays_in_pushed, stays_without, length_without}
 use Rattle.gw_term.specs.declared.record.Termination.{Termination}
-use Rattle.gw_ctx.specs.Contexts.{ContextRecord, new_context, joined, left}
+use Rattle.gw_ctx.specs.Contexts.{ContextRecord, joined, left}
+use Rattle.gw_ctx.specs.Fitting.{IsFit}
+use Rattle.gw_ctx.proofs.Fits.{fit_new, fit_joined, fit_left}
 use Rattle.gw_table.specs.Maps.{Maps, term, ctx, put_term, place_of, context_of, members_of}
 use Rattle.gw_table.specs.Parts.{Every}
 use Rattle.gw_table.specs.WellFormed.{IsSound, AreWellFormed, Fits}
@@ -25,27 +27,32 @@ good_after : (limit : ℕ) (t q : List ℕ) (o : Option Termination) (m : Maps) 
 good_after limit t q o m w good true e r is = let g = good r is in (subst (λ (k : List ℕ). Fits k r.slot) (sym (same_name q t e)) g.0, g.1)
 good_after limit t q o m w good false e r is = (w.named q r is, w.modest q r is)
 
-pushed_some : (t : List ℕ) (c : ContextRecord) → Some (joined t c) ≢ Some new_context
-pushed_some t c e = by c.members (ap (λ (o : Option ContextRecord). members_of o) e)
-  where
-    by : (l : List (List ℕ)) → l ++ t ∷ [] ≡ [] → ⊥
-    by [] e = cc
-    by (x ∷ xs) e = cc
+pushed_some : (t : List ℕ) (l : List (List ℕ)) → l ++ t ∷ [] ≢ []
+pushed_some t [] e = cc
+pushed_some t (x ∷ xs) e = cc
 
-unless_some : (c : ContextRecord) → unless_empty c ≢ Some new_context
-unless_some c e = by c.members c refl e
+unless_some : (c x : ContextRecord) → unless_empty c ≡ Some x → x.members ≢ []
+unless_some c x = by c.members c refl
   where
-    by : (l : List (List ℕ)) (c : ContextRecord) → l ≡ c.members → unless_none l c ≡ Some new_context → ⊥
-    by [] c a e = cc
-    by (x ∷ xs) c a e = let f : c.members ≡ [] = ap (λ (o : Option ContextRecord). members_of o) e in let clash : x ∷ xs ≡ [] = a ∙ f in cc
+    by : (l : List (List ℕ)) (c : ContextRecord) → l ≡ c.members → unless_none l c ≡ Some x → x.members ≢ []
+    by [] c a e f = cc
+    by (y ∷ ys) c a e f = let clash : y ∷ ys ≡ [] = a ∙ ap (λ (o : Option ContextRecord). members_of o) e ∙ f in cc
+
+fit_unless : (c : ContextRecord) → IsFit c → IsFit (context_of (unless_empty c))
+fit_unless c = by c.members c
+  where
+    by : (l : List (List ℕ)) (c : ContextRecord) → IsFit c → IsFit (context_of (unless_none l c))
+    by [] c f = fit_new
+    by (x ∷ xs) c f = f
 
 pub whole_joined : (limit : ℕ) (n : CtxNum) (t : List ℕ) (o : Option Termination) (m : Maps) → AreWellFormed limit m → place_of (term m t) ≡ None → place_of o ≡ Some n → IsGood t o → length (members_of (ctx m n)) < limit → AreWellFormed limit (put_term (with_member n t m) t o)
 whole_joined limit n t o m w nowhere there good room = record {
   recorded = λ q c h. sound.recorded q c refl h;
   listed = λ q c e. ap (λ x. is_in q (members_of x)) (at_ctx c) ∙ listed q c (bytes_eq q t) (nat_eq c.0 n.0) refl refl (ap (λ x. place_of x) (sym (at_term q)) ∙ e);
   once = sound.once;
-  some = λ c e. some c (nat_eq c.0 n.0) (sym (at_ctx c) ∙ e);
+  some = λ c x e. some c x (nat_eq c.0 n.0) (sym (at_ctx c) ∙ e);
   few = λ c. subst (λ x. length (members_of x) ≤ limit) (sym (at_ctx c)) (few c (nat_eq c.0 n.0));
+  fit = λ c. subst (λ x. IsFit (context_of x)) (sym (at_ctx c)) (fit c (nat_eq c.0 n.0));
   named = λ q r e. (good_after limit t q o m w good (bytes_eq q t) refl r (sym (at_term q) ∙ e)).0;
   modest = λ q r e. (good_after limit t q o m w good (bytes_eq q t) refl r (sym (at_term q) ∙ e)).1;
 }
@@ -72,9 +79,13 @@ whole_joined limit n t o m w nowhere there good room = record {
     listed q c false true a b e = stays_in_pushed q t (members_of (ctx m n)) (ap (λ (k : CtxNum). is_in q (members_of (ctx m k))) (sym (same_number c n b)) ∙ w.listed q c e)
     listed q c false false a b e = w.listed q c e
 
-    some : (c : CtxNum) (d : Bool) → cond d list (ctx m c) ≢ Some new_context
-    some c true e = pushed_some t (context_of (ctx m n)) e
-    some c false e = w.some c e
+    some : (c : CtxNum) (x : ContextRecord) (d : Bool) → cond d list (ctx m c) ≡ Some x → x.members ≢ []
+    some c x true e f = pushed_some t (members_of (ctx m n)) (ap (λ (o : Option ContextRecord). members_of o) e ∙ f)
+    some c x false e f = w.some c x e f
+
+    fit : (c : CtxNum) (d : Bool) → IsFit (context_of (cond d list (ctx m c)))
+    fit c true = fit_joined t (context_of (ctx m n)) (w.fit n)
+    fit c false = w.fit c
 
     few : (c : CtxNum) (d : Bool) → length (members_of (cond d list (ctx m c))) ≤ limit
     few c true = omega (arith, length-append (members_of (ctx m n)) (t ∷ []))
@@ -85,8 +96,9 @@ whole_departed limit n t o m w there nowhere good = record {
   recorded = λ q c h. sound.recorded q c refl h;
   listed = λ q c e. ap (λ x. is_in q (members_of x)) (at_ctx c) ∙ listed q c (bytes_eq q t) (nat_eq c.0 n.0) refl refl (ap (λ x. place_of x) (sym (at_term q)) ∙ e);
   once = sound.once;
-  some = λ c e. some c (nat_eq c.0 n.0) (sym (at_ctx c) ∙ e);
+  some = λ c x e. some c x (nat_eq c.0 n.0) (sym (at_ctx c) ∙ e);
   few = λ c. subst (λ x. length (members_of x) ≤ limit) (sym (at_ctx c)) (few c (nat_eq c.0 n.0));
+  fit = λ c. subst (λ x. IsFit (context_of x)) (sym (at_ctx c)) (fit c (nat_eq c.0 n.0));
   named = λ q r e. (good_after limit t q o m w good (bytes_eq q t) refl r (sym (at_term q) ∙ e)).0;
   modest = λ q r e. (good_after limit t q o m w good (bytes_eq q t) refl r (sym (at_term q) ∙ e)).1;
 }
@@ -110,9 +122,13 @@ whole_departed limit n t o m w there nowhere good = record {
         ∙ stays_without t q (members_of (ctx m n)) a (ap (λ (k : CtxNum). is_in q (members_of (ctx m k))) (sym (same_number c n b)) ∙ w.listed q c e)
     listed q c false false a b e = w.listed q c e
 
-    some : (c : CtxNum) (d : Bool) → cond d (unless_empty rest) (ctx m c) ≢ Some new_context
-    some c true e = unless_some rest e
-    some c false e = w.some c e
+    some : (c : CtxNum) (x : ContextRecord) (d : Bool) → cond d (unless_empty rest) (ctx m c) ≡ Some x → x.members ≢ []
+    some c x true e f = unless_some rest x e f
+    some c x false e f = w.some c x e f
+
+    fit : (c : CtxNum) (d : Bool) → IsFit (context_of (cond d (unless_empty rest) (ctx m c)))
+    fit c true = fit_unless rest (fit_left t (context_of (ctx m n)) (w.fit n))
+    fit c false = w.fit c
 
     few : (c : CtxNum) (d : Bool) → length (members_of (cond d (unless_empty rest) (ctx m c))) ≤ limit
     few c true = omega (arith, ap length (members-unless_empty rest), length_without t (members_of (ctx m n)), w.few n)
@@ -124,8 +140,9 @@ whole_rewritten limit t o m w same good = record {
   recorded = λ q c h. ap (λ x. place_of x) (at_term q) ∙ place q (bytes_eq q t) refl ∙ w.recorded q c (ap (λ x. is_in q (members_of x)) (sym (ctx-put_term m t o c)) ∙ h);
   listed = λ q c e. ap (λ x. is_in q (members_of x)) (ctx-put_term m t o c) ∙ w.listed q c (sym (place q (bytes_eq q t) refl) ∙ ap (λ x. place_of x) (sym (at_term q)) ∙ e);
   once = λ c. subst (λ x. NoDoubles (members_of x)) (sym (ctx-put_term m t o c)) (w.once c);
-  some = λ c e. w.some c (sym (ctx-put_term m t o c) ∙ e);
+  some = λ c x e. w.some c x (sym (ctx-put_term m t o c) ∙ e);
   few = λ c. subst (λ x. length (members_of x) ≤ limit) (sym (ctx-put_term m t o c)) (w.few c);
+  fit = λ c. subst (λ x. IsFit (context_of x)) (sym (ctx-put_term m t o c)) (w.fit c);
   named = λ q r e. (good_after limit t q o m w good (bytes_eq q t) refl r (sym (at_term q) ∙ e)).0;
   modest = λ q r e. (good_after limit t q o m w good (bytes_eq q t) refl r (sym (at_term q) ∙ e)).1;
 }

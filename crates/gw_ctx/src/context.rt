@@ -1,25 +1,34 @@
-//! The members of a context.
+//! A context: its members and its properties.
 
-ghost use Rattle.std.specs.Prelude.{◌≡◌, ◌<◌, ◌≤◌, ◌↔◌, length, IfOk, OnOk, OnErr, IsErrOf, false};
+ghost use Rattle.std.specs.Prelude.{◌≡◌, ◌<◌, ◌≤◌, ◌↔◌, length, IfOk, OnOk, OnErr, IsErrOf, true, false};
 ghost use Rattle.gw_base.specs.NameLists.{is_in, NoDoubles};
-ghost use Rattle.gw_ctx.specs.Contexts.{new_context, joined, left};
+ghost use Rattle.gw_ctx.specs.Contexts.{new_context, joined, left, prioritized, marked, linked};
 
 use crate::fault::JoinFault;
-use gw_base::TermName;
+use crate::links::{drop_links, put_link};
+use gw_base::{Link, NoMemory, TermName};
 use indexmap::IndexSet;
 use std::alloc::{AllocError, Global};
 use std::marker::Model;
 
-/// A context (RFC 3525, section 6.1): its members in joining order. Contracts see it as the record of
-/// `specs/Contexts.antt`.
+/// A context (RFC 3525, section 6.1): its members in joining order, its priority, whether it is marked as an emergency, and the
+/// links between members in the order in which they were made. Contracts see it as the record of `specs/Contexts.antt`.
 pub struct Context {
     members: IndexSet<TermName>,
+    priority: u8,
+    emergency: bool,
+    links: Vec<Link>,
 }
 
 // By hand, so that a function that lets a context go does so by one call. A derived one would stand in it field by field.
 impl Drop for Context {
     fn drop(self) {
-        let Context { members: _ } = self;
+        let Context {
+            members: _,
+            priority: _,
+            emergency: _,
+            links: _,
+        } = self;
     }
 }
 
@@ -30,7 +39,7 @@ impl Model for Context {
 
     ghost coded = { coded_context };
 
-    ghost view = { λ a. record { members = a.members.keys } };
+    ghost view = { λ a. record { members = a.members.keys; priority = a.priority; emergency = a.emergency; links = a.links.items } };
 }
 
 impl Clone for Context {
@@ -42,12 +51,15 @@ impl Clone for Context {
 }
 
 impl Context {
-    /// A context without members, which takes no memory.
+    /// A context without members and links, of priority 0 and no emergency, which takes no memory.
     pub fn new(alloc: Global) -> Self
         ensures { result ≡ new_context }
     {
         Context {
             members: IndexSet::new(alloc),
+            priority: 0,
+            emergency: false,
+            links: Vec::new(alloc),
         }
     }
 
@@ -56,6 +68,27 @@ impl Context {
         ensures { result.now.keys ≡ self.now.members }
     {
         &self.members
+    }
+
+    /// The priority (RFC 3525, section 6.1.1): 0 at first.
+    pub fn priority(&self) -> u8
+        ensures { result ≡ self.now.priority }
+    {
+        self.priority
+    }
+
+    /// Whether the context is marked as an emergency (RFC 3525, section 6.1.1): not at first.
+    pub fn emergency(&self) -> bool
+        ensures { result ≡ self.now.emergency }
+    {
+        self.emergency
+    }
+
+    /// The links between members (RFC 3525, section 7.1.18), in the order in which they were made: none at first.
+    pub fn links(&self) -> &[Link]
+        ensures { result.now ≡ self.now.links }
+    {
+        self.links.as_slice()
     }
 
     /// The name joins as the last member. The caller knows that it is none yet.
@@ -76,12 +109,41 @@ impl Context {
         Ok(())
     }
 
-    /// The name leaves, and the order of the others stays. Tells whether it was a member.
+    /// The name leaves with its links, and the order of the others stays. Tells whether it was a member. The work is that of the
+    /// members and links behind what goes.
     pub fn leave(&mut self, name: &TermName) -> bool
         ensures left { self.new ≡ left name.now self.old }
         ensures there { result ≡ is_in name.now self.old.members }
     {
+        drop_links(&mut self.links, name);
         self.members.shift_remove(name)
+    }
+
+    /// Sets the priority: 0 to 15 by the profile, which the caller keeps.
+    pub fn set_priority(&mut self, priority: u8)
+        ensures { self.new ≡ prioritized priority self.old }
+    {
+        self.priority = priority;
+    }
+
+    /// Marks the context as an emergency.
+    pub fn set_emergency(&mut self)
+        ensures { self.new ≡ marked true self.old }
+    {
+        self.emergency = true;
+    }
+
+    /// How media flow between two names from now on: the link of the pair, in either order, goes, and this one goes last, unless it
+    /// is both ways. The work is one pass of the links.
+    ///
+    /// # Errors
+    ///
+    /// Want of memory. The context is then as it was.
+    pub fn link(&mut self, link: Link) -> Result<(), NoMemory>
+        ensures ok { OnOk result (self.new ≡ linked link self.old) }
+        ensures err { OnErr result (self.new ≡ self.old) }
+    {
+        put_link(&mut self.links, link)
     }
 
     /// An equal context.
@@ -94,6 +156,9 @@ impl Context {
     {
         Ok(Context {
             members: self.members.clone()?,
+            priority: self.priority,
+            emergency: self.emergency,
+            links: Vec::from_slice(*self.links.allocator(), self.links.as_slice())?,
         })
     }
 }

@@ -1,8 +1,11 @@
-//! Contexts: who is in one, in joining order.
+//! Contexts: who is in one, in joining order, and their properties.
 #![tactic(auto)]
 
 mod context;
 mod fault;
+mod laws;
+mod links;
 
 pub use context::Context;
 pub use fault::JoinFault;
+pub use laws::contexts_stay_fit;

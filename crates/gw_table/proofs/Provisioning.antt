@@ -14,8 +14,10 @@ use Rattle.gw_term.specs.declared.record.Termination.{Termination}
 use Rattle.gw_term.specs.Record.{provisioned}
 use Rattle.gw_term.specs.Limits.{HasFew}
 use Rattle.gw_base.proofs.Booleans.{refuted}
-use Rattle.gw_ctx.specs.Contexts.{ContextRecord, new_context}
-use Rattle.gw_table.specs.Maps.{Maps, term, ctx, put_term, members_of, place_of, no_maps, new_maps}
+use Rattle.gw_ctx.specs.Contexts.{ContextRecord}
+use Rattle.gw_ctx.specs.Fitting.{IsFit}
+use Rattle.gw_ctx.proofs.Fits.{fit_new}
+use Rattle.gw_table.specs.Maps.{Maps, term, ctx, put_term, context_of, members_of, place_of, no_maps, new_maps}
 use Rattle.gw_table.specs.Reserved.{is_reserved}
 use Rattle.gw_table.specs.WellFormed.{AreWellFormed, Fits}
 use Rattle.gw_table.proofs.Lookups.{term-put_term, same_maps}
@@ -96,8 +98,9 @@ new_maps_fit limit names free = record {
   recorded = λ t n h. let off : is_in t (members_of (ctx (new_maps names) n)) ≡ false = ap (λ o. is_in t (members_of o)) (no_context n) in absurd (let clash : true ≡ false = sym h ∙ off in cc);
   once = λ n. subst (λ o. NoDoubles (members_of o)) (sym (no_context n)) tt;
   listed = λ t n e. absurd (nowhere (is_in t names) n (ap (λ o. place_of o) (sym (term-new_maps names t)) ∙ e));
-  some = λ n e. let clash : None ≡ Some new_context = sym (no_context n) ∙ e in cc;
+  some = λ n c e. let clash : None ≡ Some c = sym (no_context n) ∙ e in absurd cc;
   few = λ n. subst (λ o. length (members_of o) ≤ limit) (sym (no_context n)) (omega arith);
+  fit = λ n. subst (λ o. IsFit (context_of o)) (sym (no_context n)) fit_new;
   named = λ t r e. named t r (is_in t names) refl (sym (term-new_maps names t) ∙ e);
   modest = λ t r e. modest r (is_in t names) (sym (term-new_maps names t) ∙ e);
 }

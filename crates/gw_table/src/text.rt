@@ -2,11 +2,12 @@
 
 ghost use Rattle.std.specs.Prelude.{◌≡◌, ◌++◌, OnOk, option_copied};
 ghost use Rattle.std.specs.List.{flat_map};
-ghost use Rattle.gw_table.specs.TableTexts.{place_text, service_text, member_text, context_line, term_line, context_lines, term_lines, tables_text};
+ghost use Rattle.gw_reply.specs.ContextParts.{flow_word};
+ghost use Rattle.gw_table.specs.TableTexts.{place_text, service_text, member_text, context_line, priority_line, emergency_line, topology_line, context_text, term_line, context_lines, term_lines, tables_text};
 ghost use Rattle.gw_table.specs.Stored.{maps_of};
 
 use crate::tables::Tables;
-use gw_base::{CtxNum, NoMemory, Service, TermName};
+use gw_base::{CtxNum, Flow, Link, NoMemory, Service, TermName};
 use gw_ctx::Context;
 use gw_reply::write_number;
 use gw_term::Termination;
@@ -41,18 +42,96 @@ fn write_members(members: &[TermName], out: &mut Vec<u8>) -> Result<(), AllocErr
     Ok(())
 }
 
+fn write_context_line(
+    number: CtxNum,
+    members: &[TermName],
+    out: &mut Vec<u8>,
+) -> Result<(), AllocError>
+    ensures { OnOk result (out.new.items ≡ out.old.items ++ context_line number members.now) }
+{
+    out.extend_from_slice(b"context ")?;
+    write_number(number.0, out)?;
+    write_members(members, out)?;
+    out.push(b'\n')?;
+    Ok(())
+}
+
+/// A line where the priority is not 0.
+fn write_priority(number: CtxNum, priority: u8, out: &mut Vec<u8>) -> Result<(), AllocError>
+    ensures { OnOk result (out.new.items ≡ out.old.items ++ priority_line number priority) }
+{
+    if priority == 0 {
+        return Ok(());
+    }
+    out.extend_from_slice(b"priority ")?;
+    write_number(number.0, out)?;
+    out.push(b' ')?;
+    write_number(u32::from(priority), out)?;
+    out.push(b'\n')?;
+    Ok(())
+}
+
+/// A line where the context is marked.
+fn write_emergency(number: CtxNum, emergency: bool, out: &mut Vec<u8>) -> Result<(), AllocError>
+    ensures { OnOk result (out.new.items ≡ out.old.items ++ emergency_line number emergency) }
+{
+    if !emergency {
+        return Ok(());
+    }
+    out.extend_from_slice(b"emergency ")?;
+    write_number(number.0, out)?;
+    out.push(b'\n')?;
+    Ok(())
+}
+
+fn flow_word(flow: Flow) -> &'static str
+    ensures { result.now ≡ flow_word flow }
+{
+    match flow {
+        Flow::Bothway => "Bothway",
+        Flow::Isolate => "Isolate",
+        Flow::Oneway => "Oneway",
+    }
+}
+
+fn write_link(number: CtxNum, link: Link, out: &mut Vec<u8>) -> Result<(), AllocError>
+    ensures { OnOk result (out.new.items ≡ out.old.items ++ topology_line number link) }
+{
+    out.extend_from_slice(b"topology ")?;
+    write_number(number.0, out)?;
+    out.push(b' ')?;
+    out.extend_from_slice(link.a.as_bytes())?;
+    out.push(b' ')?;
+    out.extend_from_slice(link.b.as_bytes())?;
+    out.push(b' ')?;
+    out.extend_from_slice(flow_word(link.flow).as_bytes())?;
+    out.push(b'\n')?;
+    Ok(())
+}
+
+/// A line for each link.
+fn write_links(number: CtxNum, links: &[Link], out: &mut Vec<u8>) -> Result<(), AllocError>
+    ensures { OnOk result (out.new.items ≡ out.old.items ++ flat_map (topology_line number) links.now) }
+{
+    for link in links {
+        write_link(number, *link, out)?;
+    }
+    Ok(())
+}
+
+/// The line of a context, and behind it those of its properties.
 fn write_context(
     number: CtxNum,
     context: Option<&Context>,
     out: &mut Vec<u8>,
 ) -> Result<(), AllocError>
-    ensures { OnOk result (out.new.items ≡ out.old.items ++ context_line number (option_copied context.entry)) }
+    ensures { OnOk result (out.new.items ≡ out.old.items ++ context_text number (option_copied context.entry)) }
 {
     if let Some(context) = context {
-        out.extend_from_slice(b"context ")?;
-        write_number(number.0, out)?;
-        write_members(context.members().as_slice(), out)?;
-        out.push(b'\n')?;
+        write_context_line(number, context.members().as_slice(), out)?;
+        write_priority(number, context.priority(), out)?;
+        write_emergency(number, context.emergency(), out)?;
+        write_links(number, context.links(), out)?;
     }
     Ok(())
 }
@@ -76,7 +155,7 @@ fn write_term(
     Ok(())
 }
 
-/// A line for each of the contexts.
+/// The lines of each of the contexts.
 fn write_contexts(tables: &Tables, numbers: &[CtxNum], out: &mut Vec<u8>) -> Result<(), AllocError>
     ensures { OnOk result (out.new.items ≡ out.old.items ++ context_lines (maps_of tables.now) numbers.now) }
 {
@@ -97,9 +176,11 @@ fn write_terms(tables: &Tables, names: &[TermName], out: &mut Vec<u8>) -> Result
 }
 
 impl Tables {
-    /// Writes a line `context <number> <members>` for each context, the numbers rising, and behind them a line
+    /// Writes a line `context <number> <members>` for each context, the numbers rising, each with lines behind it for its properties:
+    /// `priority <number> <priority>` where it is not 0, `emergency <number>` where it is marked, and
+    /// `topology <number> <name> <name> <Oneway or Isolate>` for each link. Behind the contexts stands a line
     /// `term <name> <context or -> <service state>` for each termination, in the order of the bytes of their names. The work is
-    /// linear in the text, but for a look-up for each line.
+    /// linear in the text, but for a look-up for each context and termination.
     ///
     /// # Errors
     ///
