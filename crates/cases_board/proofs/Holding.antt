@@ -49,10 +49,13 @@ module _ (b c : Seen) (held : List (Option Handed)) (a : AreHeld b held) (i : �
   still : (j : ℕ) → nat_eq j i ≡ false → (o : Option (Option Handed)) → IsHeld b j o → IsHeld c j o
   still j e None h = ap is_open_at (elsewhere j e) ∙ h
   still j e (Some None) h = ap is_open_at (elsewhere j e) ∙ h
-  still j e (Some (Some g)) h = (h.0, record {
+  still j e (Some (Some g)) h = (
+    h.0,
+    record {
       manner = h.1.manner ∙ sym manner;
       stands = ap (slice_get c.places) h.0 ∙ elsewhere j e ∙ ap (slice_get b.places) (sym h.0) ∙ h.1.stands;
-    })
+    },
+  )
 
   moved : AreHeld c (slice_set held i x)
   moved = record { count = length-set held i x ∙ a.count ∙ sym count; each = λ j. by j (nat_eq j i) refl }
