@@ -79,10 +79,16 @@ module _ {X : Type 0} where
   get_some (x ∷ xs) zero = refl
   get_some (x ∷ xs) (suc p) = get_some xs p
 
-  pub set_nowhere : (xs : List (Option X)) (p : ℕ) → None ≡ slice_get xs p → xs ≡ set xs p None
-  set_nowhere [] p e = refl
-  set_nowhere (x ∷ xs) zero e = absurd cc
-  set_nowhere (x ∷ xs) (suc p) e = ap (λ (ys : List (Option X)). x ∷ ys) (set_nowhere xs p e)
+  -- a pair that is put back where it was
+  pub set_back : (xs : List (Option X)) (p : ℕ) → xs ≡ set (set xs p None) p (get_or xs p None)
+  set_back [] p = refl
+  set_back (x ∷ xs) zero = refl
+  set_back (x ∷ xs) (suc p) = ap (λ (ys : List (Option X)). x ∷ ys) (set_back xs p)
+
+  pub set_outside : (xs : List (Option X)) (p : ℕ) (o : Option X) → None ≡ slice_get xs p → xs ≡ set xs p o
+  set_outside [] p o e = refl
+  set_outside (x ∷ xs) zero o e = absurd cc
+  set_outside (x ∷ xs) (suc p) o e = ap (λ (ys : List (Option X)). x ∷ ys) (set_outside xs p o e)
 
   pub none_there : (xs : List (Option X)) (p : ℕ) → None ≡ slice_get xs p → None ≡ get_or xs p None
   none_there [] p e = refl

@@ -1,10 +1,9 @@
--- The order of the keys when gaps are closed, and a ring that is turned once round, from which gaps are let go.
-use Rattle.std.proofs.Common.{◌≡◌, ℕ, zero, suc, ◌+◌, ◌-◌, ◌<◌, ◌≤◌, true, cond, List, [], ◌∷◌, ◌++◌, map, length, take, drop, set, get_or, is_some, Option, Some, None, refl, ap, sym, ◌∙◌, append_assoc, length-append, arith}
-use Rattle.std.proofs.lemmas.List.{append-nil, drop_more, take_more, take-map, get_or-map, get_or-set_same, get_or-set_other, length-map, length-drop, length-take, take_all, drop_all, map-append}
+-- The order of the keys when gaps are closed, and a ring in which each pair behind a gap comes forward.
+use Rattle.std.proofs.Common.{◌≡◌, ℕ, zero, suc, ◌+◌, ◌-◌, ◌<◌, ◌≤◌, true, cond, List, [], ◌∷◌, ◌++◌, map, length, take, drop, set, get_or, is_some, Option, Some, None, refl, ap, sym, ◌∙◌, append_assoc, add-one, replicate, length-append, arith}
+use Rattle.std.proofs.lemmas.List.{append-nil, drop_more, take_more, take-map, get_or-map, get_or-drop, get_or-set_same, get_or-set_other, length-map, length-take, take_all, drop_all, map-append}
 use Rattle.std.proofs.lemmas.List.Elements.{All-map}
 use Rattle.std.specs.List.{Contains}
 use Rattle.std.specs.Option.{option_map, unwrap_or}
-use Rattle.circular_buffer.specs.Buffer.{Buffer, buffer, keep_last}
 use Rattle.gw_kept.specs.declared.entry.Entry.{Entry}
 use Rattle.gw_kept.specs.declared.entry.RequestKey.{RequestKey}
 use Rattle.gw_kept.specs.Pairs.{key_of}
@@ -45,10 +44,9 @@ module _ {X : Type 0} where
   ranked (Some x ∷ xs) (suc q) h = let r = ranked xs q h in record { place = suc r.place; taken = r.taken; ranks = ap suc r.ranks }
   ranked (None ∷ xs) q h = let r = ranked xs q h in record { place = suc r.place; taken = r.taken; ranks = r.ranks }
 
-  -- ---- the ring, turned so far
-
-  abbrev pub turned : List (Option X) → ℕ → ℕ → Buffer (Option X)
-  turned xs cap i = buffer (drop i xs ++ closed (take i xs)) cap
+  -- what came before the place is there without the gaps, and behind it are the gaps
+  abbrev pub closing : List (Option X) → ℕ → List (Option X)
+  closing xs i = closed (take i xs) ++ (replicate (i - rank xs i) None ++ drop i xs)
 
 -- one place more
 rank_step : {X : Type 0} (o : Option X) (xs : List (Option X)) → length (present (xs ++ o ∷ [])) ≡ length (present xs) + cond (is_some o) 1 0
@@ -138,48 +136,98 @@ order_closed keys first numbers places next o ranks is =
 -- ---- the ring, one place after another
 
 module _ {X : Type 0} where
-  one_more : (xs : List (Option X)) (i : ℕ) (o : Option X) → i < length xs → o ≡ get_or xs i None → closed (take (i + 1) xs) ≡ closed (take i xs) ++ closed (o ∷ [])
-  one_more xs i o l at =
-      ap closed (take_more xs i None l ∙ ap (λ (y : Option X). take i xs ++ y ∷ []) (sym at))
-      ∙ ap (map (λ x. Some x)) (present_append (take i xs) (o ∷ []))
-      ∙ map-append (λ x. Some x) (present (take i xs)) (present (o ∷ []))
+  one_more : (xs : List (Option X)) (i : ℕ) → i < length xs → closed (take (i + 1) xs) ≡ closed (take i xs) ++ closed (get_or xs i None ∷ [])
+  one_more xs i l =
+      ap closed (take_more xs i None l)
+      ∙ ap (map (λ x. Some x)) (present_append (take i xs) (get_or xs i None ∷ []))
+      ∙ map-append (λ x. Some x) (present (take i xs)) (present (get_or xs i None ∷ []))
 
-  pub front_is : (xs : List (Option X)) (cap i : ℕ) (ring : Buffer (Option X)) → ring ≡ turned xs cap i → i < length xs → get_or ring.items 0 None ≡ get_or xs i None
-  front_is xs cap i ring is l =
-      ap (λ (b : Buffer (Option X)). get_or b.items 0 None) is ∙ ap (λ (ys : List (Option X)). get_or (ys ++ closed (take i xs)) 0 None) (drop_more xs i None l)
+  size : (xs : List (Option X)) (i : ℕ) → length (closed (take i xs)) ≡ rank xs i
+  size xs i = length-map (present (take i xs)) (λ x. Some x)
 
-  drop_front : (xs ys : List (Option X)) (i : ℕ) → i < length xs → drop 1 (drop i xs ++ ys) ≡ drop (i + 1) xs ++ ys
-  drop_front [] ys i h = absurd (omega arith)
-  drop_front (x ∷ xs) ys zero h = refl
-  drop_front (x ∷ xs) ys (suc i) h = let e : suc i + 1 ≡ suc (i + 1) = omega arith in rw e (drop_front xs ys i (omega arith))
+  -- one gap more
+  gap_more : (k : ℕ) (rest : List (Option X)) → replicate k None ++ None ∷ rest ≡ replicate (k + 1) None ++ rest
+  gap_more zero rest = refl
+  gap_more (suc k) rest = let e : suc k + 1 ≡ suc (k + 1) = omega arith in rw e (ap (λ (ys : List (Option X)). None ∷ ys) (gap_more k rest))
 
-  popped_is : (xs : List (Option X)) (cap i : ℕ) (ring popped : Buffer (Option X)) → ring ≡ turned xs cap i → i < length xs → popped ≡ buffer (drop 1 ring.items) ring.capacity → popped ≡ buffer (drop (i + 1) xs ++ closed (take i xs)) cap
-  popped_is xs cap i ring popped is l pop =
-      pop ∙ ap (λ (b : Buffer (Option X)). buffer (drop 1 b.items) b.capacity) is ∙ ap (λ (ys : List (Option X)). buffer ys cap) (drop_front xs (closed (take i xs)) i l)
+  set_behind : (fs bs : List (Option X)) (j : ℕ) (o : Option X) → set (fs ++ bs) (length fs + j) o ≡ fs ++ set bs j o
+  set_behind [] bs j o = ap (λ (n : ℕ). set bs n o) (let e : 0 + j ≡ j = omega arith in e)
+  set_behind (a ∷ fs) bs j o = let e : suc (length fs) + j ≡ suc (length fs + j) = omega arith in rw e (ap (λ (ys : List (Option X)). a ∷ ys) (set_behind fs bs j o))
 
-  -- a gap is gone
-  pub turn_over : (xs : List (Option X)) (cap i : ℕ) (ring popped : Buffer (Option X)) → ring ≡ turned xs cap i → i < length xs → popped ≡ buffer (drop 1 ring.items) ring.capacity → None ≡ get_or xs i None → popped ≡ turned xs cap (i + 1)
-  turn_over xs cap i ring popped is l pop at =
-      popped_is xs cap i ring popped is l pop
-      ∙ ap (λ (ys : List (Option X)). buffer (drop (i + 1) xs ++ ys) cap) (sym (one_more xs i None l at ∙ append-nil (closed (take i xs))))
+  get_behind : (fs bs : List (Option X)) (j : ℕ) → get_or (fs ++ bs) (length fs + j) None ≡ get_or bs j None
+  get_behind [] bs j = ap (λ (n : ℕ). get_or bs n None) (let e : 0 + j ≡ j = omega arith in e)
+  get_behind (a ∷ fs) bs j = let e : suc (length fs) + j ≡ suc (length fs + j) = omega arith in rw e (get_behind fs bs j)
 
-  last_all : (cap : ℕ) (xs : List (Option X)) → length xs ≤ cap → keep_last cap xs ≡ xs
-  last_all cap xs h = let none : length xs - cap ≡ 0 = omega arith in ap (λ (n : ℕ). drop n xs) none
+  set_gap : (k : ℕ) (o : Option X) (rest : List (Option X)) → set (replicate k None ++ o ∷ rest) k None ≡ replicate (k + 1) None ++ rest
+  set_gap zero o rest = refl
+  set_gap (suc k) o rest = let e : suc k + 1 ≡ suc (k + 1) = omega arith in rw e (ap (λ (ys : List (Option X)). None ∷ ys) (set_gap k o rest))
 
-  room : (xs : List (Option X)) (i : ℕ) (o : Option X) → i < length xs → length ((drop (i + 1) xs ++ closed (take i xs)) ++ o ∷ []) ≤ length xs
-  room xs i o l =
-      omega (arith, length-append (drop (i + 1) xs ++ closed (take i xs)) (o ∷ []), length-append (drop (i + 1) xs) (closed (take i xs)), length-drop (i + 1) xs, length-map (present (take i xs)) (λ x. Some x), few_present (take i xs), length-take i xs)
+  get_gap : (k : ℕ) (rest : List (Option X)) → get_or (replicate k None ++ rest) k None ≡ get_or rest 0 None
+  get_gap zero rest = refl
+  get_gap (suc k) rest = get_gap k rest
 
-  -- a pair goes last
-  pub turn_here : (xs : List (Option X)) (cap i : ℕ) (x : X) (ring popped after : Buffer (Option X)) → ring ≡ turned xs cap i → i < length xs → length xs ≤ cap → popped ≡ buffer (drop 1 ring.items) ring.capacity → Some x ≡ get_or xs i None
-      → after ≡ buffer (keep_last popped.capacity (popped.items ++ Some x ∷ [])) popped.capacity → after ≡ turned xs cap (i + 1)
-  turn_here xs cap i x ring popped after is l fits pop at push =
-      push
-      ∙ ap (λ (b : Buffer (Option X)). buffer (keep_last b.capacity (b.items ++ Some x ∷ [])) b.capacity) (popped_is xs cap i ring popped is l pop)
-      ∙ ap (λ (ys : List (Option X)). buffer ys cap) (last_all cap ((drop (i + 1) xs ++ closed (take i xs)) ++ Some x ∷ []) (omega (arith, room xs i (Some x) l)))
-      ∙ ap (λ (ys : List (Option X)). buffer ys cap) (append_assoc (drop (i + 1) xs) (closed (take i xs)) (Some x ∷ []))
-      ∙ ap (λ (ys : List (Option X)). buffer (drop (i + 1) xs ++ ys) cap) (sym (one_more xs i (Some x) l at))
+  set_first : (k : ℕ) (o : Option X) (rest : List (Option X)) → set (replicate (k + 1) None ++ rest) 0 o ≡ o ∷ replicate k None ++ rest
+  set_first k o rest = ap (λ (n : ℕ). set (replicate n None ++ rest) 0 o) (add-one k)
 
-  pub turned_all : (xs : List (Option X)) (cap i : ℕ) (ring : Buffer (Option X)) → ring ≡ turned xs cap i → length xs ≤ i → ring ≡ buffer (closed xs) cap
-  turned_all xs cap i ring is l =
-      is ∙ ap (λ (ys : List (Option X)). buffer (ys ++ closed (take i xs)) cap) (drop_all i xs l) ∙ ap (λ (ys : List (Option X)). buffer (closed ys) cap) (take_all i xs l)
+  -- a pair is brought in front of the gaps before it
+  brought : (fs rest : List (Option X)) (k : ℕ) (o p : Option X) → set (set (fs ++ (replicate k None ++ o ∷ rest)) (length fs + k) None) (length fs + 0) p ≡ (fs ++ p ∷ []) ++ (replicate k None ++ rest)
+  brought fs rest k o p =
+      ap (λ (ys : List (Option X)). set ys (length fs + 0) p) (set_behind fs (replicate k None ++ o ∷ rest) k None ∙ ap (λ (ys : List (Option X)). fs ++ ys) (set_gap k o rest))
+      ∙ set_behind fs (replicate (k + 1) None ++ rest) 0 p
+      ∙ ap (λ (ys : List (Option X)). fs ++ ys) (set_first k p rest)
+      ∙ sym (append_assoc fs (p ∷ []) (replicate k None ++ rest))
+
+  pub closing_at : (xs : List (Option X)) (i : ℕ) → get_or (closing xs i) i None ≡ get_or xs i None
+  closing_at xs i =
+      let k : ℕ = i - rank xs i in
+      let there : i ≡ length (closed (take i xs)) + k = omega (arith, size xs i, few_before xs i) in
+      let z : i + 0 ≡ i = omega arith in
+      ap (λ (n : ℕ). get_or (closing xs i) n None) there
+      ∙ get_behind (closed (take i xs)) (replicate k None ++ drop i xs) k
+      ∙ get_gap k (drop i xs)
+      ∙ get_or-drop i xs 0 None
+      ∙ ap (λ (n : ℕ). get_or xs n None) z
+
+  -- a gap is passed over
+  pub close_over : (xs : List (Option X)) (i : ℕ) → i < length xs → None ≡ get_or xs i None → closing xs i ≡ closing xs (i + 1)
+  close_over xs i l at =
+      let k : ℕ = i - rank xs i in
+      let same : rank xs (i + 1) ≡ rank xs i = (let m : rank xs (i + 1) ≡ rank xs i + 0 = rank_more xs i l ∙ ap (λ (o : Option X). rank xs i + cond (is_some o) 1 0) (sym at) in omega arith) in
+      let more : k + 1 ≡ i + 1 - rank xs (i + 1) = omega (arith, same, few_before xs i) in
+      ap (λ (ys : List (Option X)). closed (take i xs) ++ (replicate k None ++ ys)) (drop_more xs i None l ∙ ap (λ (o : Option X). o ∷ drop (i + 1) xs) (sym at))
+      ∙ ap (λ (ys : List (Option X)). closed (take i xs) ++ ys) (gap_more k (drop (i + 1) xs))
+      ∙ ap (λ (n : ℕ). closed (take i xs) ++ (replicate n None ++ drop (i + 1) xs)) more
+      ∙ ap (λ (ys : List (Option X)). ys ++ (replicate (i + 1 - rank xs (i + 1)) None ++ drop (i + 1) xs))
+      (sym (one_more xs i l ∙ ap (λ (o : Option X). closed (take i xs) ++ closed (o ∷ [])) (sym at) ∙ append-nil (closed (take i xs))))
+
+  -- a pair comes forward
+  pub close_here : (xs : List (Option X)) (i : ℕ) (x : X) → i < length xs → Some x ≡ get_or xs i None → set (set (closing xs i) i None) (rank xs i) (get_or (closing xs i) i None) ≡ closing xs (i + 1)
+  close_here xs i x l at =
+      let k : ℕ = i - rank xs i in
+      let fs : List (Option X) = closed (take i xs) in
+      let value : get_or (closing xs i) i None ≡ Some x = closing_at xs i ∙ sym at in
+      let there : i ≡ length fs + k = omega (arith, size xs i, few_before xs i) in
+      let here : rank xs i ≡ length fs + 0 = omega (arith, size xs i) in
+      let one : rank xs (i + 1) ≡ rank xs i + 1 = rank_more xs i l ∙ ap (λ (o : Option X). rank xs i + cond (is_some o) 1 0) (sym at) in
+      let more : k ≡ i + 1 - rank xs (i + 1) = omega (arith, one, few_before xs i) in
+      let split : closing xs i ≡ fs ++ (replicate k None ++ Some x ∷ drop (i + 1) xs) =
+      ap (λ (ys : List (Option X)). fs ++ (replicate k None ++ ys)) (drop_more xs i None l ∙ ap (λ (o : Option X). o ∷ drop (i + 1) xs) (sym at))
+      in
+      ap (λ (o : Option X). set (set (closing xs i) i None) (rank xs i) o) value
+      ∙ ap (λ (ys : List (Option X)). set (set ys i None) (rank xs i) (Some x)) split
+      ∙ ap (λ (n : ℕ). set (set (fs ++ (replicate k None ++ Some x ∷ drop (i + 1) xs)) n None) (rank xs i) (Some x)) there
+      ∙ ap (λ (n : ℕ). set (set (fs ++ (replicate k None ++ Some x ∷ drop (i + 1) xs)) (length fs + k) None) n (Some x)) here
+      ∙ brought fs (drop (i + 1) xs) k (Some x) (Some x)
+      ∙ ap (λ (n : ℕ). (fs ++ Some x ∷ []) ++ (replicate n None ++ drop (i + 1) xs)) more
+      ∙ ap (λ (ys : List (Option X)). ys ++ (replicate (i + 1 - rank xs (i + 1)) None ++ drop (i + 1) xs))
+      (sym (one_more xs i l ∙ ap (λ (o : Option X). fs ++ closed (o ∷ [])) (sym at)))
+
+  take_front : (fs bs : List (Option X)) → take (length fs) (fs ++ bs) ≡ fs
+  take_front [] bs = refl
+  take_front (a ∷ fs) bs = ap (λ (ys : List (Option X)). a ∷ ys) (take_front fs bs)
+
+  pub closing_all : (xs : List (Option X)) (i : ℕ) → length xs ≤ i → take (rank xs i) (closing xs i) ≡ closed xs
+  closing_all xs i l =
+      ap (λ (n : ℕ). take n (closing xs i)) (sym (size xs i))
+      ∙ take_front (closed (take i xs)) (replicate (i - rank xs i) None ++ drop i xs)
+      ∙ ap closed (take_all i xs l)

@@ -8,7 +8,7 @@ ghost use Rattle.gw_kept.specs.Rows.{keys_in, key_in, most_places, present, IsFo
 ghost use Rattle.gw_kept.specs.Order.{key_cmp, place_of, IsOrder, IsStand};
 
 use crate::entry::RequestKey;
-use crate::ring::{Ring, let_go, pair_at, places_left};
+use crate::ring::{Ring, pair_at, places_left, take};
 use std::alloc::{AllocError, Global};
 use std::cmp::Ordering;
 
@@ -141,7 +141,7 @@ impl Order {
         ensures room { vec_capacity self.new.numbers ≡ vec_capacity self.old.numbers }
     {
         let number = self.numbers.remove(at);
-        let_go(ring, self.place(number));
+        take(ring, self.place(number));
     }
 
     /// Numbers the pairs anew, as they stand when the gaps are closed.

@@ -23,12 +23,27 @@ pub fn pair_at(ring: &Ring, place: usize) -> Option<&Entry>
     }
 }
 
-/// Lets the pair at a place go: it leaves a gap.
-pub fn let_go(ring: &mut Ring, place: usize)
-    ensures { ring.new ≡ buffer (slice_set ring.old.items place None) ring.old.capacity }
+/// Takes the pair at a place: it leaves a gap.
+pub fn take(ring: &mut Ring, place: usize) -> Option<Entry>
+    ensures pair { result ≡ slice_index_or ring.old.items place None }
+    ensures gap { ring.new ≡ buffer (slice_set ring.old.items place None) ring.old.capacity }
 {
-    if let Some(pair) = ring.get_mut(place) {
-        *pair = None;
+    match ring.get_mut(place) {
+        Some(pair) => pair.take(),
+        None => None,
+    }
+}
+
+/// Brings the pair at a place to one in front of it, or leaves it where it is.
+fn bring(ring: &mut Ring, from: usize, to: usize)
+    requires { to ≤ from }
+    ensures { ring.new ≡ buffer (slice_set (slice_set ring.old.items from None) to (slice_index_or ring.old.items from None)) ring.old.capacity }
+{
+    if to < from {
+        let brought = take(ring, from);
+        if let Some(pair) = ring.get_mut(to) {
+            *pair = brought;
+        }
     }
 }
 
@@ -43,15 +58,18 @@ pub fn pop(ring: &mut Ring) -> Option<Entry>
     }
 }
 
-/// Turns the ring once round: gaps are let go.
-pub fn turn(ring: &mut Ring)
+/// Closes the gaps: each pair behind one comes forward.
+pub fn close_gaps(ring: &mut Ring)
     ensures { ring.new ≡ buffer (map (λ e. Some e) (present ring.old.items)) ring.old.capacity }
 {
-    for _at in 0..ring.len() {
-        if let Some(entry) = pop(ring) {
-            ring.push_back(Some(entry));
+    let mut left = 0;
+    for at in 0..ring.len() {
+        if let Some(_entry) = pair_at(ring, at) {
+            bring(ring, at, left);
+            left += 1;
         }
     }
+    ring.truncate_back(left);
 }
 
 /// For each place, how many pairs are before it: its own place when the gaps are closed.

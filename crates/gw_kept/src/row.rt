@@ -11,7 +11,7 @@ ghost use Rattle.gw_kept.specs.Rows.{gapped, present, kept_in, keys_in, places_f
 use crate::change::Turn;
 use crate::entry::{Entry, RequestKey};
 use crate::order::Order;
-use crate::ring::{Ring, pair_at, pop, turn};
+use crate::ring::{Ring, close_gaps, pair_at, pop};
 use circular_buffer::HeapCircularBuffer;
 use gw_base::Mid;
 use gw_msg::AckRange;
@@ -188,7 +188,7 @@ impl Row {
     {
         if self.len() < self.ring.len() {
             self.order.number_anew(&self.ring);
-            turn(&mut self.ring);
+            close_gaps(&mut self.ring);
         }
     }
 

@@ -1,4 +1,4 @@
-use Rattle.std.proofs.Common.{◌≡◌, ◌<◌, ◌≤◌, ◌-◌, ◌++◌, ◌∷◌, [], ℕ, List, Option, Some, nat_lt, map, length, refl, sym, ap, subst, ◌∙◌, length-append, arith}
+use Rattle.std.proofs.Common.{◌≡◌, ◌<◌, ◌-◌, ◌++◌, ◌∷◌, [], ℕ, List, Option, Some, nat_lt, map, length, refl, sym, ap, subst, ◌∙◌, length-append, arith}
 use Rattle.std.proofs.lemmas.List.{map-append}
 use Rattle.std.specs.Option.{option_map}
 use Rattle.circular_buffer.specs.Buffer.{Buffer, buffer, keep_last}
@@ -60,8 +60,7 @@ invariant_of-self c =
     let more : present c.push_back.new.self.items ≡ present row ++ e ∷ [] = ap (λ (l : List (Option Entry)). present l) items ∙ present_append row (Some e ∷ []) in
     let keys : keys_in row ++ Some c.key.result ∷ [] ≡ keys_in c.push_back.new.self.items =
     ap (λ k. keys_in row ++ Some k ∷ []) c.key.ensures ∙ sym (map-append (option_map key_of) row (Some e ∷ [])) ∙ ap keys_in (sym items)
-    in
-    (
+    in (
       record {
         few = omega (arith, ap length more, length-append (present row) (e ∷ []), ap length r.pairs, few_last (now.most - 1) (present now.row), r.same, inv.0.some);
         some = inv.0.some;
