@@ -1,0 +1,157 @@
+//! The tables of a gateway, and bursts on a board of a copy of them.
+
+ghost use Rattle.std.specs.Prelude.{◌≡◌};
+ghost use Rattle.std.specs.List.{list_any};
+ghost use Rattle.gw_table.specs.Reserved.{is_reserved};
+
+use crate::asking::{Limits, asks_in};
+use crate::play::play;
+use crate::tell::write_keys;
+use crate::waves::carried_out;
+use cases_text::{CaseFault, Page};
+use gw_base::{Config, Rules, TermName};
+use gw_board::Manner;
+use gw_foot::footprint;
+use gw_msg::read_message;
+use gw_table::{Tables, is_reserved};
+use std::alloc::Global;
+use std::marker::Model;
+
+/// How a gateway carries requests out, and its tables, which are well-formed and of which nothing is out.
+#[derive(Drop)]
+pub struct Bench {
+    manner: Manner,
+    limits: Limits,
+    tables: Tables,
+}
+
+impl Model for Bench {
+    ghost use Rattle.gw_table.specs.Maps.{Maps, coded_maps};
+    ghost use Rattle.gw_table.specs.Stored.{maps_of, NoneIsOut};
+    ghost use Rattle.gw_table.specs.WellFormed.{AreWellFormed};
+
+    ghost Value = { Maps };
+
+    ghost coded = { coded_maps };
+
+    ghost view = { λ a. maps_of a.tables };
+
+    ghost invariant = { λ a. AreWellFormed a.manner.rules.members (maps_of a.tables) × NoneIsOut a.tables };
+}
+
+/// Whether a name is the gateway's own to give.
+fn has_reserved(names: &[TermName]) -> bool
+    ensures { result ≡ list_any is_reserved names.now }
+{
+    names.iter().any(|name| is_reserved(*name))
+}
+
+/// How many contexts and slots a gateway of this configuration has.
+fn limits_of(config: &Config) -> Option<Limits> {
+    if config.contexts > 65_535 || config.slots > 4_096 {
+        return None;
+    }
+    Some(Limits {
+        contexts: config.contexts,
+        slots: config.slots,
+    })
+}
+
+impl Bench {
+    /// The tables of a gateway that was just configured.
+    ///
+    /// # Errors
+    ///
+    /// `Form` where the configuration does not keep the limits; `NoMemory` where a growth was refused.
+    pub fn new(alloc: Global, config: &Config) -> Result<Bench, CaseFault> {
+        if config.members > 64 || has_reserved(config.terms.as_slice()) {
+            return Err(CaseFault::Form);
+        }
+        let limits = limits_of(config).ok_or(CaseFault::Form)?;
+        let Ok(tables) = Tables::provision(alloc, config) else {
+            return Err(CaseFault::NoMemory);
+        };
+        let rules = Rules {
+            media: config.media,
+            members: config.members as u8,
+        };
+        Ok(Bench {
+            manner: Manner {
+                rules,
+                mid: config.mid,
+            },
+            limits,
+            tables,
+        })
+    }
+
+    /// The tables after the requests of a message, carried out in waves.
+    ///
+    /// # Errors
+    ///
+    /// `Form` where the text is no message; `NoMemory` where a growth was refused.
+    pub fn after(&self, alloc: Global, text: &[u8]) -> Result<Bench, CaseFault> {
+        let Ok(message) = read_message(alloc, text) else {
+            return Err(CaseFault::Form);
+        };
+        let Ok(asked) = asks_in(alloc, &self.tables, self.limits, &message) else {
+            return Err(CaseFault::NoMemory);
+        };
+        let Ok(tables) = self.tables.copy() else {
+            return Err(CaseFault::NoMemory);
+        };
+        let Ok(tables) = carried_out(alloc, tables, self.manner, &asked) else {
+            return Err(CaseFault::NoMemory);
+        };
+        Ok(Bench {
+            manner: self.manner,
+            limits: self.limits,
+            tables,
+        })
+    }
+
+    /// Takes steps with the requests of a message, on a board of a copy of the tables.
+    ///
+    /// # Errors
+    ///
+    /// `Form` where the text is no message, and what is wrong with a step; `NoMemory` where a growth was refused.
+    pub fn play(&self, text: &[u8], steps: &[u8], out: &mut Page) -> Result<(), CaseFault> {
+        let alloc = out.alloc();
+        let Ok(message) = read_message(alloc, text) else {
+            return Err(CaseFault::Form);
+        };
+        let Ok(asked) = asks_in(alloc, &self.tables, self.limits, &message) else {
+            return Err(CaseFault::NoMemory);
+        };
+        let Ok(tables) = self.tables.copy() else {
+            return Err(CaseFault::NoMemory);
+        };
+        play(tables, self.manner, &asked, steps, out)
+    }
+
+    /// Writes the footprint of a request of a message.
+    ///
+    /// # Errors
+    ///
+    /// `Form` where the text is no message, or has no such request; `NoMemory` where a growth was refused.
+    pub fn write_footprint(
+        &self,
+        text: &[u8],
+        place: usize,
+        out: &mut Page,
+    ) -> Result<(), CaseFault> {
+        let alloc = out.alloc();
+        let Ok(message) = read_message(alloc, text) else {
+            return Err(CaseFault::Form);
+        };
+        let Ok(asked) = asks_in(alloc, &self.tables, self.limits, &message) else {
+            return Err(CaseFault::NoMemory);
+        };
+        let one = asked.get(place).ok_or(CaseFault::Form)?;
+        let Ok(keys) = footprint(alloc, &self.tables, one.request.get(), &one.owned) else {
+            return Err(CaseFault::NoMemory);
+        };
+        write_keys(out, keys.list());
+        Ok(())
+    }
+}

@@ -1,0 +1,76 @@
+//! Requests that are carried out in waves, to prepare the tables of a case.
+
+ghost use Rattle.std.specs.Prelude.{◌≡◌, [], IfOk, OnOk, OnErr};
+ghost use Rattle.gw_table.specs.Stored.{maps_of, NoneIsOut};
+ghost use Rattle.gw_table.specs.Unused.{AreUnused};
+ghost use Rattle.gw_table.specs.WellFormed.{AreWellFormed};
+ghost use Rattle.gw_board.specs.Boards.{core_of, AllClosed};
+ghost use Rattle.gw_board.specs.OpenJobs.{AreAnswers, IsAnswer, IsSameBurst};
+ghost use Rattle.gw_board.specs.Results.{NothingIsOpen, slots_of};
+
+use gw_base::{Items, NoMemory};
+use gw_board::{Asked, Board, BoardFault, Job, Manner, carry};
+use gw_table::{Part, Tables};
+use std::alloc::Global;
+
+/// What a job came to.
+type Answer = Result<(Part, Items<u8>), NoMemory>;
+
+/// Carries a job out.
+fn answer_to(alloc: Global, job: &Job<'_, '_, '_>) -> Answer
+    ensures { IsAnswer job.now result }
+{
+    carry(alloc, job)
+}
+
+/// An answer for each job.
+fn answers_to(alloc: Global, jobs: &[Job<'_, '_, '_>]) -> Result<Vec<Answer>, NoMemory>
+    ensures { IfOk result (λ answers. AreAnswers jobs.now answers.items) }
+{
+    let mut answers = Vec::with_capacity(alloc, jobs.len())?;
+    for job in jobs {
+        answers.push(answer_to(alloc, job))?;
+    }
+    Ok(answers)
+}
+
+/// Carries all requests of a board out, wave after wave.
+fn carry_all(alloc: Global, board: &mut Board<'_, '_, '_>) -> Result<(), NoMemory>
+    requires { NothingIsOpen (core_of board.old) }
+    ensures closed { OnOk result (AllClosed board.new.places) }
+    ensures same { IsSameBurst board.old board.new }
+{
+    loop {
+        let jobs = board.open_wave(alloc)?;
+        if jobs.is_empty() {
+            return Ok(());
+        }
+        let Ok(answers) = answers_to(alloc, &jobs) else {
+            board.close_unchanged(jobs);
+            return Err(NoMemory);
+        };
+        board.close_wave(jobs, answers)?;
+    }
+}
+
+/// The tables after these requests. The caller knows that they are well-formed, that nothing is out, and that what is owned is unused.
+pub fn carried_out(
+    alloc: Global,
+    tables: Tables,
+    manner: Manner,
+    asked: &[Asked<'_, '_>],
+) -> Result<Tables, NoMemory>
+    requires whole { AreWellFormed manner.rules.members (maps_of tables) }
+    requires here { NoneIsOut tables }
+    requires unused { AreUnused (maps_of tables) [] (slots_of asked.now) }
+    ensures whole { IfOk result (λ after. AreWellFormed manner.rules.members (maps_of after)) }
+    ensures here { IfOk result NoneIsOut }
+{
+    let mut board = match Board::new(alloc, tables, manner, asked) {
+        Ok(board) => board,
+        Err(BoardFault::NoMemory(_)) => return Err(NoMemory),
+    };
+    carry_all(alloc, &mut board)?;
+    let (tables, _replies) = board.finish();
+    Ok(tables)
+}
