@@ -1,8 +1,11 @@
 #!/usr/bin/env python3
 """Loads `h248gw serve` over the loopback, and says whether it kept its promises.
 
-Run it at the top of the repository, after `rt run` in crates/h248gw has built the program; `--program PATH` names another one. Each
-part starts the program anew on a free port, and ends it by SIGTERM. It fails at the first promise that is not kept.
+    bench/serving.py [--program PATH] [--workers N]
+
+Run it at the top of the repository, after `rt run` in crates/h248gw has built the program; `--program` names another one. Each part
+starts the program anew on a free port, with so many workers (1 by default), and ends it by SIGTERM. It fails at the first promise
+that is not kept.
 
   load    four senders, each with at most 64 datagrams on the way, 20,000 in all: calls are set up and ended. Every request is
           answered once, and at the end the tables hold the calls that were left standing and no other.
@@ -10,6 +13,7 @@ part starts the program anew on a free port, and ends it by SIGTERM. It fails at
   memory  VmRSS after 20,000 and after 200,000 transactions, which set up a call and end it: within 5 percent.
   longest a datagram of 65,507 bytes, which is answered; over IPv6, where there is, one of 65,508, which is not.
 """
+import argparse
 import collections
 import os
 import pathlib
@@ -37,14 +41,14 @@ SILENCE = 2
 class Gateway:
     """The program, serving on a port of the loopback."""
 
-    def __init__(self, program, config, family=socket.AF_INET):
+    def __init__(self, program, config, family=socket.AF_INET, workers=1):
         self.family = family
         host, form = ("127.0.0.1", "%s:%d") if family == socket.AF_INET else ("::1", "[%s]:%d")
         with socket.socket(family, socket.SOCK_DGRAM) as probe:
             probe.bind((host, 0))
             self.address = probe.getsockname()
         listen = form % self.address[:2]
-        self.process = subprocess.Popen([program, "serve", config, "--listen", listen], stdout=subprocess.PIPE)
+        self.process = subprocess.Popen([program, "serve", config, "--listen", listen, "--workers", str(workers)], stdout=subprocess.PIPE)
         wanted(self.process.stdout.readline() == b"listening\n", "it listens")
 
     def socket(self):
@@ -236,13 +240,17 @@ def families():
 
 
 def main():
-    program = os.path.abspath(sys.argv[2] if sys.argv[1:2] == ["--program"] else "crates/h248gw/out/h248gw")
+    words = argparse.ArgumentParser()
+    words.add_argument("--program", default="crates/h248gw/out/h248gw")
+    words.add_argument("--workers", type=int, default=1)
+    given = words.parse_args()
+    program = os.path.abspath(given.program)
     with tempfile.TemporaryDirectory() as folder:
         config = os.path.join(folder, "bench.conf")
         pathlib.Path(config).write_text(CONFIG)
         parts = [(part, socket.AF_INET) for part in (load, flood, memory)] + [(longest, family) for family in families()]
         for part, family in parts:
-            gateway = Gateway(program, config, family)
+            gateway = Gateway(program, config, family, given.workers)
             try:
                 part(gateway)
                 gateway.end()

@@ -6,8 +6,9 @@
 PROGRAM is crates/h248gw/out/h248gw by default, which `rt run` builds in crates/h248gw. Calls are set up and ended, on 400 lines with
 4,096 kept replies, and some are left standing at the end. It fails at the first thing that is not so.
 
-  replay  10,000,000 transactions by default, one in nine of them a repeat of one before: each is answered once, a repeat as before;
-          the tables at the end are as counted; VmRSS at the end is within 5 percent of that after the first hundredth
+  replay  10,000,000 transactions by default, one in nine of them a repeat of one before, and one in twenty on a context and a
+          termination that there never was, another one each time: each is answered once, a repeat as before; the tables at the end
+          are as counted; VmRSS at the end is within 5 percent of that after the first hundredth
   serve   2,000,000 new transactions by default over the loopback, from four senders, each with at most 32 on the way: one in 16 is
           lost on its way there, one in 16 of the answers on its way back, and both are asked again; one in 8 is sent twice; what is
           sent at once goes out in any order. The same holds, and a repeat has the bytes of the answer before
@@ -27,6 +28,8 @@ import serving
 from serving import CONFIG, HEAD, KEPT, LINES, SENDERS, wanted
 
 ROUND, LEFT = 200, 10
+# So many transactions of a round are on what there never was; contexts are numbered up to 1,000.
+UNKNOWN = 24
 ANSWER = re.compile(rb"Reply=(\d+)\{Context=(\d+)\{([^\n]*)\n")
 # How many of the last answers are remembered, by number.
 REMEMBERED = 8192
@@ -59,8 +62,8 @@ class Replay:
         first, self.number = self.number + 1, self.number + len(bodies)
         return [(number, b"MEGACO/1 [10.0.0.9]:2944 Transaction=%d{%s}" % (number, body)) for number, body in enumerate(bodies, first)]
 
-    def answered(self, asked):
-        """The answers to transactions, which go out in bursts of 20."""
+    def answered(self, asked, is_refused=False):
+        """The answers to transactions, which go out in bursts of 20: all are carried out, or refused."""
         out, bursts = [], 0
         for at in range(0, len(asked), 20):
             out += [b"D 7 %d\n%s\n" % (len(text), text) for _, text in asked[at:at + 20]] + [b".\n"]
@@ -73,7 +76,8 @@ class Replay:
             wanted(more, "answers to all that was asked")
             told += more
         found = ANSWER.findall(told)
-        wanted([int(number) for number, _, _ in found] == [number for number, _ in asked] and b"Error" not in told, "one answer each")
+        wanted([int(number) for number, _, _ in found] == [number for number, _ in asked], "one answer each")
+        wanted(told.count(b"Error") == (len(asked) if is_refused else 0), "all carried out, or refused")
         self.transactions += len(asked)
         return found
 
@@ -85,6 +89,8 @@ class Replay:
         some = range(0, len(first), 8)
         again = self.answered([(ended + began)[place] for place in some])
         wanted(again == [first[place] for place in some], "a repeat is answered as before")
+        names = range(self.number, self.number + UNKNOWN)
+        self.answered(self.asked([b"Context=%d{Modify=X/%d}" % (name + 1001, name) for name in names]), True)
         return [(line, context) for line, (_, context, _) in zip(lines, first[len(ended):])]
 
 

@@ -67,7 +67,8 @@ impl Common {
     }
 
     /// One tells this.
-    fn add(&mut self, workers: Workers, page: Page) {
+    fn add(&mut self, workers: Workers, page: Page) -> Result<(), CaseFault> {
+        page.whole()?;
         match &self.first {
             None => self.first = Some(page),
             Some(first) => {
@@ -76,6 +77,7 @@ impl Common {
                 }
             }
         }
+        Ok(())
     }
 
     /// What all tell.
@@ -204,28 +206,21 @@ pub fn write_audit(crews: &Crews, audit: Audit, out: &mut Page) -> Result<(), Ca
     for crew in crews.crews.iter() {
         let mut page = Page::new(out.alloc());
         write_tables(&crew.gateway, audit, &mut page);
-        common.add(crew.workers, page);
+        common.add(crew.workers, page)?;
     }
     common.write(out)
 }
 
 /// The answers of one gateway to a burst, whose jobs pass the gate.
-fn write_run<R: Threads + Sync, G: Gate>(
+fn answers_of<R: Threads + Sync, G: Gate>(
     rt: &R,
+    alloc: Global,
     crew: &mut Crew,
     burst: &[Datagram],
     gate: &G,
-    told: Told,
-    out: &mut Page,
-) -> Result<(), NoMemory> {
-    let answers = crew
-        .gateway
-        .run(rt, out.alloc(), crew.workers.number, burst, gate)?;
-    match told {
-        Told::Last => write_last(answers.as_slice(), out),
-        _ => write_answers(out, answers.as_slice()),
-    }
-    Ok(())
+) -> Result<Vec<Datagram>, NoMemory> {
+    crew.gateway
+        .run(rt, alloc, crew.workers.number, burst, gate)
 }
 
 /// In how many waves a burst is carried out, and its answers.
@@ -236,10 +231,9 @@ fn write_waves<R: Threads + Sync>(
     out: &mut Page,
 ) -> Result<(), NoMemory> {
     let waves = Waves::new(out.alloc())?;
-    let mut answers = Page::new(out.alloc());
-    write_run(rt, crew, burst, &waves, Told::Each, &mut answers)?;
+    let answers = answers_of(rt, out.alloc(), crew, burst, &waves)?;
     waves.write(out);
-    out.put(answers.as_bytes());
+    write_answers(out, answers.as_slice());
     Ok(())
 }
 
@@ -253,14 +247,13 @@ fn write_meeting<R: Threads + Clock + Sync>(
 ) -> Result<(), NoMemory> {
     let jobs = u32::try_from(burst.len()).unwrap_or(u32::MAX);
     let meeting = Meeting::new(rt, out.alloc(), jobs, place)?;
-    let mut answers = Page::new(out.alloc());
-    write_run(rt, crew, burst, &meeting, Told::Each, &mut answers)?;
+    let answers = answers_of(rt, out.alloc(), crew, burst, &meeting)?;
     out.put(if meeting.was_met() {
         b"met\n"
     } else {
         b"given up\n"
     });
-    out.put(answers.as_bytes());
+    write_answers(out, answers.as_slice());
     Ok(())
 }
 
@@ -273,10 +266,18 @@ fn write_told<R: Threads + Clock + Sync>(
     out: &mut Page,
 ) -> Result<(), NoMemory> {
     match told {
-        Told::Each | Told::Last => write_run(rt, crew, burst, &OpenGate, told, out),
-        Told::Waves => write_waves(rt, crew, burst, out),
-        Told::Meeting(place) => write_meeting(rt, crew, burst, place, out),
+        Told::Each => {
+            let answers = answers_of(rt, out.alloc(), crew, burst, &OpenGate)?;
+            write_answers(out, answers.as_slice());
+        }
+        Told::Last => {
+            let answers = answers_of(rt, out.alloc(), crew, burst, &OpenGate)?;
+            write_last(answers.as_slice(), out);
+        }
+        Told::Waves => write_waves(rt, crew, burst, out)?,
+        Told::Meeting(place) => write_meeting(rt, crew, burst, place, out)?,
     }
+    Ok(())
 }
 
 /// Sends a burst to each gateway, and writes what is told of it. Where one refuses it for memory, that is written in its place, and
@@ -296,7 +297,7 @@ pub fn run<R: Threads + Clock + Sync>(
             page.shown(&fault);
             is_done = false;
         }
-        common.add(crew.workers, page);
+        common.add(crew.workers, page)?;
     }
     common.write(out)?;
     Ok(is_done)

@@ -3,7 +3,6 @@ use Rattle.std.proofs.Common.{◌≡◌, ℕ, Bool, true, false, List, [], ◌�
 use Rattle.std.specs.Prelude.{flat_map}
 use Rattle.std.specs.List.{list_any}
 use Rattle.gw_base.specs.declared.command_words.CtxRef.{CtxRef}
-use Rattle.gw_base.specs.declared.command_words.CtxRef.TheVariants as ref
 use Rattle.gw_base.specs.declared.ids.CtxNum.{CtxNum}
 use Rattle.gw_base.specs.declared.key.Key.{Key}
 use Rattle.gw_base.specs.declared.key.Key.TheVariants.{Term, Ctx, Whole}
@@ -24,7 +23,7 @@ use Rattle.gw_tx.specs.Footprints.{is_for_each, one_context, stands_for_all, nam
 use Rattle.gw_foot.specs.Meets.{meets}
 use Rattle.gw_foot.proofs.Meetings.{apart_if}
 use Rattle.gw_board.specs.Carried.{Asked, keys_of}
-use Rattle.gw_board.specs.Named.{names_term, names_context, names_in_commands, names_in, AreNamed, context_of, is_one_context, Touch}
+use Rattle.gw_board.specs.Named.{names_term, names_number, names_in_commands, names_in, names_in_actions, AreNamed, context_of, is_one_context, Touch}
 
 -- the key k comes with the thing x, wherever that is named
 module _ (m : Maps) (k x : Key) (with_term : (t : List ℕ) → same_key x (Term t) ≡ true → has (Term t ∷ place_key (place_of (maps.term m t))) k ≡ true) (with_context : (n : CtxNum) → same_key x (Ctx n) ≡ true → has (Ctx n ∷ []) k ≡ true) where
@@ -46,32 +45,30 @@ module _ (m : Maps) (k x : Key) (with_term : (t : List ℕ) → same_key x (Term
       (λ i. any-append_left (same_key k) (all ++ mine) later (any-append_right (same_key k) all mine (named_term (one_context sent number) (first_owned slots) c c.term i)))
       (λ i. any-append_right (same_key k) (all ++ mine) later (named_commands sent number (later_owned slots) cs i))
 
-  named_context : (sent : CtxRef) (number : Option CtxNum) → names_context x sent ≡ true → has (place_key (one_context sent number)) k ≡ true
-  named_context (ref.Num n) number h = with_context n h
-  named_context ref.Null number h = absurd cc
-  named_context ref.All number h = absurd cc
-  named_context ref.Choose number h = absurd cc
+  named_number : (one : Option CtxNum) → names_number x one ≡ true → has (place_key one) k ≡ true
+  named_number None h = absurd cc
+  named_number (Some n) h = with_context n h
 
-  named_action : (number : Option CtxNum) (slots : List (Option ℕ)) (a : Action) → names_in x a ≡ true → has (action_footprint (paired_action number slots a) m) k ≡ true
+  named_action : (number : Option CtxNum) (slots : List (Option ℕ)) (a : Action) → names_in x number a ≡ true → has (action_footprint (paired_action number slots a) m) k ≡ true
   named_action number slots a h =
       let all : List Key = keys_if (is_for_each a.ctx) (every_key m) in
       let one : List Key = place_key (one_context a.ctx number) in
       let asked : List Key = flat_map (keys_in_action a.ctx number m) (paired_commands slots a.commands) in
-      either (or_cases (names_context x a.ctx) (names_in_commands x a.commands) h)
-      (λ i. any-append_left (same_key k) (all ++ one) asked (any-append_right (same_key k) all one (named_context a.ctx number i)))
+      either (or_cases (names_number x (one_context a.ctx number)) (names_in_commands x a.commands) h)
+      (λ i. any-append_left (same_key k) (all ++ one) asked (any-append_right (same_key k) all one (named_number (one_context a.ctx number) i)))
       (λ i. any-append_right (same_key k) (all ++ one) asked (named_commands a.ctx number slots a.commands i))
 
-  named_actions : (numbers : List (Option CtxNum)) (slots : List (Option ℕ)) (actions : List Action) → list_any (names_in x) actions ≡ true → has (footprint_of (paired_actions numbers slots actions) m) k ≡ true
+  named_actions : (numbers : List (Option CtxNum)) (slots : List (Option ℕ)) (actions : List Action) → names_in_actions x numbers actions ≡ true → has (footprint_of (paired_actions numbers slots actions) m) k ≡ true
   named_actions numbers slots [] h = absurd cc
   named_actions numbers slots (a ∷ more) h =
       let mine : List Key = action_footprint (paired_action (first_owned numbers) slots a) m in
       let later : List Key = footprint_of (paired_actions (later_owned numbers) (drop (length a.commands) slots) more) m in
-      either (or_cases (names_in x a) (list_any (names_in x) more) h)
+      either (or_cases (names_in x (first_owned numbers) a) (names_in_actions x (later_owned numbers) more) h)
       (λ i. any-append_left (same_key k) mine later (named_action (first_owned numbers) slots a i))
       (λ i. any-append_right (same_key k) mine later (named_actions (later_owned numbers) (drop (length a.commands) slots) more i))
 
 -- a thing that is named is itself a key
-named_among : (a : Asked) (names : List Key) → AreNamed a.request names → (m : Maps) → Among names (keys_of a m)
+named_among : (a : Asked) (names : List Key) → AreNamed a names → (m : Maps) → Among names (keys_of a m)
 named_among a names n m k h =
     named_actions m k k
     (λ t e. or_left (same_key k (Term t)) (has (place_key (place_of (maps.term m t))) k) e)
@@ -79,7 +76,7 @@ named_among a names n m k h =
     a.owned.contexts a.owned.slots a.request.actions (sym (n k) ∙ h)
 
 -- and the context that it is in
-context_among : (a : Asked) (names : List Key) → AreNamed a.request names → (m : Maps) (x : Key) (c : CtxNum) → has names x ≡ true → context_of m x ≡ Some c → has (keys_of a m) (Ctx c) ≡ true
+context_among : (a : Asked) (names : List Key) → AreNamed a names → (m : Maps) (x : Key) (c : CtxNum) → has names x ≡ true → context_of m x ≡ Some c → has (keys_of a m) (Ctx c) ≡ true
 context_among a names n m (Term t) c h e =
     named_actions m (Ctx c) (Term t)
     (λ u i. ap (λ (o : Option CtxNum). has (Term u ∷ place_key o) (Ctx c)) (ap (λ (v : List ℕ). place_of (maps.term m v)) (sym (same_name t u i)) ∙ e) ∙ or_left (same_key (Ctx c) (Ctx c)) false (same-itself (Ctx c)))
@@ -108,7 +105,7 @@ key_meets x y k h i = shared_meets (k ∷ []) (k ∷ []) x y (alone x h) (alone 
     alone : (z : List Key) → has z k ≡ true → Among (k ∷ []) z
     alone z h q e = either (or_cases (same_key q k) false e) (λ s. subst (λ (r : Key). has z r ≡ true) (sym (same_key_is q k s)) h) (λ f. absurd cc)
 
-module _ (a b : Asked) (mine theirs : List Key) (n : AreNamed a.request mine) (o : AreNamed b.request theirs) (m : Maps) where
+module _ (a b : Asked) (mine theirs : List Key) (n : AreNamed a mine) (o : AreNamed b theirs) (m : Maps) where
   in_one_context : (x y : Key) → has mine x ≡ true → has theirs y ≡ true → is_one_context (context_of m x) (context_of m y) ≡ true → meets (keys_of b m) (keys_of a m) ≡ true
   in_one_context x y h i s = by (context_of m x) (context_of m y) refl refl s
     where

@@ -1,9 +1,7 @@
--- What a request names by itself (own): the contexts that its actions are for by number, and the terminations that its commands are for
--- by name. They are keys of it, whatever the maps are.
-use Rattle.std.specs.Prelude.{◌≡◌, ℕ, nat_eq, Bool, true, false, ◌||◌, List, take, slice_get, Option, None, Some}
+-- What a request names by itself (own): the contexts that its actions are for, by number or by the number that they own, and the
+-- terminations that its commands are for by name. They are keys of it, whatever the maps are.
+use Rattle.std.specs.Prelude.{◌≡◌, ℕ, nat_eq, Bool, true, false, ◌||◌, List, [], ◌∷◌, take, slice_get, Option, None, Some}
 use Rattle.std.specs.List.{list_any}
-use Rattle.gw_base.specs.declared.command_words.CtxRef.{CtxRef}
-use Rattle.gw_base.specs.declared.command_words.CtxRef.TheVariants as ref
 use Rattle.gw_base.specs.declared.ids.CtxNum.{CtxNum}
 use Rattle.gw_base.specs.declared.key.Key.{Key}
 use Rattle.gw_base.specs.declared.key.Key.TheVariants.{Term, Ctx, Whole}
@@ -12,8 +10,10 @@ use Rattle.gw_base.specs.declared.term_ref.TermRef.TheVariants as term
 use Rattle.gw_base.specs.Keys.{has, same_key}
 use Rattle.gw_msg.specs.declared.message.Action.{Action}
 use Rattle.gw_msg.specs.declared.message.Command.{Command}
-use Rattle.gw_msg.specs.declared.message.Request.{Request}
 use Rattle.gw_table.specs.Maps.{Maps, term as term_at, place_of}
+use Rattle.gw_reserve.specs.Owned.{first_owned, later_owned}
+use Rattle.gw_tx.specs.Footprints.{one_context}
+use Rattle.gw_board.specs.Carried.{Asked}
 use Rattle.gw_board.specs.Core.{Place}
 use Rattle.gw_board.specs.Waves.{is_free}
 
@@ -25,24 +25,23 @@ names_term k term.Choose = false
 names_term k term.Root = false
 names_term k (term.Other text) = false
 
-abbrev pub names_context : Key → CtxRef → Bool
-names_context k (ref.Num n) = same_key k (Ctx n)
-names_context k ref.Null = false
-names_context k ref.All = false
-names_context k ref.Choose = false
+abbrev pub names_number : Key → Option CtxNum → Bool
+names_number k None = false
+names_number k (Some n) = same_key k (Ctx n)
 
 abbrev pub names_in_commands : Key → List Command → Bool
 names_in_commands k cs = list_any (λ c. names_term k c.term) cs
 
-abbrev pub names_in : Key → Action → Bool
-names_in k a = names_context k a.ctx || names_in_commands k a.commands
+abbrev pub names_in : Key → Option CtxNum → Action → Bool
+names_in k own a = names_number k (one_context a.ctx own) || names_in_commands k a.commands
 
-abbrev pub is_named : Request → Key → Bool
-is_named r k = list_any (names_in k) r.actions
+abbrev pub names_in_actions : Key → List (Option CtxNum) → List Action → Bool
+names_in_actions k owned [] = false
+names_in_actions k owned (a ∷ more) = names_in k (first_owned owned) a || names_in_actions k (later_owned owned) more
 
 -- these and no others
-abbrev pub AreNamed : Request → List Key → Type 0
-AreNamed r keys = (k : Key) → has keys k ≡ is_named r k
+abbrev pub AreNamed : Asked → List Key → Type 0
+AreNamed a keys = (k : Key) → has keys k ≡ names_in_actions k a.owned.contexts a.request.actions
 
 -- the context that a thing is in, or is
 abbrev pub context_of : Maps → Key → Option CtxNum

@@ -13,6 +13,17 @@ use crate::seat::{Seat, Stage, set_stage};
 use gw_base::Items;
 use gw_table::{Part, Tables};
 
+/// Gives up the places that were made for keys of the journal and have no entry. A key takes a look-up.
+fn sweep_journal(tables: &mut Tables, originals: &[Part])
+    requires { NoneIsOut tables.old }
+    ensures maps { maps_of tables.new ≡ maps_of tables.old }
+    ensures here { NoneIsOut tables.new }
+{
+    for part in originals {
+        tables.sweep_keys(part.keys());
+    }
+}
+
 impl<'b, 'h, 'a> Board<'b, 'h, 'a> {
     /// The job's new entries go into the tables, and its reply stands at its place. The part that it had goes to the journal.
     fn close_with(&mut self, job: Job<'_, '_, '_>, part: Part, reply: Items<u8>)
@@ -67,7 +78,8 @@ impl<'b, 'h, 'a> Board<'b, 'h, 'a> {
     }
 
     /// The tables as they were when the board was made: the parts of the journal go back, the last one first. The caller knows that
-    /// nothing is open. The work is a look-up for each key of the journal.
+    /// nothing is open. No place stays that has no entry. The work is a look-up for each key of the journal, and one pass over all
+    /// places.
     pub fn undo(self) -> Tables
         requires { NothingIsOpen (core_of self) }
         ensures maps { maps_of result ≡ self.entry.begun }
@@ -84,11 +96,13 @@ impl<'b, 'h, 'a> Board<'b, 'h, 'a> {
         while let Some(part) = originals.pop() {
             tables.replace(part);
         }
+        tables.sweep();
         tables
     }
 
     /// The tables, and the texts of the replies in the order of the places: what carrying the requests out one after another gives, on the tables
-    /// that the board was made with. The caller knows that every place is closed with a reply.
+    /// that the board was made with. The caller knows that every place is closed with a reply. Places that were made for its keys and
+    /// have no entry are given up: the work is a look-up for each key of the journal.
     pub fn finish(self) -> (Tables, Vec<Items<u8>>)
         requires { AllClosed self.places }
         ensures maps { maps_of result.0 ≡ (carried self.entry.manner (asked_of self.entry.places) self.entry.begun).maps }
@@ -96,10 +110,10 @@ impl<'b, 'h, 'a> Board<'b, 'h, 'a> {
         ensures here { NoneIsOut result.0 }
     {
         let Board {
-            tables,
+            mut tables,
             manner: _,
             seats,
-            originals: _,
+            originals,
             mut replies,
             start: _,
         } = self;
@@ -112,6 +126,7 @@ impl<'b, 'h, 'a> Board<'b, 'h, 'a> {
                 unreachable!()
             };
         }
+        sweep_journal(&mut tables, &originals);
         (tables, replies)
     }
 }

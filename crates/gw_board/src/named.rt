@@ -1,4 +1,4 @@
-//! What a request names by itself, whatever the tables are.
+//! What a request names by itself, or owns, whatever the tables are.
 
 ghost use Rattle.std.specs.Prelude.{◌≡◌, ◌||◌, true, IfOk, IsTrue, OnOk};
 ghost use Rattle.gw_base.specs.declared.key.Key.{Key as AKey};
@@ -6,14 +6,17 @@ ghost use Rattle.gw_base.specs.Keys.{has};
 ghost use Rattle.gw_foot.specs.Meets.{meets};
 ghost use Rattle.gw_table.specs.Stored.{maps_of};
 ghost use Rattle.gw_board.specs.Carried.{keys_of};
-ghost use Rattle.gw_board.specs.Named.{names_term, names_context, names_in_commands, names_in, AreNamed};
+ghost use Rattle.gw_tx.specs.Footprints.{one_context};
+ghost use Rattle.gw_board.specs.Named.{names_term, names_number, names_in_commands, names_in, AreNamed};
 
 use crate::asked::{Asked, Task};
 use crate::namers::{Namers, Naming};
 use crate::touch::{Link, does_hold, note_contexts};
-use gw_base::{CtxRef, Key, NoMemory, TermRef};
-use gw_msg::{Action, Command, Request};
+use gw_base::{CtxNum, CtxRef, Key, NoMemory, TermRef};
+use gw_foot::one_context;
+use gw_msg::{Action, Command};
 use gw_table::Tables;
+use gw_tx::next_entry;
 use std::alloc::Global;
 use std::cell::Cell;
 use std::marker::Model;
@@ -27,10 +30,10 @@ fn add_term(term: TermRef, keys: &mut Vec<Key>) -> Result<(), NoMemory>
     Ok(())
 }
 
-fn add_context(sent: CtxRef, keys: &mut Vec<Key>) -> Result<(), NoMemory>
-    ensures { OnOk result ((k : AKey) → has keys.new.items k ≡ (has keys.old.items k || names_context k sent)) }
+fn add_context(sent: CtxRef, own: Option<CtxNum>, keys: &mut Vec<Key>) -> Result<(), NoMemory>
+    ensures { OnOk result ((k : AKey) → has keys.new.items k ≡ (has keys.old.items k || names_number k (one_context sent own))) }
 {
-    if let CtxRef::Num(number) = sent {
+    if let Some(number) = one_context(sent, own) {
         keys.push(Key::Ctx(number))?;
     }
     Ok(())
@@ -45,21 +48,28 @@ fn add_terms(commands: &[Command<'_>], keys: &mut Vec<Key>) -> Result<(), NoMemo
     Ok(())
 }
 
-fn add_action(action: &Action<'_>, keys: &mut Vec<Key>) -> Result<(), NoMemory>
-    ensures { OnOk result ((k : AKey) → has keys.new.items k ≡ (has keys.old.items k || names_in k action.now)) }
+fn add_action(
+    action: &Action<'_>,
+    own: Option<CtxNum>,
+    keys: &mut Vec<Key>,
+) -> Result<(), NoMemory>
+    ensures { OnOk result ((k : AKey) → has keys.new.items k ≡ (has keys.old.items k || names_in k own action.now)) }
 {
-    add_context(action.ctx, keys)?;
+    add_context(action.ctx, own, keys)?;
     add_terms(action.commands.as_slice(), keys)
 }
 
 /// What a request names by itself.
-fn names_of(alloc: Global, request: &Request<'_>) -> Result<Vec<Key>, NoMemory>
-    ensures { IfOk result (λ names. AreNamed request.now names.items) }
+fn names_of(alloc: Global, asked: &Asked<'_, '_>) -> Result<Vec<Key>, NoMemory>
+    ensures { IfOk result (λ names. AreNamed asked.now names.items) }
 {
     let mut names = Vec::new(alloc);
-    let actions = request.actions.as_slice();
+    let mut left = asked.owned.contexts.as_slice();
+    let actions = asked.request.get().actions.as_slice();
     for action in actions {
-        add_action(action, &mut names)?;
+        let (own, later) = next_entry(left);
+        left = later;
+        add_action(action, own, &mut names)?;
     }
     Ok(names)
 }
@@ -119,7 +129,7 @@ impl<'b, 'h, 'a> Model for Named<'b, 'h, 'a> {
 
     ghost view = { λ a. a.task };
 
-    ghost invariant = { λ a. AreNamed a.task.request a.names.items };
+    ghost invariant = { λ a. AreNamed a.task a.names.items };
 }
 
 impl<'b, 'h, 'a> Named<'b, 'h, 'a> {
@@ -132,7 +142,7 @@ impl<'b, 'h, 'a> Named<'b, 'h, 'a> {
     ) -> Result<Self, NoMemory>
         ensures { IfOk result (λ named. named ≡ asked.now) }
     {
-        let names = names_of(alloc, asked.request.get())?;
+        let names = names_of(alloc, asked)?;
         let links = links_of(alloc, &names, place, namers)?;
         Ok(Named {
             task: Task::new(asked),

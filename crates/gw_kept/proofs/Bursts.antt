@@ -17,7 +17,7 @@ use Rattle.gw_kept.specs.Index.{asks_behind, seen}
 use Rattle.gw_kept.specs.Repeats.{standing_after, class_after, classes_after}
 use Rattle.gw_kept.proofs.Changed.{one_more_after, entries_more, most_after}
 use Rattle.gw_kept.proofs.Last.{keys_last}
-use Rattle.gw_kept.proofs.Left.{filter_map_is}
+use Rattle.gw_kept.proofs.Filters.{filter_map_is}
 
 -- ---- in turn
 

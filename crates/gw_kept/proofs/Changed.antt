@@ -8,7 +8,7 @@ use Rattle.gw_kept.specs.Pairs.{KeptList, key_of, is_same, bytes_for, AreDistinc
 use Rattle.gw_kept.specs.Forgotten.{is_named}
 use Rattle.gw_kept.specs.Changes.{Change, Keep, Remove, changed, kept_after, entries_in, IsNew, AreNew}
 use Rattle.gw_kept.proofs.Last.{few_last}
-use Rattle.gw_kept.proofs.Left.{few_left}
+use Rattle.gw_kept.proofs.Filters.{few_left}
 use Rattle.gw_kept.proofs.Places.{same_key, same_back}
 
 -- ---- one change more

@@ -1,14 +1,20 @@
--- What ranges name, range by range; what they reach, and the marks that are made of it.
-use Rattle.std.proofs.Common.{◌≡◌, ℕ, zero, suc, ◌+◌, ◌<◌, ◌≤◌, ◌&&◌, ◌||◌, ◌≢◌, max, nat_le, nat_lt, Bool, true, false, bytes_eq, List, [], ◌∷◌, ◌++◌, length, take, set, replicate, get_or, refl, ap, sym, ◌∙◌, add-one, arith}
+-- What ranges name, range by range; and a row from which what a range names is taken out, pair by pair.
+use Rattle.std.proofs.Common.{◌≡◌, ◌≢◌, ℕ, zero, suc, ◌+◌, ◌<◌, ◌≤◌, ◌&&◌, ◌||◌, nat_le, nat_lt, not, Bool, true, false, cond, bytes_eq, List, [], ◌∷◌, ◌++◌, map, length, take, set, get_or, is_some, Option, Some, None, refl, ap, sym, subst, ◌∙◌, arith}
 use Rattle.std.proofs.lemmas.Bool.Decides.{nat_tests}
-use Rattle.std.proofs.lemmas.List.{take_more, get_or_default, get_or-set_same, get_or-set_other}
+use Rattle.std.proofs.lemmas.List.{take_more, take_all, get_or_default, get_or-set_other}
+use Rattle.std.proofs.lemmas.List.Edits.{length-remove, get_or-remove_below, get_or-remove_above}
+use Rattle.std.specs.List.{filter, remove}
+use Rattle.std.specs.Option.{option_map, unwrap_or}
 use Rattle.gw_msg.specs.declared.message.AckRange.{AckRange}
+use Rattle.gw_kept.specs.declared.entry.Entry.{Entry}
 use Rattle.gw_kept.specs.declared.entry.RequestKey.{RequestKey}
-use Rattle.gw_kept.specs.Forgotten.{is_within, is_acknowledged, is_named}
-use Rattle.gw_kept.specs.Marks.{key_there, IsSpan, highest, is_reached, AreReaches, AreMarks}
-use Rattle.gw_kept.specs.Order.{IsSorted}
+use Rattle.gw_kept.specs.Pairs.{key_of, kept_list}
+use Rattle.gw_kept.specs.Forgotten.{is_within, is_acknowledged, is_named, forgotten}
+use Rattle.gw_kept.specs.Rows.{Gapped, present, kept_in, keys_in, key_in, left_of}
+use Rattle.gw_kept.specs.Order.{place_of, key_there, IsSorted, IsOrder, IsSpan}
+use Rattle.gw_kept.proofs.Filters.{few_left}
 use Rattle.gw_kept.proofs.Lists.{below_or_not}
-use Rattle.gw_kept.proofs.Orders.{differ}
+use Rattle.gw_kept.proofs.Orders.{numbers_are, place_at, others, order_gap, gap_places}
 
 -- ---- one range more
 
@@ -58,119 +64,148 @@ no_span start end at h =
     (λ l. let e : nat_le start at ≡ false = grind (arith, nat_tests) in both_false (nat_le start at) (nat_lt at end) e)
     (λ l. let e : nat_lt at end ≡ false = grind (arith, nat_tests) in second_false (nat_le start at) (nat_lt at end) e)
 
--- the place in the order of what stands at a place in the list
-pub record StandsAt (places : List ℕ) (p : ℕ) : Type 0 where
-  pub at : ℕ
-  pub within : at < length places
-  pub is : get_or places at 0 ≡ p
+-- ---- what is left, place by place
 
-pub stands_at : (keys : List RequestKey) (places : List ℕ) (p : ℕ) → IsSorted keys places → p < length keys → StandsAt places p
-stands_at keys places p sorted l = let c = sorted.whole p l in record { at = c.0; within = c.1; is = get_or_default places c.0 0 p c.1 ∙ c.2 }
+left_step : (a : Bool) (mid : List ℕ) (range : AckRange) (e : Entry) → left_of mid (range ∷ []) (cond a None (Some e)) ≡ cond (a || is_named mid (range ∷ []) (key_of e)) None (Some e)
+left_step true mid range e = refl
+left_step false mid range e = refl
 
-pub none_here : (keys : List RequestKey) (places : List ℕ) (mid : List ℕ) (range : AckRange) (start end p : ℕ) (d : RequestKey) → IsSorted keys places → IsSpan keys places mid range (start, end) → end ≤ start → p < length keys → is_named mid (range ∷ []) (get_or keys p d) ≡ false
-none_here keys places mid range start end p d sorted span h l =
-    let s = stands_at keys places p sorted l in
-    ap (λ (q : ℕ). is_named mid (range ∷ []) (get_or keys q d)) (sym s.is) ∙ sym (span s.at d s.within) ∙ no_span start end s.at h
+left_two : (mid : List ℕ) (ranges : List AckRange) (i : ℕ) (range : AckRange) (o : Option Entry) → i < length ranges → range ≡ get_or ranges i range → left_of mid (range ∷ []) (left_of mid (take i ranges) o) ≡ left_of mid (take (i + 1) ranges) o
+left_two mid ranges i range None l read = refl
+left_two mid ranges i range (Some e) l read =
+    left_step (is_named mid (take i ranges) (key_of e)) mid range e ∙ ap (λ (b : Bool). cond b None (Some e)) (sym (named_next mid ranges i range (key_of e) l read))
 
-both_none : (a b c : Bool) → c ≡ (a || b) → a ≡ false → b ≡ false → c ≡ false
-both_none a b c e f g = e ∙ ap (λ (t : Bool). t || b) f ∙ g
+pub left_more : (mid : List ℕ) (ranges : List AckRange) (i : ℕ) (range : AckRange) (row : List (Option Entry)) → i < length ranges → range ≡ get_or ranges i range
+    → map (left_of mid (range ∷ [])) (map (left_of mid (take i ranges)) row) ≡ map (left_of mid (take (i + 1) ranges)) row
+left_more mid ranges i range [] l read = refl
+left_more mid ranges i range (o ∷ os) l read =
+    ap (λ (p : Option Entry). p ∷ map (left_of mid (range ∷ [])) (map (left_of mid (take i ranges)) os)) (left_two mid ranges i range o l read)
+    ∙ ap (λ (r : List (Option Entry)). left_of mid (take (i + 1) ranges) o ∷ r) (left_more mid ranges i range os l read)
 
-pub none_next : (keys : List RequestKey) (places : List ℕ) (mid : List ℕ) (ranges : List AckRange) (i : ℕ) (range : AckRange) (start end : ℕ) → IsSorted keys places → IsSpan keys places mid range (start, end) → end ≤ start → i < length ranges → range ≡ get_or ranges i range
-    → ((p : ℕ) (d : RequestKey) → p < length keys → is_named mid (take i ranges) (get_or keys p d) ≡ false) → (p : ℕ) (d : RequestKey) → p < length keys → is_named mid (take (i + 1) ranges) (get_or keys p d) ≡ false
-none_next keys places mid ranges i range start end sorted span h l read before p d lp =
-    both_none (is_named mid (take i ranges) (get_or keys p d)) (is_named mid (range ∷ []) (get_or keys p d)) (is_named mid (take (i + 1) ranges) (get_or keys p d)) (named_next mid ranges i range (get_or keys p d) l read) (before p d lp)
-    (none_here keys places mid range start end p d sorted span h lp)
+pub left_same : (mid : List ℕ) (ranges : List AckRange) (row : List (Option Entry)) → ((p : ℕ) (e : Entry) → get_or row p None ≡ Some e → is_named mid ranges (key_of e) ≡ false) → map (left_of mid ranges) row ≡ row
+left_same mid ranges [] h = refl
+left_same mid ranges (None ∷ os) h = ap (λ (r : List (Option Entry)). None ∷ r) (left_same mid ranges os (λ p. h (suc p)))
+left_same mid ranges (Some e ∷ os) h =
+    ap (λ (b : Bool). cond b None (Some e) ∷ map (left_of mid ranges) os) (h 0 e refl) ∙ ap (λ (r : List (Option Entry)). Some e ∷ r) (left_same mid ranges os (λ p. h (suc p)))
 
--- ---- what is reached
+pub left_by_none : (mid : List ℕ) (row : List (Option Entry)) → map (left_of mid []) row ≡ row
+left_by_none mid row = left_same mid [] row (λ p e at. named_by_none mid (key_of e))
 
-pub highest_none : (n m : ℕ) → highest (take n (replicate m 0)) ≡ 0
-highest_none zero m = refl
-highest_none (suc n) zero = refl
-highest_none (suc n) (suc m) = let h = highest_none n m in omega arith
+present_step : (b : Bool) (e : Entry) (row : List (Option Entry)) (es : List Entry) → present row ≡ es → present (cond b None (Some e) ∷ row) ≡ cond (not b) (e ∷ es) es
+present_step true e row es h = h
+present_step false e row es h = ap (λ (l : List Entry). e ∷ l) h
 
-pub highest_more : (xs : List ℕ) (n : ℕ) → n < length xs → highest (take (n + 1) xs) ≡ max (get_or xs n 0) (highest (take n xs))
-highest_more [] n l = absurd (omega arith)
-highest_more (x ∷ xs) zero l = refl
-highest_more (x ∷ xs) (suc n) l = let h = highest_more xs n (omega arith) in rw (add-one (suc n)) (let g : highest (take (suc n) xs) ≡ highest (take (n + 1) xs) = ap (λ (m : ℕ). highest (take m xs)) (sym (add-one n)) in omega arith)
+pub present_left : (mid : List ℕ) (ranges : List AckRange) (row : List (Option Entry)) → present (map (left_of mid ranges) row) ≡ filter (λ e. not (is_named mid ranges (key_of e))) (present row)
+present_left mid ranges [] = refl
+present_left mid ranges (None ∷ os) = present_left mid ranges os
+present_left mid ranges (Some e ∷ os) = present_step (is_named mid ranges (key_of e)) e (map (left_of mid ranges) os) (filter (λ e. not (is_named mid ranges (key_of e))) (present os)) (present_left mid ranges os)
 
-highest_set_far : (xs : List ℕ) (n s v : ℕ) → n ≤ s → highest (take n (set xs s v)) ≡ highest (take n xs)
-highest_set_far [] n s v h = refl
-highest_set_far (x ∷ xs) zero s v h = refl
-highest_set_far (x ∷ xs) (suc n) zero v h = absurd (omega arith)
-highest_set_far (x ∷ xs) (suc n) (suc s) v h = ap (max x) (highest_set_far xs n s v (omega arith))
+pub all_forgotten : (g next : Gapped) (mid : List ℕ) (ranges : List AckRange) (i : ℕ) → next.row ≡ map (left_of mid (take i ranges)) g.row → next.most ≡ g.most → length ranges ≤ i → kept_in next ≡ forgotten (kept_in g) mid ranges
+all_forgotten g next mid ranges i is most all =
+    ap (λ (m : ℕ). kept_list (present next.row) m) most
+    ∙ ap (λ (r : List (Option Entry)). kept_list (present r) g.most) (is ∙ ap (λ (rs : List AckRange). map (left_of mid rs) g.row) (take_all i ranges all))
+    ∙ ap (λ (es : List Entry). kept_list es g.most) (present_left mid ranges g.row)
 
-highest_set_near : (xs : List ℕ) (n s e : ℕ) → s < n → s < length xs → highest (take n (set xs s (max (get_or xs s 0) e))) ≡ max (highest (take n xs)) e
-highest_set_near [] n s e h l = absurd (omega arith)
-highest_set_near (x ∷ xs) zero s e h l = absurd (omega arith)
-highest_set_near (x ∷ xs) (suc n) zero e h l = omega arith
-highest_set_near (x ∷ xs) (suc n) (suc s) e h l = let g = highest_set_near xs n s e (omega arith) (omega arith) in omega arith
+pub few_left_of : (mid : List ℕ) (ranges : List AckRange) (row : List (Option Entry)) → length (present (map (left_of mid ranges) row)) ≤ length (present row)
+few_left_of mid ranges row = omega (arith, ap length (present_left mid ranges row), few_left (λ (e : Entry). not (is_named mid ranges (key_of e))) (present row))
 
-reach_max : (at h e : ℕ) → nat_lt at (max h e) ≡ (nat_lt at h || nat_lt at e)
-reach_max at h e = grind (arith, nat_tests)
+left_set : (mid : List ℕ) (ranges : List AckRange) (row : List (Option Entry)) (p : ℕ) → left_of mid ranges (get_or row p None) ≡ None → map (left_of mid ranges) (set row p None) ≡ map (left_of mid ranges) row
+left_set mid ranges [] p h = refl
+left_set mid ranges (o ∷ os) zero h = ap (λ (m : Option Entry). m ∷ map (left_of mid ranges) os) (sym h)
+left_set mid ranges (o ∷ os) (suc p) h = ap (λ (r : List (Option Entry)). left_of mid ranges o ∷ r) (left_set mid ranges os p h)
 
-reach_near : (reaches : List ℕ) (start end at : ℕ) → start ≤ at → start < length reaches → is_reached (set reaches start (max (get_or reaches start 0) end)) at ≡ (is_reached reaches at || (nat_le start at && nat_lt at end))
-reach_near reaches start end at h l =
-    let yes : nat_le start at ≡ true = grind (arith, nat_tests) in
-    ap (nat_lt at) (highest_set_near reaches (at + 1) start end (omega arith) l)
-    ∙ reach_max at (highest (take (at + 1) reaches)) end
-    ∙ ap (λ (b : Bool). is_reached reaches at || (b && nat_lt at end)) (sym yes)
+keys_set : (row : List (Option Entry)) (p : ℕ) → keys_in (set row p None) ≡ set (keys_in row) p None
+keys_set [] p = refl
+keys_set (o ∷ os) zero = refl
+keys_set (o ∷ os) (suc p) = ap (λ (r : List (Option RequestKey)). option_map key_of o ∷ r) (keys_set os p)
 
-reach_far : (reaches : List ℕ) (start end at : ℕ) → at < start → is_reached (set reaches start (max (get_or reaches start 0) end)) at ≡ (is_reached reaches at || (nat_le start at && nat_lt at end))
-reach_far reaches start end at h =
-    let no : nat_le start at ≡ false = grind (arith, nat_tests) in
-    ap (nat_lt at) (highest_set_far reaches (at + 1) start (max (get_or reaches start 0) end) (omega arith))
-    ∙ sym (or_false (is_reached reaches at))
-    ∙ ap (λ (b : Bool). is_reached reaches at || (b && nat_lt at end)) (sym no)
+pub keys_get : (row : List (Option Entry)) (p : ℕ) → get_or (keys_in row) p None ≡ option_map key_of (get_or row p None)
+keys_get [] p = refl
+keys_get (o ∷ os) zero = refl
+keys_get (o ∷ os) (suc p) = keys_get os p
 
-reach_more : (reaches : List ℕ) (start end at : ℕ) → start < length reaches → is_reached (set reaches start (max (get_or reaches start 0) end)) at ≡ (is_reached reaches at || (nat_le start at && nat_lt at end))
-reach_more reaches start end at l =
-    below_or_not at start (is_reached (set reaches start (max (get_or reaches start 0) end)) at ≡ (is_reached reaches at || (nat_le start at && nat_lt at end))) (λ h. reach_far reaches start end at h) (λ h. reach_near reaches start end at h l)
+named_gone : (mid : List ℕ) (ranges : List AckRange) (o : Option Entry) (d : RequestKey) → is_named mid ranges (unwrap_or (option_map key_of o) d) ≡ true → left_of mid ranges o ≡ None
+named_gone mid ranges None d h = refl
+named_gone mid ranges (Some e) d h = ap (λ (b : Bool). cond b None (Some e)) h
 
-pub none_reached : (keys : List RequestKey) (places : List ℕ) (mid : List ℕ) (m : ℕ) → AreReaches keys places mid [] (replicate m 0)
-none_reached keys places mid m at d within =
-    let h : highest (take (at + 1) (replicate m 0)) ≡ 0 = highest_none (at + 1) m in
-    let e : nat_lt at (highest (take (at + 1) (replicate m 0))) ≡ false = grind (arith, nat_tests) in
-    e ∙ sym (named_by_none mid (key_there keys places at d))
+-- ---- one pair less of those that a range names, the last in the order first
 
-pub reaches_more : (keys : List RequestKey) (places : List ℕ) (mid : List ℕ) (ranges : List AckRange) (i : ℕ) (range : AckRange) (start end : ℕ) (reaches : List ℕ) → IsSpan keys places mid range (start, end) → start < length reaches → i < length ranges → range ≡ get_or ranges i range
-    → AreReaches keys places mid (take i ranges) reaches → AreReaches keys places mid (take (i + 1) ranges) (set reaches start (max (get_or reaches start 0) end))
-reaches_more keys places mid ranges i range start end reaches span room l read so_far at d within =
-    reach_more reaches start end at room
-    ∙ ap (λ (b : Bool). b || (nat_le start at && nat_lt at end)) (so_far at d within)
-    ∙ ap (λ (b : Bool). is_named mid (take i ranges) (key_there keys places at d) || b) (span at d within)
-    ∙ sym (named_next mid ranges i range (key_there keys places at d) l read)
+-- what it names still stands in the order from start to before until, and as to what is left nothing has changed
+pub record IsClearing (mid : List ℕ) (range : AckRange) (before row : List (Option Entry)) (first : ℕ) (numbers : List ℕ) (start until : ℕ) : Type 0 where
+  pub keys : List (Option RequestKey)
+  pub same : keys_in row ≡ keys
+  pub order : IsOrder keys first numbers
+  pub span : IsSpan keys order.places mid range (start, until)
+  pub few : until ≤ length numbers
+  pub left : map (left_of mid (range ∷ [])) row ≡ map (left_of mid (range ∷ [])) before
 
-pub reaches_same : (keys : List RequestKey) (places : List ℕ) (mid : List ℕ) (ranges : List AckRange) (i : ℕ) (range : AckRange) (start end : ℕ) (reaches : List ℕ) → IsSpan keys places mid range (start, end) → end ≤ start → i < length ranges → range ≡ get_or ranges i range
-    → AreReaches keys places mid (take i ranges) reaches → AreReaches keys places mid (take (i + 1) ranges) reaches
-reaches_same keys places mid ranges i range start end reaches span h l read so_far at d within =
-    so_far at d within
-    ∙ sym (or_false (is_named mid (take i ranges) (key_there keys places at d)))
-    ∙ ap (λ (b : Bool). is_named mid (take i ranges) (key_there keys places at d) || b) (sym (no_span start end at h) ∙ span at d within)
-    ∙ sym (named_next mid ranges i range (key_there keys places at d) l read)
+in_both : (start at i : ℕ) → at < i → (nat_le start at && nat_lt at i) ≡ (nat_le start at && nat_lt at (i + 1))
+in_both start at i h =
+    let a : nat_lt at i ≡ true = grind (arith, nat_tests) in
+    let b : nat_lt at (i + 1) ≡ true = grind (arith, nat_tests) in
+    ap (λ (t : Bool). nat_le start at && t) (a ∙ sym b)
 
--- ---- marks
+in_neither : (start at i : ℕ) → i ≤ at → (nat_le start at && nat_lt at i) ≡ (nat_le start (at + 1) && nat_lt (at + 1) (i + 1))
+in_neither start at i h =
+    let a : nat_lt at i ≡ false = grind (arith, nat_tests) in
+    let b : nat_lt (at + 1) (i + 1) ≡ false = grind (arith, nat_tests) in
+    second_false (nat_le start at) (nat_lt at i) a ∙ sym (second_false (nat_le start (at + 1)) (nat_lt (at + 1) (i + 1)) b)
 
--- the marks of what stands in front in the order
-abbrev pub AreFirstMarks : (places : List ℕ) → List ℕ → List Bool → ℕ → Type 0
-AreFirstMarks places reaches marks n = (q : ℕ) → q < n → get_or marks (get_or places q 0) false ≡ is_reached reaches q
+span_gap : (keys : List (Option RequestKey)) (places : List ℕ) (mid : List ℕ) (range : AckRange) (start i : ℕ) → IsSorted keys places → i < length places → IsSpan keys places mid range (start, i + 1) → IsSpan (set keys (get_or places i 0) None) (remove places i) mid range (start, i)
+span_gap keys places mid range start i sorted l span at d within =
+    let p : ℕ = get_or places i 0 in
+    let after : List (Option RequestKey) = set keys p None in
+    let size : length (remove places i) + 1 ≡ length places = length-remove places i l in
+    let same : (q : ℕ) → q ≢ p → key_in keys q d ≡ key_in after q d = λ q h. ap (λ (o : Option RequestKey). unwrap_or o d) (sym (get_or-set_other keys p q None None h)) in
+    below_or_not at i ((nat_le start at && nat_lt at i) ≡ is_named mid (range ∷ []) (key_there after (remove places i) at d))
+    (λ less.
+    in_both start at i less
+    ∙ span at d (omega arith)
+    ∙ ap (is_named mid (range ∷ [])) (same (get_or places at 0) (others keys places i at sorted l (omega arith) (λ e. omega arith)) ∙ ap (λ (q : ℕ). key_in after q d) (sym (get_or-remove_below places i 0 at less l))))
+    (λ more.
+    in_neither start at i more
+    ∙ span (at + 1) d (omega arith)
+    ∙ ap (is_named mid (range ∷ [])) (same (get_or places (at + 1) 0) (others keys places i (at + 1) sorted l (omega arith) (λ e. omega arith)) ∙ ap (λ (q : ℕ). key_in after q d) (sym (get_or-remove_above places i 0 at more l))))
 
-pub marks_more : (keys : List RequestKey) (places reaches : List ℕ) (marks : List Bool) (at place until : ℕ) → IsSorted keys places → at < length places → place ≡ get_or places at 0 → place < length marks → at < length reaches → until ≡ highest (take at reaches)
-    → AreFirstMarks places reaches marks at → AreFirstMarks places reaches (set marks place (nat_lt at (max (get_or reaches at 0) until))) (at + 1)
-marks_more keys places reaches marks at place until sorted within is room long so_far first q l =
-    let value : Bool = nat_lt at (max (get_or reaches at 0) until) in
-    below_or_not q at (get_or (set marks place value) (get_or places q 0) false ≡ is_reached reaches q)
-    (λ h.
-    let apart : get_or places q 0 ≢ place = λ e. differ keys (get_or places q 0) (get_or places at 0) (sorted.rises q at 0 h within) (e ∙ is) in
-    get_or-set_other marks place (get_or places q 0) value false apart ∙ first q h)
-    (λ h.
-    let same : q ≡ at = omega arith in
-    ap (λ (n : ℕ). get_or (set marks place value) n false) (ap (λ (n : ℕ). get_or places n 0) same ∙ sym is)
-    ∙ get_or-set_same marks place value false room
-    ∙ ap (λ (n : ℕ). nat_lt at (max (get_or reaches at 0) n)) so_far
-    ∙ ap (nat_lt at) (sym (highest_more reaches at long))
-    ∙ ap (is_reached reaches) (sym same))
+in_span : (start i : ℕ) → start ≤ i → (nat_le start i && nat_lt i (i + 1)) ≡ true
+in_span start i h =
+    let a : nat_le start i ≡ true = grind (arith, nat_tests) in
+    let b : nat_lt i (i + 1) ≡ true = grind (arith, nat_tests) in
+    rw (a, b) refl
 
-pub marks_all : (keys : List RequestKey) (places : List ℕ) (mid : List ℕ) (ranges : List AckRange) (reaches : List ℕ) (marks : List Bool) (n : ℕ) → IsSorted keys places → length places ≤ n → AreReaches keys places mid ranges reaches → AreFirstMarks places reaches marks n → AreMarks keys mid ranges marks
-marks_all keys places mid ranges reaches marks n sorted all reached first p d l =
-    let s = stands_at keys places p sorted l in
-    ap (λ (q : ℕ). get_or marks q false) (sym s.is) ∙ first s.at (omega (arith, s.within)) ∙ reached s.at d s.within ∙ ap (λ (q : ℕ). is_named mid ranges (get_or keys q d)) s.is
+pub clear_more : (mid : List ℕ) (range : AckRange) (before row next : List (Option Entry)) (first : ℕ) (numbers : List ℕ) (start i : ℕ) → IsClearing mid range before row first numbers start (i + 1) → start ≤ i
+    → next ≡ set row (place_of first (get_or numbers i 0)) None → IsClearing mid range before next first (remove numbers i) start i
+clear_more mid range before row next first numbers start i c le is =
+    let o : IsOrder c.keys first numbers = c.order in
+    let l : i < length o.places = omega (arith, c.few, numbers_are c.keys first numbers o) in
+    let p : ℕ = get_or o.places i 0 in
+    let here : place_of first (get_or numbers i 0) ≡ p = place_at c.keys first numbers o i 0 l in
+    let made : next ≡ set row p None = is ∙ ap (λ (q : ℕ). set row q None) here in
+    let nobody : RequestKey = record { mid = []; id = 0 } in
+    let named : is_named mid (range ∷ []) (unwrap_or (option_map key_of (get_or row p None)) nobody) ≡ true =
+    ap (λ (m : Option RequestKey). is_named mid (range ∷ []) (unwrap_or m nobody)) (sym (keys_get row p) ∙ ap (λ (ks : List (Option RequestKey)). get_or ks p None) c.same) ∙ sym (c.span i nobody l) ∙ in_span start i le in
+    subst (λ (r : List (Option Entry)). IsClearing mid range before r first (remove numbers i) start i) (sym made) (record {
+      keys = set c.keys p None;
+      same = keys_set row p ∙ ap (λ (ks : List (Option RequestKey)). set ks p None) c.same;
+      order = order_gap c.keys first numbers i p o l refl;
+      span = subst (λ (ps : List ℕ). IsSpan (set c.keys p None) ps mid range (start, i)) (sym (gap_places c.keys first numbers i p o l refl)) (span_gap c.keys o.places mid range start i o.sorted l c.span);
+      few = omega (arith, c.few, length-remove numbers i (omega (arith, c.few)));
+      left = left_set mid (range ∷ []) row p (named_gone mid (range ∷ []) (get_or row p None) nobody named) ∙ c.left;
+    })
+
+pub clear_all : (mid : List ℕ) (range : AckRange) (before row : List (Option Entry)) (first : ℕ) (numbers : List ℕ) (start until : ℕ) → IsClearing mid range before row first numbers start until → until ≤ start → row ≡ map (left_of mid (range ∷ [])) before
+clear_all mid range before row first numbers start until c le =
+    sym (left_same mid (range ∷ []) row
+    (λ p e at.
+    let there : get_or c.keys p None ≡ Some (key_of e) = ap (λ (ks : List (Option RequestKey)). get_or ks p None) (sym c.same) ∙ keys_get row p ∙ ap (option_map key_of) at in
+    let s = c.order.sorted.whole p (ap is_some there) in
+    let here : get_or c.order.places s.0 0 ≡ p = get_or_default c.order.places s.0 0 p s.1 ∙ s.2 in
+    ap (is_named mid (range ∷ [])) (sym (ap (λ (q : ℕ). key_in c.keys q (key_of e)) here ∙ ap (λ (m : Option RequestKey). unwrap_or m (key_of e)) there))
+    ∙ sym (c.span s.0 (key_of e) s.1) ∙ no_span start until s.0 le))
+    ∙ c.left
+
+pub clear_order : (mid : List ℕ) (range : AckRange) (before row : List (Option Entry)) (first : ℕ) (numbers : List ℕ) (start until : ℕ) → IsClearing mid range before row first numbers start until → IsOrder (keys_in row) first numbers
+clear_order mid range before row first numbers start until c = subst (λ (ks : List (Option RequestKey)). IsOrder ks first numbers) (sym c.same) c.order
+
+pub clear_none : (mid : List ℕ) (range : AckRange) (row : List (Option Entry)) (first : ℕ) (numbers : List ℕ) (start until : ℕ) → (o : IsOrder (keys_in row) first numbers) → IsSpan (keys_in row) o.places mid range (start, until) → until ≤ length numbers → IsClearing mid range row row first numbers start until
+clear_none mid range row first numbers start until o span few = record { keys = keys_in row; same = refl; order = o; span = span; few = few; left = refl }

@@ -14,11 +14,12 @@ use Rattle.gw_kept.specs.declared.point.Removal.{Removal}
 use Rattle.gw_kept.specs.declared.class.Class.{Class}
 use Rattle.gw_kept.specs.declared.class.Class.TheVariants.{New, Over, Nothing}
 use Rattle.gw_kept.specs.Pairs.{KeptList, key_of, is_same}
+use Rattle.gw_kept.specs.Rows.{Gapped, present, kept_in}
 use Rattle.gw_kept.specs.Forgotten.{is_named, forgotten}
 use Rattle.gw_kept.specs.Classes.{Standing, keys_of, or_here, last_place, has_pair, kept_place, class_of, class_at, behind, behind_request, with_key, without, most_new}
 use Rattle.gw_kept.specs.Index.{is_asked, seen, IsAsked, AreLeft, IsIndex}
 use Rattle.gw_kept.specs.Order.{key_cmp}
-use Rattle.gw_kept.proofs.Left.{filter_map_is}
+use Rattle.gw_kept.proofs.Filters.{filter_map_is}
 use Rattle.gw_kept.proofs.Places.{within, among_last, one_more, key_test, same_key, same_itself}
 
 -- ---- what is asked
@@ -103,7 +104,7 @@ some_within d p None true is e =
 pub kept_by_place : (asked : List Point) (index : Index) (s : Standing) (key : RequestKey) (p : ℕ) → IsIndex asked index s → index.left ≡ None → last_place key s.pairs ≡ Some p → nat_le (index.total - index.most) p ≡ has_pair key s.kept
 kept_by_place asked index s key p h none at =
     let d : ℕ = length s.pairs - index.most in
-    let kept : s.kept ≡ keep_last index.most s.pairs = subst (λ (o : Option KeptList). AreLeft index.most o s) none h.left in
+    let kept : s.kept ≡ keep_last index.most s.pairs = subst (λ (o : Option Gapped). AreLeft index.most o s) none h.left in
     ap (λ (n : ℕ). nat_le (n - index.most) p) h.total
     ∙ some_within d p (last_place key (drop d s.pairs)) (nat_le d p) refl (among_last key d s.pairs ∙ ap (within d) at)
     ∙ ap (λ (l : List RequestKey). is_some (last_place key l)) (sym kept)
@@ -245,23 +246,23 @@ absent_now None s key is none among = is
 
 pub left_by_place : (asked : List Point) (index : Index) (s : Standing) (key : RequestKey) → IsIndex asked index s → index.left ≡ None → AreLeft index.most index.left (with_key index.most key s)
 left_by_place asked index s key h none =
-    let kept : s.kept ≡ keep_last index.most s.pairs = subst (λ (o : Option KeptList). AreLeft index.most o s) none h.left in
+    let kept : s.kept ≡ keep_last index.most s.pairs = subst (λ (o : Option Gapped). AreLeft index.most o s) none h.left in
     let now : AreLeft index.most None (with_key index.most key s) = ap (λ (l : List RequestKey). keep_last index.most (l ++ key ∷ [])) kept ∙ last_more index.most s.pairs key in
-    subst (λ (o : Option KeptList). AreLeft index.most o (with_key index.most key s)) (sym none) now
+    subst (λ (o : Option Gapped). AreLeft index.most o (with_key index.most key s)) (sym none) now
 
-pub left_by_list : (asked : List Point) (index : Index) (s : Standing) (key : RequestKey) (old new : KeptList) → IsIndex asked index s → index.left ≡ Some old → kept_place key s ≡ None
-    → (last_place key (keys_of old) ≡ None → keys_of new ≡ keep_last old.most (keys_of old ++ key ∷ [])) → new.most ≡ old.most → AreLeft index.most (Some new) (with_key index.most key s)
+pub left_by_list : (asked : List Point) (index : Index) (s : Standing) (key : RequestKey) (old new : Gapped) → IsIndex asked index s → index.left ≡ Some old → kept_place key s ≡ None
+    → (last_place key (keys_of (kept_in old)) ≡ None → keys_of (kept_in new) ≡ keep_last old.most (keys_of (kept_in old) ++ key ∷ [])) → new.most ≡ old.most → AreLeft index.most (Some new) (with_key index.most key s)
 left_by_list asked index s key old new h some none keys most =
-    let left : AreLeft index.most (Some old) s = subst (λ (o : Option KeptList). AreLeft index.most o s) some h.left in
+    let left : AreLeft index.most (Some old) s = subst (λ (o : Option Gapped). AreLeft index.most o s) some h.left in
     let gone : last_place key s.kept ≡ None = absent_now (last_place key s.kept) s key refl none (h.among key) in (
-      keys (ap (last_place key) left.0 ∙ gone) ∙ ap (λ (m : ℕ). keep_last m (keys_of old ++ key ∷ [])) left.1 ∙ ap (λ (l : List RequestKey). keep_last index.most (l ++ key ∷ [])) left.0,
+      keys (ap (last_place key) left.0 ∙ gone) ∙ ap (λ (m : ℕ). keep_last m (keys_of (kept_in old) ++ key ∷ [])) left.1 ∙ ap (λ (l : List RequestKey). keep_last index.most (l ++ key ∷ [])) left.0,
       most ∙ left.1,
     )
 
-pub acknowledged : (asked : List Point) (index next : Index) (s : Standing) (r : Removal) (old new : KeptList) → IsIndex asked index s → index.left ≡ Some old → new ≡ forgotten old r.mid r.ranges
+pub acknowledged : (asked : List Point) (index next : Index) (s : Standing) (r : Removal) (old new : Gapped) → IsIndex asked index s → index.left ≡ Some old → kept_in new ≡ forgotten (kept_in old) r.mid r.ranges
     → next ≡ record { places = index.places; most = index.most; before = index.before; total = index.total; left = Some new } → IsIndex asked next (without r s)
 acknowledged asked index next s r old new h some is same =
-    let left : AreLeft index.most (Some old) s = subst (λ (o : Option KeptList). AreLeft index.most o s) some h.left in
+    let left : AreLeft index.most (Some old) s = subst (λ (o : Option Gapped). AreLeft index.most o s) some h.left in
     let t : RequestKey → Bool = λ k. not (is_named r.mid r.ranges k) in
     subst (λ (i : Index). IsIndex asked i (without r s)) (sym same) (record {
       places = h.places;
@@ -269,7 +270,7 @@ acknowledged asked index next s r old new h some is same =
       before = h.before;
       few = h.few;
       small = h.small;
-      left = (ap keys_of is ∙ sym (filter_map_is t key_of old.pairs) ∙ ap (filter t) left.0, ap (λ (k : KeptList). k.most) is ∙ left.1);
+      left = (ap keys_of is ∙ sym (filter_map_is t key_of (present old.row)) ∙ ap (filter t) left.0, ap (λ (k : KeptList). k.most) is ∙ left.1);
       among = λ q none. none_left q t s.kept (h.among q none);
     })
 

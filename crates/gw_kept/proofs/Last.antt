@@ -1,6 +1,7 @@
 -- The last so many of a list, and the item at a place.
-use Rattle.std.proofs.Common.{◌≡◌, ℕ, zero, suc, ◌-◌, ◌<◌, ◌≤◌, List, [], ◌∷◌, ◌++◌, map, length, drop, get_or, Some, refl, ap, sym, ◌∙◌, length-drop, arith}
-use Rattle.std.proofs.lemmas.List.{drop-map, length-map, map-append}
+use Rattle.std.proofs.Common.{◌≡◌, ℕ, zero, suc, ◌-◌, ◌<◌, ◌≤◌, nat_lt, Bool, true, false, cond, List, [], ◌∷◌, ◌++◌, map, length, drop, get_or, Some, None, refl, ap, sym, ◌∙◌, length-append, length-drop, arith}
+use Rattle.std.proofs.lemmas.Bool.Decides.{nat_tests}
+use Rattle.std.proofs.lemmas.List.{drop-append-le, drop-map, length-map, map-append}
 use Rattle.std.specs.List.{slice_get}
 use Rattle.circular_buffer.specs.Buffer.{keep_last}
 use Rattle.gw_kept.specs.declared.entry.Entry.{Entry}
@@ -42,3 +43,23 @@ pub key_at : (es : List Entry) (i : ℕ) (e : Entry) (d : RequestKey) → slice_
 key_at [] i e d at = absurd cc
 key_at (x ∷ xs) zero e d at = let is : x ≡ e = cc in ap key_of is
 key_at (x ∷ xs) (suc i) e d at = key_at xs i e d at
+
+-- ---- one more, where there is room
+
+pub all_of : {X : Type 0} (most : ℕ) (xs : List X) (x : X) → length xs < most → keep_last most (xs ++ x ∷ []) ≡ xs ++ x ∷ []
+all_of most xs x room =
+    let none : length (xs ++ x ∷ []) - most ≡ 0 = omega (arith, length-append xs (x ∷ [])) in
+    ap (λ (n : ℕ). drop n (xs ++ x ∷ [])) none
+
+-- where one less was left, one more is kept
+pub last_kept : (most : ℕ) (es : List Entry) (e : Entry) → 1 ≤ most → keep_last (most - 1) es ++ e ∷ [] ≡ keep_last most (es ++ e ∷ [])
+last_kept most es e some =
+    let same : length es - (most - 1) ≡ length (es ++ e ∷ []) - most = omega (arith, length-append es (e ∷ [])) in
+    sym (drop-append-le (length es - (most - 1)) es (e ∷ []) (omega arith)) ∙ ap (λ (n : ℕ). drop n (es ++ e ∷ [])) same
+
+-- the one that is dropped then
+pub last_dropped : (t : Bool) (most : ℕ) (es : List Entry) (e : Entry) → nat_lt (length es) most ≡ t → 1 ≤ most → cond t None (slice_get es 0) ≡ cond t None (slice_get (es ++ e ∷ []) 0)
+last_dropped true most es e is some = refl
+last_dropped false most es e is some =
+    let full : 0 < length es = grind (arith, nat_tests) in
+    sym (at_front es (e ∷ []) 0 full)

@@ -17,8 +17,7 @@ use Rattle.gw_kept.specs.Changes.{Change, Keep, Remove, changed, kept_after, ent
 use Rattle.gw_kept.specs.Classes.{or_here, last_place, source_at, class_of, most_new}
 use Rattle.gw_kept.specs.Repeats.{class_after, bytes_of}
 use Rattle.gw_kept.proofs.Places.{one_more, same_itself}
-use Rattle.gw_kept.proofs.Found.{not_kept, IsAt, kept_at}
-use Rattle.gw_kept.proofs.Orders.{no_place, last_is}
+use Rattle.gw_kept.proofs.Found.{not_kept, IsAt, kept_at, no_place, last_is}
 use Rattle.gw_kept.proofs.Last.{at_front, at_back, key_at, stays_there, next_there}
 use Rattle.gw_kept.proofs.Changed.{absent_head, distinct_after, new_more}
 

@@ -6,7 +6,8 @@ use Rattle.gw_kept.specs.declared.entry.RequestKey.{RequestKey}
 use Rattle.gw_kept.specs.declared.point.Point.{Point}
 use Rattle.gw_kept.specs.declared.point.Point.TheVariants as point
 use Rattle.gw_kept.specs.declared.index.Index.{Index}
-use Rattle.gw_kept.specs.Pairs.{KeptList, is_same}
+use Rattle.gw_kept.specs.Pairs.{is_same}
+use Rattle.gw_kept.specs.Rows.{Gapped, kept_in}
 use Rattle.gw_kept.specs.Classes.{Standing, keys_of, last_place, most_new}
 use Rattle.gw_kept.specs.Order.{key_cmp}
 
@@ -37,10 +38,10 @@ seen acknowledged (point.Request k) = point.Request k
 seen acknowledged (point.Ack r) = if acknowledged then point.Ack r else point.Nothing
 seen acknowledged point.Nothing = point.Nothing
 
--- What is kept at a point: the last so many of all pairs there were, where nothing was removed, or else the pairs of a list.
-abbrev pub AreLeft : (most : ℕ) → Option KeptList → Standing → Type 0
+-- What is kept at a point: the last so many of all pairs there were, where nothing was removed, or else the pairs of a row.
+abbrev pub AreLeft : (most : ℕ) → Option Gapped → Standing → Type 0
 AreLeft most None s = s.kept ≡ keep_last most s.pairs
-AreLeft most (Some k) s = (keys_of k ≡ s.kept) × (k.most ≡ most)
+AreLeft most (Some g) s = (keys_of (kept_in g) ≡ s.kept) × (g.most ≡ most)
 
 -- an index of what is asked, where a burst stands so; at most so many of the pairs are new
 pub record IsIndex (asked : List Point) (index : Index) (s : Standing) : Type 0 where

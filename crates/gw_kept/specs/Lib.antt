@@ -4,7 +4,7 @@ pub mod Pairs
 pub mod Forgotten
 pub mod Changes
 pub mod Classes
+pub mod Rows
 pub mod Order
-pub mod Marks
 pub mod Index
 pub mod Repeats

@@ -18,21 +18,13 @@ pub enum Turn<'h> {
 
 impl Kept {
     /// Makes the changes of a burst, one after another; each turn that keeps a pair takes the next of these entries. The caller
-    /// knows that at its turn each has a key that no kept pair has. It takes no memory. It costs what `push` and `forget` do.
+    /// knows that at its turn each has a key that no kept pair has. It takes no memory. It costs what `push` and `forget` do, but
+    /// where acknowledgements remove pairs, the pass over all of them is made once, at the end.
     pub fn change(&mut self, turns: &[Turn<'_>], entries: Vec<Entry>)
         requires { AreNew self.old (changes_of turns.now entries.items) }
         ensures { self.new ≡ kept_after self.old (changes_of turns.now entries.items) }
     {
-        let mut entries = entries.into_iter();
-        for turn in turns {
-            match turn {
-                Turn::Keep => {
-                    if let Some(entry) = entries.next() {
-                        self.push(entry);
-                    }
-                }
-                Turn::Forget(removal) => self.forget(&removal.mid, removal.ranges.as_slice()),
-            }
-        }
+        self.row.change(turns, entries);
+        self.row.settle();
     }
 }

@@ -33,7 +33,7 @@ impl Kept {
     ///
     /// An index of the burst's keys is made first, each looked up among the kept pairs: n log n and n log k steps for n requests
     /// and k pairs. Where a request comes behind an acknowledgement, the keys of the kept pairs are copied once, and each
-    /// acknowledgement costs what `forget` does.
+    /// acknowledgement costs what `forget` does, without its pass over the pairs.
     ///
     /// # Errors
     ///

@@ -12,6 +12,7 @@ use crate::class::{Class, Source};
 use crate::entry::RequestKey;
 use crate::kept::Kept;
 use crate::point::{Point, Removal};
+use crate::row::Row;
 use std::alloc::{AllocError, Global};
 use std::collections::BTreeMap;
 
@@ -30,7 +31,7 @@ pub struct Index {
     /// How many there were and have come since.
     pub(crate) total: usize,
     /// What is kept at this point, without the replies, where acknowledgements have a say.
-    pub(crate) left: Option<Kept>,
+    pub(crate) left: Option<Row>,
 }
 
 /// The keys that are asked, each with the place of its pair, if it has one.
@@ -108,7 +109,7 @@ impl Index {
         ensures { (asked : List Item) (s : Standing) → IsIndex asked self.now s → last_place key.now s.pairs ≡ Some place → result ≡ has_pair key.now s.kept }
     {
         match &self.left {
-            Some(kept) => kept.place(key).is_some(),
+            Some(row) => row.has(key),
             None => self.total.saturating_sub(self.most) <= place,
         }
     }
@@ -136,8 +137,8 @@ impl Index {
     {
         self.places.insert(*key, Some(self.total))?;
         self.total = self.total.saturating_add(1);
-        if let Some(kept) = &mut self.left {
-            kept.push_key(alloc, key);
+        if let Some(row) = &mut self.left {
+            row.push_key(alloc, key);
         }
         Ok(())
     }
@@ -171,8 +172,8 @@ impl Index {
         ensures before { self.new.before ≡ self.old.before }
         ensures left { is_some self.new.left ≡ is_some self.old.left }
     {
-        if let Some(kept) = &mut self.left {
-            kept.forget(&removal.mid, removal.ranges.as_slice());
+        if let Some(row) = &mut self.left {
+            row.forget(&removal.mid, removal.ranges.as_slice());
         }
     }
 

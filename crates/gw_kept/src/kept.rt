@@ -1,15 +1,13 @@
-//! The kept replies: the last so many, in a ring, and the order of their keys.
+//! The kept replies: the last so many, and between bursts no gap among them.
 
-ghost use Rattle.std.specs.Prelude.{◌≡◌, ◌≤◌, ◌++◌, ◌∷◌, [], None, length, IfOk, option_copied};
-ghost use Rattle.circular_buffer.specs.Buffer.{keep_last};
+ghost use Rattle.std.specs.Prelude.{◌≡◌, ◌≤◌, None, length, IfOk, option_copied};
 ghost use Rattle.gw_kept.specs.Classes.{keys_of, last_place};
 ghost use Rattle.gw_kept.specs.Forgotten.{forgotten};
-ghost use Rattle.gw_kept.specs.Pairs.{key_of, bytes_for, bytes_at, none_kept, with_pair, dropped_by, IsBounded};
+ghost use Rattle.gw_kept.specs.Pairs.{key_of, bytes_for, bytes_at, none_kept, with_pair, dropped_by, AreDistinct, IsBounded};
+ghost use Rattle.gw_kept.specs.Rows.{kept_in};
 
 use crate::entry::{Entry, RequestKey};
-use crate::forget::turn;
-use crate::order::Order;
-use circular_buffer::HeapCircularBuffer;
+use crate::row::Row;
 use gw_base::{Mid, NoMemory, TxId};
 use gw_msg::AckRange;
 use std::alloc::{AllocError, Global};
@@ -18,22 +16,20 @@ use std::marker::Model;
 /// The last replies, for requests that are sent again. Contracts see the pairs, oldest first, and how many are kept at most.
 #[derive(Drop)]
 pub struct Kept {
-    ring: HeapCircularBuffer<Entry>,
-    order: Order,
+    pub(crate) row: Row,
 }
 
 impl Model for Kept {
-    ghost use Rattle.gw_kept.specs.Pairs.{KeptList, coded_kept, kept_list, IsBounded, key_of};
-    ghost use Rattle.gw_kept.specs.Order.{IsOrder};
-    ghost use Rattle.std.specs.Prelude.{◌≤◌, map, vec_capacity};
+    ghost use Rattle.gw_kept.specs.Pairs.{KeptList, coded_kept};
+    ghost use Rattle.gw_kept.specs.Rows.{kept_in, IsWhole};
 
     ghost Value = { KeptList };
 
     ghost coded = { coded_kept };
 
-    ghost view = { λ a. kept_list a.ring.items a.ring.capacity };
+    ghost view = { λ a. kept_in a.row };
 
-    ghost invariant = { λ a. IsBounded (kept_list a.ring.items a.ring.capacity) × IsOrder (map key_of a.ring.items) a.order.first a.order.numbers.items × (a.ring.capacity ≤ vec_capacity a.order.numbers) };
+    ghost invariant = { λ a. IsWhole a.row };
 }
 
 impl Kept {
@@ -48,8 +44,7 @@ impl Kept {
         ensures { IfOk result (λ kept. kept ≡ none_kept most) }
     {
         Ok(Kept {
-            ring: HeapCircularBuffer::with_capacity(alloc, most as usize)?,
-            order: Order::new(alloc, most as usize)?,
+            row: Row::new(alloc, most as usize)?,
         })
     }
 
@@ -58,7 +53,7 @@ impl Kept {
         ensures value { result ≡ length self.now.pairs }
         ensures bounded { IsBounded self.now }
     {
-        self.ring.len()
+        self.row.len()
     }
 
     /// Keeps a pair, whose key no kept pair has: the caller knows that. A full list hands back its oldest pair. It takes no
@@ -68,28 +63,18 @@ impl Kept {
         ensures pairs { self.new ≡ with_pair self.old entry }
         ensures dropped { result ≡ dropped_by self.old entry }
     {
-        let dropped = if self.ring.is_full() {
-            self.order.remove_oldest(&self.ring);
-            self.ring.pop_front()
-        } else {
-            None
-        };
-        self.order.insert(&self.ring, &entry.key());
-        self.ring.push_back(entry);
-        dropped
+        self.row.push(entry)
     }
 
     /// Removes each pair of this sender whose number is in one of the ranges, both ends included; the others keep their order.
     /// A range whose first number is above its last has none. It takes no memory. For n ranges and k pairs it costs n log k
-    /// steps, and where a pair is removed, one pass over the pairs.
+    /// steps, for each pair that goes a move of at most 2 k bytes, and where any goes, one pass over the pairs. `change` makes that
+    /// pass once for a burst.
     pub fn forget(&mut self, mid: &Mid, ranges: &[AckRange])
         ensures { self.new ≡ forgotten self.old mid.now ranges.now }
     {
-        if self.order.names_some(&self.ring, mid, ranges) {
-            let marks = self.order.marks(&self.ring, mid, ranges);
-            self.order.keep_unmarked(&self.ring, &marks);
-            turn(&mut self.ring, &marks);
-        }
+        self.row.forget(mid, ranges);
+        self.row.settle();
     }
 
     /// The reply that was sent to this sender under this number, if it is kept: log k steps for k pairs.
@@ -100,7 +85,7 @@ impl Kept {
             id: id.0,
             mid: *mid,
         };
-        match self.order.find(&self.ring, &key) {
+        match self.place(&key) {
             Some(place) => self.reply_at(place),
             None => None,
         }
@@ -110,24 +95,22 @@ impl Kept {
     pub fn reply_at(&self, place: usize) -> Option<&[u8]>
         ensures { option_copied result ≡ bytes_at place self.now.pairs }
     {
-        match self.ring.get(place) {
-            Some(entry) => Some(entry.bytes.as_slice()),
-            None => None,
-        }
+        self.row.reply_at(place)
     }
 
     /// The place of a key's pair, counted from the oldest on.
     pub(crate) fn place(&self, key: &RequestKey) -> Option<usize>
-        ensures { result ≡ last_place key.now (keys_of self.now) }
+        ensures place { result ≡ last_place key.now (keys_of self.now) }
+        ensures distinct { AreDistinct self.now.pairs }
     {
-        self.order.find(&self.ring, key)
+        self.row.find(key)
     }
 
     /// How many pairs are kept at most.
     pub(crate) fn most(&self) -> usize
         ensures { result ≡ self.now.most }
     {
-        self.ring.capacity()
+        self.row.most()
     }
 
     /// The same keys, without the replies.
@@ -135,28 +118,10 @@ impl Kept {
     /// # Errors
     ///
     /// `AllocError` where its memory was refused.
-    pub(crate) fn keys(&self, alloc: Global) -> Result<Kept, AllocError>
-        ensures keys { IfOk result (λ kept. keys_of kept ≡ keys_of self.now) }
-        ensures most { IfOk result (λ kept. kept.most ≡ self.now.most) }
+    pub(crate) fn keys(&self, alloc: Global) -> Result<Row, AllocError>
+        ensures keys { IfOk result (λ row. keys_of (kept_in row) ≡ keys_of self.now) }
+        ensures most { IfOk result (λ row. row.most ≡ self.now.most) }
     {
-        let most = self.ring.capacity();
-        let mut ring = HeapCircularBuffer::with_capacity(alloc, most)?;
-        for at in 0..self.ring.len() {
-            if let Some(entry) = self.ring.get(at) {
-                ring.push_back(entry.key().alone(alloc));
-            }
-        }
-        let order = self.order.copy(alloc, most)?;
-        Ok(Kept { ring, order })
-    }
-
-    /// Keeps a key, without a reply, where no pair has it.
-    pub(crate) fn push_key(&mut self, alloc: Global, key: &RequestKey)
-        ensures keys { last_place key.now (keys_of self.old) ≡ None → keys_of self.new ≡ keep_last self.old.most (keys_of self.old ++ key.now ∷ []) }
-        ensures most { self.new.most ≡ self.old.most }
-    {
-        if let None = self.place(key) {
-            self.push(key.alone(alloc));
-        }
+        self.row.keys(alloc)
     }
 }

@@ -11,6 +11,8 @@ mod kept;
 mod laws;
 mod order;
 mod point;
+mod ring;
+mod row;
 
 pub use change::Turn;
 pub use class::{Class, Source};

@@ -1,9 +1,10 @@
-use Rattle.std.proofs.Common.{◌≡◌, take}
-use Rattle.std.specs.List.{list_any}
+use Rattle.std.proofs.Common.{◌≡◌, drop}
+use Rattle.std.specs.Prelude.{◌||◌}
 use Rattle.gw_base.specs.declared.key.Key.{Key}
 use Rattle.gw_base.specs.Keys.{has}
-use Rattle.gw_board.specs.Named.{names_in}
+use Rattle.gw_board.specs.Named.{names_in_actions}
 use Rattle.gw_board.proofs.named.names_of.Given as goal
 
+-- the names so far, and then those of the rest
 abbrev pub invariant-loop-action : goal.invariant-loop-action
-invariant-loop-action l = (k : Key) → has l.names.items k ≡ list_any (names_in k) (take l.action-index l.actions)
+invariant-loop-action l = (k : Key) → (has l.names.items k || names_in_actions k l.left (drop l.action-index l.actions)) ≡ names_in_actions k l.asked.owned.contexts l.asked.request.actions

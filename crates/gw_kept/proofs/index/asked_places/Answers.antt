@@ -14,7 +14,7 @@ loop-point-preserved c =
     elim c.match-point.branch [
       | in-Request+in_ok-insert w ↦ λ q.
           ap (λ m. get key_cmp m q) w.places-is
-          ∙ key_more (λ k. get key_cmp c.loop-point.places k) (λ k. get key_cmp w.insert.new.self k) pairs c.args.points.now c.loop-point.point-index x w.in-Request.key w.place.result c.loop-point-test.true c.point-item.is w.in-Request.is w.place.ensures inv w.in_ok-insert.ensures.updates.0 q
+          ∙ key_more (λ k. get key_cmp c.loop-point.places k) (λ k. get key_cmp w.insert.new.self k) pairs c.args.points.now c.loop-point.point-index x w.in-Request.key w.place.result c.loop-point-test.true c.point-item.is w.in-Request.is w.place.ensures.place inv w.in_ok-insert.ensures.updates.0 q
       | in_default w ↦ λ q.
           ap (λ m. get key_cmp m q) w.places-is
           ∙ no_key_more (λ k. get key_cmp c.loop-point.places k) pairs c.args.points.now c.loop-point.point-index x c.loop-point-test.true c.point-item.is (asks_not x w.in_default.not-Request) inv q

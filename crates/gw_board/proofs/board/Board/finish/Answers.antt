@@ -12,7 +12,7 @@ use Rattle.gw_board.proofs.KeptIn.{none_out}
 use Rattle.gw_board.proofs.OnTheWay.{gives_the_fold}
 use Rattle.gw_board.proofs.SeatFacts.{closed_front, closed_reply, told_as, told_more, told_all, nil_of}
 use Rattle.gw_board.proofs.board.Board.finish.Goals as goal
-use Rattle.gw_board.proofs.board.Board.finish.Goals.{After-drop-self-inside-2}
+use Rattle.gw_board.proofs.board.Board.finish.Goals.{After-drop-self-inside}
 
 pub loop-seat-init : goal.loop-seat-init
 loop-seat-init c =
@@ -60,34 +60,42 @@ unreachable-requires-in_default-push c =
     let full = c.in_default-push.ensures.full in
     omega arith
 
-module _ (c : After-drop-self-inside-2) where
+-- no seat is left, so each is closed with its reply
+closed_now : (seats first rest : List Seat) (replies : List Text) → first ≡ seats → told_as replies rest ≡ told_as [] first → rest ≡ [] → AreClosed (map place_of seats) replies
+closed_now seats first rest replies e told none = ap (λ (l : List Seat). told_as [] l) (sym e) ∙ sym told ∙ ap (told_as replies) none ∙ told_all replies
+
+pub sweep_journal-requires : goal.sweep_journal-requires
+sweep_journal-requires c =
+    let b : Seen = value_of c.self.inside in
+    let replies : List Text = c.loop-seat.replies.items in
+    let rest : List Seat = c.loop-seat.seat-iterator.rest.items in
+    let none : rest ≡ [] = nil_of rest (let n = c.in-None.ensures.steps.0 in let o = c.loop-seat.seat-iterator.rest.ok.0 in omega arith) in
+    let closed = closed_now c.self.inside.seats.items c.into_iter-seat-iterator.result.rest.items rest replies c.into_iter-seat-iterator.ensures.into_iter_gives.0 c.loop-seat.invariant.told none in
+    none_out b c.self.inside.tables c.self.invariant.kept (closed_ones b.places replies closed)
+
+module _ (c : After-drop-self-inside) where
   abbrev b : Seen
   b = value_of c.self.inside
 
   abbrev replies : List Text
   replies = c.loop-seat.replies.items
 
+  abbrev rest : List Seat
+  rest = c.loop-seat.seat-iterator.rest.items
+
   abbrev ended : Outcome (List Text)
   ended = record { maps = b.maps; answer = replies }
 
-  none_left : c.loop-seat.seat-iterator.rest.items ≡ []
-  none_left = nil_of c.loop-seat.seat-iterator.rest.items (let n = c.in-None.ensures.steps.0 in let o = c.loop-seat.seat-iterator.rest.ok.0 in omega arith)
-
   are_closed : AreClosed b.places replies
   are_closed =
-      ap (λ (l : List Seat). told_as [] l) (sym c.into_iter-seat-iterator.ensures.into_iter_gives.0)
-      ∙ sym c.loop-seat.invariant.told
-      ∙ ap (told_as replies) none_left
-      ∙ told_all replies
+      closed_now c.self.inside.seats.items c.into_iter-seat-iterator.result.rest.items rest replies c.into_iter-seat-iterator.ensures.into_iter_gives.0 c.loop-seat.invariant.told
+      (nil_of rest (let n = c.in-None.ensures.steps.0 in let o = c.loop-seat.seat-iterator.rest.ok.0 in omega arith))
 
   comes_to : ended ≡ carried b.manner (asked_of b.places) b.begun
   comes_to = sym (all_closed b.manner (core_of b) replies are_closed) ∙ gives_the_fold b c.self.invariant.on_the_way
 
 pub returns-clause-maps : goal.returns-clause-maps
-returns-clause-maps c = ap (λ (o : Outcome (List Text)). o.maps) (comes_to c) ∙ ap (λ (x : Seen). (carried x.manner (asked_of x.places) x.begun).maps) c.self.view_is
+returns-clause-maps c = c.sweep_journal.ensures.maps ∙ ap (λ (o : Outcome (List Text)). o.maps) (comes_to c) ∙ ap (λ (x : Seen). (carried x.manner (asked_of x.places) x.begun).maps) c.self.view_is
 
 pub returns-clause-replies : goal.returns-clause-replies
 returns-clause-replies c = ap (λ (o : Outcome (List Text)). o.answer) (comes_to c) ∙ ap (λ (x : Seen). (carried x.manner (asked_of x.places) x.begun).answer) c.self.view_is
-
-pub returns-clause-here : goal.returns-clause-here
-returns-clause-here c = none_out (b c) c.self.inside.tables c.self.invariant.kept (closed_ones (b c).places (replies c) (are_closed c))

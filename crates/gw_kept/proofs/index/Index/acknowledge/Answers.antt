@@ -1,5 +1,6 @@
 use Rattle.std.proofs.Common.{refl, ap, ◌∙◌}
 use Rattle.gw_kept.specs.Forgotten.{forgotten}
+use Rattle.gw_kept.specs.Rows.{kept_in}
 use Rattle.gw_kept.proofs.Indexes.{acknowledged}
 use Rattle.gw_kept.proofs.index.Index.acknowledge.Goals as goal
 
@@ -7,4 +8,4 @@ pub returns-in-Some-clause-exact : goal.returns-in-Some-clause-exact
 returns-in-Some-clause-exact c =
     let r = c.args.removal.now in
     λ asked s h has.
-    acknowledged asked c.args.self.now _ s r c.in-Some.kept c.forget.new.self h c.in-Some.is (c.forget.ensures ∙ ap (forgotten c.in-Some.kept r.mid) c.as_slice.ensures) refl
+    acknowledged asked c.args.self.now _ s r c.in-Some.row c.forget.new.self h c.in-Some.is (c.forget.ensures ∙ ap (forgotten (kept_in c.in-Some.row) r.mid) c.as_slice.ensures) refl

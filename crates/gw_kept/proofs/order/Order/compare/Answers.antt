@@ -1,11 +1,28 @@
-use Rattle.std.proofs.Common.{map, get_or, ap, ◌∙◌}
+use Rattle.std.proofs.Common.{sym, ap, ◌∙◌}
+use Rattle.std.specs.Cmp.{tied_itself}
+use Rattle.std.specs.Option.{option_map, unwrap_or}
 use Rattle.gw_kept.specs.Pairs.{key_of}
+use Rattle.gw_kept.specs.Rows.{keys_in, key_in}
 use Rattle.gw_kept.specs.Order.{key_cmp}
-use Rattle.gw_kept.proofs.Orders.{no_pair}
+use Rattle.gw_kept.proofs.Forgetting.{keys_get}
+use Rattle.gw_kept.proofs.Orders.{key_total}
 use Rattle.gw_kept.proofs.order.Order.compare.Goals as goal
+
+pub returns-in-Some : goal.returns-in-Some
+returns-in-Some c =
+    let row = c.args.ring.now.items in
+    let key = c.args.key.now in
+    c.cmp.ensures
+    ∙ ap (λ k. key_cmp k key) c.key.ensures
+    ∙ ap (λ o. key_cmp (unwrap_or (option_map key_of o) key) key) c.in-Some.ensures
+    ∙ ap (λ k. key_cmp (unwrap_or k key) key) (sym (keys_get row c.place.result))
+    ∙ ap (λ p. key_cmp (key_in (keys_in row) p key) key) c.place.ensures
 
 pub returns-in-None : goal.returns-in-None
 returns-in-None c =
-    let es = c.args.ring.now.items in
+    let row = c.args.ring.now.items in
     let key = c.args.key.now in
-    no_pair es c.place.result key c.in-None.ensures ∙ ap (λ p. key_cmp (get_or (map key_of es) p key) key) c.place.ensures
+    sym (tied_itself key_total key)
+    ∙ ap (λ o. key_cmp (unwrap_or (option_map key_of o) key) key) c.in-None.ensures
+    ∙ ap (λ k. key_cmp (unwrap_or k key) key) (sym (keys_get row c.place.result))
+    ∙ ap (λ p. key_cmp (key_in (keys_in row) p key) key) c.place.ensures

@@ -1,8 +1,8 @@
-use Rattle.std.proofs.Common.{ℕ, List, rules, length, map, get_or, subst}
+use Rattle.std.proofs.Common.{ℕ, List, rules, length, subst}
 use Rattle.std.specs.List.Sorted.{IsSearchInRange, IsBinarySearchResult}
 use Rattle.std.specs.declared.cmp.Ordering.{Ordering}
 use Rattle.std.proofs.lemmas.Fn.{always_returns_same}
-use Rattle.gw_kept.specs.Pairs.{key_of}
+use Rattle.gw_kept.specs.Rows.{keys_in, key_in}
 use Rattle.gw_kept.specs.Order.{key_cmp, place_of}
 use Rattle.gw_kept.proofs.Orders.{searched}
 use Rattle.gw_kept.proofs.order.Order.search.Goals as goal
@@ -10,9 +10,9 @@ use Rattle.gw_kept.proofs.order.Order.search.Goals as goal
 pub returns-clause-stand : goal.returns-clause-stand
 returns-clause-stand c =
     λ order.
-    let keys = map key_of c.args.ring.now.items in
+    let keys = keys_in c.args.ring.now.items in
     let self = c.args.self.now in
-    let ord : ℕ → Ordering = λ n. key_cmp (get_or keys (place_of self.first n) c.args.key.now) c.args.key.now in
+    let ord : ℕ → Ordering = λ n. key_cmp (key_in keys (place_of self.first n) c.args.key.now) c.args.key.now in
     searched keys self.first self.numbers.items c.args.key.now c.binary_search_by.result order
     (subst (λ (ns : List ℕ). IsSearchInRange c.binary_search_by.result (length ns)) c.deref.ensures.value c.binary_search_by.ensures.bound)
     (subst (λ (ns : List ℕ). IsBinarySearchResult ord ns c.binary_search_by.result) c.deref.ensures.value (c.binary_search_by.ensures.position ord (always_returns_same _ _ _ (λ a r f k. search rules))))

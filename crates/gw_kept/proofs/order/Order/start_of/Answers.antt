@@ -1,5 +1,5 @@
-use Rattle.std.proofs.Common.{map, subst, inl, inr}
-use Rattle.gw_kept.specs.Pairs.{key_of}
+use Rattle.std.proofs.Common.{subst, inl, inr}
+use Rattle.gw_kept.specs.Rows.{keys_in}
 use Rattle.gw_kept.specs.Order.{IsStand}
 use Rattle.gw_kept.proofs.Spans.{start_found, start_split}
 use Rattle.gw_kept.proofs.order.Order.start_of.Goals as goal
@@ -7,7 +7,7 @@ use Rattle.gw_kept.proofs.order.Order.start_of.Goals as goal
 pub returns-in-Ok-clause-start : goal.returns-in-Ok-clause-start
 returns-in-Ok-clause-start c =
     λ order at d within.
-    let keys = map key_of c.args.ring.now.items in
+    let keys = keys_in c.args.ring.now.items in
     let key = c.args.key.now in
     let stand = c.search.ensures.stand order in
     elim c.in-Ok.is [

@@ -1,0 +1,37 @@
+use Rattle.std.proofs.Common.{◌≡◌, ◌+◌, ◌-◌, ◌∷◌, ℕ, List, [], map, sym, ap, subst, ◌∙◌, arith}
+use Rattle.circular_buffer.specs.Buffer.{buffer}
+use Rattle.gw_kept.specs.Rows.{left_of}
+use Rattle.gw_kept.proofs.Forgetting.{IsClearing, clear_more, clear_all}
+use Rattle.gw_kept.proofs.order.Order.forget.Goals as goal
+
+pub loop-until-preserved : goal.loop-until-preserved
+loop-until-preserved c =
+    let mid = c.args.mid.now in
+    let range = c.args.range.now in
+    let before = c.args.ring.now.items in
+    let start = c.span-start.result.0 in
+    let i : ℕ = c.loop-until.until - 1 in
+    let now = c.loop-until.self in
+    let next = c.take_out.new.self in
+    let row = c.loop-until.ring.items in
+    let inv = c.loop-until.invariant in
+    let until : c.loop-until.until ≡ i + 1 = omega (arith, c.loop-until-test.true) in
+    let clearing = subst (λ (n : ℕ). IsClearing mid range before row now.first now.numbers.items start n) until inv.clearing in
+    record {
+      clearing =
+          subst (λ (f : ℕ). IsClearing mid range before c.take_out.new.ring.items f next.numbers.items start i) (sym c.take_out.ensures.first)
+          (subst (λ (ns : List ℕ). IsClearing mid range before c.take_out.new.ring.items now.first ns start i) (sym c.take_out.ensures.numbers)
+          (clear_more mid range before row c.take_out.new.ring.items now.first now.numbers.items start i clearing (omega (arith, c.loop-until-test.true)) (ap (λ b. b.items) c.take_out.ensures.gap)));
+      capacity = ap (λ b. b.capacity) c.take_out.ensures.gap ∙ inv.capacity;
+      room = c.take_out.ensures.room ∙ inv.room;
+    }
+
+pub returns-clause-left : goal.returns-clause-left
+returns-clause-left c =
+    let mid = c.args.mid.now in
+    let range = c.args.range.now in
+    let before = c.args.ring.now.items in
+    let now = c.loop-until.self in
+    let inv = c.loop-until.invariant in
+    ap (λ xs. buffer xs c.loop-until.ring.capacity) (clear_all mid range before c.loop-until.ring.items now.first now.numbers.items c.span-start.result.0 c.loop-until.until inv.clearing c.loop-until-test.false)
+    ∙ ap (λ n. buffer (map (left_of mid (range ∷ [])) before) n) inv.capacity

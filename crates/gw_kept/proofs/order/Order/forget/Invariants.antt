@@ -1,0 +1,14 @@
+use Rattle.std.proofs.Common.{◌≡◌}
+use Rattle.std.specs.Vec.{vec_capacity}
+use Rattle.gw_kept.proofs.Forgetting.{IsClearing}
+use Rattle.gw_kept.proofs.order.Order.forget.Given as goal
+
+abbrev pub invariant-loop-until : goal.invariant-loop-until
+invariant-loop-until l = record {
+  clearing : IsClearing l.mid l.range l.fn.ring.items l.ring.items l.self.first l.self.numbers.items l.start l.until;
+  capacity : l.ring.capacity ≡ l.fn.ring.capacity;
+  room : vec_capacity l.self.numbers ≡ vec_capacity l.fn.self.numbers;
+}
+
+abbrev pub decreases-loop-until : goal.decreases-loop-until
+decreases-loop-until l = l.until
