@@ -28,9 +28,10 @@ use Rattle.gw_cmd.specs.Keys.{every_key, is_for_all, keys_if, action_keys, place
 use Rattle.gw_cmd.proofs.Locality.{entered_name}
 use Rattle.gw_cmd.proofs.Ready.{same_any}
 use Rattle.gw_reserve.specs.Owned.{OwnedAction}
-use Rattle.gw_tx.specs.Footprints.{is_for_each, one_context, stands_for_all, keys_of_members, named_keys, keys_in_action, action_footprint, list_keys}
+use Rattle.gw_tx.specs.Footprints.{is_for_each, one_context, stands_for_all, keys_of_members, named_keys, keys_in_action, keys_of_links, action_footprint, list_keys}
+use Rattle.gw_tx.specs.Properties.{linked_names}
 
--- the keys of an action, by its parts
+-- the keys of an action but for its links, by its parts
 abbrev pub footprint_in : Maps → List (Option ℕ × Command) → CtxRef → Option CtxNum → List Key
 footprint_in m ps sent owned = keys_if (is_for_each sent) (every_key m) ++ place_key (one_context sent owned) ++ flat_map (keys_in_action sent owned m) ps
 
@@ -153,17 +154,26 @@ module _ (keys : PartKeys) where
         (named_stays (one_context sent owned) q.0 q.1 q.1.term (right_held all named h))
 
     -- the keys of an action
+    commands_stay : (ps : List (Option ℕ × Command)) (sent : CtxRef) (owned : Option CtxNum) → Holds keys (footprint_in s ps sent owned) → Holds keys (footprint_in m ps sent owned)
+    commands_stay ps sent owned h =
+        let all : List Key = keys_if (is_for_each sent) (every_key s) in
+        let one : List Key = place_key (one_context sent owned) in
+        let asked : Maps → List Key = λ n. flat_map (keys_in_action sent owned n) ps in
+        let front : Holds keys (all ++ one) = left_held (all ++ one) (asked s) h in
+        both_held (keys_if (is_for_each sent) (every_key m) ++ one) (asked m)
+        (both_held (keys_if (is_for_each sent) (every_key m)) one (every_stays (is_for_each sent) (left_held all one front)) (right_held all one front))
+        (each_held (keys_in_action sent owned s) (keys_in_action sent owned m) (asked_stays sent owned) ps (right_held (all ++ one) (asked s) h))
+
     pub action_stays : (a : OwnedAction) → Holds keys (action_footprint a s) → Holds keys (action_footprint a m)
     action_stays a h =
-        let all : List Key = keys_if (is_for_each a.sent.ctx) (every_key s) in
-        let one : List Key = place_key (one_context a.sent.ctx a.number) in
-        let asked : Maps → List Key = λ n. flat_map (keys_in_action a.sent.ctx a.number n) a.commands in
-        let front : Holds keys (all ++ one) = left_held (all ++ one) (asked s) h in
-        both_held (keys_if (is_for_each a.sent.ctx) (every_key m) ++ one) (asked m)
-        (both_held (keys_if (is_for_each a.sent.ctx) (every_key m)) one (every_stays (is_for_each a.sent.ctx) (left_held all one front)) (right_held all one front))
-        (each_held (keys_in_action a.sent.ctx a.number s) (keys_in_action a.sent.ctx a.number m) (asked_stays a.sent.ctx a.number) a.commands (right_held (all ++ one) (asked s) h))
+        both_held (footprint_in m a.commands a.sent.ctx a.number) (keys_of_links a m)
+        (commands_stay a.commands a.sent.ctx a.number (left_held (footprint_in s a.commands a.sent.ctx a.number) (keys_of_links a s) h))
+        (each_held (λ t. name_keys t s) (λ t. name_keys t m) name_stays (linked_names a.sent.props) (right_held (footprint_in s a.commands a.sent.ctx a.number) (keys_of_links a s) h))
 
   -- ---- the keys of an action are those of its commands, in the context that it is for
+
+  pub without_links : (a : OwnedAction) (m : Maps) → Holds keys (action_footprint a m) → Holds keys (footprint_in m a.commands a.sent.ctx a.number)
+  without_links a m h = left_held (footprint_in m a.commands a.sent.ctx a.number) (keys_of_links a m) h
 
   module _ (m : Maps) where
     same_term : (at : At) (one : Option CtxNum) (slot : Option ℕ) (c : Command) (r : TermRef) → (Holds keys (keys_of_members one m) → Holds keys (member_keys at m)) → Holds keys (named_keys one slot c m r) → Holds keys (term_keys at slot c m r)

@@ -18,7 +18,7 @@ use Rattle.gw_reserve.specs.Owned.{OwnedAction, AreFreeSlots, paired_commands, p
 use Rattle.gw_tx.specs.Footprints.{action_footprint, list_keys, Covers}
 use Rattle.gw_tx.proofs.Facts.{IsHeld}
 use Rattle.gw_tx.proofs.FreeSlots.{AnySlot}
-use Rattle.gw_tx.proofs.HeldKeys.{left_held, right_held, each_held, command_stays, action_stays, footprint_in, in_null, in_live, in_unmade, in_each}
+use Rattle.gw_tx.proofs.HeldKeys.{left_held, right_held, without_links, each_held, command_stays, action_stays, footprint_in, in_null, in_live, in_unmade, in_each}
 use Rattle.gw_tx.proofs.Kept.{With, Oks, OksIn}
 
 -- as it begins
@@ -55,7 +55,7 @@ listed keys m at [] h = tt
 listed keys m at (p ∷ ps) h = (left_held keys (command_keys at p.0 p.1 m) (list_keys at ps m) h, listed keys m at ps (right_held keys (command_keys at p.0 p.1 m) (list_keys at ps m) h))
 
 pub listed_in : (keys : PartKeys) (m : Maps) (a : OwnedAction) → Holds keys (action_footprint a m) → OksIn (IsHeld keys m) a.commands a.sent.ctx a.number
-listed_in keys m a h = by a.sent.ctx a.number h
+listed_in keys m a h = by a.sent.ctx a.number (without_links keys a m h)
   where
     by : (sent : CtxRef) (owned : Option CtxNum) → Holds keys (footprint_in m a.commands sent owned) → OksIn (IsHeld keys m) a.commands sent owned
     by ref.Null owned k = listed keys m Null a.commands (in_null keys m a.commands ref.Null owned refl k)
