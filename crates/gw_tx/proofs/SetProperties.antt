@@ -78,7 +78,7 @@ members-with_property Emergency c = refl
 members-with_property (Topology ts) c = members-linked_by ts c
 members-with_property (ContextAudit items) c = refl
 
-members-if : (p : ContextProp) (o : Option ContextRecord) → members_of (with_property_if p o) ≡ members_of o
+pub members-if : (p : ContextProp) (o : Option ContextRecord) → members_of (with_property_if p o) ≡ members_of o
 members-if p None = refl
 members-if p (Some c) = members-with_property p c
 
