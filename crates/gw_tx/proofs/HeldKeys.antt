@@ -1,6 +1,6 @@
 -- Keys that a part holds, and goes on holding while commands change it.
-use Rattle.std.proofs.Common.{nat_eq, ◌≡◌, ℕ, Bool, true, false, List, [], ◌∷◌, ◌++◌, map, Option, None, Some, is_some, refl, sym, ap, subst, ◌∙◌}
-use Rattle.std.specs.Prelude.{◌||◌}
+use Rattle.std.proofs.Common.{nat_eq, ◌≡◌, ℕ, zero, suc, ◌<◌, Bool, true, false, List, [], ◌∷◌, ◌++◌, length, get_or, map, Option, None, Some, is_some, refl, sym, ap, subst, ◌∙◌, arith}
+use Rattle.std.specs.Prelude.{◌||◌, All}
 use Rattle.std.specs.List.{flat_map, list_any}
 use Rattle.std.specs.FinMap as finite
 use Rattle.std.specs.FinMap.{contains_key-keys}
@@ -76,6 +76,15 @@ module _ (keys : PartKeys) where
           by : (b d : Bool) → has (map Ctx (map number xs)) (Ctx n) ≡ d → (b || d) ≡ true → (has (map Ctx (map number xs)) (Ctx n) ≡ true → list_any (nat_eq n.0) xs ≡ true) → (b || list_any (nat_eq n.0) xs) ≡ true
           by true d e j f = refl
           by false d e j f = f (e ∙ j)
+
+  -- each number of a context is a key
+  pub numbers_held : (m : Maps) → IsPart keys m → All (λ n. holds keys (Ctx n) ≡ true) (numbers m)
+  numbers_held m p k d h = p.contexts (get_or (numbers m) k d) (numbered_there m (get_or (numbers m) k d) (listed (numbers m) k h))
+    where
+      listed : (l : List CtxNum) (k : ℕ) → k < length l → has (map Ctx l) (Ctx (get_or l k d)) ≡ true
+      listed [] k h = absurd (omega arith)
+      listed (x ∷ xs) zero h = has-head (Ctx x) (map Ctx xs)
+      listed (x ∷ xs) (suc k) h = has-tail (Ctx x) (Ctx (get_or xs k d)) (map Ctx xs) (listed xs k (omega arith))
 
   no_name : (l : List CtxNum) (t : List ℕ) → has (map Ctx l) (Term t) ≡ false
   no_name [] t = refl

@@ -29,7 +29,7 @@ use Rattle.gw_table.proofs.Growth.{Grows, grows_on}
 use Rattle.gw_table.proofs.Lookups.{term-put_ctx, ctx-put_ctx}
 use Rattle.gw_refusal.specs.Places.{same_place}
 use Rattle.gw_cmd.proofs.Parted.{StaysPart}
-use Rattle.gw_tx.specs.Properties.{is_topology, triples_in, triples_of, any_triple, name_of, name_in, names_in, linked_names, is_chosen_or_each, has_no_name, is_left_out, is_with_itself, are_same, is_asked_wrongly, is_misplaced, has_twice, is_too_high, refusal_of_properties, is_absent, is_elsewhere, refusal_of_links, link_of, linked_if, linked_by, with_property, with_property_if, set_property, set_properties}
+use Rattle.gw_tx.specs.Properties.{is_topology, triples_in, triples_of, any_triple, name_of, name_in, names_in, linked_names, is_chosen_or_each, has_no_name, is_left_out, is_with_itself, are_same, is_asked_wrongly, is_misplaced, has_twice, is_too_high, refusal_of_properties, ArePlain, is_absent, is_elsewhere, refusal_of_links, link_of, linked_if, linked_by, with_property, with_property_if, set_property, set_properties}
 
 -- ---- what may be set
 
@@ -280,7 +280,7 @@ unfolding is_misplaced
 can_set_in a n m h e = props_between n m a.props (linked_here n (linked_names a.props) m e) (neither (is_asked_wrongly a.ctx a) (any_triple is_with_itself a.props) h.placed).1 h.low
 
 -- without a Topology
-unlinked : (ps : List ContextProp) → list_any is_topology ps ≡ false → list_any is_too_high ps ≡ false → CanAlwaysSet ps
+pub unlinked : (ps : List ContextProp) → list_any is_topology ps ≡ false → list_any is_too_high ps ≡ false → CanAlwaysSet ps
 unlinked [] e g n m = tt
 unlinked (p ∷ ps) e g n m =
     let none = neither (is_topology p) (list_any is_topology ps) e in
@@ -293,13 +293,25 @@ unlinked (p ∷ ps) e g n m =
     between (Topology ts) e = absurd cc
     between (ContextAudit items) e = tt
 
+pub plain_can : (ps : List ContextProp) → ArePlain ps → CanAlwaysSet ps
+plain_can ps h = unlinked ps h.unlinked h.low
+
 -- for a context that is to be made, and for each
-pub can_set_always : (a : Action) → IsAllowed a → is_chosen_or_each a.ctx ≡ true → CanAlwaysSet a.props
+pub are_plain : (a : Action) → IsAllowed a → is_chosen_or_each a.ctx ≡ true → ArePlain a.props
 unfolding is_left_out
-can_set_always a h e = unlinked a.props (by (any_triple has_no_name a.props) (list_any is_topology a.props) (is_chosen_or_each a.ctx) h.left e) h.low
+are_plain a h e = record { low = h.low; unlinked = by (any_triple has_no_name a.props) (list_any is_topology a.props) (is_chosen_or_each a.ctx) h.left e }
   where
     by : (u t c : Bool) → (u || (t && c)) ≡ false → c ≡ true → t ≡ false
     by true t c x y = absurd cc
     by false true true x y = absurd cc
     by false true false x y = absurd cc
     by false false c x y = refl
+
+pub can_set_always : (a : Action) → IsAllowed a → is_chosen_or_each a.ctx ≡ true → CanAlwaysSet a.props
+can_set_always a h e = plain_can a.props (are_plain a h e)
+
+-- ---- a part stays one, whatever is set
+
+pub stays_part_all : (keys : PartKeys) (start : Maps) (n : CtxNum) (ps : List ContextProp) (m : Maps) → StaysPart keys start m → StaysPart keys start (set_properties n ps m)
+stays_part_all keys start n [] m s = s
+stays_part_all keys start n (p ∷ ps) m s = stays_part_all keys start n ps (set_property n p m) (stays_part_set n p m keys start s)

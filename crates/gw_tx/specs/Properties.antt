@@ -1,6 +1,6 @@
 -- What an action asks of its context itself: what is refused, what becomes of the context, and what is told of it (RFC 3525, sections
 -- 6.1.1, 7.1.18 and 8.1.2; the order of errors, and what is told where nothing is asked for, are own).
-use Rattle.std.specs.Prelude.{ℕ, nat_lt, Bool, true, false, ◌&&◌, ◌||◌, ◌==◌, not, if◌then◌else◌, List, [], ◌∷◌, ◌++◌, length, bytes_eq, count_by, flat_map, Option, None, Some, is_none}
+use Rattle.std.specs.Prelude.{◌≡◌, ℕ, nat_lt, Bool, true, false, ◌&&◌, ◌||◌, ◌==◌, not, if◌then◌else◌, List, [], ◌∷◌, ◌++◌, length, bytes_eq, count_by, flat_map, Option, None, Some, is_none}
 use Rattle.std.specs.List.{list_any}
 use Rattle.gw_base.specs.Choose.{is_choose}
 use Rattle.gw_base.specs.declared.code.Code.{Code}
@@ -188,6 +188,11 @@ refusal_of_properties a =
     else if has_twice a.props then Some PropertyTwice
     else if list_any is_too_high a.props then Some InsufficientResources
     else None
+
+-- what may be set in whichever context: no Topology, and no priority that there is not
+pub record ArePlain (props : List ContextProp) : Type 0 where
+  pub low : list_any is_too_high props ≡ false
+  pub unlinked : list_any is_topology props ≡ false
 
 -- ---- what is refused by the tables
 

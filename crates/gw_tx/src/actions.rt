@@ -1,6 +1,6 @@
 //! The actions of a transaction.
 
-ghost use Rattle.std.specs.Prelude.{◌≡◌, true, false, Option, IfOk, OnOk};
+ghost use Rattle.std.specs.Prelude.{◌≡◌, true, false, Option, None, IfOk, OnOk};
 ghost use Rattle.std.specs.List.{list_any};
 ghost use Rattle.gw_base.specs.declared.ids.CtxNum.{CtxNum};
 ghost use Rattle.gw_base.specs.declared.key.Key.TheVariants.{Ctx};
@@ -9,11 +9,11 @@ ghost use Rattle.gw_reserve.specs.Owned.{AreFreeSlots, paired_action, paired_act
 ghost use Rattle.gw_table.specs.Maps.{ctx};
 ghost use Rattle.gw_table.specs.Parts.{holds};
 ghost use Rattle.gw_tx.specs.Footprints.{action_footprint, footprint_of, list_keys, Covers};
-ghost use Rattle.gw_tx.specs.Properties.{is_too_high};
+ghost use Rattle.gw_tx.specs.Properties.{is_too_high, refusal_of_properties};
 ghost use Rattle.gw_length.specs.Tellings.{told_behind};
 ghost use Rattle.gw_reply.specs.Replies.{action_reply_text};
 ghost use Rattle.gw_tx.specs.Told.{counted};
-ghost use Rattle.gw_tx.specs.Transactions.{action_in as done_in, action as action_done, actions as all_actions};
+ghost use Rattle.gw_tx.specs.Transactions.{action_in as done_in, action_on as done_on, action as action_done, actions as all_actions};
 
 use crate::commands::commands_in;
 use crate::contexts::{action_for_each, in_context};
@@ -52,10 +52,43 @@ fn action_in(
         return action_error(alloc, told, CtxRef::Num(number), Code::UnknownContext);
     }
     let names = linked_names(alloc, sent.props.as_slice())?;
-    if let Some(code) = refusal_of_links(part, number, &names) {
-        return action_error(alloc, told, CtxRef::Num(number), code);
+    match refusal_of_links(part, number, &names) {
+        Some(code) => action_error(alloc, told, CtxRef::Num(number), code),
+        None => in_context(alloc, rules, part, At::Live(number), number, slots, sent, told),
     }
-    in_context(alloc, rules, part, At::Live(number), number, slots, sent, told)
+}
+
+/// Carries an action out that is not refused for what it asks of its context, with what it owns.
+fn action_on(
+    alloc: Global,
+    rules: &Rules,
+    part: &mut Part,
+    number: Option<CtxNum>,
+    slots: &[Option<u16>],
+    sent: &Action<'_>,
+    told: Telling<ActionReply>,
+) -> Result<Counted<(), ActionReply>, NoMemory>
+    requires covered { Covers part.old (action_footprint (paired_action number slots.now sent.now) part.old.maps) }
+    requires unused { AreFreeSlots part.old.maps slots.now }
+    requires allowed { refusal_of_properties sent.now ≡ None }
+    ensures maps { OnOk result (part.new.maps ≡ (done_on rules.now (paired_action number slots.now sent.now) part.old.maps sent.now.ctx).maps) }
+    ensures answer { IfOk result (λ done. done ≡ counted action_reply_text told (done_on rules.now (paired_action number slots.now sent.now) part.old.maps sent.now.ctx).answer) }
+    ensures keys { part.new.keys ≡ part.old.keys }
+{
+    let asked = sent.commands.as_slice();
+    let none = Items::new(alloc);
+    match sent.ctx {
+        CtxRef::Null => commands_in(alloc, rules, part, &[], At::Null, slots, asked, none, told),
+        CtxRef::Num(number) => action_in(alloc, rules, part, number, slots, sent, told),
+        CtxRef::Choose => match number {
+            Some(number) => {
+                let late = sent.props.as_slice();
+                commands_in(alloc, rules, part, late, At::Unmade(number), slots, asked, none, told)
+            }
+            None => action_error(alloc, told, CtxRef::Choose, Code::NoContextLeft),
+        },
+        CtxRef::All => action_for_each(alloc, rules, part, slots, sent, told),
+    }
 }
 
 /// Carries one action out, with the number that it owns, and the entries of its commands before any others; tells its replies behind
@@ -75,22 +108,9 @@ fn action(
     ensures answer { IfOk result (λ done. done ≡ counted action_reply_text told (action_done rules.now tt (paired_action number slots.now sent.now) part.old.maps).answer) }
     ensures keys { part.new.keys ≡ part.old.keys }
 {
-    if let Some(code) = refusal_of_properties(sent) {
-        return action_error(alloc, told, sent.ctx, code);
-    }
-    let asked = sent.commands.as_slice();
-    let none = Items::new(alloc);
-    match sent.ctx {
-        CtxRef::Null => commands_in(alloc, rules, part, &[], At::Null, slots, asked, none, told),
-        CtxRef::Num(number) => action_in(alloc, rules, part, number, slots, sent, told),
-        CtxRef::Choose => match number {
-            Some(number) => {
-                let late = sent.props.as_slice();
-                commands_in(alloc, rules, part, late, At::Unmade(number), slots, asked, none, told)
-            }
-            None => action_error(alloc, told, sent.ctx, Code::NoContextLeft),
-        },
-        CtxRef::All => action_for_each(alloc, rules, part, slots, sent, told),
+    match refusal_of_properties(sent) {
+        Some(code) => action_error(alloc, told, sent.ctx, code),
+        None => action_on(alloc, rules, part, number, slots, sent, told),
     }
 }
 

@@ -1,14 +1,13 @@
 //! The commands of an action.
 
-ghost use Rattle.std.specs.Prelude.{◌≡◌, true, false, IfOk, OnOk};
-ghost use Rattle.std.specs.List.{list_any};
+ghost use Rattle.std.specs.Prelude.{◌≡◌, IfOk, OnOk};
 ghost use Rattle.gw_cmd.specs.Keys.{command_keys};
 ghost use Rattle.gw_cmd.specs.Suits.{IsUnused};
 ghost use Rattle.gw_reserve.specs.Owned.{AreFreeSlots, paired_commands};
 ghost use Rattle.gw_tx.specs.Footprints.{list_keys, Covers};
 ghost use Rattle.gw_reply.specs.Replies.{command_reply_text, action_reply_text};
 ghost use Rattle.gw_tx.specs.Told.{counted};
-ghost use Rattle.gw_tx.specs.Properties.{is_too_high};
+ghost use Rattle.gw_tx.specs.Properties.{ArePlain};
 ghost use Rattle.gw_tx.specs.Transactions.{attempt, commands as all_commands, replied as action_replied};
 
 use crate::owned::next_entry;
@@ -37,7 +36,7 @@ fn attempt(
 ) -> Result<Counted<At, CommandReply>, NoMemory>
     requires covered { Covers part.old (command_keys at slot sent.now part.old.maps) }
     requires unused { IsUnused slot part.old.maps }
-    requires low { list_any is_too_high late.now ≡ false }
+    requires plain { ArePlain late.now }
     ensures maps { OnOk result (part.new.maps ≡ (attempt rules.now late.now at (slot, sent.now) part.old.maps).maps) }
     ensures answer { IfOk result (λ done. done ≡ counted command_reply_text told (attempt rules.now late.now at (slot, sent.now) part.old.maps).answer) }
     ensures keys { part.new.keys ≡ part.old.keys }
@@ -65,7 +64,7 @@ pub(crate) fn commands(
 ) -> Result<Counted<At, CommandReply>, NoMemory>
     requires covered { Covers part.old (list_keys at (paired_commands slots.now asked.now) part.old.maps) }
     requires unused { AreFreeSlots part.old.maps slots.now }
-    requires low { list_any is_too_high late.now ≡ false }
+    requires plain { ArePlain late.now }
     ensures maps { OnOk result (part.new.maps ≡ (all_commands rules.now late.now at (paired_commands slots.now asked.now) part.old.maps).maps) }
     ensures answer { IfOk result (λ done. done ≡ counted command_reply_text told (all_commands rules.now late.now at (paired_commands slots.now asked.now) part.old.maps).answer) }
     ensures keys { part.new.keys ≡ part.old.keys }
@@ -109,7 +108,7 @@ pub(crate) fn commands_in(
 ) -> Result<Counted<(), ActionReply>, NoMemory>
     requires covered { Covers part.old (list_keys at (paired_commands slots.now asked.now) part.old.maps) }
     requires unused { AreFreeSlots part.old.maps slots.now }
-    requires low { list_any is_too_high late.now ≡ false }
+    requires plain { ArePlain late.now }
     ensures maps { OnOk result (part.new.maps ≡ (all_commands rules.now late.now at (paired_commands slots.now asked.now) part.old.maps).maps) }
     ensures answer { IfOk result (λ done. done ≡ counted action_reply_text told (action_replied parts (all_commands rules.now late.now at (paired_commands slots.now asked.now) part.old.maps).answer)) }
     ensures keys { part.new.keys ≡ part.old.keys }

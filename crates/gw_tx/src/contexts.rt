@@ -10,7 +10,7 @@ ghost use Rattle.gw_refusal.specs.declared.at.At.TheVariants.{Each};
 ghost use Rattle.gw_reserve.specs.Owned.{AreFreeSlots, paired_action, paired_commands};
 ghost use Rattle.gw_tx.specs.Footprints.{list_keys, Covers};
 ghost use Rattle.gw_reply.specs.Replies.{action_reply_text};
-ghost use Rattle.gw_tx.specs.Properties.{is_too_high};
+ghost use Rattle.gw_tx.specs.Properties.{is_too_high, ArePlain};
 ghost use Rattle.gw_tx.specs.Told.{counted};
 ghost use Rattle.gw_tx.specs.Transactions.{in_context as done_in_context, in_all, action_for_each};
 
@@ -66,7 +66,7 @@ fn in_all(
     requires covered { (n : CtxNum) → Covers part.old (list_keys (Each n) (paired_commands slots.now sent.now.commands) part.old.maps) }
     requires unused { AreFreeSlots part.old.maps slots.now }
     requires key { All (λ n. holds part.old.keys (Ctx n) ≡ true) numbers.now }
-    requires low { list_any is_too_high sent.now.props ≡ false }
+    requires plain { ArePlain sent.now.props }
     ensures maps { (owned : Option CtxNum) → OnOk result (part.new.maps ≡ (in_all rules.now (paired_action owned slots.now sent.now) numbers.now part.old.maps).maps) }
     ensures answer { (owned : Option CtxNum) → IfOk result (λ done. done ≡ counted action_reply_text told (in_all rules.now (paired_action owned slots.now sent.now) numbers.now part.old.maps).answer) }
     ensures keys { part.new.keys ≡ part.old.keys }
@@ -96,7 +96,7 @@ pub(crate) fn action_for_each(
 ) -> Result<Counted<(), ActionReply>, NoMemory>
     requires covered { (n : CtxNum) → Covers part.old (list_keys (Each n) (paired_commands slots.now sent.now.commands) part.old.maps) }
     requires unused { AreFreeSlots part.old.maps slots.now }
-    requires low { list_any is_too_high sent.now.props ≡ false }
+    requires plain { ArePlain sent.now.props }
     ensures maps { (owned : Option CtxNum) → OnOk result (part.new.maps ≡ (action_for_each rules.now (paired_action owned slots.now sent.now) part.old.maps (numbers part.old.maps)).maps) }
     ensures answer { (owned : Option CtxNum) → IfOk result (λ done. done ≡ counted action_reply_text told (action_for_each rules.now (paired_action owned slots.now sent.now) part.old.maps (numbers part.old.maps)).answer) }
     ensures keys { part.new.keys ≡ part.old.keys }
