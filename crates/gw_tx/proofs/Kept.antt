@@ -27,7 +27,7 @@ use Rattle.gw_tx.specs.Properties.{linked_names, refusal_of_properties, refusal_
 use Rattle.gw_tx.specs.Transactions.{unless_refused, attempted, set_when_made, attempt, commands, in_context, in_each, in_all, action_for_each, action_in, action_for, action_on, action, actions}
 use Rattle.gw_tx.proofs.FreeSlots.{IsOfKind, makes_none, free_slot, free_later, free_on, free_after, kind_first, kind_later}
 use Rattle.gw_tx.proofs.EachContext.{each_takes_none, stays_each}
-use Rattle.gw_tx.proofs.SetProperties.{CanSet, AllCanSet, CanAlwaysSet, IsAllowed, term-set, set_all, allowed, can_set_in, can_set_always}
+use Rattle.gw_tx.proofs.SetProperties.{CanSet, AllCanSet, CanAlwaysSet, IsAllowed, term-set, set_all, allowed, never_late, can_set_in, can_set_always}
 
 -- What commands of some kind keep that find their slot free and of a kind, and what setting a property keeps. A command is of its kind
 -- when its action's context is made too, and without its slot.
@@ -153,9 +153,6 @@ module _ {Ok : At → Option ℕ → Command → Type 0} {S : ℕ → Type 0} {Q
       (kept_each late now.answer.next n held (later_owned slots) cs now.maps next can (all_live at (command rules at (first_owned slots) c m).answer.made (paired_commands (later_owned slots) cs) o.1) one)
 
   -- ---- actions
-
-  pub never_late : CanAlwaysSet []
-  never_late n m = tt
 
   pub kept_in_each : (owned : Option CtxNum) (n : CtxNum) (slots : List (Option ℕ)) (a : Action) (m : Maps) → CanAlwaysSet a.props → Oks Ok (Each n) (paired_commands slots a.commands) → With S Q slots m → With S Q slots (in_context rules (paired_action owned slots a) (Each n) n m).maps
   kept_in_each owned n slots a m can o w = kept_each [] (Each n) n slots slots a.commands (set_properties n a.props m) refl never_late o (kept_set n a.props slots m (can n m) w)

@@ -53,6 +53,10 @@ AllCanSet n (p ∷ ps) m = CanSet n p m × AllCanSet n ps m
 abbrev pub CanAlwaysSet : List ContextProp → Type 0
 CanAlwaysSet ps = (n : CtxNum) (m : Maps) → AllCanSet n ps m
 
+-- nothing may be
+pub never_late : CanAlwaysSet []
+never_late n m = tt
+
 -- ---- what stays
 
 module _ (n : CtxNum) (p : ContextProp) (m : Maps) where
