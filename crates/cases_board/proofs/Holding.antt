@@ -1,11 +1,11 @@
 -- What is open on a board is kept at its place, whatever is opened and closed.
 use Rattle.std.proofs.Common.{nat_eq, ◌≡◌, ℕ, zero, suc, ◌<◌, ◌≤◌, Bool, true, false, not, List, [], ◌∷◌, map, length, Option, None, Some, is_some, is_none, refl, sym, ap, subst, ◌∙◌, arith, eqb-true, eq-eqb}
-use Rattle.std.specs.Prelude.{◌||◌, ◌&&◌, slice_get, slice_set}
+use Rattle.std.specs.Prelude.{◌||◌, slice_get, slice_set}
 use Rattle.std.specs.List.{list_any, list_all}
 use Rattle.std.proofs.lemmas.List.{length-set}
 use Rattle.std.proofs.lemmas.Option.{slice_get_within}
-use Rattle.gw_base.proofs.Booleans.{neither, both as each_of}
-use Rattle.gw_board.specs.Boards.{Seen, Handed, Ended, HasOpen, Opens, core_of, job_of, outcome_of, begun_board, with_result, unchanged, is_closed, AllClosed, reply_of, reply_at}
+use Rattle.gw_base.proofs.Booleans.{both as each_of}
+use Rattle.gw_board.specs.Boards.{Seen, Handed, HasOpen, Opens, core_of, job_of, outcome_of, begun_board, with_result, unchanged, is_closed, AllClosed, reply_of, reply_at}
 use Rattle.gw_board.specs.Core.{Standing, Pending, Opened, Closed, Place, pending, open_with, closed_with}
 use Rattle.gw_board.specs.Results.{is_open, is_open_at, NothingIsOpen}
 use Rattle.gw_board.specs.declared.asked.Asked.{Asked}
@@ -49,10 +49,13 @@ module _ (b c : Seen) (held : List (Option Handed)) (a : AreHeld b held) (i : �
   still : (j : ℕ) → nat_eq j i ≡ false → (o : Option (Option Handed)) → IsHeld b j o → IsHeld c j o
   still j e None h = ap is_open_at (elsewhere j e) ∙ h
   still j e (Some None) h = ap is_open_at (elsewhere j e) ∙ h
-  still j e (Some (Some g)) h = (h.0, record {
+  still j e (Some (Some g)) h = (
+    h.0,
+    record {
       manner = h.1.manner ∙ sym manner;
       stands = ap (slice_get c.places) h.0 ∙ elsewhere j e ∙ ap (slice_get b.places) (sym h.0) ∙ h.1.stands;
-    })
+    },
+  )
 
   moved : AreHeld c (slice_set held i x)
   moved = record { count = length-set held i x ∙ a.count ∙ sym count; each = λ j. by j (nat_eq j i) refl }

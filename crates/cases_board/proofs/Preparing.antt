@@ -1,9 +1,9 @@
 -- Tables stay well-formed while requests are carried out one after another.
-use Rattle.std.proofs.Common.{◌≡◌, ℕ, ◌+◌, ◌<◌, false, List, [], ◌∷◌, ◌++◌, map, length, get_or, take, Result, Ok, Err, IfOk, refl, sym, ap, subst, ◌∙◌}
+use Rattle.std.proofs.Common.{◌≡◌, ℕ, ◌+◌, ◌<◌, false, List, [], ◌∷◌, ◌++◌, map, length, get_or, take, Ok, Err, IfOk, refl, sym, ap, subst, ◌∙◌}
 use Rattle.std.specs.List.{AllZip, list_any}
 use Rattle.std.proofs.lemmas.List.{take_more}
 use Rattle.gw_board.specs.Boards.{Seen, Handed, core_of, asked_of, begun_board, outcome_of}
-use Rattle.gw_board.specs.Carried.{carried, done}
+use Rattle.gw_board.specs.Carried.{carried}
 use Rattle.gw_board.specs.Core.{Place, pending}
 use Rattle.gw_board.specs.Jobs.{new_part}
 use Rattle.gw_board.specs.OpenJobs.{IsAnswer, IsSameBurst}

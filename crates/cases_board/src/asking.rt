@@ -63,7 +63,14 @@ pub fn asks_in<'h, 'a>(
     let mut reservation = Reservation::new(limits.contexts, limits.slots, &cursors);
     let mut asked = Vec::new(alloc);
     for item in message.items.as_slice() {
-        add_asked(alloc, tables, message.mid, item, &mut reservation, &mut asked)?;
+        add_asked(
+            alloc,
+            tables,
+            message.mid,
+            item,
+            &mut reservation,
+            &mut asked,
+        )?;
     }
     Ok(asked)
 }

@@ -6,7 +6,6 @@ ghost use Rattle.cases_board.specs.Held.{job_in};
 
 use gw_base::NoMemory;
 use gw_board::Job;
-
 use std::alloc::Global;
 
 /// An entry for each place of a burst: its job, while that is open.
@@ -24,10 +23,7 @@ pub enum End {
 }
 
 /// No job is open at any of so many places.
-pub fn none_held<'b, 'h, 'a>(
-    alloc: Global,
-    count: usize,
-) -> Result<Held<'b, 'h, 'a>, NoMemory>
+pub fn none_held<'b, 'h, 'a>(alloc: Global, count: usize) -> Result<Held<'b, 'h, 'a>, NoMemory>
     ensures none { IfOk result (λ held. list_all is_none held.items ≡ true) }
     ensures count { IfOk result (λ held. length held.items ≡ count) }
 {

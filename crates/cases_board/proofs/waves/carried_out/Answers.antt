@@ -1,5 +1,4 @@
-use Rattle.std.proofs.Common.{◌≡◌, sym, subst, ◌∙◌}
-use Rattle.gw_board.specs.Carried.{carried}
+use Rattle.std.proofs.Common.{sym, subst, ◌∙◌}
 use Rattle.gw_table.specs.Maps.{Maps}
 use Rattle.gw_table.specs.Stored.{maps_of}
 use Rattle.gw_table.specs.WellFormed.{AreWellFormed}

@@ -1,0 +1,5 @@
+use Rattle.cases_board.specs.Held.{AreHeld}
+use Rattle.cases_board.proofs.steps.carry_in_waves.Given as goal
+
+abbrev pub invariant-loop-wave : goal.invariant-loop-wave
+invariant-loop-wave l = AreHeld l.board l.held.items
