@@ -8,7 +8,7 @@ use crate::held::{End, Held, hold, is_none_held, job_at, taken};
 use crate::tell::{write_places, write_runs};
 use cases_text::{CaseFault, Page, as_text, number_of, split_word};
 use gw_base::NoMemory;
-use gw_board::{Board, Done, OpenFault, carry};
+use gw_board::{Board, Done, Job, OpenFault, carry};
 use std::alloc::Global;
 
 /// What a step is told that a caller may not take.
@@ -118,7 +118,7 @@ fn carry_in_waves<'b, 'h, 'a>(
     Ok(sizes)
 }
 
-/// Whether the place of each request is closed with a reply.
+/// Whether each place is closed with a reply.
 fn is_over(board: &Board<'_, '_, '_>, count: usize) -> bool
     requires { count ≡ length board.now.places }
     ensures { IsTrue result → AllClosed board.now.places }
@@ -132,8 +132,8 @@ fn is_over(board: &Board<'_, '_, '_>, count: usize) -> bool
 }
 
 /// How the board ends by this word, if it says that the board ends and it may.
-pub fn end_by<'b, 'h, 'a>(board: &Board<'b, 'h, 'a>, held: &Held<'b, 'h, 'a>, word: &str) -> End
-    requires { AreHeld board.now held.now.items }
+pub fn end_by(board: &Board<'_, '_, '_>, held: &[Option<Job<'_, '_, '_>>], word: &str) -> End
+    requires { AreHeld board.now held.now }
     ensures { MayEnd board.now result }
 {
     if word == "undo" && is_none_held(held) {
@@ -155,7 +155,11 @@ fn write_plan(board: &Board<'_, '_, '_>, out: &mut Page) -> Result<(), CaseFault
     }
 }
 
-fn write_result(held: &Held<'_, '_, '_>, place: usize, out: &mut Page) -> Result<(), CaseFault> {
+fn write_result(
+    held: &[Option<Job<'_, '_, '_>>],
+    place: usize,
+    out: &mut Page,
+) -> Result<(), CaseFault> {
     let Some(job) = job_at(held, place) else {
         out.put(NOT_ALLOWED);
         return Ok(());
