@@ -81,9 +81,10 @@ module _ (rules : Rules) (keys : List Key) (start : Maps) where
   within_any test [] m h = tt
   within_any test (t ∷ ts) m h =
       let mine : List Key = name_keys t start in
-      let rest : List Key = flat_map (λ t. name_keys t start) ts in
-      (left_held (Only keys) mine rest h (Term t) (has-head (Term t) (place_key (place_of (term start t)))),
-          within-then keys (of_any test ts) (λ b. Done (test (term m t) || b)) m (within_any test ts m (right_held (Only keys) mine rest h)) tt)
+      let rest : List Key = flat_map (λ t. name_keys t start) ts in (
+        left_held (Only keys) mine rest h (Term t) (has-head (Term t) (place_key (place_of (term start t)))),
+        within-then keys (of_any test ts) (λ b. Done (test (term m t) || b)) m (within_any test ts m (right_held (Only keys) mine rest h)) tt,
+      )
 
   within_links : (n : CtxNum) (names : List (List ℕ)) (m : Maps) → Holds (Only keys) (flat_map (λ t. name_keys t start) names) → Within keys (of_links n names) m
   within_links n names m h =

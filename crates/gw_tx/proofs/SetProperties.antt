@@ -1,12 +1,11 @@
 -- What it means that properties were not refused, and what setting them keeps: terminations, members, which contexts there are, and
 -- well-formed tables.
-use Rattle.std.proofs.Common.{nat_eq, inl, ◌≡◌, ℕ, ◌≤◌, Bool, true, false, cond, List, [], ◌∷◌, ◌++◌, Option, None, Some, is_some, is_none, bytes_eq, refl, sym, ap, subst, ◌∙◌}
-use Rattle.std.specs.Prelude.{◌≢◌, ◌&&◌, ◌||◌, not, nat_lt, if◌then◌else◌, length, flat_map}
+use Rattle.std.proofs.Common.{nat_eq, inl, ◌≡◌, ℕ, ◌≤◌, Bool, true, false, cond, List, [], ◌∷◌, ◌++◌, Option, None, Some, is_some, bytes_eq, refl, sym, ap, subst, ◌∙◌}
+use Rattle.std.specs.Prelude.{◌≢◌, ◌&&◌, ◌||◌, not, if◌then◌else◌, length, flat_map}
 use Rattle.std.specs.List.{list_any}
 use Rattle.std.proofs.lemmas.Bool.{ltb-false}
 use Rattle.std.proofs.lemmas.List.Folds.{list_any-append}
 use Rattle.std.proofs.lemmas.Grind.{flat_map-append}
-use Rattle.gw_base.specs.declared.code.Code.{Code}
 use Rattle.gw_base.specs.declared.code.Code.TheVariants.{IllegalCombination, UnknownTermination, NotInContext, PropertyTwice, NotImplemented, InsufficientResources}
 use Rattle.gw_base.specs.declared.ids.CtxNum.{CtxNum}
 use Rattle.gw_base.specs.declared.context_words.Link.{Link}

@@ -2,7 +2,6 @@
 -- 6.1.1, 7.1.18 and 8.1.2; the order of errors, and what is told where nothing is asked for, are own).
 use Rattle.std.specs.Prelude.{◌≡◌, ℕ, nat_lt, Bool, true, false, ◌&&◌, ◌||◌, ◌==◌, not, if◌then◌else◌, List, [], ◌∷◌, ◌++◌, length, bytes_eq, count_by, flat_map, Option, None, Some, is_none}
 use Rattle.std.specs.List.{list_any}
-use Rattle.gw_base.specs.Choose.{is_choose}
 use Rattle.gw_base.specs.declared.code.Code.{Code}
 use Rattle.gw_base.specs.declared.code.Code.TheVariants.{IllegalCombination, UnknownTermination, NotInContext, PropertyTwice, NotImplemented, InsufficientResources}
 use Rattle.gw_base.specs.declared.ids.CtxNum.{CtxNum}

@@ -54,7 +54,16 @@ fn action_in(
     let names = linked_names(alloc, sent.props.as_slice())?;
     match refusal_of_links(part, number, &names) {
         Some(code) => action_error(alloc, told, CtxRef::Num(number), code),
-        None => in_context(alloc, rules, part, At::Live(number), number, slots, sent, told),
+        None => in_context(
+            alloc,
+            rules,
+            part,
+            At::Live(number),
+            number,
+            slots,
+            sent,
+            told,
+        ),
     }
 }
 
@@ -83,7 +92,17 @@ fn action_on(
         CtxRef::Choose => match number {
             Some(number) => {
                 let late = sent.props.as_slice();
-                commands_in(alloc, rules, part, late, At::Unmade(number), slots, asked, none, told)
+                commands_in(
+                    alloc,
+                    rules,
+                    part,
+                    late,
+                    At::Unmade(number),
+                    slots,
+                    asked,
+                    none,
+                    told,
+                )
             }
             None => action_error(alloc, told, CtxRef::Choose, Code::NoContextLeft),
         },

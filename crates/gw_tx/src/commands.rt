@@ -113,6 +113,15 @@ pub(crate) fn commands_in(
     ensures answer { IfOk result (λ done. done ≡ counted action_reply_text told (action_replied parts (all_commands rules.now late.now at (paired_commands slots.now asked.now) part.old.maps).answer)) }
     ensures keys { part.new.keys ≡ part.old.keys }
 {
-    let done = commands(alloc, rules, part, late, at, slots, asked, inside(alloc, &told))?;
+    let done = commands(
+        alloc,
+        rules,
+        part,
+        late,
+        at,
+        slots,
+        asked,
+        inside(alloc, &told),
+    )?;
     replied(told, parts, done)
 }

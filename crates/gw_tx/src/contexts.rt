@@ -74,7 +74,16 @@ fn in_all(
     let mut stopped = false;
     let mut told = told;
     for number in numbers {
-        let done = in_context(alloc, rules, part, At::Each(*number), *number, slots, sent, told)?;
+        let done = in_context(
+            alloc,
+            rules,
+            part,
+            At::Each(*number),
+            *number,
+            slots,
+            sent,
+            told,
+        )?;
         stopped = stopped || done.stopped;
         told = done.told;
     }

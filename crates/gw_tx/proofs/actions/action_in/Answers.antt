@@ -1,15 +1,11 @@
-use Rattle.std.proofs.Common.{rules, ◌≡◌, ℕ, false, List, Option, None, is_none, IfOk, OnOk, sym, ap, subst, ◌∙◌}
-use Rattle.gw_base.specs.declared.ids.CtxNum.{CtxNum}
+use Rattle.std.proofs.Common.{rules, ◌≡◌, ℕ, false, List, None, is_none, IfOk, OnOk, sym, ap, subst, ◌∙◌}
 use Rattle.gw_reply.specs.Replies.{action_reply_text}
 use Rattle.gw_reply.specs.declared.reply.ActionReply.{ActionReply}
-use Rattle.gw_ctx.specs.Contexts.{ContextRecord}
 use Rattle.gw_table.specs.declared.attempts.Attempts.{Attempts}
 use Rattle.gw_table.specs.Maps.{Maps, Outcome, ctx}
-use Rattle.gw_refusal.specs.declared.at.At.TheVariants.{Live}
 use Rattle.gw_reserve.specs.Owned.{OwnedAction, paired_action}
 use Rattle.gw_tx.specs.Properties.{linked_names, refusal_of_links}
 use Rattle.gw_tx.specs.Told.{counted}
-use Rattle.gw_tx.specs.Transactions.{in_context, action_in}
 use Rattle.gw_tx.proofs.Steps.{live_in}
 use Rattle.gw_tx.proofs.actions.action_in.Goals as goal
 

@@ -2,7 +2,7 @@ use Rattle.std.proofs.Common.{refl, sym, ap, subst}
 use Rattle.gw_msg.specs.declared.message.Action.{Action}
 use Rattle.gw_refusal.specs.declared.at.At.TheVariants.{Null, Live, Unmade, Each}
 use Rattle.gw_table.specs.Parts.{Parted}
-use Rattle.gw_reserve.specs.Owned.{OwnedAction, paired_action, paired_commands}
+use Rattle.gw_reserve.specs.Owned.{OwnedAction, paired_action}
 use Rattle.gw_tx.specs.Properties.{is_chosen_or_each, ArePlain}
 use Rattle.gw_tx.proofs.HeldKeys.{without_links, in_null, in_live, in_unmade, in_each}
 use Rattle.gw_tx.proofs.Parts.{covers_in}

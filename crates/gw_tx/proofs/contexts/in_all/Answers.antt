@@ -72,8 +72,7 @@ loop-number-preserved c =
           let now : Outcome (Attempts Bool ActionReply) = ended c.in_context.new.part.maps c.if-stopped.stopped more false in
           let did : now ≡ in_each c.args.rules.now (pair owned) c.loop-number.stopped n c.loop-number.part.maps =
           each_is c.args.rules.now (pair owned) c.loop-number.stopped c.if-stopped.stopped n c.loop-number.part.maps c.in_context.new.part.maps c.loop-number.told c.in_ok-done.done (c.in_ok-done.ensures.maps owned) (c.in_ok-done.ensures.answer owned) stopped in
-          let whole : Outcome (Attempts Bool ActionReply) = in_all c.args.rules.now (pair owned) c.args.numbers.now c.args.part.now.maps in
-          (
+          let whole : Outcome (Attempts Bool ActionReply) = in_all c.args.rules.now (pair owned) c.args.numbers.now c.args.part.now.maps in (
             front ++ more,
             told_on action_reply_text c.args.told c.loop-number.told c.if-stopped.told front more so_far.1 (told ∙ ap (λ (d : Counted Unit ActionReply). d.told) (c.in_ok-done.ensures.answer owned)),
             goes_on (in_each c.args.rules.now (pair owned)) c.loop-number.stopped n (drop i c.args.numbers.now) rest c.loop-number.part.maps front now whole split did refl so_far.2,
