@@ -10,7 +10,8 @@ that is not kept.
   load    four senders, each with at most 64 datagrams on the way, 20,000 in all: calls are set up and ended. Every request is
           answered once, and at the end the tables hold the calls that were left standing and no other.
   flood   100,000 datagrams of random bytes, as fast as they can be sent; then a good one, which is answered.
-  memory  VmRSS after 20,000 and after 200,000 transactions, which set up a call and end it: within 5 percent.
+  memory  VmRSS after 20,000 and after 200,000 transactions, which set up a call and end it: within 5 percent; within 20 with
+          more workers than one, since the C library keeps some memory for each thread that there was at a time.
   longest a datagram of 65,507 bytes, which is answered; over IPv6, where there is, one of 65,508, which is not.
 """
 import argparse
@@ -42,7 +43,7 @@ class Gateway:
     """The program, serving on a port of the loopback."""
 
     def __init__(self, program, config, family=socket.AF_INET, workers=1):
-        self.family = family
+        self.family, self.workers = family, workers
         host, form = ("127.0.0.1", "%s:%d") if family == socket.AF_INET else ("::1", "[%s]:%d")
         with socket.socket(family, socket.SOCK_DGRAM) as probe:
             probe.bind((host, 0))
@@ -207,7 +208,8 @@ def memory(gateway):
         seconds = driven([sender], 300)
         resident.append(gateway.resident())
     before, after = resident
-    wanted(abs(after - before) <= before * 0.05, "memory within 5 percent: %d KB, then %d KB" % (before, after))
+    most = 0.05 if gateway.workers == 1 else 0.2
+    wanted(abs(after - before) <= before * most, "memory within %d percent: %d KB, then %d KB" % (100 * most, before, after))
     print("memory: %d KB after %d transactions, %d KB after ten times as many (%.0f a second)"
           % (before, TRANSACTIONS, after, 9 * TRANSACTIONS / seconds))
 

@@ -5,7 +5,7 @@ use crate::gates::Waves;
 use crate::workers::{EACH, Workers};
 use cases_meeting::Meeting;
 use cases_text::{CaseFault, Page, config_of};
-use gw_base::NoMemory;
+use gw_base::{Items, NoMemory};
 use gw_engine::{ConfigFault, Datagram, Gate, Gateway, OpenGate};
 use std::alloc::Global;
 use std::rt::Clock;
@@ -218,7 +218,7 @@ fn answers_of<R: Threads + Sync, G: Gate>(
     crew: &mut Crew,
     burst: &[Datagram],
     gate: &G,
-) -> Result<Vec<Datagram>, NoMemory> {
+) -> Result<Items<Datagram>, NoMemory> {
     crew.gateway
         .run(rt, alloc, crew.workers.number, burst, gate)
 }

@@ -24,7 +24,8 @@ use Rattle.gw_refusal.specs.Asked.{is_add}
 use Rattle.gw_cmd.specs.Keys.{every_key, keys_if, place_key, name_keys, slot_key}
 use Rattle.gw_cmd.proofs.Ready.{every_ctx}
 use Rattle.gw_reserve.specs.Owned.{first_owned, later_owned, paired_commands, paired_action, paired_actions, AreFreeSlots}
-use Rattle.gw_tx.specs.Footprints.{is_for_each, one_context, stands_for_all, keys_of_members, named_keys, keys_in_action, action_footprint, footprint_of}
+use Rattle.gw_tx.specs.Footprints.{is_for_each, one_context, stands_for_all, keys_of_members, named_keys, keys_in_action, keys_of_links, action_footprint, footprint_of}
+use Rattle.gw_tx.specs.Properties.{linked_names}
 use Rattle.gw_tx.proofs.FreeSlots.{IsOfKind, kind_first, kind_later}
 use Rattle.gw_board.specs.Carried.{Asked, keys_of}
 
@@ -111,15 +112,26 @@ module _ (limit : ℕ) (m : Maps) (w : AreWellFormed limit m) (keys : List Key) 
       (lead_both all mine (lead_every (stands_for_all sent c) (left all mine front)) (lead_named (one_context sent number) (first_owned slots) c c.term o (kind_first (IsEmptyIn m) slots f) (right all mine front)))
       (lead_commands sent number o (later_owned slots) cs (kind_later (IsEmptyIn m) slots f) (right (all ++ mine) later h))
 
+  lead_links : (ts : List (List ℕ)) → Among (flat_map (λ t. name_keys t m) ts) keys → Lead (flat_map (λ t. name_keys t m) ts)
+  lead_links [] h = lead_none
+  lead_links (t ∷ ts) h =
+      let mine : List Key = name_keys t m in
+      let later : List Key = flat_map (λ t. name_keys t m) ts in
+      lead_both mine later (lead_name t (left mine later h)) (lead_links ts (right mine later h))
+
   lead_action : (number : Option CtxNum) (slots : List (Option ℕ)) (a : Action) → All (IsEmptyIn m) (owned slots) → Among (action_footprint (paired_action number slots a) m) keys → Lead (action_footprint (paired_action number slots a) m)
   lead_action number slots a f h =
       let all : List Key = keys_if (is_for_each a.ctx) (every_key m) in
       let one : List Key = place_key (one_context a.ctx number) in
       let asked : List Key = flat_map (keys_in_action a.ctx number m) (paired_commands slots a.commands) in
-      let front : Among (all ++ one) keys = left (all ++ one) asked h in
-      lead_both (all ++ one) asked
+      let links : List Key = keys_of_links (paired_action number slots a) m in
+      let named : Among (all ++ one ++ asked) keys = left (all ++ one ++ asked) links h in
+      let front : Among (all ++ one) keys = left (all ++ one) asked named in
+      lead_both (all ++ one ++ asked) links
+      (lead_both (all ++ one) asked
       (lead_both all one (lead_every (is_for_each a.ctx) (left all one front)) (lead_place (one_context a.ctx number)))
-      (lead_commands a.ctx number (right all one front) slots a.commands f (right (all ++ one) asked h))
+      (lead_commands a.ctx number (right all one front) slots a.commands f (right (all ++ one) asked named)))
+      (lead_links (linked_names a.props) (right (all ++ one ++ asked) links h))
 
   lead_actions : (numbers : List (Option CtxNum)) (slots : List (Option ℕ)) (actions : List Action) → All (IsEmptyIn m) (owned slots) → Among (footprint_of (paired_actions numbers slots actions) m) keys → Lead (footprint_of (paired_actions numbers slots actions) m)
   lead_actions numbers slots [] f h = lead_none

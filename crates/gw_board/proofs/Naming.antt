@@ -19,7 +19,7 @@ use Rattle.gw_table.specs.Maps as maps
 use Rattle.gw_table.proofs.KeyOrder.{same_key_is}
 use Rattle.gw_cmd.specs.Keys.{every_key, keys_if, place_key}
 use Rattle.gw_reserve.specs.Owned.{first_owned, later_owned, paired_commands, paired_action, paired_actions}
-use Rattle.gw_tx.specs.Footprints.{is_for_each, one_context, stands_for_all, named_keys, keys_in_action, action_footprint, footprint_of}
+use Rattle.gw_tx.specs.Footprints.{is_for_each, one_context, stands_for_all, named_keys, keys_in_action, keys_of_links, action_footprint, footprint_of}
 use Rattle.gw_foot.specs.Meets.{meets}
 use Rattle.gw_foot.proofs.Meetings.{apart_if}
 use Rattle.gw_board.specs.Carried.{Asked, keys_of}
@@ -54,9 +54,10 @@ module _ (m : Maps) (k x : Key) (with_term : (t : List ℕ) → same_key x (Term
       let all : List Key = keys_if (is_for_each a.ctx) (every_key m) in
       let one : List Key = place_key (one_context a.ctx number) in
       let asked : List Key = flat_map (keys_in_action a.ctx number m) (paired_commands slots a.commands) in
-      either (or_cases (names_number x (one_context a.ctx number)) (names_in_commands x a.commands) h)
+      any-append_left (same_key k) (all ++ one ++ asked) (keys_of_links (paired_action number slots a) m)
+      (either (or_cases (names_number x (one_context a.ctx number)) (names_in_commands x a.commands) h)
       (λ i. any-append_left (same_key k) (all ++ one) asked (any-append_right (same_key k) all one (named_number (one_context a.ctx number) i)))
-      (λ i. any-append_right (same_key k) (all ++ one) asked (named_commands a.ctx number slots a.commands i))
+      (λ i. any-append_right (same_key k) (all ++ one) asked (named_commands a.ctx number slots a.commands i)))
 
   named_actions : (numbers : List (Option CtxNum)) (slots : List (Option ℕ)) (actions : List Action) → names_in_actions x numbers actions ≡ true → has (footprint_of (paired_actions numbers slots actions) m) k ≡ true
   named_actions numbers slots [] h = absurd cc

@@ -48,11 +48,7 @@ fn add_terms(commands: &[Command<'_>], keys: &mut Vec<Key>) -> Result<(), NoMemo
     Ok(())
 }
 
-fn add_action(
-    action: &Action<'_>,
-    own: Option<CtxNum>,
-    keys: &mut Vec<Key>,
-) -> Result<(), NoMemory>
+fn add_action(action: &Action<'_>, own: Option<CtxNum>, keys: &mut Vec<Key>) -> Result<(), NoMemory>
     ensures { OnOk result ((k : AKey) → has keys.new.items k ≡ (has keys.old.items k || names_in k own action.now)) }
 {
     add_context(action.ctx, own, keys)?;

@@ -27,7 +27,7 @@ use Rattle.gw_desc.specs.declared.descriptor.Descriptor.{Descriptor}
 use Rattle.gw_desc.specs.declared.values.AuditItem.{AuditItem}
 use Rattle.gw_msg.specs.declared.message.Command.{Command}
 use Rattle.gw_reply.specs.KeptParts.{IsKeptFilled, HasKeptReply, AllOk}
-use Rattle.gw_reply.specs.KeptReplies.{HasForm, IsKeptCommand}
+use Rattle.gw_reply.specs.KeptReplies.{HasForm, HasNames, IsKeptCommand}
 use Rattle.gw_reply.specs.declared.parts.FilledStream.{FilledStream}
 use Rattle.gw_reply.specs.declared.parts.ReplyPart.{ReplyPart}
 use Rattle.gw_reply.specs.declared.parts.ReplyPart.TheVariants as part
@@ -40,7 +40,7 @@ use Rattle.gw_term.specs.declared.record.Termination.{Termination}
 use Rattle.gw_term.proofs.KeptAudits.{audits_kept}
 use Rattle.gw_term.proofs.KeptMerges.{merge_keeps, fills_keep, placed_kept, serviced_kept, nothing_kept}
 use Rattle.gw_table.specs.Folds.{in_order}
-use Rattle.gw_ctx.specs.Contexts.{ContextRecord, joined, left}
+use Rattle.gw_ctx.specs.Contexts.{ContextRecord, joined, left, is_apart_from}
 use Rattle.gw_table.specs.Maps.{Maps, Outcome, term, ctx, names, put_term, put_ctx, context_of, members_of}
 use Rattle.gw_table.specs.Reserved.{slot_name}
 use Rattle.gw_table.proofs.Lookups.{term-put_term, ctx-put_term, term-put_ctx, ctx-put_ctx}
@@ -114,21 +114,27 @@ put_term_kept t o m named h k = record {
   records = λ q r e. put_kept_by t q o m r (bytes_eq q t) h k (sym (term-put_term m t o q) ∙ e);
   names = λ q r e. put_named_by t q o m r (bytes_eq q t) refl named k (sym (term-put_term m t o q) ∙ e);
   members = λ n. subst (λ (x : Option ContextRecord). All IsName (members_of x)) (sym (ctx-put_term m t o n)) (k.members n);
+  links = λ n. subst (λ (x : Option ContextRecord). All HasNames (context_of x).links) (sym (ctx-put_term m t o n)) (k.links n);
 }
 
 members_by : (o : Option ContextRecord) (m : Maps) (q : CtxNum) (b : Bool) → All IsName (members_of o) → AreKept m → All IsName (members_of (cond b o (ctx m q)))
 members_by o m q true h k = h
 members_by o m q false h k = k.members q
 
-put_ctx_kept : (n : CtxNum) (o : Option ContextRecord) (m : Maps) → All IsName (members_of o) → AreKept m → AreKept (put_ctx m n o)
-put_ctx_kept n o m h k = record {
+links_by : (o : Option ContextRecord) (m : Maps) (q : CtxNum) (b : Bool) → All HasNames (context_of o).links → AreKept m → All HasNames (context_of (cond b o (ctx m q))).links
+links_by o m q true h k = h
+links_by o m q false h k = k.links q
+
+pub put_ctx_kept : (n : CtxNum) (o : Option ContextRecord) (m : Maps) → All IsName (members_of o) → All HasNames (context_of o).links → AreKept m → AreKept (put_ctx m n o)
+put_ctx_kept n o m h l k = record {
   records = λ q r e. k.records q r (sym (term-put_ctx m n o q) ∙ e);
   names = λ q r e. k.names q r (sym (term-put_ctx m n o q) ∙ e);
   members = λ q. subst (λ (x : Option ContextRecord). All IsName (members_of x)) (sym (ctx-put_ctx m n o q)) (members_by o m q (nat_eq q.0 n.0) h k);
+  links = λ q. subst (λ (x : Option ContextRecord). All HasNames (context_of x).links) (sym (ctx-put_ctx m n o q)) (links_by o m q (nat_eq q.0 n.0) l k);
 }
 
 with_kept : (n : CtxNum) (t : List ℕ) (m : Maps) → IsName t → AreKept m → AreKept (with_member n t m)
-with_kept n t m named k = put_ctx_kept n (Some (joined t (context_of (ctx m n)))) m (All-push IsName (members_of (ctx m n)) t (k.members n) named) k
+with_kept n t m named k = put_ctx_kept n (Some (joined t (context_of (ctx m n)))) m (All-push IsName (members_of (ctx m n)) t (k.members n) named) (k.links n) k
 
 others : (t : List ℕ) (ts : List (List ℕ)) → All IsName ts → All IsName (without t ts)
 others t [] h = All-nil IsName
@@ -142,10 +148,15 @@ unless_kept_by : (ts : List (List ℕ)) (c : ContextRecord) → All IsName c.mem
 unless_kept_by [] c h = All-nil IsName
 unless_kept_by (t ∷ ts) c h = h
 
+unless_links_by : (ts : List (List ℕ)) (c : ContextRecord) → All HasNames c.links → All HasNames (context_of (unless_none ts c)).links
+unless_links_by [] c h = All-nil HasNames
+unless_links_by (t ∷ ts) c h = h
+
 without_kept : (n : CtxNum) (t : List ℕ) (m : Maps) → AreKept m → AreKept (without_member n t m)
 without_kept n t m k =
     let rest : ContextRecord = left t (context_of (ctx m n)) in
-    put_ctx_kept n (unless_empty rest) m (unless_kept_by rest.members rest (others t (members_of (ctx m n)) (k.members n))) k
+    put_ctx_kept n (unless_empty rest) m (unless_kept_by rest.members rest (others t (members_of (ctx m n)) (k.members n)))
+    (unless_links_by rest.members rest (All-filter (is_apart_from t) HasNames (context_of (ctx m n)).links (k.links n))) k
 
 -- a change whose record has its forms
 abbrev IsKeptChange : Change → Type 0

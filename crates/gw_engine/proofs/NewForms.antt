@@ -15,7 +15,8 @@ use Rattle.gw_term.specs.KeptRecords.{IsKeptRecord}
 use Rattle.gw_term.specs.Record.{provisioned}
 use Rattle.gw_term.specs.declared.record.Termination.{Termination}
 use Rattle.gw_term.proofs.KeptMerges.{nothing_kept}
-use Rattle.gw_table.specs.Maps.{term, ctx, members_of, new_maps}
+use Rattle.gw_reply.specs.KeptReplies.{HasNames}
+use Rattle.gw_table.specs.Maps.{term, ctx, context_of, members_of, new_maps}
 
 -- the first name's entry, or one of the others'
 first_entry : (t : List ℕ) (ts : List (List ℕ)) (q : List ℕ) → term (new_maps (t ∷ ts)) q ≡ cond (bytes_eq q t) (Some provisioned) (term (new_maps ts) q)
@@ -34,4 +35,5 @@ new_maps_kept names all = record {
   records = λ t r e. (entry_kept names t r all e).0;
   names = λ t r e. (entry_kept names t r all e).1;
   members = λ n. All-same IsName (members_of (ctx (new_maps names) n)) [] (ap (λ (o : Option ContextRecord). members_of o) (get-empty nat_cmp n.0)) (All-nil IsName);
+  links = λ n. All-same HasNames (context_of (ctx (new_maps names) n)).links [] (ap (λ (o : Option ContextRecord). (context_of o).links) (get-empty nat_cmp n.0)) (All-nil HasNames);
 }

@@ -15,9 +15,10 @@ use Rattle.gw_table.specs.Maps.{Maps, term, ctx, place_of, members_of}
 use Rattle.gw_table.specs.Parts.{Only, IsPart, Holds}
 use Rattle.gw_table.proofs.Frames.{Agree, agree_less}
 use Rattle.gw_table.proofs.Growth.{Grows}
-use Rattle.gw_cmd.specs.Keys.{every_key, keys_if, place_key}
+use Rattle.gw_cmd.specs.Keys.{every_key, keys_if, place_key, name_keys}
 use Rattle.gw_reserve.specs.Owned.{OwnedAction}
-use Rattle.gw_tx.specs.Footprints.{is_for_each, one_context, stands_for_all, keys_of_members, named_keys, keys_in_action, action_footprint, footprint_of}
+use Rattle.gw_tx.specs.Footprints.{is_for_each, one_context, stands_for_all, keys_of_members, named_keys, keys_in_action, keys_of_links, action_footprint, footprint_of}
+use Rattle.gw_tx.specs.Properties.{linked_names}
 use Rattle.gw_tx.proofs.HeldKeys.{each_held, action_stays}
 
 -- keys that hold a footprint hold it while nobody but they is new
@@ -68,16 +69,27 @@ commands_same sent number m n f (p ∷ ps) g =
     let c : flat_map (keys_in_action sent number n) ps ≡ later = commands_same sent number m n f ps (agree_right (all ++ mine) later m n g) in
     λ i. (a i ++ b i) ++ c i
 
+links_same : (m n : Maps) (ts : List (List ℕ)) → Agree (flat_map (λ t. name_keys t m) ts) m n → flat_map (λ t. name_keys t n) ts ≡ flat_map (λ t. name_keys t m) ts
+links_same m n [] g = refl
+links_same m n (t ∷ ts) g =
+    let later : List Key = flat_map (λ t. name_keys t m) ts in
+    let x : name_keys t n ≡ name_keys t m = ap (λ x. Term t ∷ place_key (place_of x)) (sym ((agree_left (name_keys t m) later m n g).terms t (has-head (Term t) (place_key (place_of (term m t)))))) in
+    let y : flat_map (λ t. name_keys t n) ts ≡ later = links_same m n ts (agree_right (name_keys t m) later m n g) in
+    λ i. x i ++ y i
+
 action_same : (a : OwnedAction) (m n : Maps) → Agree (action_footprint a m) m n → action_footprint a n ≡ action_footprint a m
 action_same a m n g =
     let all : List Key = keys_if (is_for_each a.sent.ctx) (every_key m) in
     let one : List Key = place_key (one_context a.sent.ctx a.number) in
     let asked : List Key = flat_map (keys_in_action a.sent.ctx a.number m) a.commands in
-    let front : Agree (all ++ one) m n = agree_left (all ++ one) asked m n g in
+    let links : List Key = keys_of_links a m in
+    let named : Agree (all ++ one ++ asked) m n = agree_left (all ++ one ++ asked) links m n g in
+    let front : Agree (all ++ one) m n = agree_left (all ++ one) asked m n named in
     let there : SameContext (one_context a.sent.ctx a.number) m n = same_context (one_context a.sent.ctx a.number) m n (agree_right all one m n front) in
     let x : keys_if (is_for_each a.sent.ctx) (every_key n) ≡ all = every_same (is_for_each a.sent.ctx) m n (agree_left all one m n front) in
-    let y : flat_map (keys_in_action a.sent.ctx a.number n) a.commands ≡ asked = commands_same a.sent.ctx a.number m n there a.commands (agree_right (all ++ one) asked m n g) in
-    λ i. (x i ++ one) ++ y i
+    let y : flat_map (keys_in_action a.sent.ctx a.number n) a.commands ≡ asked = commands_same a.sent.ctx a.number m n there a.commands (agree_right (all ++ one) asked m n named) in
+    let z : keys_of_links a n ≡ links = links_same m n (linked_names a.sent.props) (agree_right (all ++ one ++ asked) links m n g) in
+    λ i. ((x i ++ one) ++ y i) ++ z i
 
 pub footprint_same : (owners : List OwnedAction) (m n : Maps) → Agree (footprint_of owners m) m n → footprint_of owners n ≡ footprint_of owners m
 footprint_same [] m n g = refl

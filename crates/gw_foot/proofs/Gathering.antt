@@ -15,7 +15,7 @@ use Rattle.gw_table.specs.Maps.{Maps}
 use Rattle.gw_refusal.specs.Asked.{is_wildcard}
 use Rattle.gw_cmd.specs.Keys.{every_key, keys_if, place_key}
 use Rattle.gw_reserve.specs.Owned.{OwnedAction, first_owned, later_owned, paired_action, paired_actions, paired_commands}
-use Rattle.gw_tx.specs.Footprints.{is_for_each, one_context, stands_for_all, keys_of_members, named_keys, keys_in_action, action_footprint, footprint_of}
+use Rattle.gw_tx.specs.Footprints.{is_for_each, one_context, stands_for_all, keys_of_members, named_keys, keys_in_action, keys_of_links, action_footprint, footprint_of}
 use Rattle.gw_foot.specs.Gathered.{asks_all, has_wildcard, own_keys, gathered, all_gathered}
 
 -- ---- either of two tests
@@ -105,15 +105,21 @@ module _ (k : Key) where
         let ps : List (Option ℕ × Command) = paired_commands slots a.commands in
         let asked : List Key = flat_map (keys_in_action a.ctx number m) ps in
         let own : List Key = flat_map (own_keys m) ps in
+        let links : List Key = keys_of_links (paired_action number slots a) m in
         let some : Bool = list_any (stands_for_all a.ctx) a.commands in
         let wild : Bool = has_wildcard a.commands in
         let rest : Bool = (wild && has those k) || has own k in
-        has_both (keys_if each (every_key m) ++ place) asked
+        let front : List Key = place ++ keys_if wild those ++ own in
+        has_both (keys_if each (every_key m) ++ place ++ asked) links
+        ∙ ap (λ z. z || has links k)
+        (has_both (keys_if each (every_key m) ++ place) asked
         ∙ ap (λ z. z || has asked k) (has_both (keys_if each (every_key m)) place ∙ ap (λ z. z || has place k) (has_if each (every_key m)))
         ∙ ap (λ z. ((each && every) || has place k) || z) (commands_split a.ctx number slots a.commands)
         ∙ two each some every (has place k) rest
         ∙ ap (λ z. ((each || some) && every) || z)
-        (sym (has_both (place ++ keys_if wild those) own ∙ ap (λ z. z || has own k) (has_both place (keys_if wild those) ∙ ap (λ z. has place k || z) (has_if wild those)) ∙ or_assoc (has place k) (wild && has those k) (has own k)))
+        (sym (has_both (place ++ keys_if wild those) own ∙ ap (λ z. z || has own k) (has_both place (keys_if wild those) ∙ ap (λ z. has place k || z) (has_if wild those)) ∙ or_assoc (has place k) (wild && has those k) (has own k))))
+        ∙ or_assoc ((each || some) && every) (has front k) (has links k)
+        ∙ ap (λ z. ((each || some) && every) || z) (sym (has_both front links))
 
     all_split : (numbers : List (Option CtxNum)) (slots : List (Option ℕ)) (asked : List Action)
         → has (footprint_of (paired_actions numbers slots asked) m) k ≡ ((list_any asks_all asked && every) || has (all_gathered m (paired_actions numbers slots asked)) k)

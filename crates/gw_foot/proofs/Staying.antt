@@ -23,6 +23,8 @@ use Rattle.gw_tx.proofs.Facts.{IsHeld, commands_keep_whole}
 use Rattle.gw_tx.proofs.FreeSlots.{AnySlot}
 use Rattle.gw_tx.proofs.HeldKeys.{command_stays, made_held, less_held}
 use Rattle.gw_tx.proofs.Kept.{CommandsKeep}
+use Rattle.gw_tx.proofs.SetProperties.{part_set, grows_set, whole_set}
+use Rattle.gw_tx.specs.Properties.{set_property}
 
 pub record Stays (limit : ℕ) (keys : List Key) (start m : Maps) : Type 0 where
   pub whole : AreWellFormed limit m
@@ -50,4 +52,9 @@ commands_stay rules keys start = record {
       };
   lives = λ at slot c o. made_held (Only keys) at slot c start o;
   less = λ at slot c o. less_held (Only keys) at slot c start o;
+  sets = λ n p m can s. record {
+    whole = whole_set rules.members n p m can s.whole;
+    grown = grows_on (Only keys) start m (set_property n p m) s.grown (grows_set n p m (Only keys));
+    entries = λ h. part_set n p m (Only keys) (s.entries h);
+  };
 }

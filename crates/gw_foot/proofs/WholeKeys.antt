@@ -16,8 +16,9 @@ use Rattle.gw_table.proofs.Localities.{part_is_all}
 use Rattle.gw_cmd.specs.Keys.{every_key, keys_if, place_key}
 use Rattle.gw_cmd.proofs.Ready.{every_term, every_ctx, named}
 use Rattle.gw_reserve.specs.Owned.{OwnedAction}
-use Rattle.gw_tx.specs.Footprints.{is_for_each, one_context, stands_for_all, named_keys, keys_in_action, action_footprint, footprint_of}
-use Rattle.gw_tx.proofs.RequestKeys.{no_place, no_named}
+use Rattle.gw_tx.specs.Footprints.{is_for_each, one_context, stands_for_all, named_keys, keys_in_action, keys_of_links, action_footprint, footprint_of}
+use Rattle.gw_tx.specs.Properties.{linked_names}
+use Rattle.gw_tx.proofs.RequestKeys.{no_place, no_named, no_links}
 
 -- with the whole they have every key
 abbrev HasEvery : Maps → List Key → Type 0
@@ -49,9 +50,12 @@ action_has : (m : Maps) (a : OwnedAction) → HasEvery m (action_footprint a m)
 action_has m a =
     let all : List Key = keys_if (is_for_each a.sent.ctx) (every_key m) in
     let one : List Key = place_key (one_context a.sent.ctx a.number) in
-    both_have m (all ++ one) (flat_map (keys_in_action a.sent.ctx a.number m) a.commands)
+    let asked : List Key = flat_map (keys_in_action a.sent.ctx a.number m) a.commands in
+    both_have m (all ++ one ++ asked) (keys_of_links a m)
+    (both_have m (all ++ one) asked
     (both_have m all one (if_has m (is_for_each a.sent.ctx)) (none_has m one (no_place (one_context a.sent.ctx a.number))))
-    (each_has m (keys_in_action a.sent.ctx a.number m) (command_has m a.sent.ctx a.number) a.commands)
+    (each_has m (keys_in_action a.sent.ctx a.number m) (command_has m a.sent.ctx a.number) a.commands))
+    (none_has m (keys_of_links a m) (no_links m (linked_names a.sent.props)))
 
 -- so there is no entry but at its keys
 pub whole_part : (owners : List OwnedAction) (m : Maps) → has (footprint_of owners m) Whole ≡ true → IsPart (Only (footprint_of owners m)) m

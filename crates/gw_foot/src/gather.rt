@@ -16,7 +16,7 @@ use gw_base::{CtxNum, CtxRef, Key, NoMemory, TermName, TermRef};
 use gw_msg::{Action, Command};
 use gw_refusal::is_add;
 use gw_table::{Tables, put_in_order, slot_name};
-use gw_tx::{entries_behind, next_entry};
+use gw_tx::{entries_behind, linked_names, next_entry};
 use std::alloc::Global;
 
 /// So many keys are kept before doubles among them are looked for: more than most requests have.
@@ -118,6 +118,16 @@ fn add_each_own(
     Ok(())
 }
 
+/// Each of these terminations, and the context that it is in.
+fn add_linked(tables: &Tables, names: &[TermName], keys: &mut Vec<Key>) -> Result<(), NoMemory>
+    ensures { OnOk result (keys.new.items ≡ keys.old.items ++ flat_map (λ t. name_keys t (maps_of tables.now)) names.now) }
+{
+    for name in names {
+        add_name(tables, *name, keys)?;
+    }
+    Ok(())
+}
+
 /// The number of the one context that an action is for, by its ContextID and by the number that it owns.
 pub fn one_context(sent: CtxRef, owned: Option<CtxNum>) -> Option<CtxNum>
     ensures { result ≡ one_context sent owned }
@@ -129,7 +139,8 @@ pub fn one_context(sent: CtxRef, owned: Option<CtxNum>) -> Option<CtxNum>
     }
 }
 
-/// The keys of one action. The members of its context are there once, however many wildcards may match them.
+/// The keys of one action. The members of its context are there once, however many wildcards may match them. The names that it links
+/// are listed on the way.
 fn add_action(
     tables: &Tables,
     number: Option<CtxNum>,
@@ -146,7 +157,9 @@ fn add_action(
             add_members(tables, number, keys)?;
         }
     }
-    add_each_own(tables, slots, commands, keys)
+    add_each_own(tables, slots, commands, keys)?;
+    let names = linked_names(*keys.allocator(), sent.props.as_slice())?;
+    add_linked(tables, &names, keys)
 }
 
 /// Drops doubles where there are more than so many keys, and tells at how many it is worth while again: so the list takes no more

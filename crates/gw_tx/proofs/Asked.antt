@@ -10,14 +10,16 @@ use Rattle.gw_desc.specs.Grammar.{SpellsDescriptor}
 use Rattle.gw_desc.specs.KeptTexts.{HasKeptTexts}
 use Rattle.gw_desc.specs.declared.descriptor.Descriptor.{Descriptor}
 use Rattle.gw_desc.proofs.KeptForms.{descriptor_kept}
-use Rattle.gw_msg.specs.Grammar.{SpellsTerm, has_group, SpellsDetailsOf, SpellsCommand, SpellsContents, SpellsAction, SpellsRequest}
+use Rattle.gw_msg.specs.Grammar.{SpellsTerm, has_group, SpellsDetailsOf, SpellsCommand, SpellsTriple, SpellsContextProperty, SpellsContents, SpellsAction, SpellsRequest}
 use Rattle.gw_msg.specs.declared.message.ContextProp.{ContextProp}
+use Rattle.gw_msg.specs.declared.message.ContextProp.TheVariants.{Priority, Emergency, Topology, ContextAudit}
+use Rattle.gw_msg.specs.declared.message.Triple.{Triple}
 use Rattle.gw_msg.specs.declared.message.Action.{Action}
 use Rattle.gw_msg.specs.declared.message.Command.{Command}
 use Rattle.gw_msg.specs.declared.message.Request.{Request}
 use Rattle.gw_reply.specs.KeptReplies.{HasForm}
 use Rattle.gw_cmd.specs.KeptForms.{IsAsked}
-use Rattle.gw_tx.specs.KeptForms.{AreAsked, IsAskedRequest}
+use Rattle.gw_tx.specs.KeptForms.{HasForms, IsAskedProperty, AreAsked, IsAskedRequest}
 
 separated : {V : Type 0} (Form : V → List ℕ → Type 0) (P : V → Type 0) → ((v : V) (text : List ℕ) → Form v text → P v) → (vs : List V) (text : List ℕ) → Separated Form vs text → All P vs
 separated Form P each [] text h = absurd h
@@ -45,13 +47,27 @@ command_asked c text h =
     let named = h.words.second.second.second.second in
     record { term = term_asked c.term named.front named.first; descriptors = details_asked (has_group c.verb) c.descriptors named.back named.second }
 
-contents_asked : (ps : List ContextProp) (cs : List Command) (text : List ℕ) → SpellsContents ps cs text → All IsAsked cs
-contents_asked [] cs text h = separated SpellsCommand IsAsked command_asked cs text h
-contents_asked (p ∷ ps) [] text h = All-nil IsAsked
-contents_asked (p ∷ ps) (c ∷ cs) text h = let more = h.second.second in separated SpellsCommand IsAsked command_asked (c ∷ cs) h.second.back more
+triple_asked : (t : Triple) (text : List ℕ) → SpellsTriple t text → HasForms t
+triple_asked t text h = let second = h.second.second in (term_asked t.a h.front h.first, term_asked t.b second.front second.first)
+
+property_asked : (p : ContextProp) (text : List ℕ) → SpellsContextProperty p text → IsAskedProperty p
+property_asked (Priority n) text h = All-nil HasForms
+property_asked Emergency text h = All-nil HasForms
+property_asked (Topology ts) text h = let list = h.second.second in separated SpellsTriple HasForms triple_asked ts list.front list.first
+property_asked (ContextAudit items) text h = All-nil HasForms
+
+contents_asked : (ps : List ContextProp) (cs : List Command) (text : List ℕ) → SpellsContents ps cs text → All IsAskedProperty ps × All IsAsked cs
+contents_asked [] cs text h = (All-nil IsAskedProperty, separated SpellsCommand IsAsked command_asked cs text h)
+contents_asked (p ∷ ps) [] text h = (separated SpellsContextProperty IsAskedProperty property_asked (p ∷ ps) text h, All-nil IsAsked)
+contents_asked (p ∷ ps) (c ∷ cs) text h =
+    let more = h.second.second in
+    (separated SpellsContextProperty IsAskedProperty property_asked (p ∷ ps) h.front h.first, separated SpellsCommand IsAsked command_asked (c ∷ cs) h.second.back more)
 
 action_asked : (a : Action) (text : List ℕ) → SpellsAction a text → AreAsked a
-action_asked a text h = let contents = h.second.second.second.second in contents_asked a.props a.commands contents.front contents.first
+action_asked a text h =
+    let contents = h.second.second.second.second in
+    let both = contents_asked a.props a.commands contents.front contents.first in
+    record { props = both.0; commands = both.1 }
 
 pub request_asked : (r : Request) (text : List ℕ) → SpellsRequest r text → IsAskedRequest r
 request_asked r text h =

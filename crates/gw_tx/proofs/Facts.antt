@@ -27,6 +27,7 @@ use Rattle.gw_cmd.proofs.Parted.{StaysPart, part_kept, ctx-there}
 use Rattle.gw_tx.proofs.FreeSlots.{IsOther, IsOfKind, AnySlot, makes_none}
 use Rattle.gw_tx.proofs.HeldKeys.{command_stays, made_held, less_held}
 use Rattle.gw_tx.proofs.Kept.{CommandsKeep}
+use Rattle.gw_tx.proofs.SetProperties.{term-set, stays_part_set, absent_set, whole_set}
 
 any : (slot : Option ℕ) → MayMake (λ _. Unit {0}) slot
 any None = tt
@@ -45,6 +46,7 @@ commands_keep_part rules keys start = record {
   keeps = λ at slot c m o u a q. part_kept rules keys start at slot c m (command_stays keys start m (λ _. q.entries) q.grown at slot c o) u q;
   lives = λ at slot c o. made_held keys at slot c start o;
   less = λ at slot c o. less_held keys at slot c start o;
+  sets = λ n p m can q. stays_part_set n p m keys start q;
 }
 
 pub commands_keep_whole : (rules : Rules) → CommandsKeep rules Any AnySlot (AreWellFormed rules.members)
@@ -52,6 +54,7 @@ commands_keep_whole rules = record {
   keeps = λ at slot c m o u a w. kept_command rules (λ _. true) (λ _. Unit {0}) (whole_is_kept rules (λ _. Unit {0})) at slot c m (λ _. refl) u (any slot) w;
   lives = λ at slot c o. tt;
   less = λ at slot c o. tt;
+  sets = λ n p m can w. whole_set rules.members n p m can w;
 }
 
 -- ---- a slot
@@ -70,6 +73,7 @@ commands_keep_free rules t = record {
   keeps = λ at slot c m o u a none. makes_none rules at slot c m u t (of_kind t slot a) none;
   lives = λ at slot c o. tt;
   less = λ at slot c o. tt;
+  sets = λ n p m can none. term-set n p m (slot_name t) ∙ none;
 }
 
 -- ---- a number
@@ -136,4 +140,5 @@ commands_keep_number rules n = record {
       (λ fine k e. enters_other n at slot c m o none (not_ended at slot c m fine) k e) u (any slot) none;
   lives = lives_other n;
   less = less_other n;
+  sets = λ k p m can none. absent_set k p m n none;
 }

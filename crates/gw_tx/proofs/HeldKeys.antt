@@ -1,6 +1,6 @@
 -- Keys that a part holds, and goes on holding while commands change it.
-use Rattle.std.proofs.Common.{nat_eq, ◌≡◌, ℕ, Bool, true, false, List, [], ◌∷◌, ◌++◌, map, Option, None, Some, is_some, refl, sym, ap, subst, ◌∙◌}
-use Rattle.std.specs.Prelude.{◌||◌}
+use Rattle.std.proofs.Common.{nat_eq, ◌≡◌, ℕ, zero, suc, ◌<◌, Bool, true, false, List, [], ◌∷◌, ◌++◌, length, get_or, map, Option, None, Some, is_some, refl, sym, ap, subst, ◌∙◌, arith}
+use Rattle.std.specs.Prelude.{◌||◌, All}
 use Rattle.std.specs.List.{flat_map, list_any}
 use Rattle.std.specs.FinMap as finite
 use Rattle.std.specs.FinMap.{contains_key-keys}
@@ -28,9 +28,10 @@ use Rattle.gw_cmd.specs.Keys.{every_key, is_for_all, keys_if, action_keys, place
 use Rattle.gw_cmd.proofs.Locality.{entered_name}
 use Rattle.gw_cmd.proofs.Ready.{same_any}
 use Rattle.gw_reserve.specs.Owned.{OwnedAction}
-use Rattle.gw_tx.specs.Footprints.{is_for_each, one_context, stands_for_all, keys_of_members, named_keys, keys_in_action, action_footprint, list_keys}
+use Rattle.gw_tx.specs.Footprints.{is_for_each, one_context, stands_for_all, keys_of_members, named_keys, keys_in_action, keys_of_links, action_footprint, list_keys}
+use Rattle.gw_tx.specs.Properties.{linked_names}
 
--- the keys of an action, by its parts
+-- the keys of an action but for its links, by its parts
 abbrev pub footprint_in : Maps → List (Option ℕ × Command) → CtxRef → Option CtxNum → List Key
 footprint_in m ps sent owned = keys_if (is_for_each sent) (every_key m) ++ place_key (one_context sent owned) ++ flat_map (keys_in_action sent owned m) ps
 
@@ -75,6 +76,15 @@ module _ (keys : PartKeys) where
           by : (b d : Bool) → has (map Ctx (map number xs)) (Ctx n) ≡ d → (b || d) ≡ true → (has (map Ctx (map number xs)) (Ctx n) ≡ true → list_any (nat_eq n.0) xs ≡ true) → (b || list_any (nat_eq n.0) xs) ≡ true
           by true d e j f = refl
           by false d e j f = f (e ∙ j)
+
+  -- each number of a context is a key
+  pub numbers_held : (m : Maps) → IsPart keys m → All (λ n. holds keys (Ctx n) ≡ true) (numbers m)
+  numbers_held m p k d h = p.contexts (get_or (numbers m) k d) (numbered_there m (get_or (numbers m) k d) (listed (numbers m) k h))
+    where
+      listed : (l : List CtxNum) (k : ℕ) → k < length l → has (map Ctx l) (Ctx (get_or l k d)) ≡ true
+      listed [] k h = absurd (omega arith)
+      listed (x ∷ xs) zero h = has-head (Ctx x) (map Ctx xs)
+      listed (x ∷ xs) (suc k) h = has-tail (Ctx x) (Ctx (get_or xs k d)) (map Ctx xs) (listed xs k (omega arith))
 
   no_name : (l : List CtxNum) (t : List ℕ) → has (map Ctx l) (Term t) ≡ false
   no_name [] t = refl
@@ -153,17 +163,26 @@ module _ (keys : PartKeys) where
         (named_stays (one_context sent owned) q.0 q.1 q.1.term (right_held all named h))
 
     -- the keys of an action
+    commands_stay : (ps : List (Option ℕ × Command)) (sent : CtxRef) (owned : Option CtxNum) → Holds keys (footprint_in s ps sent owned) → Holds keys (footprint_in m ps sent owned)
+    commands_stay ps sent owned h =
+        let all : List Key = keys_if (is_for_each sent) (every_key s) in
+        let one : List Key = place_key (one_context sent owned) in
+        let asked : Maps → List Key = λ n. flat_map (keys_in_action sent owned n) ps in
+        let front : Holds keys (all ++ one) = left_held (all ++ one) (asked s) h in
+        both_held (keys_if (is_for_each sent) (every_key m) ++ one) (asked m)
+        (both_held (keys_if (is_for_each sent) (every_key m)) one (every_stays (is_for_each sent) (left_held all one front)) (right_held all one front))
+        (each_held (keys_in_action sent owned s) (keys_in_action sent owned m) (asked_stays sent owned) ps (right_held (all ++ one) (asked s) h))
+
     pub action_stays : (a : OwnedAction) → Holds keys (action_footprint a s) → Holds keys (action_footprint a m)
     action_stays a h =
-        let all : List Key = keys_if (is_for_each a.sent.ctx) (every_key s) in
-        let one : List Key = place_key (one_context a.sent.ctx a.number) in
-        let asked : Maps → List Key = λ n. flat_map (keys_in_action a.sent.ctx a.number n) a.commands in
-        let front : Holds keys (all ++ one) = left_held (all ++ one) (asked s) h in
-        both_held (keys_if (is_for_each a.sent.ctx) (every_key m) ++ one) (asked m)
-        (both_held (keys_if (is_for_each a.sent.ctx) (every_key m)) one (every_stays (is_for_each a.sent.ctx) (left_held all one front)) (right_held all one front))
-        (each_held (keys_in_action a.sent.ctx a.number s) (keys_in_action a.sent.ctx a.number m) (asked_stays a.sent.ctx a.number) a.commands (right_held (all ++ one) (asked s) h))
+        both_held (footprint_in m a.commands a.sent.ctx a.number) (keys_of_links a m)
+        (commands_stay a.commands a.sent.ctx a.number (left_held (footprint_in s a.commands a.sent.ctx a.number) (keys_of_links a s) h))
+        (each_held (λ t. name_keys t s) (λ t. name_keys t m) name_stays (linked_names a.sent.props) (right_held (footprint_in s a.commands a.sent.ctx a.number) (keys_of_links a s) h))
 
   -- ---- the keys of an action are those of its commands, in the context that it is for
+
+  pub without_links : (a : OwnedAction) (m : Maps) → Holds keys (action_footprint a m) → Holds keys (footprint_in m a.commands a.sent.ctx a.number)
+  without_links a m h = left_held (footprint_in m a.commands a.sent.ctx a.number) (keys_of_links a m) h
 
   module _ (m : Maps) where
     same_term : (at : At) (one : Option CtxNum) (slot : Option ℕ) (c : Command) (r : TermRef) → (Holds keys (keys_of_members one m) → Holds keys (member_keys at m)) → Holds keys (named_keys one slot c m r) → Holds keys (term_keys at slot c m r)

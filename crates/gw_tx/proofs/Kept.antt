@@ -1,7 +1,7 @@
 -- What each command keeps, transactions keep.
 use Rattle.std.proofs.Common.{◌≡◌, ℕ, zero, suc, Bool, true, false, List, [], ◌∷◌, length, drop, Option, None, Some, refl, sym, ap, subst, ◌∙◌}
 use Rattle.std.specs.Prelude.{if◌then◌else◌, All}
-use Rattle.gw_base.specs.declared.code.Code.TheVariants.{NotImplemented}
+use Rattle.gw_base.specs.declared.code.Code.{Code}
 use Rattle.gw_base.specs.declared.ids.CtxNum.{CtxNum}
 use Rattle.gw_base.specs.declared.command_words.Rules.{Rules}
 use Rattle.gw_base.specs.declared.command_words.CtxRef.{CtxRef}
@@ -9,11 +9,13 @@ use Rattle.gw_base.specs.declared.command_words.CtxRef.TheVariants as ref
 use Rattle.gw_ctx.specs.Contexts.{ContextRecord}
 use Rattle.gw_msg.specs.declared.message.Command.{Command}
 use Rattle.gw_msg.specs.declared.message.Action.{Action}
+use Rattle.gw_msg.specs.declared.message.ContextProp.{ContextProp}
 use Rattle.gw_reply.specs.declared.reply.ActionReply.{ActionReply}
 use Rattle.gw_reply.specs.declared.reply.CommandReply.{CommandReply}
 use Rattle.gw_table.specs.declared.attempts.Attempts.{Attempts}
 use Rattle.gw_table.specs.Folds.{none_from, in_order}
 use Rattle.gw_table.specs.Maps.{Maps, Outcome, ctx, numbers}
+use Rattle.gw_table.specs.Reserved.{slot_name}
 use Rattle.gw_table.specs.Unused.{owned}
 use Rattle.gw_refusal.specs.declared.at.At.{At}
 use Rattle.gw_refusal.specs.declared.at.At.TheVariants.{Null, Live, Unmade, Each}
@@ -21,16 +23,19 @@ use Rattle.gw_refusal.specs.Places.{made}
 use Rattle.gw_cmd.specs.Commands.{command}
 use Rattle.gw_cmd.specs.Suits.{IsUnused}
 use Rattle.gw_reserve.specs.Owned.{OwnedAction, first_owned, later_owned, paired_commands, paired_action, paired_actions, AreFreeSlots}
-use Rattle.gw_tx.specs.Transactions.{has_properties, refused_action, attempted, attempt, commands, in_each, in_all, action_for_each, action_in, action_for, action_on, action, actions}
+use Rattle.gw_tx.specs.Properties.{linked_names, refusal_of_properties, refusal_of_links, is_chosen_or_each, set_property, set_properties}
+use Rattle.gw_tx.specs.Transactions.{unless_refused, attempted, set_when_made, attempt, commands, in_context, in_each, in_all, action_for_each, action_in, action_for, action_on, action, actions}
 use Rattle.gw_tx.proofs.FreeSlots.{IsOfKind, makes_none, free_slot, free_later, free_on, free_after, kind_first, kind_later}
 use Rattle.gw_tx.proofs.EachContext.{each_takes_none, stays_each}
+use Rattle.gw_tx.proofs.SetProperties.{CanSet, AllCanSet, CanAlwaysSet, IsAllowed, term-set, set_all, allowed, never_late, can_set_in, can_set_always}
 
--- What commands of some kind keep that find their slot free and of a kind. A command is of its kind when its action's context is
--- made too, and without its slot.
+-- What commands of some kind keep that find their slot free and of a kind, and what setting a property keeps. A command is of its kind
+-- when its action's context is made too, and without its slot.
 pub record CommandsKeep (rules : Rules) (Ok : At → Option ℕ → Command → Type 0) (S : ℕ → Type 0) (Q : Maps → Type 0) : Type 0 where
   pub keeps : (at : At) (slot : Option ℕ) (c : Command) (m : Maps) → Ok at slot c → IsUnused slot m → IsOfKind S slot → Q m → Q (command rules at slot c m).maps
   pub lives : (at : At) (slot : Option ℕ) (c : Command) → Ok at slot c → Ok (made at) slot c
   pub less : (at : At) (slot : Option ℕ) (c : Command) → Ok at slot c → Ok at None c
+  pub sets : (n : CtxNum) (p : ContextProp) (m : Maps) → CanSet n p m → Q m → Q (set_property n p m)
 
 -- each of the commands is of the kind
 abbrev pub Oks : (At → Option ℕ → Command → Type 0) → At → List (Option ℕ × Command) → Type 0
@@ -86,16 +91,42 @@ module _ {Ok : At → Option ℕ → Command → Type 0} {S : ℕ → Type 0} {Q
     kind = kind_later S slots w.kind;
   }
 
-  pub kept_commands : (at : At) (slots : List (Option ℕ)) (cs : List Command) (m : Maps) → Oks Ok at (paired_commands slots cs) → With S Q slots m → With S Q (drop (length cs) slots) (commands rules at (paired_commands slots cs) m).maps
+  -- ---- properties
+
+  set_one : (slots : List (Option ℕ)) (n : CtxNum) (p : ContextProp) (m : Maps) → CanSet n p m → With S Q slots m → With S Q slots (set_property n p m)
+  set_one slots n p m c w = record {
+    kept = k.sets n p m c w.kept;
+    free = free_on m (set_property n p m) None slots (λ i d h. tt) (λ t o none. term-set n p m (slot_name t) ∙ none) w.free;
+    kind = w.kind;
+  }
+
+  pub kept_set : (n : CtxNum) (ps : List ContextProp) (slots : List (Option ℕ)) (m : Maps) → AllCanSet n ps m → With S Q slots m → With S Q slots (set_properties n ps m)
+  kept_set n ps slots m c w = set_all (With S Q slots) (set_one slots) n ps m c w
+
+  pub kept_made : (made : Bool) (at : At) (late : List ContextProp) (slots : List (Option ℕ)) (m : Maps) → CanAlwaysSet late → With S Q slots m → With S Q slots (set_when_made made at late m)
+  kept_made true (Unmade n) late slots m c w = kept_set n late slots m (c n m) w
+  kept_made true Null late slots m c w = w
+  kept_made true (Live n) late slots m c w = w
+  kept_made true (Each n) late slots m c w = w
+  kept_made false at late slots m c w = w
+
+  -- ---- commands
+
+  pub kept_attempt : (late : List ContextProp) (at : At) (slots : List (Option ℕ)) (c : Command) (m : Maps) → CanAlwaysSet late → Ok at (first_owned slots) c → With S Q slots m → With S Q (later_owned slots) (attempt rules late at (first_owned slots, c) m).maps
+  kept_attempt late at slots c m can o w =
+      let done = command rules at (first_owned slots) c m in
+      kept_made done.answer.made at late (later_owned slots) done.maps can (kept_command at slots c m o w)
+
+  pub kept_commands : (late : List ContextProp) (at : At) (slots : List (Option ℕ)) (cs : List Command) (m : Maps) → CanAlwaysSet late → Oks Ok at (paired_commands slots cs) → With S Q slots m → With S Q (drop (length cs) slots) (commands rules late at (paired_commands slots cs) m).maps
   unfolding in_order
-  kept_commands at slots [] m o w = w
-  kept_commands at slots (c ∷ cs) m o w =
-      let now : Outcome (Attempts At CommandReply) = attempt rules at (first_owned slots, c) m in
-      let one : With S Q (later_owned slots) now.maps = kept_command at slots c m o.0 w in
-      subst (λ (l : List (Option ℕ)). With S Q l (commands rules at (paired_commands slots (c ∷ cs)) m).maps) (drop_later (length cs) slots)
-      (one_of (λ n. With S Q (drop (length cs) (later_owned slots)) n) now.answer.stopped (none_from now.answer.next true now.maps) (in_order (attempt rules) now.answer.next (paired_commands (later_owned slots) cs) now.maps)
+  kept_commands late at slots [] m can o w = w
+  kept_commands late at slots (c ∷ cs) m can o w =
+      let now : Outcome (Attempts At CommandReply) = attempt rules late at (first_owned slots, c) m in
+      let one : With S Q (later_owned slots) now.maps = kept_attempt late at slots c m can o.0 w in
+      subst (λ (l : List (Option ℕ)). With S Q l (commands rules late at (paired_commands slots (c ∷ cs)) m).maps) (drop_later (length cs) slots)
+      (one_of (λ n. With S Q (drop (length cs) (later_owned slots)) n) now.answer.stopped (none_from now.answer.next true now.maps) (in_order (attempt rules late) now.answer.next (paired_commands (later_owned slots) cs) now.maps)
       (behind (later_owned slots) (length cs) now.maps one)
-      (kept_commands now.answer.next (later_owned slots) cs now.maps (all_live at (command rules at (first_owned slots) c m).answer.made (paired_commands (later_owned slots) cs) o.1) one))
+      (kept_commands late now.answer.next (later_owned slots) cs now.maps can (all_live at (command rules at (first_owned slots) c m).answer.made (paired_commands (later_owned slots) cs) o.1) one))
 
   -- in one of the contexts under *, the slots are left
   pub kept_there : (n : CtxNum) (held : List (Option ℕ)) (slot : Option ℕ) (c : Command) (m : Maps) → Ok (Each n) slot c → With S Q held m → With S Q held (command rules (Each n) slot c m).maps
@@ -103,50 +134,64 @@ module _ {Ok : At → Option ℕ → Command → Type 0} {S : ℕ → Type 0} {Q
       subst (λ x. With S Q held x.maps) (sym (each_takes_none rules n slot c m))
       (record { kept = k.keeps (Each n) None c m (k.less (Each n) slot c o) tt tt w.kept; free = free_on m (command rules (Each n) None c m).maps None held (λ i d h. tt) (makes_none rules (Each n) None c m tt) w.free; kind = w.kind })
 
-  kept_each : (at : At) (n : CtxNum) (held slots : List (Option ℕ)) (cs : List Command) (m : Maps) → at ≡ Each n → Oks Ok at (paired_commands slots cs) → With S Q held m → With S Q held (commands rules at (paired_commands slots cs) m).maps
+  pub kept_there_attempt : (late : List ContextProp) (at : At) (n : CtxNum) (held slots : List (Option ℕ)) (c : Command) (m : Maps) → at ≡ Each n → CanAlwaysSet late → Ok at (first_owned slots) c → With S Q held m → With S Q held (attempt rules late at (first_owned slots, c) m).maps
+  kept_there_attempt late at n held slots c m e can o w =
+      let there : Ok (Each n) (first_owned slots) c = subst (λ (x : At). Ok x (first_owned slots) c) e o in
+      let done = command rules at (first_owned slots) c m in
+      kept_made done.answer.made at late held done.maps can
+      (subst (λ (x : At). With S Q held (command rules x (first_owned slots) c m).maps) (sym e) (kept_there n held (first_owned slots) c m there w))
+
+  kept_each : (late : List ContextProp) (at : At) (n : CtxNum) (held slots : List (Option ℕ)) (cs : List Command) (m : Maps) → at ≡ Each n → CanAlwaysSet late → Oks Ok at (paired_commands slots cs) → With S Q held m → With S Q held (commands rules late at (paired_commands slots cs) m).maps
   unfolding in_order
-  kept_each at n held slots [] m e o w = w
-  kept_each at n held slots (c ∷ cs) m e o w =
-      let now : Outcome (Attempts At CommandReply) = attempt rules at (first_owned slots, c) m in
-      let there : Ok (Each n) (first_owned slots) c = subst (λ (x : At). Ok x (first_owned slots) c) e o.0 in
-      let one : With S Q held now.maps = subst (λ (x : At). With S Q held (command rules x (first_owned slots) c m).maps) (sym e) (kept_there n held (first_owned slots) c m there w) in
+  kept_each late at n held slots [] m e can o w = w
+  kept_each late at n held slots (c ∷ cs) m e can o w =
+      let now : Outcome (Attempts At CommandReply) = attempt rules late at (first_owned slots, c) m in
+      let one : With S Q held now.maps = kept_there_attempt late at n held slots c m e can o.0 w in
       let next : now.answer.next ≡ Each n = ap (λ (x : At). (attempted x c (command rules at (first_owned slots) c m).answer).next) e ∙ stays_each n (command rules at (first_owned slots) c m).answer.made in
-      one_of (λ x. With S Q held x) now.answer.stopped (none_from now.answer.next true now.maps) (in_order (attempt rules) now.answer.next (paired_commands (later_owned slots) cs) now.maps)
+      one_of (λ x. With S Q held x) now.answer.stopped (none_from now.answer.next true now.maps) (in_order (attempt rules late) now.answer.next (paired_commands (later_owned slots) cs) now.maps)
       one
-      (kept_each now.answer.next n held (later_owned slots) cs now.maps next (all_live at (command rules at (first_owned slots) c m).answer.made (paired_commands (later_owned slots) cs) o.1) one)
+      (kept_each late now.answer.next n held (later_owned slots) cs now.maps next can (all_live at (command rules at (first_owned slots) c m).answer.made (paired_commands (later_owned slots) cs) o.1) one)
 
-  pub kept_in_each : (n : CtxNum) (slots : List (Option ℕ)) (cs : List Command) (m : Maps) → Oks Ok (Each n) (paired_commands slots cs) → With S Q slots m → With S Q slots (commands rules (Each n) (paired_commands slots cs) m).maps
-  kept_in_each n slots cs m o w = kept_each (Each n) n slots slots cs m refl o w
+  -- ---- actions
 
-  kept_in_all : (stopped : Bool) (slots : List (Option ℕ)) (cs : List Command) (ns : List CtxNum) (m : Maps) → ((n : CtxNum) → Oks Ok (Each n) (paired_commands slots cs)) → With S Q slots m → With S Q slots (in_order (in_each rules (paired_commands slots cs)) stopped ns m).maps
+  pub kept_in_each : (owned : Option CtxNum) (n : CtxNum) (slots : List (Option ℕ)) (a : Action) (m : Maps) → CanAlwaysSet a.props → Oks Ok (Each n) (paired_commands slots a.commands) → With S Q slots m → With S Q slots (in_context rules (paired_action owned slots a) (Each n) n m).maps
+  kept_in_each owned n slots a m can o w = kept_each [] (Each n) n slots slots a.commands (set_properties n a.props m) refl never_late o (kept_set n a.props slots m (can n m) w)
+
+  kept_in_all : (owned : Option CtxNum) (stopped : Bool) (slots : List (Option ℕ)) (a : Action) (ns : List CtxNum) (m : Maps) → CanAlwaysSet a.props → ((n : CtxNum) → Oks Ok (Each n) (paired_commands slots a.commands)) → With S Q slots m → With S Q slots (in_order (in_each rules (paired_action owned slots a)) stopped ns m).maps
   unfolding in_order
-  kept_in_all stopped slots cs [] m o w = w
-  kept_in_all stopped slots cs (n ∷ ns) m o w =
-      let now : Outcome (Attempts Bool ActionReply) = in_each rules (paired_commands slots cs) stopped n m in
-      kept_in_all now.answer.next slots cs ns now.maps o (kept_in_each n slots cs m (o n) w)
+  kept_in_all owned stopped slots a [] m can o w = w
+  kept_in_all owned stopped slots a (n ∷ ns) m can o w =
+      let now : Outcome (Attempts Bool ActionReply) = in_each rules (paired_action owned slots a) stopped n m in
+      kept_in_all owned now.answer.next slots a ns now.maps can o (kept_in_each owned n slots a m can (o n) w)
 
-  kept_for_each : (slots : List (Option ℕ)) (cs : List Command) (m : Maps) (ns : List CtxNum) → ((n : CtxNum) → Oks Ok (Each n) (paired_commands slots cs)) → With S Q slots m → With S Q (drop (length cs) slots) (action_for_each rules (paired_commands slots cs) m ns).maps
-  kept_for_each slots cs m [] o w = behind slots (length cs) m w
-  kept_for_each slots cs m (n ∷ ns) o w = behind slots (length cs) (in_all rules (paired_commands slots cs) (n ∷ ns) m).maps (kept_in_all false slots cs (n ∷ ns) m o w)
+  kept_for_each : (owned : Option CtxNum) (slots : List (Option ℕ)) (a : Action) (m : Maps) (ns : List CtxNum) → CanAlwaysSet a.props → ((n : CtxNum) → Oks Ok (Each n) (paired_commands slots a.commands)) → With S Q slots m → With S Q (drop (length a.commands) slots) (action_for_each rules (paired_action owned slots a) m ns).maps
+  kept_for_each owned slots a m [] can o w = behind slots (length a.commands) m w
+  kept_for_each owned slots a m (n ∷ ns) can o w = behind slots (length a.commands) (in_all rules (paired_action owned slots a) (n ∷ ns) m).maps (kept_in_all owned false slots a (n ∷ ns) m can o w)
 
-  kept_in : (n : CtxNum) (slots : List (Option ℕ)) (cs : List Command) (m : Maps) (o : Option ContextRecord) → Oks Ok (Live n) (paired_commands slots cs) → With S Q slots m → With S Q (drop (length cs) slots) (action_in rules n (paired_commands slots cs) m o).maps
-  kept_in n slots cs m None o w = behind slots (length cs) m w
-  kept_in n slots cs m (Some c) o w = kept_commands (Live n) slots cs m o w
+  kept_in : (owned : Option CtxNum) (n : CtxNum) (slots : List (Option ℕ)) (a : Action) (m : Maps) (o : Option ContextRecord) → IsAllowed a → Oks Ok (Live n) (paired_commands slots a.commands) → With S Q slots m → With S Q (drop (length a.commands) slots) (action_in rules n (paired_action owned slots a) m o).maps
+  kept_in owned n slots a m None h o w = behind slots (length a.commands) m w
+  kept_in owned n slots a m (Some c) h o w = by (refusal_of_links n (linked_names a.props) m) refl
+    where
+      by : (x : Option Code) → refusal_of_links n (linked_names a.props) m ≡ x → With S Q (drop (length a.commands) slots) (unless_refused x (ref.Num n) m (in_context rules (paired_action owned slots a) (Live n) n m)).maps
+      by (Some code) e = behind slots (length a.commands) m w
+      by None e = kept_commands [] (Live n) slots a.commands (set_properties n a.props m) never_late o (kept_set n a.props slots m (can_set_in a n m h e) w)
 
-  kept_for : (number : Option CtxNum) (slots : List (Option ℕ)) (cs : List Command) (m : Maps) → OksIn Ok (paired_commands slots cs) ref.Choose number → With S Q slots m → With S Q (drop (length cs) slots) (action_for rules number (paired_commands slots cs) m).maps
-  kept_for None slots cs m o w = behind slots (length cs) m w
-  kept_for (Some n) slots cs m o w = kept_commands (Unmade n) slots cs m o w
+  kept_for : (number : Option CtxNum) (slots : List (Option ℕ)) (a : Action) (m : Maps) → CanAlwaysSet a.props → OksIn Ok (paired_commands slots a.commands) ref.Choose number → With S Q slots m → With S Q (drop (length a.commands) slots) (action_for rules (paired_action number slots a) m number).maps
+  kept_for None slots a m can o w = behind slots (length a.commands) m w
+  kept_for (Some n) slots a m can o w = kept_commands a.props (Unmade n) slots a.commands m can o w
 
-  kept_on : (a : Action) (number : Option CtxNum) (slots : List (Option ℕ)) (m : Maps) (sent : CtxRef) → OksIn Ok (paired_commands slots a.commands) sent number → With S Q slots m → With S Q (drop (length a.commands) slots) (action_on rules (paired_action number slots a) m sent).maps
-  kept_on a number slots m (ref.Num n) o w = kept_in n slots a.commands m (ctx m n) o w
-  kept_on a number slots m ref.Choose o w = kept_for number slots a.commands m o w
-  kept_on a number slots m ref.Null o w = kept_commands Null slots a.commands m o w
-  kept_on a number slots m ref.All o w = kept_for_each slots a.commands m (numbers m) o w
+  kept_on : (a : Action) (number : Option CtxNum) (slots : List (Option ℕ)) (m : Maps) (sent : CtxRef) → a.ctx ≡ sent → IsAllowed a → OksIn Ok (paired_commands slots a.commands) sent number → With S Q slots m → With S Q (drop (length a.commands) slots) (action_on rules (paired_action number slots a) m sent).maps
+  kept_on a number slots m (ref.Num n) e h o w = kept_in number n slots a m (ctx m n) h o w
+  kept_on a number slots m ref.Choose e h o w = kept_for number slots a m (can_set_always a h (ap (λ x. is_chosen_or_each x) e)) o w
+  kept_on a number slots m ref.Null e h o w = kept_commands [] Null slots a.commands m never_late o w
+  kept_on a number slots m ref.All e h o w = kept_for_each number slots a m (numbers m) (can_set_always a h (ap (λ x. is_chosen_or_each x) e)) o w
 
   pub kept_action : (a : Action) (number : Option CtxNum) (slots : List (Option ℕ)) (m : Maps) → OksIn Ok (paired_commands slots a.commands) a.ctx number → With S Q slots m → With S Q (drop (length a.commands) slots) (action rules tt (paired_action number slots a) m).maps
-  kept_action a number slots m o w =
-      one_of (λ x. With S Q (drop (length a.commands) slots) x) (has_properties a) (refused_action a.ctx NotImplemented m) (action_on rules (paired_action number slots a) m a.ctx)
-      (behind slots (length a.commands) m w) (kept_on a number slots m a.ctx o w)
+  kept_action a number slots m o w = by (refusal_of_properties a) refl
+    where
+      by : (x : Option Code) → refusal_of_properties a ≡ x → With S Q (drop (length a.commands) slots) (unless_refused x a.ctx m (action_on rules (paired_action number slots a) m a.ctx)).maps
+      by (Some code) e = behind slots (length a.commands) m w
+      by None e = kept_on a number slots m a.ctx refl (allowed a e) o w
 
   pub kept_actions : (held : List (Option CtxNum)) (slots : List (Option ℕ)) (asked : List Action) (m : Maps) → AllOks Ok (paired_actions held slots asked) → With S Q slots m → Q (actions rules (paired_actions held slots asked) m).maps
   unfolding in_order

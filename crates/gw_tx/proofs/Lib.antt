@@ -8,6 +8,7 @@ pub mod HeldKeys
 pub mod Kept
 pub mod Parts
 pub mod RequestKeys
+pub mod SetProperties
 pub mod Steps
 pub mod TooLong
 pub mod Unowned

@@ -1,5 +1,5 @@
 -- A part that covers a request, before its first command and at each command.
-use Rattle.std.proofs.Common.{◌≡◌, ℕ, List, [], ◌∷◌, Option, None, Some, refl, sym, subst}
+use Rattle.std.proofs.Common.{◌≡◌, ℕ, List, [], ◌∷◌, Option, None, Some, refl, sym, subst, ◌∙◌}
 use Rattle.gw_base.specs.declared.ids.CtxNum.{CtxNum}
 use Rattle.gw_base.specs.declared.command_words.CtxRef.{CtxRef}
 use Rattle.gw_base.specs.declared.command_words.CtxRef.TheVariants as ref
@@ -17,13 +17,25 @@ use Rattle.gw_cmd.proofs.Parted.{StaysPart}
 use Rattle.gw_reserve.specs.Owned.{OwnedAction, AreFreeSlots, paired_commands, paired_action}
 use Rattle.gw_tx.specs.Footprints.{action_footprint, list_keys, Covers}
 use Rattle.gw_tx.proofs.Facts.{IsHeld}
-use Rattle.gw_tx.proofs.FreeSlots.{AnySlot}
-use Rattle.gw_tx.proofs.HeldKeys.{left_held, right_held, each_held, command_stays, action_stays, footprint_in, in_null, in_live, in_unmade, in_each}
+use Rattle.gw_tx.proofs.FreeSlots.{AnySlot, free_on}
+use Rattle.gw_tx.proofs.SetProperties.{stays_part_all, term-all}
+use Rattle.gw_tx.specs.Properties.{set_properties}
+use Rattle.gw_table.specs.Reserved.{slot_name}
+use Rattle.gw_msg.specs.declared.message.ContextProp.{ContextProp}
+use Rattle.gw_tx.proofs.HeldKeys.{left_held, right_held, without_links, each_held, command_stays, action_stays, footprint_in, in_null, in_live, in_unmade, in_each}
 use Rattle.gw_tx.proofs.Kept.{With, Oks, OksIn}
 
 -- as it begins
 pub starts : (part : Parted) (slots : List (Option ℕ)) (needed : List Key) → Covers part needed → AreFreeSlots part.maps slots → With AnySlot (StaysPart part.keys part.maps) slots part.maps
 starts part slots needed c u = record { kept = record { sound = c.sound; entries = c.entries; grown = grows_not part.keys part.maps }; free = u; kind = λ k d h. tt }
+
+-- when the properties of a context were set
+pub starts_set : (part : Parted) (slots : List (Option ℕ)) (needed : List Key) (n : CtxNum) (ps : List ContextProp) → Covers part needed → AreFreeSlots part.maps slots → With AnySlot (StaysPart part.keys part.maps) slots (set_properties n ps part.maps)
+starts_set part slots needed n ps c u = record {
+  kept = stays_part_all part.keys part.maps n ps part.maps (starts part slots needed c u).kept;
+  free = free_on part.maps (set_properties n ps part.maps) None slots (λ k d h. tt) (λ t o none. term-all n ps part.maps (slot_name t) ∙ none) u;
+  kind = λ k d h. tt;
+}
 
 -- the part is that of the start, changed
 module _ (start now : Parted) (slots : List (Option ℕ)) (w : With AnySlot (StaysPart start.keys start.maps) slots now.maps) (same : now.keys ≡ start.keys) where
@@ -55,7 +67,7 @@ listed keys m at [] h = tt
 listed keys m at (p ∷ ps) h = (left_held keys (command_keys at p.0 p.1 m) (list_keys at ps m) h, listed keys m at ps (right_held keys (command_keys at p.0 p.1 m) (list_keys at ps m) h))
 
 pub listed_in : (keys : PartKeys) (m : Maps) (a : OwnedAction) → Holds keys (action_footprint a m) → OksIn (IsHeld keys m) a.commands a.sent.ctx a.number
-listed_in keys m a h = by a.sent.ctx a.number h
+listed_in keys m a h = by a.sent.ctx a.number (without_links keys a m h)
   where
     by : (sent : CtxRef) (owned : Option CtxNum) → Holds keys (footprint_in m a.commands sent owned) → OksIn (IsHeld keys m) a.commands sent owned
     by ref.Null owned k = listed keys m Null a.commands (in_null keys m a.commands ref.Null owned refl k)

@@ -13,14 +13,15 @@ use Rattle.gw_base.specs.Keys.{has, same_key}
 use Rattle.gw_base.proofs.KeyTests.{names_no_whole}
 use Rattle.gw_msg.specs.declared.message.Command.{Command}
 use Rattle.gw_table.specs.Maps.{Maps, term, ctx, place_of, members_of}
-use Rattle.gw_table.specs.Parts.{Only, Holds}
+use Rattle.gw_table.specs.Parts.{PartKeys, Only, Holds}
 use Rattle.gw_refusal.specs.declared.at.At.{At}
 use Rattle.gw_refusal.specs.declared.at.At.TheVariants.{Null, Live, Unmade, Each}
 use Rattle.gw_refusal.specs.Asked.{is_add}
-use Rattle.gw_cmd.specs.Keys.{every_key, is_for_all, keys_if, place_key, slot_key, action_keys, member_keys, term_keys, command_keys}
+use Rattle.gw_cmd.specs.Keys.{every_key, is_for_all, keys_if, place_key, name_keys, slot_key, action_keys, member_keys, term_keys, command_keys}
 use Rattle.gw_cmd.proofs.Ready.{among_all, among_action, among_term}
 use Rattle.gw_reserve.specs.Owned.{OwnedAction}
-use Rattle.gw_tx.specs.Footprints.{is_for_each, one_context, stands_for_all, keys_of_members, named_keys, keys_in_action, footprint_of, is_meant_for_all, list_keys, sent_for, owned_for, alone}
+use Rattle.gw_tx.specs.Footprints.{is_for_each, one_context, stands_for_all, keys_of_members, named_keys, keys_in_action, keys_of_links, footprint_of, is_meant_for_all, list_keys, sent_for, owned_for, alone}
+use Rattle.gw_tx.specs.Properties.{linked_names}
 use Rattle.gw_tx.proofs.HeldKeys.{footprint_in, both_held, left_held, none_held, in_null, in_live, in_unmade, in_each}
 
 -- ---- a command alone
@@ -82,9 +83,11 @@ both_ways false false f g = refl
 pub command_alone : (at : At) (slot : Option ℕ) (c : Command) (m : Maps) (k : Key) → has (footprint_of (alone at slot c ∷ []) m) k ≡ has (command_keys at slot c m) k
 command_alone at slot c m k =
     let mine : List Key = footprint_in m ((slot, c) ∷ []) (sent_for at) (owned_for at) in
-    both_ways (has (mine ++ []) k) (has (command_keys at slot c m) k)
-    (both_held (Only (command_keys at slot c m)) mine [] (theirs at slot c m) (none_held (Only (command_keys at slot c m))) k)
-    (left_held (Only (mine ++ [])) (command_keys at slot c m) [] (its_own at slot c m (mine ++ []) (left_held (Only (mine ++ [])) mine [] (λ q h. h))) k)
+    let keys : PartKeys = Only (command_keys at slot c m) in
+    let all : PartKeys = Only ((mine ++ []) ++ []) in
+    both_ways (has ((mine ++ []) ++ []) k) (has (command_keys at slot c m) k)
+    (both_held keys (mine ++ []) [] (both_held keys mine [] (theirs at slot c m) (none_held keys)) (none_held keys) k)
+    (left_held all (command_keys at slot c m) [] (its_own at slot c m ((mine ++ []) ++ []) (left_held all mine [] (left_held all (mine ++ []) [] (λ q h. h)))) k)
 
 -- ---- every key
 
@@ -134,14 +137,24 @@ in_commands sent owned m (p ∷ ps) =
     ∙ ap (λ (b : Bool). b || has (flat_map (keys_in_action sent owned m) ps) Whole) (has-append every named ∙ or_false_is (has every Whole) (has named Whole) (no_named (one_context sent owned) p.0 p.1 m p.1.term) ∙ in_every (stands_for_all sent p.1) m)
     ∙ ap (λ (b : Bool). stands_for_all sent p.1 || b) (in_commands sent owned m ps)
 
+pub no_links : (m : Maps) (names : List (List ℕ)) → has (flat_map (λ t. name_keys t m) names) Whole ≡ false
+no_links m [] = refl
+no_links m (t ∷ ts) =
+    has-append (name_keys t m) (flat_map (λ t. name_keys t m) ts)
+    ∙ ap (λ (b : Bool). b || has (flat_map (λ t. name_keys t m) ts) Whole) (no_place (place_of (term m t)))
+    ∙ no_links m ts
+
 pub whole_key : (m : Maps) (actions : List OwnedAction) → has (footprint_of actions m) Whole ≡ list_any is_meant_for_all actions
 whole_key m [] = refl
 whole_key m (a ∷ more) =
     let every : List Key = keys_if (is_for_each a.sent.ctx) (every_key m) in
     let one : List Key = place_key (one_context a.sent.ctx a.number) in
     let asked : List Key = flat_map (keys_in_action a.sent.ctx a.number m) a.commands in
-    has-append (every ++ one ++ asked) (footprint_of more m)
-    ∙ ap (λ (b : Bool). b || has (footprint_of more m) Whole) (has-append (every ++ one) asked
+    let links : List Key = keys_of_links a m in
+    has-append (every ++ one ++ asked ++ links) (footprint_of more m)
+    ∙ ap (λ (b : Bool). b || has (footprint_of more m) Whole) (has-append (every ++ one ++ asked) links
+    ∙ or_false_is (has (every ++ one ++ asked) Whole) (has links Whole) (no_links m (linked_names a.sent.props))
+    ∙ has-append (every ++ one) asked
     ∙ ap (λ (b : Bool). b || has asked Whole) (has-append every one ∙ or_false_is (has every Whole) (has one Whole) (no_place (one_context a.sent.ctx a.number)) ∙ in_every (is_for_each a.sent.ctx) m)
     ∙ ap (λ (b : Bool). is_for_each a.sent.ctx || b) (in_commands a.sent.ctx a.number m a.commands))
     ∙ ap (λ (b : Bool). is_meant_for_all a || b) (whole_key m more)

@@ -8,7 +8,9 @@ use Rattle.gw_length.specs.declared.telling.Telling.TheVariants as telling
 use Rattle.gw_length.specs.Tellings.{told_behind}
 use Rattle.gw_length.proofs.Lengths.{first_and_later}
 use Rattle.gw_length.proofs.Tellings.{not_le}
-use Rattle.gw_reply.specs.Lists.{comma_separated, in_braces, later}
+use Rattle.gw_reply.specs.Lists.{comma, comma_separated, in_braces, later}
+use Rattle.gw_reply.specs.declared.context_parts.ContextPart.{ContextPart}
+use Rattle.gw_reply.specs.ContextParts.{context_part_text}
 use Rattle.gw_reply.specs.Contexts.{context_text}
 use Rattle.gw_reply.specs.declared.reply.ActionReply.{ActionReply}
 use Rattle.gw_reply.specs.declared.reply.CommandReply.{CommandReply}
@@ -29,29 +31,37 @@ length-joined text first rest =
 length-braces : (text : List ℕ) → length (in_braces text) ≡ length text + 2
 length-braces text = omega (arith, length-append text (codes "}"))
 
+-- texts behind others make a list no shorter
+behind_others : (xs ys : List (List ℕ)) → length (comma_separated ys) ≤ length (comma_separated (xs ++ ys))
+behind_others [] ys = omega arith
+behind_others (x ∷ []) [] = omega arith
+behind_others (x ∷ []) (y ∷ ys) = omega (arith, length-append x (comma ∷ comma_separated (y ∷ ys)))
+behind_others (x ∷ (z ∷ zs)) ys = omega (arith, length-append x (comma ∷ comma_separated (z ∷ (zs ++ ys))), behind_others (z ∷ zs) ys)
+
 -- an action's text is no shorter than its commands, each with a comma
-longer : (ctx : List ℕ) (replies : List CommandReply) → length (later command_reply_text replies) ≤ length (codes "Context=" ++ ctx ++ in_braces (comma_separated (map command_reply_text replies)))
-longer ctx [] = omega arith
-longer ctx (r ∷ rs) =
-    let inner : List ℕ = comma_separated (map command_reply_text (r ∷ rs)) in
-    omega (arith, length-append ctx (in_braces inner), length-braces inner, length-joined command_reply_text r rs)
+longer : (ctx : List ℕ) (parts : List (List ℕ)) (replies : List CommandReply) → length (later command_reply_text replies) ≤ length (codes "Context=" ++ ctx ++ in_braces (comma_separated (parts ++ map command_reply_text replies)))
+longer ctx parts [] = omega arith
+longer ctx parts (r ∷ rs) =
+    let texts : List (List ℕ) = map command_reply_text (r ∷ rs) in
+    let inner : List ℕ = comma_separated (parts ++ texts) in
+    omega (arith, length-append ctx (in_braces inner), length-braces inner, length-joined command_reply_text r rs, behind_others parts texts)
 
 -- what is not told within is not
 is_else : {A : Type 0} (b : Bool) (front : List A) (left : ℕ) → (let t : Telling A = if b then telling.Within front left else telling.TooLong in t) ≡ telling.TooLong → b ≡ false
 is_else true front left e = absurd cc
 is_else false front left e = refl
 
-pub too_long : (told : Telling ActionReply) (a : Attempts At CommandReply) → told_behind command_reply_text (inside told) a.answers ≡ telling.TooLong → telling.TooLong ≡ told_behind action_reply_text told (action_reply a ∷ [])
-too_long (telling.All front) a e = absurd cc
-too_long (telling.Within front room) a e =
+pub too_long : (told : Telling ActionReply) (parts : List ContextPart) (a : Attempts At CommandReply) → told_behind command_reply_text (inside told) a.answers ≡ telling.TooLong → telling.TooLong ≡ told_behind action_reply_text told (action_reply parts a ∷ [])
+too_long (telling.All front) parts a e = absurd cc
+too_long (telling.Within front room) parts a e =
     let taken : ℕ = length (later command_reply_text a.answers) in
     let more = leb-false taken room (is_else (nat_le taken room) ([] ++ a.answers) (room - taken) e) in
-    let reply : ActionReply = action_reply a in
+    let reply : ActionReply = action_reply parts a in
     let action : ℕ = length (later action_reply_text (reply ∷ [])) in
     let one : action ≡ suc (length (action_reply_text reply)) = omega (arith, length-append (action_reply_text reply) []) in
-    let all = longer (context_text (answered a.next)) a.answers in
+    let all = longer (context_text (answered a.next)) (map context_part_text parts) a.answers in
     sym (ap (λ (b : Bool). let t : Telling ActionReply = if b then telling.Within (front ++ reply ∷ []) (room - action) else telling.TooLong in t) (not_le action room (omega (arith, more, one, all))))
-too_long telling.TooLong a e = refl
+too_long telling.TooLong parts a e = refl
 
 -- the text of a reply is eight bytes, its number, and its actions
 length-reply : (id : TxId) (replies : List ActionReply) → length (transaction_reply_text (record { id = id; result = Ok replies })) ≡ length (decimal id.0) + 8 + length (comma_separated (map action_reply_text replies))

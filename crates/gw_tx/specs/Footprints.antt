@@ -18,6 +18,7 @@ use Rattle.gw_refusal.specs.declared.at.At.TheVariants.{Null, Live, Unmade, Each
 use Rattle.gw_refusal.specs.Asked.{is_add, is_root, is_service_change, is_wildcard}
 use Rattle.gw_cmd.specs.Keys.{every_key, keys_if, place_key, name_keys, slot_key, command_keys}
 use Rattle.gw_reserve.specs.Owned.{OwnedAction}
+use Rattle.gw_tx.specs.Properties.{linked_names}
 
 -- ---- the context of an action
 
@@ -67,10 +68,15 @@ keys_in_action sent owned m p = keys_if (stands_for_all sent p.1) (every_key m) 
 
 -- ---- the keys of an action and of a request
 
--- every key for an action with *; the one context; and the keys of each command
+-- each name in a Topology, and the context that it is in
+abbrev pub keys_of_links : OwnedAction → Maps → List Key
+keys_of_links a m = flat_map (λ t. name_keys t m) (linked_names a.sent.props)
+
+-- every key for an action with *; the one context; the keys of each command; and those of links
 abbrev pub action_footprint : OwnedAction → Maps → List Key
 action_footprint a m =
     keys_if (is_for_each a.sent.ctx) (every_key m) ++ place_key (one_context a.sent.ctx a.number) ++ flat_map (keys_in_action a.sent.ctx a.number m) a.commands
+    ++ keys_of_links a m
 
 abbrev pub footprint_of : List OwnedAction → Maps → List Key
 footprint_of actions m = flat_map (λ a. action_footprint a m) actions

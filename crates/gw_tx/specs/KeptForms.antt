@@ -1,14 +1,26 @@
 -- The forms of what a request asks, and of what it owns (own).
 use Rattle.std.specs.List.{All}
 use Rattle.gw_msg.specs.declared.message.Action.{Action}
+use Rattle.gw_msg.specs.declared.message.ContextProp.{ContextProp}
 use Rattle.gw_msg.specs.declared.message.Request.{Request}
+use Rattle.gw_msg.specs.declared.message.Triple.{Triple}
 use Rattle.gw_reserve.specs.Ids.{Ids}
-use Rattle.gw_reply.specs.KeptReplies.{IsWide}
+use Rattle.gw_reply.specs.KeptReplies.{HasForm, IsWide}
 use Rattle.gw_cmd.specs.KeptForms.{IsAsked, IsSlot}
+use Rattle.gw_tx.specs.Properties.{triples_in}
+
+-- both TerminationIDs of a triple have their forms
+abbrev pub HasForms : Triple → Type 0
+HasForms t = HasForm t.a × HasForm t.b
+
+-- those in a Topology have them
+abbrev pub IsAskedProperty : ContextProp → Type 0
+IsAskedProperty p = All HasForms (triples_in p)
 
 -- the TerminationIDs and the descriptors of an action have their forms
-abbrev pub AreAsked : Action → Type 0
-AreAsked a = All IsAsked a.commands
+pub record AreAsked (a : Action) : Type 0 where
+  pub props : All IsAskedProperty a.props
+  pub commands : All IsAsked a.commands
 
 -- so do those of a request, whose number has 32 bits
 pub record IsAskedRequest (r : Request) : Type 0 where

@@ -1,4 +1,5 @@
 pub mod Footprints
+pub mod Properties
 pub mod Told
 pub mod Transactions
 pub use Rattle.gw_reserve.specs.Owned

@@ -1,25 +1,114 @@
 //! The actions of a transaction.
 
-ghost use Rattle.std.specs.Prelude.{◌≡◌, true, IfOk, OnOk};
-ghost use Rattle.gw_reserve.specs.Owned.{AreFreeSlots, paired_action, paired_actions};
-ghost use Rattle.gw_tx.specs.Footprints.{action_footprint, footprint_of, Covers};
+ghost use Rattle.std.specs.Prelude.{◌≡◌, true, false, Option, None, IfOk, OnOk};
+ghost use Rattle.std.specs.List.{list_any};
+ghost use Rattle.gw_base.specs.declared.ids.CtxNum.{CtxNum};
+ghost use Rattle.gw_base.specs.declared.key.Key.TheVariants.{Ctx};
+ghost use Rattle.gw_refusal.specs.declared.at.At.TheVariants.{Live};
+ghost use Rattle.gw_reserve.specs.Owned.{AreFreeSlots, paired_action, paired_actions, paired_commands};
+ghost use Rattle.gw_table.specs.Maps.{ctx};
+ghost use Rattle.gw_table.specs.Parts.{holds};
+ghost use Rattle.gw_tx.specs.Footprints.{action_footprint, footprint_of, list_keys, Covers};
+ghost use Rattle.gw_tx.specs.Properties.{is_too_high, refusal_of_properties};
 ghost use Rattle.gw_length.specs.Tellings.{told_behind};
 ghost use Rattle.gw_reply.specs.Replies.{action_reply_text};
 ghost use Rattle.gw_tx.specs.Told.{counted};
-ghost use Rattle.gw_tx.specs.Transactions.{action as action_done, actions as all_actions};
+ghost use Rattle.gw_tx.specs.Transactions.{action_in as done_in, action_on as done_on, action as action_done, actions as all_actions};
 
 use crate::commands::commands_in;
-use crate::contexts::action_for_each;
+use crate::contexts::{action_for_each, in_context};
+use crate::links::{linked_names, refusal_of_links};
 use crate::owned::{entries_behind, next_entry};
+use crate::properties::refusal_of_properties;
 use crate::replies::action_error;
 use crate::told::Counted;
-use gw_base::{Code, CtxNum, CtxRef, NoMemory, Rules};
+use gw_base::{Code, CtxNum, CtxRef, Items, NoMemory, Rules};
 use gw_cmd::At;
 use gw_length::Telling;
 use gw_msg::Action;
 use gw_reply::ActionReply;
 use gw_table::Part;
 use std::alloc::Global;
+
+/// Carries an action with a number out, where the context and what is to be linked in it are there.
+fn action_in(
+    alloc: Global,
+    rules: &Rules,
+    part: &mut Part,
+    number: CtxNum,
+    slots: &[Option<u16>],
+    sent: &Action<'_>,
+    told: Telling<ActionReply>,
+) -> Result<Counted<(), ActionReply>, NoMemory>
+    requires covered { Covers part.old (list_keys (Live number) (paired_commands slots.now sent.now.commands) part.old.maps) }
+    requires unused { AreFreeSlots part.old.maps slots.now }
+    requires key { holds part.old.keys (Ctx number) ≡ true }
+    requires low { list_any is_too_high sent.now.props ≡ false }
+    ensures maps { (owned : Option CtxNum) → OnOk result (part.new.maps ≡ (done_in rules.now number (paired_action owned slots.now sent.now) part.old.maps (ctx part.old.maps number)).maps) }
+    ensures answer { (owned : Option CtxNum) → IfOk result (λ done. done ≡ counted action_reply_text told (done_in rules.now number (paired_action owned slots.now sent.now) part.old.maps (ctx part.old.maps number)).answer) }
+    ensures keys { part.new.keys ≡ part.old.keys }
+{
+    if part.ctx(number).is_none() {
+        return action_error(alloc, told, CtxRef::Num(number), Code::UnknownContext);
+    }
+    let names = linked_names(alloc, sent.props.as_slice())?;
+    match refusal_of_links(part, number, &names) {
+        Some(code) => action_error(alloc, told, CtxRef::Num(number), code),
+        None => in_context(
+            alloc,
+            rules,
+            part,
+            At::Live(number),
+            number,
+            slots,
+            sent,
+            told,
+        ),
+    }
+}
+
+/// Carries an action out that is not refused for what it asks of its context, with what it owns.
+fn action_on(
+    alloc: Global,
+    rules: &Rules,
+    part: &mut Part,
+    number: Option<CtxNum>,
+    slots: &[Option<u16>],
+    sent: &Action<'_>,
+    told: Telling<ActionReply>,
+) -> Result<Counted<(), ActionReply>, NoMemory>
+    requires covered { Covers part.old (action_footprint (paired_action number slots.now sent.now) part.old.maps) }
+    requires unused { AreFreeSlots part.old.maps slots.now }
+    requires allowed { refusal_of_properties sent.now ≡ None }
+    ensures maps { OnOk result (part.new.maps ≡ (done_on rules.now (paired_action number slots.now sent.now) part.old.maps sent.now.ctx).maps) }
+    ensures answer { IfOk result (λ done. done ≡ counted action_reply_text told (done_on rules.now (paired_action number slots.now sent.now) part.old.maps sent.now.ctx).answer) }
+    ensures keys { part.new.keys ≡ part.old.keys }
+{
+    let asked = sent.commands.as_slice();
+    let none = Items::new(alloc);
+    match sent.ctx {
+        CtxRef::Null => commands_in(alloc, rules, part, &[], At::Null, slots, asked, none, told),
+        CtxRef::Num(number) => action_in(alloc, rules, part, number, slots, sent, told),
+        CtxRef::Choose => match number {
+            Some(number) => {
+                let late = sent.props.as_slice();
+                commands_in(
+                    alloc,
+                    rules,
+                    part,
+                    late,
+                    At::Unmade(number),
+                    slots,
+                    asked,
+                    none,
+                    told,
+                )
+            }
+            None => action_error(alloc, told, CtxRef::Choose, Code::NoContextLeft),
+        },
+        CtxRef::All => action_for_each(alloc, rules, part, slots, sent, told),
+    }
+}
 
 /// Carries one action out, with the number that it owns, and the entries of its commands before any others; tells its replies behind
 /// those of the actions before it.
@@ -38,25 +127,10 @@ fn action(
     ensures answer { IfOk result (λ done. done ≡ counted action_reply_text told (action_done rules.now tt (paired_action number slots.now sent.now) part.old.maps).answer) }
     ensures keys { part.new.keys ≡ part.old.keys }
 {
-    if !sent.props.is_empty() {
-        return action_error(alloc, told, sent.ctx, Code::NotImplemented);
+    match refusal_of_properties(sent) {
+        Some(code) => action_error(alloc, told, sent.ctx, code),
+        None => action_on(alloc, rules, part, number, slots, sent, told),
     }
-    let asked = sent.commands.as_slice();
-    let at = match sent.ctx {
-        CtxRef::Null => At::Null,
-        CtxRef::Num(number) => {
-            if part.ctx(number).is_none() {
-                return action_error(alloc, told, sent.ctx, Code::UnknownContext);
-            }
-            At::Live(number)
-        }
-        CtxRef::Choose => match number {
-            Some(number) => At::Unmade(number),
-            None => return action_error(alloc, told, sent.ctx, Code::NoContextLeft),
-        },
-        CtxRef::All => return action_for_each(alloc, rules, part, slots, asked, told),
-    };
-    commands_in(alloc, rules, part, at, slots, asked, told)
 }
 
 /// Carries actions out in order, up to the first that stops, with what they and their commands own.

@@ -7,25 +7,28 @@ ghost use Rattle.gw_reserve.specs.Owned.{AreFreeSlots, paired_commands};
 ghost use Rattle.gw_tx.specs.Footprints.{list_keys, Covers};
 ghost use Rattle.gw_reply.specs.Replies.{command_reply_text, action_reply_text};
 ghost use Rattle.gw_tx.specs.Told.{counted};
+ghost use Rattle.gw_tx.specs.Properties.{ArePlain};
 ghost use Rattle.gw_tx.specs.Transactions.{attempt, commands as all_commands, replied as action_replied};
 
 use crate::owned::next_entry;
 use crate::replies::replied;
+use crate::setting::set_when_made;
 use crate::told::{Counted, inside};
-use gw_base::{NoMemory, Rules};
+use gw_base::{Items, NoMemory, Rules};
 use gw_cmd::{At, command_told};
 use gw_length::Telling;
-use gw_msg::Command;
-use gw_reply::{ActionReply, CommandReply};
+use gw_msg::{Command, ContextProp};
+use gw_reply::{ActionReply, CommandReply, ContextPart};
 use gw_table::Part;
 use std::alloc::Global;
 
-/// Carries one command out, with the slot that it owns, and tells its replies behind those of the commands before it. It stops where
-/// it fails and is not marked `O-`.
+/// Carries one command out, with the slot that it owns, and tells its replies behind those of the commands before it. A context that
+/// it makes gets the properties that are late. It stops where it fails and is not marked `O-`.
 fn attempt(
     alloc: Global,
     rules: &Rules,
     part: &mut Part,
+    late: &[ContextProp],
     at: At,
     slot: Option<u16>,
     sent: &Command<'_>,
@@ -33,11 +36,13 @@ fn attempt(
 ) -> Result<Counted<At, CommandReply>, NoMemory>
     requires covered { Covers part.old (command_keys at slot sent.now part.old.maps) }
     requires unused { IsUnused slot part.old.maps }
-    ensures maps { OnOk result (part.new.maps ≡ (attempt rules.now at (slot, sent.now) part.old.maps).maps) }
-    ensures answer { IfOk result (λ done. done ≡ counted command_reply_text told (attempt rules.now at (slot, sent.now) part.old.maps).answer) }
+    requires plain { ArePlain late.now }
+    ensures maps { OnOk result (part.new.maps ≡ (attempt rules.now late.now at (slot, sent.now) part.old.maps).maps) }
+    ensures answer { IfOk result (λ done. done ≡ counted command_reply_text told (attempt rules.now late.now at (slot, sent.now) part.old.maps).answer) }
     ensures keys { part.new.keys ≡ part.old.keys }
 {
     let done = command_told(alloc, rules, part, at, slot, sent, told)?;
+    set_when_made(part, done.made, at, late)?;
     Ok(Counted {
         next: if done.made { at.made() } else { at },
         stopped: done.failed && !sent.optional,
@@ -51,6 +56,7 @@ pub(crate) fn commands(
     alloc: Global,
     rules: &Rules,
     part: &mut Part,
+    late: &[ContextProp],
     at: At,
     slots: &[Option<u16>],
     asked: &[Command<'_>],
@@ -58,8 +64,9 @@ pub(crate) fn commands(
 ) -> Result<Counted<At, CommandReply>, NoMemory>
     requires covered { Covers part.old (list_keys at (paired_commands slots.now asked.now) part.old.maps) }
     requires unused { AreFreeSlots part.old.maps slots.now }
-    ensures maps { OnOk result (part.new.maps ≡ (all_commands rules.now at (paired_commands slots.now asked.now) part.old.maps).maps) }
-    ensures answer { IfOk result (λ done. done ≡ counted command_reply_text told (all_commands rules.now at (paired_commands slots.now asked.now) part.old.maps).answer) }
+    requires plain { ArePlain late.now }
+    ensures maps { OnOk result (part.new.maps ≡ (all_commands rules.now late.now at (paired_commands slots.now asked.now) part.old.maps).maps) }
+    ensures answer { IfOk result (λ done. done ≡ counted command_reply_text told (all_commands rules.now late.now at (paired_commands slots.now asked.now) part.old.maps).answer) }
     ensures keys { part.new.keys ≡ part.old.keys }
 {
     let mut at = at;
@@ -68,7 +75,7 @@ pub(crate) fn commands(
     for sent in asked {
         let (slot, later) = next_entry(left);
         left = later;
-        let done = attempt(alloc, rules, part, at, slot, sent, told)?;
+        let done = attempt(alloc, rules, part, late, at, slot, sent, told)?;
         at = done.next;
         told = done.told;
         if done.stopped {
@@ -86,22 +93,35 @@ pub(crate) fn commands(
     })
 }
 
-/// Carries the commands of an action out in one context, and tells its reply behind those of the actions before it.
+/// Carries the commands of an action out in one context, and tells its reply, with what is told of the context, behind those of the
+/// actions before it.
 pub(crate) fn commands_in(
     alloc: Global,
     rules: &Rules,
     part: &mut Part,
+    late: &[ContextProp],
     at: At,
     slots: &[Option<u16>],
     asked: &[Command<'_>],
+    parts: Items<ContextPart>,
     told: Telling<ActionReply>,
 ) -> Result<Counted<(), ActionReply>, NoMemory>
     requires covered { Covers part.old (list_keys at (paired_commands slots.now asked.now) part.old.maps) }
     requires unused { AreFreeSlots part.old.maps slots.now }
-    ensures maps { OnOk result (part.new.maps ≡ (all_commands rules.now at (paired_commands slots.now asked.now) part.old.maps).maps) }
-    ensures answer { IfOk result (λ done. done ≡ counted action_reply_text told (action_replied (all_commands rules.now at (paired_commands slots.now asked.now) part.old.maps).answer)) }
+    requires plain { ArePlain late.now }
+    ensures maps { OnOk result (part.new.maps ≡ (all_commands rules.now late.now at (paired_commands slots.now asked.now) part.old.maps).maps) }
+    ensures answer { IfOk result (λ done. done ≡ counted action_reply_text told (action_replied parts (all_commands rules.now late.now at (paired_commands slots.now asked.now) part.old.maps).answer)) }
     ensures keys { part.new.keys ≡ part.old.keys }
 {
-    let done = commands(alloc, rules, part, at, slots, asked, inside(alloc, &told))?;
-    replied(alloc, told, done)
+    let done = commands(
+        alloc,
+        rules,
+        part,
+        late,
+        at,
+        slots,
+        asked,
+        inside(alloc, &told),
+    )?;
+    replied(told, parts, done)
 }

@@ -1,47 +1,89 @@
-//! An action for each context.
+//! An action in a context that is there, and in each that there is.
 
-ghost use Rattle.std.specs.Prelude.{◌≡◌, IfOk, OnOk};
+ghost use Rattle.std.specs.Prelude.{◌≡◌, true, false, All, Option, IfOk, OnOk};
+ghost use Rattle.std.specs.List.{list_any};
 ghost use Rattle.gw_base.specs.declared.ids.CtxNum.{CtxNum};
+ghost use Rattle.gw_base.specs.declared.key.Key.TheVariants.{Ctx};
 ghost use Rattle.gw_table.specs.Maps.{numbers};
+ghost use Rattle.gw_table.specs.Parts.{holds};
 ghost use Rattle.gw_refusal.specs.declared.at.At.TheVariants.{Each};
-ghost use Rattle.gw_reserve.specs.Owned.{AreFreeSlots, paired_commands};
+ghost use Rattle.gw_reserve.specs.Owned.{AreFreeSlots, paired_action, paired_commands};
 ghost use Rattle.gw_tx.specs.Footprints.{list_keys, Covers};
 ghost use Rattle.gw_reply.specs.Replies.{action_reply_text};
+ghost use Rattle.gw_tx.specs.Properties.{is_too_high, ArePlain};
 ghost use Rattle.gw_tx.specs.Told.{counted};
-ghost use Rattle.gw_tx.specs.Transactions.{in_all, action_for_each};
+ghost use Rattle.gw_tx.specs.Transactions.{in_context as done_in_context, in_all, action_for_each};
 
 use crate::commands::commands_in;
 use crate::replies::action_error;
+use crate::setting::set_properties;
+use crate::telling::context_parts_if;
 use crate::told::Counted;
 use gw_base::{Code, CtxNum, CtxRef, NoMemory, Rules};
 use gw_cmd::At;
 use gw_length::Telling;
-use gw_msg::Command;
+use gw_msg::Action;
 use gw_reply::ActionReply;
 use gw_table::Part;
 use std::alloc::Global;
 
-/// Carries commands out in each of the contexts. A stop ends the commands of its context alone; that there was one is what the
+/// Carries an action out in a context that is there: sets its properties, tells what it then is, and carries the commands out.
+pub(crate) fn in_context(
+    alloc: Global,
+    rules: &Rules,
+    part: &mut Part,
+    at: At,
+    number: CtxNum,
+    slots: &[Option<u16>],
+    sent: &Action<'_>,
+    told: Telling<ActionReply>,
+) -> Result<Counted<(), ActionReply>, NoMemory>
+    requires covered { Covers part.old (list_keys at (paired_commands slots.now sent.now.commands) part.old.maps) }
+    requires unused { AreFreeSlots part.old.maps slots.now }
+    requires key { holds part.old.keys (Ctx number) ≡ true }
+    requires low { list_any is_too_high sent.now.props ≡ false }
+    ensures maps { (owned : Option CtxNum) → OnOk result (part.new.maps ≡ (done_in_context rules.now (paired_action owned slots.now sent.now) at number part.old.maps).maps) }
+    ensures answer { (owned : Option CtxNum) → IfOk result (λ done. done ≡ counted action_reply_text told (done_in_context rules.now (paired_action owned slots.now sent.now) at number part.old.maps).answer) }
+    ensures keys { part.new.keys ≡ part.old.keys }
+{
+    set_properties(part, number, sent.props.as_slice())?;
+    let parts = context_parts_if(alloc, part, number, sent)?;
+    let asked = sent.commands.as_slice();
+    commands_in(alloc, rules, part, &[], at, slots, asked, parts, told)
+}
+
+/// Carries an action out in each of the contexts. A stop ends the commands of its context alone; that there was one is what the
 /// next would go on from.
 fn in_all(
     alloc: Global,
     rules: &Rules,
     part: &mut Part,
     slots: &[Option<u16>],
-    asked: &[Command<'_>],
+    sent: &Action<'_>,
     numbers: &[CtxNum],
     told: Telling<ActionReply>,
 ) -> Result<Counted<bool, ActionReply>, NoMemory>
-    requires covered { (n : CtxNum) → Covers part.old (list_keys (Each n) (paired_commands slots.now asked.now) part.old.maps) }
+    requires covered { (n : CtxNum) → Covers part.old (list_keys (Each n) (paired_commands slots.now sent.now.commands) part.old.maps) }
     requires unused { AreFreeSlots part.old.maps slots.now }
-    ensures maps { OnOk result (part.new.maps ≡ (in_all rules.now (paired_commands slots.now asked.now) numbers.now part.old.maps).maps) }
-    ensures answer { IfOk result (λ done. done ≡ counted action_reply_text told (in_all rules.now (paired_commands slots.now asked.now) numbers.now part.old.maps).answer) }
+    requires key { All (λ n. holds part.old.keys (Ctx n) ≡ true) numbers.now }
+    requires plain { ArePlain sent.now.props }
+    ensures maps { (owned : Option CtxNum) → OnOk result (part.new.maps ≡ (in_all rules.now (paired_action owned slots.now sent.now) numbers.now part.old.maps).maps) }
+    ensures answer { (owned : Option CtxNum) → IfOk result (λ done. done ≡ counted action_reply_text told (in_all rules.now (paired_action owned slots.now sent.now) numbers.now part.old.maps).answer) }
     ensures keys { part.new.keys ≡ part.old.keys }
 {
     let mut stopped = false;
     let mut told = told;
     for number in numbers {
-        let done = commands_in(alloc, rules, part, At::Each(*number), slots, asked, told)?;
+        let done = in_context(
+            alloc,
+            rules,
+            part,
+            At::Each(*number),
+            *number,
+            slots,
+            sent,
+            told,
+        )?;
         stopped = stopped || done.stopped;
         told = done.told;
     }
@@ -58,20 +100,21 @@ pub(crate) fn action_for_each(
     rules: &Rules,
     part: &mut Part,
     slots: &[Option<u16>],
-    asked: &[Command<'_>],
+    sent: &Action<'_>,
     told: Telling<ActionReply>,
 ) -> Result<Counted<(), ActionReply>, NoMemory>
-    requires covered { (n : CtxNum) → Covers part.old (list_keys (Each n) (paired_commands slots.now asked.now) part.old.maps) }
+    requires covered { (n : CtxNum) → Covers part.old (list_keys (Each n) (paired_commands slots.now sent.now.commands) part.old.maps) }
     requires unused { AreFreeSlots part.old.maps slots.now }
-    ensures maps { OnOk result (part.new.maps ≡ (action_for_each rules.now (paired_commands slots.now asked.now) part.old.maps (numbers part.old.maps)).maps) }
-    ensures answer { IfOk result (λ done. done ≡ counted action_reply_text told (action_for_each rules.now (paired_commands slots.now asked.now) part.old.maps (numbers part.old.maps)).answer) }
+    requires plain { ArePlain sent.now.props }
+    ensures maps { (owned : Option CtxNum) → OnOk result (part.new.maps ≡ (action_for_each rules.now (paired_action owned slots.now sent.now) part.old.maps (numbers part.old.maps)).maps) }
+    ensures answer { (owned : Option CtxNum) → IfOk result (λ done. done ≡ counted action_reply_text told (action_for_each rules.now (paired_action owned slots.now sent.now) part.old.maps (numbers part.old.maps)).answer) }
     ensures keys { part.new.keys ≡ part.old.keys }
 {
     let numbers = part.numbers(alloc)?;
     if numbers.is_empty() {
         return action_error(alloc, told, CtxRef::All, Code::NoWildcardMatch);
     }
-    let done = in_all(alloc, rules, part, slots, asked, &numbers, told)?;
+    let done = in_all(alloc, rules, part, slots, sent, &numbers, told)?;
     Ok(Counted {
         next: (),
         told: done.told,

@@ -12,7 +12,7 @@ use crate::told::Counted;
 use gw_base::{Code, CtxRef, Items, NoMemory};
 use gw_cmd::At;
 use gw_length::Telling;
-use gw_reply::{ActionReply, CommandReply};
+use gw_reply::{ActionReply, CommandReply, ContextPart};
 use std::alloc::Global;
 
 /// The ContextID of the reply: the number once the context was made, else as sent.
@@ -58,13 +58,14 @@ pub(crate) fn action_error(
     one_action_reply(told, reply, true)
 }
 
-/// What an action gave whose commands were attempted. Where they are too long, so is the action.
+/// What an action gave whose commands were attempted, with what is told of its context. Where the commands are too long, so is the
+/// action.
 pub(crate) fn replied(
-    alloc: Global,
     told: Telling<ActionReply>,
+    parts: Items<ContextPart>,
     done: Counted<At, CommandReply>,
 ) -> Result<Counted<(), ActionReply>, NoMemory>
-    ensures { (a : Attempts At CommandReply) → done ≡ counted command_reply_text (inside told) a → IfOk result (λ reply. reply ≡ counted action_reply_text told (replied a)) }
+    ensures { (a : Attempts At CommandReply) → done ≡ counted command_reply_text (inside told) a → IfOk result (λ reply. reply ≡ counted action_reply_text told (replied parts a)) }
 {
     let Counted {
         next,
@@ -75,7 +76,7 @@ pub(crate) fn replied(
         Telling::All(replies) | Telling::Within(replies, _) => {
             let reply = ActionReply {
                 ctx: answered(next),
-                parts: Items::new(alloc),
+                parts,
                 result: Ok(replies),
             };
             one_action_reply(told, reply, stopped)

@@ -1,22 +1,25 @@
-use Rattle.std.proofs.Common.{◌≡◌, ℕ, Bool, false, List, [], ◌∷◌, ◌++◌, ◌+◌, get_or, drop, Option, refl, sym, ap, subst, ◌∙◌}
+use Rattle.std.proofs.Common.{◌≡◌, ℕ, Bool, false, List, [], ◌∷◌, ◌++◌, ◌+◌, get_or, drop, Option, None, refl, sym, ap, subst, ◌∙◌}
 use Rattle.std.specs.Prelude.{◌||◌}
 use Rattle.std.proofs.Math.ListN.{drop_of_length-le}
 use Rattle.gw_base.specs.declared.ids.CtxNum.{CtxNum}
+use Rattle.gw_base.specs.declared.key.Key.TheVariants.{Ctx}
+use Rattle.gw_msg.specs.declared.message.Action.{Action}
 use Rattle.gw_msg.specs.declared.message.Command.{Command}
 use Rattle.gw_reply.specs.declared.reply.ActionReply.{ActionReply}
 use Rattle.gw_table.specs.declared.attempts.Attempts.{Attempts}
 use Rattle.gw_table.specs.Maps.{Maps, Outcome, number}
-use Rattle.gw_table.specs.Parts.{Parted}
+use Rattle.gw_table.specs.Parts.{Parted, PartKeys, holds}
 use Rattle.gw_table.proofs.Folding.{ended, rest_of, goes_on, ends}
 use Rattle.gw_refusal.specs.declared.at.At.TheVariants.{Each}
 use Rattle.gw_cmd.proofs.Parted.{StaysPart}
-use Rattle.gw_reserve.specs.Owned.{paired_commands}
+use Rattle.gw_reserve.specs.Owned.{OwnedAction, paired_action, paired_commands}
 use Rattle.gw_tx.specs.Footprints.{list_keys}
 use Rattle.gw_tx.specs.Transactions.{in_each, in_all}
 use Rattle.gw_tx.proofs.Facts.{commands_keep_part}
 use Rattle.gw_tx.proofs.FreeSlots.{AnySlot}
 use Rattle.gw_tx.proofs.Kept.{With, kept_in_each}
 use Rattle.gw_tx.proofs.Parts.{starts, listed, covers_list}
+use Rattle.gw_tx.proofs.SetProperties.{plain_can}
 use Rattle.gw_length.proofs.Tellings.{told_none}
 use Rattle.gw_length.specs.declared.telling.Telling.{Telling}
 use Rattle.gw_reply.specs.Replies.{action_reply_text}
@@ -28,54 +31,65 @@ use Rattle.gw_tx.proofs.contexts.in_all.Goals.{then-stopped, else-stopped}
 
 pub loop-number-init : goal.loop-number-init
 loop-number-init c =
-    let asked : List (Option ℕ × Command) = paired_commands c.args.slots.now c.args.asked.now in
+    let asked : List (Option ℕ × Command) = paired_commands c.args.slots.now c.args.sent.now.commands in
     record {
-      told = ([], sym (told_none action_reply_text c.args.told), refl);
+      told = λ owned. ([], sym (told_none action_reply_text c.args.told), refl);
       kept = starts c.args.part.now c.args.slots.now (list_keys (Each (number 0)) asked c.args.part.now.maps) (c.requires.covered (number 0)) c.requires.unused;
       keys = refl;
     }
 
-pub commands_in-requires-clause-covered : goal.commands_in-requires-clause-covered
-commands_in-requires-clause-covered c =
+pub in_context-requires-clause-covered : goal.in_context-requires-clause-covered
+in_context-requires-clause-covered c =
     let n : CtxNum = get_or c.args.numbers.now c.loop-number.number-index (number 0) in
-    covers_list c.args.part.now c.loop-number.part c.args.slots.now c.loop-number.invariant.kept c.loop-number.invariant.keys (Each n) (paired_commands c.args.slots.now c.args.asked.now) (c.requires.covered n).held
+    covers_list c.args.part.now c.loop-number.part c.args.slots.now c.loop-number.invariant.kept c.loop-number.invariant.keys (Each n) (paired_commands c.args.slots.now c.args.sent.now.commands) (c.requires.covered n).held
+
+pub in_context-requires-clause-key : goal.in_context-requires-clause-key
+in_context-requires-clause-key c =
+    let i : ℕ = c.loop-number.number-index in
+    let n : CtxNum = get_or c.args.numbers.now i (number 0) in
+    ap (λ (k : PartKeys). holds k (Ctx n)) c.loop-number.invariant.keys ∙ c.requires.key i (number 0) c.loop-number-test.true
 
 pub loop-number-preserved : goal.loop-number-preserved
 loop-number-preserved c =
     let i : ℕ = c.loop-number.number-index in
     let start : Parted = c.args.part.now in
+    let sent : Action = c.args.sent.now in
     let n : CtxNum = get_or c.args.numbers.now i (number 0) in
     let rest : List CtxNum = drop (i + 1) c.args.numbers.now in
     let split : drop i c.args.numbers.now ≡ n ∷ rest = rest_of c.args.numbers.now i (number 0) n c.loop-number-test.true refl in
-    let asked : List (Option ℕ × Command) = paired_commands c.args.slots.now c.args.asked.now in
+    let asked : List (Option ℕ × Command) = paired_commands c.args.slots.now sent.commands in
+    let pair : Option CtxNum → OwnedAction = λ owned. paired_action owned c.args.slots.now sent in
     let stopped : c.if-stopped.stopped ≡ (c.loop-number.stopped || c.in_ok-done.done.stopped) = elim c.if-stopped.branch [
       | then-stopped w ↦ w.stopped-is ∙ w.if-stopped.true ∙ ap (λ (b : Bool). b || c.in_ok-done.done.stopped) (sym w.if-stopped.true)
       | else-stopped w ↦ w.stopped-is ∙ ap (λ (b : Bool). b || c.in_ok-done.done.stopped) (sym w.if-stopped.false)
     ] in
     let told : c.if-stopped.told ≡ c.in_ok-done.done.told = elim c.if-stopped.branch [ then-stopped w ↦ w.told-is | else-stopped w ↦ w.told-is ] in
-    let more : List ActionReply = (in_each c.args.rules.now asked c.loop-number.stopped n c.loop-number.part.maps).answer.answers in
-    let front : List ActionReply = c.loop-number.invariant.told.0 in
-    let now : Outcome (Attempts Bool ActionReply) = ended c.commands_in.new.part.maps c.if-stopped.stopped more false in
-    let did : now ≡ in_each c.args.rules.now asked c.loop-number.stopped n c.loop-number.part.maps =
-    each_is c.args.rules.now asked c.loop-number.stopped c.if-stopped.stopped n c.loop-number.part.maps c.commands_in.new.part.maps c.loop-number.told c.in_ok-done.done c.in_ok-done.ensures.maps c.in_ok-done.ensures.answer stopped in
-    let whole : Outcome (Attempts Bool ActionReply) = in_all c.args.rules.now asked c.args.numbers.now c.args.part.now.maps in
     record {
-      told = (
-        front ++ more,
-        told_on action_reply_text c.args.told c.loop-number.told c.if-stopped.told front more c.loop-number.invariant.told.1 (told ∙ ap (λ (d : Counted Unit ActionReply). d.told) c.in_ok-done.ensures.answer),
-        goes_on (in_each c.args.rules.now asked) c.loop-number.stopped n (drop i c.args.numbers.now) rest c.loop-number.part.maps front now whole split did refl c.loop-number.invariant.told.2,
-      );
-      kept = subst (λ (m : Maps). With AnySlot (StaysPart start.keys start.maps) c.args.slots.now m) (sym c.in_ok-done.ensures.maps) (kept_in_each c.args.rules.now (commands_keep_part c.args.rules.now start.keys start.maps) n c.args.slots.now c.args.asked.now c.loop-number.part.maps (listed start.keys start.maps (Each n) asked (c.requires.covered n).held) c.loop-number.invariant.kept);
+      told = λ owned.
+          let more : List ActionReply = (in_each c.args.rules.now (pair owned) c.loop-number.stopped n c.loop-number.part.maps).answer.answers in
+          let so_far = c.loop-number.invariant.told owned in
+          let front : List ActionReply = so_far.0 in
+          let now : Outcome (Attempts Bool ActionReply) = ended c.in_context.new.part.maps c.if-stopped.stopped more false in
+          let did : now ≡ in_each c.args.rules.now (pair owned) c.loop-number.stopped n c.loop-number.part.maps =
+          each_is c.args.rules.now (pair owned) c.loop-number.stopped c.if-stopped.stopped n c.loop-number.part.maps c.in_context.new.part.maps c.loop-number.told c.in_ok-done.done (c.in_ok-done.ensures.maps owned) (c.in_ok-done.ensures.answer owned) stopped in
+          let whole : Outcome (Attempts Bool ActionReply) = in_all c.args.rules.now (pair owned) c.args.numbers.now c.args.part.now.maps in (
+            front ++ more,
+            told_on action_reply_text c.args.told c.loop-number.told c.if-stopped.told front more so_far.1 (told ∙ ap (λ (d : Counted Unit ActionReply). d.told) (c.in_ok-done.ensures.answer owned)),
+            goes_on (in_each c.args.rules.now (pair owned)) c.loop-number.stopped n (drop i c.args.numbers.now) rest c.loop-number.part.maps front now whole split did refl so_far.2,
+          );
+      kept = subst (λ (m : Maps). With AnySlot (StaysPart start.keys start.maps) c.args.slots.now m) (sym (c.in_ok-done.ensures.maps None))
+          (kept_in_each c.args.rules.now (commands_keep_part c.args.rules.now start.keys start.maps) None n c.args.slots.now sent c.loop-number.part.maps (plain_can sent.props c.requires.plain) (listed start.keys start.maps (Each n) asked (c.requires.covered n).held) c.loop-number.invariant.kept);
       keys = c.in_ok-done.ensures.keys ∙ c.loop-number.invariant.keys;
     }
 
 pub returns : goal.returns
 returns c =
-    let asked : List (Option ℕ × Command) = paired_commands c.args.slots.now c.args.asked.now in
     let none : drop c.loop-number.number-index c.args.numbers.now ≡ [] = drop_of_length-le c.args.numbers.now c.loop-number-test.false in
-    let all = ends (in_each c.args.rules.now asked) c.loop-number.stopped (drop c.loop-number.number-index c.args.numbers.now) c.loop-number.part.maps c.loop-number.invariant.told.0 (in_all c.args.rules.now asked c.args.numbers.now c.args.part.now.maps) none c.loop-number.invariant.told.2 in
+    let pair : Option CtxNum → OwnedAction = λ owned. paired_action owned c.args.slots.now c.args.sent.now in
+    let all : (owned : Option CtxNum) → ended c.loop-number.part.maps c.loop-number.stopped (c.loop-number.invariant.told owned).0 false ≡ in_all c.args.rules.now (pair owned) c.args.numbers.now c.args.part.now.maps =
+    λ owned. ends (in_each c.args.rules.now (pair owned)) c.loop-number.stopped (drop c.loop-number.number-index c.args.numbers.now) c.loop-number.part.maps (c.loop-number.invariant.told owned).0 (in_all c.args.rules.now (pair owned) c.args.numbers.now c.args.part.now.maps) none (c.loop-number.invariant.told owned).2 in
     record {
-      maps = ap (λ (o : Outcome (Attempts Bool ActionReply)). o.maps) all;
-      answer = ap (λ (t : Telling ActionReply). let r : Counted Bool ActionReply = record { next = c.loop-number.stopped; told = t; stopped = false } in r) c.loop-number.invariant.told.1 ∙ ap (λ (o : Outcome (Attempts Bool ActionReply)). counted action_reply_text c.args.told o.answer) all;
+      maps = λ owned. ap (λ (o : Outcome (Attempts Bool ActionReply)). o.maps) (all owned);
+      answer = λ owned. ap (λ (t : Telling ActionReply). let r : Counted Bool ActionReply = record { next = c.loop-number.stopped; told = t; stopped = false } in r) (c.loop-number.invariant.told owned).1 ∙ ap (λ (o : Outcome (Attempts Bool ActionReply)). counted action_reply_text c.args.told o.answer) (all owned);
       keys = c.loop-number.invariant.keys;
     }

@@ -16,4 +16,4 @@ returns-in-TooLong c = λ a e.
     let gone : told_behind command_reply_text (inside c.args.told) a.answers ≡ telling.TooLong = sym (ap (λ (d : Counted At CommandReply). d.told) e) ∙ c.in-TooLong.is in
     let whole : Telling ActionReply → Bool → Counted Unit ActionReply = λ t b. record { next = tt; told = t; stopped = b } in
     ap (λ (b : Bool). whole telling.TooLong b) (ap (λ (d : Counted At CommandReply). d.stopped) e)
-    ∙ ap (λ (t : Telling ActionReply). whole t a.stopped) (too_long c.args.told a gone)
+    ∙ ap (λ (t : Telling ActionReply). whole t a.stopped) (too_long c.args.told c.args.parts a gone)

@@ -1,0 +1,51 @@
+use Rattle.std.proofs.Common.{refl, sym, ap, subst}
+use Rattle.gw_msg.specs.declared.message.Action.{Action}
+use Rattle.gw_refusal.specs.declared.at.At.TheVariants.{Null, Live, Unmade, Each}
+use Rattle.gw_table.specs.Parts.{Parted}
+use Rattle.gw_reserve.specs.Owned.{OwnedAction, paired_action}
+use Rattle.gw_tx.specs.Properties.{is_chosen_or_each, ArePlain}
+use Rattle.gw_tx.proofs.HeldKeys.{without_links, in_null, in_live, in_unmade, in_each}
+use Rattle.gw_tx.proofs.Parts.{covers_in}
+use Rattle.gw_tx.proofs.SetProperties.{allowed, are_plain}
+use Rattle.gw_tx.proofs.actions.action_on.Goals as goal
+
+pub commands_in-requires-clause-covered : goal.commands_in-requires-clause-covered
+commands_in-requires-clause-covered c =
+    let part : Parted = c.args.part.now in
+    let sent : Action = c.args.sent.now in
+    let pair : OwnedAction = paired_action c.args.number c.args.slots.now sent in
+    covers_in part c.args.number c.args.slots.now sent c.as_slice-asked.result.now c.as_slice-asked.ensures c.requires.covered Null
+    (λ h. in_null part.keys part.maps pair.commands sent.ctx c.args.number c.in-Null.is (without_links part.keys pair part.maps h))
+
+pub action_in-requires-clause-covered : goal.action_in-requires-clause-covered
+action_in-requires-clause-covered c =
+    let part : Parted = c.args.part.now in
+    let sent : Action = c.args.sent.now in
+    let pair : OwnedAction = paired_action c.args.number c.args.slots.now sent in
+    covers_in part c.args.number c.args.slots.now sent sent.commands refl c.requires.covered (Live c.in-Num.number)
+    (λ h. in_live part.keys part.maps pair.commands sent.ctx c.args.number c.in-Num.number c.in-Num.is (without_links part.keys pair part.maps h))
+
+pub action_in-requires-clause-low : goal.action_in-requires-clause-low
+action_in-requires-clause-low c = (allowed c.args.sent.now c.requires.allowed).low
+
+pub commands_in-requires-in-Some-clause-covered : goal.commands_in-requires-in-Some-clause-covered
+commands_in-requires-in-Some-clause-covered c =
+    let part : Parted = c.args.part.now in
+    let sent : Action = c.args.sent.now in
+    let pair : OwnedAction = paired_action c.args.number c.args.slots.now sent in
+    covers_in part c.args.number c.args.slots.now sent c.as_slice-asked.result.now c.as_slice-asked.ensures c.requires.covered (Unmade c.in-Some.number)
+    (λ h. in_unmade part.keys part.maps pair.commands sent.ctx c.args.number c.in-Some.number c.in-Choose.is c.in-Some.is (without_links part.keys pair part.maps h))
+
+pub commands_in-requires-in-Some-clause-plain : goal.commands_in-requires-in-Some-clause-plain
+commands_in-requires-in-Some-clause-plain c = subst ArePlain (sym c.as_slice-late.ensures) (are_plain c.args.sent.now (allowed c.args.sent.now c.requires.allowed) (ap (λ x. is_chosen_or_each x) c.in-Choose.is))
+
+pub action_for_each-requires-clause-covered : goal.action_for_each-requires-clause-covered
+action_for_each-requires-clause-covered c = λ n.
+    let part : Parted = c.args.part.now in
+    let sent : Action = c.args.sent.now in
+    let pair : OwnedAction = paired_action c.args.number c.args.slots.now sent in
+    covers_in part c.args.number c.args.slots.now sent sent.commands refl c.requires.covered (Each n)
+    (λ h. in_each part.keys part.maps pair.commands sent.ctx c.args.number n c.in-All.is (without_links part.keys pair part.maps h))
+
+pub action_for_each-requires-clause-plain : goal.action_for_each-requires-clause-plain
+action_for_each-requires-clause-plain c = are_plain c.args.sent.now (allowed c.args.sent.now c.requires.allowed) (ap (λ x. is_chosen_or_each x) c.in-All.is)

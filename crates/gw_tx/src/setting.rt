@@ -1,0 +1,109 @@
+//! Properties of contexts that are set.
+
+ghost use Rattle.std.specs.Prelude.{◌≡◌, true, false, OnOk};
+ghost use Rattle.std.specs.List.{list_any};
+ghost use Rattle.gw_base.specs.declared.key.Key.TheVariants.{Ctx};
+ghost use Rattle.gw_table.specs.Parts.{holds};
+ghost use Rattle.gw_tx.specs.Properties.{linked_if, link_of, name_of, linked_by, is_too_high, with_property, set_property, set_properties};
+ghost use Rattle.gw_base.specs.declared.ids.CtxNum.{CtxNum};
+ghost use Rattle.gw_refusal.specs.declared.at.At.TheVariants.{Unmade};
+ghost use Rattle.gw_tx.specs.Transactions.{set_when_made};
+
+use crate::properties::name_of;
+use gw_base::{CtxNum, Link, NoMemory};
+use gw_cmd::At;
+use gw_ctx::Context;
+use gw_msg::{ContextProp, Triple};
+use gw_table::Part;
+
+fn link_two(context: &mut Context, triple: &Triple) -> Result<(), NoMemory>
+    ensures { OnOk result (context.new ≡ linked_if (link_of (name_of triple.now.a) (name_of triple.now.b) triple.now.flow) context.old) }
+{
+    match (name_of(triple.a), name_of(triple.b)) {
+        (Some(a), Some(b)) => context.link(Link {
+            a,
+            b,
+            flow: triple.flow,
+        }),
+        _ => Ok(()),
+    }
+}
+
+/// Links two after two, in order.
+fn link_all(context: &mut Context, triples: &[Triple]) -> Result<(), NoMemory>
+    ensures { OnOk result (context.new ≡ linked_by triples.now context.old) }
+{
+    for triple in triples {
+        link_two(context, triple)?;
+    }
+    Ok(())
+}
+
+/// Sets what is asked of a context. The caller knows that a priority is one that there is.
+fn change(context: &mut Context, prop: &ContextProp) -> Result<(), NoMemory>
+    requires { is_too_high prop.now ≡ false }
+    ensures { OnOk result (context.new ≡ with_property prop.now context.old) }
+{
+    match prop {
+        ContextProp::Priority(priority) => context.set_priority(*priority as u8),
+        ContextProp::Emergency => context.set_emergency(),
+        ContextProp::Topology(triples) => link_all(context, triples.as_slice())?,
+        ContextProp::ContextAudit(_) => {}
+    }
+    Ok(())
+}
+
+/// Sets one property, where the context is there.
+fn set_property(part: &mut Part, number: CtxNum, prop: &ContextProp) -> Result<(), NoMemory>
+    requires key { holds part.old.keys (Ctx number) ≡ true }
+    requires low { is_too_high prop.now ≡ false }
+    ensures maps { OnOk result (part.new.maps ≡ set_property number prop.now part.old.maps) }
+    ensures keys { part.new.keys ≡ part.old.keys }
+{
+    let Some(mut context) = part.set_ctx(number, None) else {
+        return Ok(());
+    };
+    change(context.get_mut(), prop)?;
+    part.set_ctx(number, Some(context));
+    Ok(())
+}
+
+/// Sets what is asked of a context, in the order written, where it is there. The caller knows that its number is one of the part's
+/// keys, and that each priority is one that there is. The work is a look-up for each, and for each triple one pass of the links.
+///
+/// # Errors
+///
+/// Want of memory. The context may then be gone from the part.
+pub(crate) fn set_properties(
+    part: &mut Part,
+    number: CtxNum,
+    props: &[ContextProp],
+) -> Result<(), NoMemory>
+    requires key { holds part.old.keys (Ctx number) ≡ true }
+    requires low { list_any is_too_high props.now ≡ false }
+    ensures maps { OnOk result (part.new.maps ≡ set_properties number props.now part.old.maps) }
+    ensures keys { part.new.keys ≡ part.old.keys }
+{
+    for prop in props {
+        set_property(part, number, prop)?;
+    }
+    Ok(())
+}
+
+/// A context that has just been made gets its properties.
+pub(crate) fn set_when_made(
+    part: &mut Part,
+    made: bool,
+    at: At,
+    late: &[ContextProp],
+) -> Result<(), NoMemory>
+    requires key { (number : CtxNum) → at ≡ Unmade number → holds part.old.keys (Ctx number) ≡ true }
+    requires low { list_any is_too_high late.now ≡ false }
+    ensures maps { OnOk result (part.new.maps ≡ set_when_made made at late.now part.old.maps) }
+    ensures keys { part.new.keys ≡ part.old.keys }
+{
+    match at {
+        At::Unmade(number) if made => set_properties(part, number, late),
+        _ => Ok(()),
+    }
+}
