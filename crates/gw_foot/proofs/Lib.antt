@@ -1,6 +1,7 @@
 pub mod AfterAnother
 pub mod Gathering
 pub mod InTurn
+pub mod MeantForAll
 pub mod Meetings
 pub mod Merging
 pub mod OutAndBack

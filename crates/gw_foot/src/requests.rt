@@ -2,10 +2,14 @@
 
 ghost use Rattle.std.specs.Prelude.{IfOk, ◌≡◌};
 ghost use Rattle.std.specs.List.{list_any};
+ghost use Rattle.gw_base.specs.declared.key.Key.TheVariants.{Whole};
+ghost use Rattle.gw_base.specs.Keys.{has};
 ghost use Rattle.gw_table.specs.KeyLists.{IsListOf};
+ghost use Rattle.gw_table.specs.Maps.{Maps};
 ghost use Rattle.gw_table.specs.Stored.{maps_of};
 ghost use Rattle.gw_cmd.specs.Keys.{every_key, keys_if};
 ghost use Rattle.gw_reserve.specs.Owned.{paired};
+ghost use Rattle.gw_reserve.specs.declared.owned.Owned.{Owned as AnOwned};
 ghost use Rattle.gw_tx.specs.Footprints.{footprint_of};
 ghost use Rattle.gw_foot.specs.Gathered.{asks_all};
 
@@ -24,6 +28,14 @@ fn any_asks_all(actions: &[Action<'_>]) -> bool
     ensures { result ≡ list_any asks_all actions.now }
 {
     actions.iter().any(|action| asks_all(action))
+}
+
+/// Whether something in a request is meant for all: then the whole of the tables is among its keys, whatever they are, and else never. The work
+/// is one pass over its commands.
+pub fn is_for_all(request: &Request<'_>) -> bool
+    ensures { (owned : AnOwned) (m : Maps) → has (footprint_of (paired request.now owned) m) Whole ≡ result }
+{
+    any_asks_all(request.actions.as_slice())
 }
 
 /// Every key where something in the request is meant for all, else none.
