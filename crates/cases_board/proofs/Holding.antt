@@ -4,9 +4,10 @@ use Rattle.std.specs.Prelude.{◌||◌, slice_get, slice_set}
 use Rattle.std.specs.List.{list_any, list_all}
 use Rattle.std.proofs.lemmas.List.{length-set}
 use Rattle.std.proofs.lemmas.Option.{slice_get_within}
-use Rattle.gw_base.proofs.Booleans.{both as each_of}
-use Rattle.gw_board.specs.Boards.{Seen, Handed, HasOpen, Opens, core_of, job_of, outcome_of, begun_board, with_result, unchanged, is_closed, AllClosed, reply_of, reply_at}
+use Rattle.gw_base.proofs.Booleans.{neither, both as each_of}
+use Rattle.gw_board.specs.Boards.{Seen, Handed, HasOpen, Opens, core_of, asked_of, job_of, outcome_of, begun_board, with_result, unchanged, is_closed, AllClosed, reply_of, reply_at}
 use Rattle.gw_board.specs.Core.{Standing, Pending, Opened, Closed, Place, pending, open_with, closed_with}
+use Rattle.gw_board.specs.OpenJobs.{IsSameBurst}
 use Rattle.gw_board.specs.Results.{is_open, is_open_at, NothingIsOpen}
 use Rattle.gw_board.specs.declared.asked.Asked.{Asked}
 use Rattle.gw_board.specs.declared.manner.Manner.{Manner}
@@ -165,6 +166,30 @@ each_shut (p ∷ ps) f = by (is_open p.standing) (f 0) (each_shut ps (λ i. f (s
 
 pub nothing_open : (b : Seen) (held : List (Option Handed)) → AreHeld b held → list_all is_none held ≡ true → NothingIsOpen (core_of b)
 nothing_open b held a h = each_shut b.places (λ i. shut b i (slice_get held i) (none_at held i h) (a.each i))
+
+-- ---- a place is carried out alone, while no job is kept
+
+length-asked : (places : List Place) → length (asked_of places) ≡ length places
+length-asked [] = refl
+length-asked (p ∷ ps) = ap suc (length-asked ps)
+
+shut_at : (places : List Place) (i : ℕ) → list_any (λ p. is_open p.standing) places ≡ false → is_open_at (slice_get places i) ≡ false
+shut_at [] i h = refl
+shut_at (p ∷ ps) zero h = (neither (is_open p.standing) (list_any (λ q. is_open q.standing) ps) h).0
+shut_at (p ∷ ps) (suc i) h = shut_at ps i (neither (is_open p.standing) (list_any (λ q. is_open q.standing) ps) h).1
+
+-- whatever was closed, none is kept where nothing is open
+pub held_alone : (b c : Seen) (held : List (Option Handed)) → AreHeld b held → list_all is_none held ≡ true → NothingIsOpen (core_of c) → IsSameBurst b c → AreHeld c held
+held_alone b c held a none shut_all same =
+    record {
+      count = a.count ∙ sym (length-asked b.places) ∙ ap length (sym same.asked) ∙ length-asked c.places;
+      each = λ i. at i (slice_get held i) (none_at held i none) (shut_at c.places i shut_all);
+    }
+  where
+    at : (i : ℕ) (o : Option (Option Handed)) → job_in o ≡ None → is_open_at (slice_get c.places i) ≡ false → IsHeld c i o
+    at i None e h = h
+    at i (Some None) e h = h
+    at i (Some (Some g)) e h = absurd cc
 
 -- ---- at the start
 

@@ -70,6 +70,28 @@ fn returned<'b, 'h, 'a>(
     true
 }
 
+/// Carries a place out by itself, if no job is open and it is the first that is not closed. Whether that is so.
+fn carried_alone(
+    alloc: Global,
+    board: &mut Board<'_, '_, '_>,
+    held: &[Option<Job<'_, '_, '_>>],
+    place: usize,
+) -> Result<bool, NoMemory>
+    requires { AreHeld board.old held.now }
+    ensures { AreHeld board.new held.now }
+{
+    if !is_none_held(held) {
+        return Ok(false);
+    }
+    match board.first_unclosed(0) {
+        Some(first) if first == place => {
+            board.carry_alone(alloc, first)?;
+            Ok(true)
+        }
+        _ => Ok(false),
+    }
+}
+
 /// Opens all places of a wave, in its order, and closes them.
 fn carry_wave<'b, 'h, 'a>(
     alloc: Global,
@@ -181,8 +203,8 @@ fn write_reply(board: &Board<'_, '_, '_>, place: usize, out: &mut Page) {
 }
 
 /// Whether the step was one that a caller may take.
-fn write_done(out: &mut Page, is_open: bool, done: &[u8]) {
-    out.put(if is_open { done } else { NOT_ALLOWED });
+fn write_done(out: &mut Page, is_allowed: bool, done: &[u8]) {
+    out.put(if is_allowed { done } else { NOT_ALLOWED });
 }
 
 fn open_place<'b, 'h, 'a>(
@@ -233,6 +255,24 @@ fn return_place<'b, 'h, 'a>(
     Ok(())
 }
 
+fn carry_place(
+    board: &mut Board<'_, '_, '_>,
+    held: &[Option<Job<'_, '_, '_>>],
+    place: usize,
+    out: &mut Page,
+) -> Result<(), CaseFault>
+    requires { AreHeld board.old held.now }
+    ensures { AreHeld board.new held.now }
+{
+    match carried_alone(out.alloc(), board, held, place) {
+        Ok(is_first) => {
+            write_done(out, is_first, b"closed");
+            Ok(())
+        }
+        Err(NoMemory) => Err(CaseFault::NoMemory),
+    }
+}
+
 fn write_waves<'b, 'h, 'a>(
     board: &mut Board<'b, 'h, 'a>,
     held: &mut Held<'b, 'h, 'a>,
@@ -265,6 +305,7 @@ fn take_at<'b, 'h, 'a>(
         "open" => open_place(board, held, place, out),
         "close" => close_place(board, held, place, out),
         "unchanged" => return_place(board, held, place, out),
+        "alone" => carry_place(board, held, place, out),
         "carry" => write_result(held, place, out),
         "reply" => {
             write_reply(board, place, out);

@@ -33,7 +33,7 @@ pub enum Told {
     Each,
     /// How many answers there are, and the last one.
     Last,
-    /// In how many waves it is carried out, and each answer.
+    /// In how many waves several workers carry it out, and each answer.
     Waves,
     /// Whether its jobs meet at the gate, and each answer: the job at a place waits there for all others, or each job where none is
     /// named. Each datagram is one job.
@@ -78,6 +78,14 @@ impl Common {
             }
         }
         Ok(())
+    }
+
+    /// What all tell, if one tells something.
+    fn write_if_told(&self, out: &mut Page) -> Result<(), CaseFault> {
+        match &self.first {
+            Some(_) => self.write(out),
+            None => Ok(()),
+        }
     }
 
     /// What all tell.
@@ -223,20 +231,6 @@ fn answers_of<R: Threads + Sync, G: Gate>(
         .run(rt, alloc, crew.workers.number, burst, gate)
 }
 
-/// In how many waves a burst is carried out, and its answers.
-fn write_waves<R: Threads + Sync>(
-    rt: &R,
-    crew: &mut Crew,
-    burst: &[Datagram],
-    out: &mut Page,
-) -> Result<(), NoMemory> {
-    let waves = Waves::new(out.alloc())?;
-    let answers = answers_of(rt, out.alloc(), crew, burst, &waves)?;
-    waves.write(out);
-    write_answers(out, answers.as_slice());
-    Ok(())
-}
-
 /// Whether the jobs of a burst meet at the gate, and its answers.
 fn write_meeting<R: Threads + Clock + Sync>(
     rt: &R,
@@ -257,15 +251,22 @@ fn write_meeting<R: Threads + Clock + Sync>(
     Ok(())
 }
 
-/// What is told of a burst that one gateway carries out.
+/// What is told of a burst that one gateway carries out: in how many waves, where that is asked, on a page of its own.
 fn write_told<R: Threads + Clock + Sync>(
     rt: &R,
     crew: &mut Crew,
     burst: &[Datagram],
     told: Told,
+    counts: &mut Page,
     out: &mut Page,
 ) -> Result<(), NoMemory> {
     match told {
+        Told::Waves => {
+            let waves = Waves::new(out.alloc())?;
+            let answers = answers_of(rt, out.alloc(), crew, burst, &waves)?;
+            waves.write(counts);
+            write_answers(out, answers.as_slice());
+        }
         Told::Each => {
             let answers = answers_of(rt, out.alloc(), crew, burst, &OpenGate)?;
             write_answers(out, answers.as_slice());
@@ -274,7 +275,6 @@ fn write_told<R: Threads + Clock + Sync>(
             let answers = answers_of(rt, out.alloc(), crew, burst, &OpenGate)?;
             write_last(answers.as_slice(), out);
         }
-        Told::Waves => write_waves(rt, crew, burst, out)?,
         Told::Meeting(place) => write_meeting(rt, crew, burst, place, out)?,
     }
     Ok(())
@@ -289,16 +289,23 @@ pub fn run<R: Threads + Clock + Sync>(
     told: Told,
     out: &mut Page,
 ) -> Result<bool, CaseFault> {
+    let mut waves = Common::new();
     let mut common = Common::new();
     let mut is_done = true;
     for crew in crews.crews.iter_mut() {
+        let mut counts = Page::new(out.alloc());
         let mut page = Page::new(out.alloc());
-        if let Err(fault) = write_told(rt, crew, burst, told, &mut page) {
+        if let Err(fault) = write_told(rt, crew, burst, told, &mut counts, &mut page) {
             page.shown(&fault);
             is_done = false;
         }
+        // One worker carries each request out by itself, so that there are no waves.
+        if crew.workers.number > 1 {
+            waves.add(crew.workers, counts)?;
+        }
         common.add(crew.workers, page)?;
     }
+    waves.write_if_told(out)?;
     common.write(out)?;
     Ok(is_done)
 }

@@ -1,5 +1,6 @@
 pub mod Alike
 pub mod Behind
+pub mod CarriedAlone
 pub mod Closing
 pub mod Comes
 pub mod Drawing

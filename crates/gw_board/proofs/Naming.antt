@@ -23,7 +23,7 @@ use Rattle.gw_tx.specs.Footprints.{is_for_each, one_context, stands_for_all, nam
 use Rattle.gw_foot.specs.Meets.{meets}
 use Rattle.gw_foot.proofs.Meetings.{apart_if}
 use Rattle.gw_board.specs.Carried.{Asked, keys_of}
-use Rattle.gw_board.specs.Named.{names_term, names_number, names_in_commands, names_in, names_in_actions, AreNamed, context_of, is_one_context, Touch}
+use Rattle.gw_board.specs.Named.{names_term, names_number, names_in_commands, names_in, names_in_actions, AreOfNames, context_of, is_one_context, Touch}
 
 -- the key k comes with the thing x, wherever that is named
 module _ (m : Maps) (k x : Key) (with_term : (t : List ℕ) → same_key x (Term t) ≡ true → has (Term t ∷ place_key (place_of (maps.term m t))) k ≡ true) (with_context : (n : CtxNum) → same_key x (Ctx n) ≡ true → has (Ctx n ∷ []) k ≡ true) where
@@ -69,20 +69,20 @@ module _ (m : Maps) (k x : Key) (with_term : (t : List ℕ) → same_key x (Term
       (λ i. any-append_right (same_key k) mine later (named_actions (later_owned numbers) (drop (length a.commands) slots) more i))
 
 -- a thing that is named is itself a key
-named_among : (a : Asked) (names : List Key) → AreNamed a names → (m : Maps) → Among names (keys_of a m)
+named_among : (a : Asked) (names : List Key) → AreOfNames a names → (m : Maps) → Among names (keys_of a m)
 named_among a names n m k h =
     named_actions m k k
     (λ t e. or_left (same_key k (Term t)) (has (place_key (place_of (maps.term m t))) k) e)
     (λ c e. or_left (same_key k (Ctx c)) false e)
-    a.owned.contexts a.owned.slots a.request.actions (sym (n k) ∙ h)
+    a.owned.contexts a.owned.slots a.request.actions (n k h)
 
 -- and the context that it is in
-context_among : (a : Asked) (names : List Key) → AreNamed a names → (m : Maps) (x : Key) (c : CtxNum) → has names x ≡ true → context_of m x ≡ Some c → has (keys_of a m) (Ctx c) ≡ true
+context_among : (a : Asked) (names : List Key) → AreOfNames a names → (m : Maps) (x : Key) (c : CtxNum) → has names x ≡ true → context_of m x ≡ Some c → has (keys_of a m) (Ctx c) ≡ true
 context_among a names n m (Term t) c h e =
     named_actions m (Ctx c) (Term t)
     (λ u i. ap (λ (o : Option CtxNum). has (Term u ∷ place_key o) (Ctx c)) (ap (λ (v : List ℕ). place_of (maps.term m v)) (sym (same_name t u i)) ∙ e) ∙ or_left (same_key (Ctx c) (Ctx c)) false (same-itself (Ctx c)))
     (λ d i. absurd cc)
-    a.owned.contexts a.owned.slots a.request.actions (sym (n (Term t)) ∙ h)
+    a.owned.contexts a.owned.slots a.request.actions (n (Term t) h)
 context_among a names n m (Ctx d) c h e = let one : d ≡ c = cc in subst (λ (b : CtxNum). has (keys_of a m) (Ctx b) ≡ true) one (named_among a names n m (Ctx d) h)
 context_among a names n m Whole c h e = absurd cc
 
@@ -106,7 +106,7 @@ key_meets x y k h i = shared_meets (k ∷ []) (k ∷ []) x y (alone x h) (alone 
     alone : (z : List Key) → has z k ≡ true → Among (k ∷ []) z
     alone z h q e = either (or_cases (same_key q k) false e) (λ s. subst (λ (r : Key). has z r ≡ true) (sym (same_key_is q k s)) h) (λ f. absurd cc)
 
-module _ (a b : Asked) (mine theirs : List Key) (n : AreNamed a mine) (o : AreNamed b theirs) (m : Maps) where
+module _ (a b : Asked) (mine theirs : List Key) (n : AreOfNames a mine) (o : AreOfNames b theirs) (m : Maps) where
   in_one_context : (x y : Key) → has mine x ≡ true → has theirs y ≡ true → is_one_context (context_of m x) (context_of m y) ≡ true → meets (keys_of b m) (keys_of a m) ≡ true
   in_one_context x y h i s = by (context_of m x) (context_of m y) refl refl s
     where

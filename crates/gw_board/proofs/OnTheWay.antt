@@ -38,7 +38,7 @@ asked-pending : (asked : List Asked) → asked_of (map pending asked) ≡ asked
 asked-pending [] = refl
 asked-pending (a ∷ more) = ap (λ (l : List Asked). a ∷ l) (asked-pending more)
 
-set_twice : {X : Type 0} (xs : List X) (i : ℕ) (x y : X) → slice_set (slice_set xs i x) i y ≡ slice_set xs i y
+pub set_twice : {X : Type 0} (xs : List X) (i : ℕ) (x y : X) → slice_set (slice_set xs i x) i y ≡ slice_set xs i y
 set_twice [] i x y = refl
 set_twice (z ∷ zs) zero x y = refl
 set_twice (z ∷ zs) (suc i) x y = ap (λ l. z ∷ l) (set_twice zs i x y)

@@ -28,6 +28,12 @@ staged (s ∷ ss) zero old new p l f e =
     ap (λ (a : Asked). record { asked = a; standing = standing_of new } ∷ map place_of ss) (ap (λ (x : Seat). x.task) f ∙ ap (λ (x : Place). x.asked) same)
 staged (s ∷ ss) (suc i) old new p l f e = ap (λ (l : List Place). place_of s ∷ l) (staged ss i old new p (omega arith) f e)
 
+-- a seat that is seen as before
+pub seen_same : (seats : List Seat) (i : ℕ) (old new : Seat) → i < length seats → old ≡ slice_index_or seats i old → place_of new ≡ place_of old → map place_of (slice_set seats i new) ≡ map place_of seats
+seen_same [] i old new l f e = refl
+seen_same (s ∷ ss) zero old new l f e = ap (λ (p : Place). p ∷ map place_of ss) (e ∙ ap place_of f)
+seen_same (s ∷ ss) (suc i) old new l f e = ap (λ (k : List Place). place_of s ∷ k) (seen_same ss i old new (omega arith) f e)
+
 pub seat_place : (seats : List Seat) (i : ℕ) (s : Seat) → i < length seats → s ≡ slice_index_or seats i s → slice_get (map place_of seats) i ≡ Some (place_of s)
 seat_place [] i s l f = absurd (omega arith)
 seat_place (t ∷ ts) zero s l f = ap (λ (x : Seat). Some (place_of x)) (sym f)

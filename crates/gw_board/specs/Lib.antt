@@ -1,3 +1,4 @@
+pub mod Alone
 pub mod BoardView
 pub mod Boards
 pub mod Carried

@@ -43,6 +43,10 @@ names_in_actions k owned (a ∷ more) = names_in k (first_owned owned) a || name
 abbrev pub AreNamed : Asked → List Key → Type 0
 AreNamed a keys = (k : Key) → has keys k ≡ names_in_actions k a.owned.contexts a.request.actions
 
+-- each of these is one, and there may be others
+abbrev pub AreOfNames : Asked → List Key → Type 0
+AreOfNames a keys = (k : Key) → has keys k ≡ true → names_in_actions k a.owned.contexts a.request.actions ≡ true
+
 -- the context that a thing is in, or is
 abbrev pub context_of : Maps → Key → Option CtxNum
 context_of m (Term t) = place_of (term_at m t)

@@ -26,6 +26,8 @@ pub struct Board<'b, 'h, 'a> {
     pub(crate) tables: Tables,
     pub(crate) manner: Manner,
     pub(crate) seats: Vec<Seat<'b, 'h, 'a>>,
+    /// The names of all places are told.
+    pub(crate) is_named: bool,
     pub(crate) originals: Vec<Part>,
     pub(crate) replies: Vec<Items<u8>>,
     pub(crate) start: Snapshot<Tables>,
@@ -81,6 +83,7 @@ impl<'b, 'h, 'a> Board<'b, 'h, 'a> {
             tables,
             manner,
             seats,
+            is_named: false,
             originals,
             replies,
             start,

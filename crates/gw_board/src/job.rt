@@ -1,14 +1,17 @@
 //! Jobs: pending requests that are handed out, each with the entries that it may touch.
 
-ghost use Rattle.std.specs.Prelude.{◌≡◌, IfOk, true, false};
+ghost use Rattle.std.specs.Prelude.{◌≡◌, IfOk, OnOk, true, false};
+ghost use Rattle.gw_reserve.specs.Owned.{AreFreeSlots};
+ghost use Rattle.gw_tx.specs.Footprints.{Covers};
 ghost use Rattle.gw_board.specs.Boards.{outcome_of};
+ghost use Rattle.gw_board.specs.Carried.{keys_of, done};
 ghost use Rattle.gw_board.specs.Jobs.{new_part};
 
-use crate::asked::Task;
+use crate::asked::{Asked, Task};
 use crate::manner::Manner;
 use crate::reply::{reply_limit, text_told};
 use gw_base::{Items, NoMemory};
-use gw_table::Part;
+use gw_table::{Draft, Part};
 use gw_tx::transaction_within;
 use std::alloc::Global;
 use std::marker::Model;
@@ -49,8 +52,34 @@ impl Job<'_, '_, '_> {
     }
 }
 
-/// Carries a job's request out on a copy of its part, and writes the reply; the job stays as it is. The work is that of the copy and of
-/// the commands. What is behind the limit of a reply is carried out, and not told.
+/// Carries a request out on a draft that covers it, and writes the reply. What is behind the limit of a reply is carried out, and not
+/// told.
+///
+/// # Errors
+///
+/// Want of memory. Nothing is known of the draft then but its keys.
+pub(crate) fn carry_on(
+    alloc: Global,
+    manner: &Manner,
+    asked: &Asked<'_, '_>,
+    draft: &mut Draft<'_>,
+) -> Result<Items<u8>, NoMemory>
+    requires covered { Covers draft.old (keys_of asked.now draft.old.maps) }
+    requires unused { AreFreeSlots draft.old.maps asked.now.owned.slots }
+    ensures maps { OnOk result (draft.new.maps ≡ (done manner.now asked.now draft.old.maps).maps) }
+    ensures reply { IfOk result (λ text. text ≡ (done manner.now asked.now draft.old.maps).answer) }
+    ensures keys { draft.new.keys ≡ draft.old.keys }
+{
+    let request = asked.request.get();
+    let mid = &manner.mid;
+    let limit = reply_limit(mid);
+    let told = transaction_within(alloc, &manner.rules, draft, request, &asked.owned, limit)?;
+    text_told(alloc, mid, request.id, &told)
+}
+
+/// Carries a job's request out on a draft over its part, and writes the reply; the job stays as it is. The work is that of the
+/// commands, and of a new part, in which what they did not change is copied. What is behind the limit of a reply is carried out, and not
+/// told.
 ///
 /// # Errors
 ///
@@ -59,15 +88,9 @@ pub fn carry(alloc: Global, job: &Job<'_, '_, '_>) -> Result<(Part, Items<u8>), 
     ensures part { IfOk result (λ new. new.0 ≡ new_part job.now) }
     ensures reply { IfOk result (λ new. new.1 ≡ (outcome_of job.now).answer) }
 {
-    let mut part = job.part.copy()?;
-    let asked = job.task.get();
-    let request = asked.request.get();
-    let mid = &job.manner.mid;
-    let limit = reply_limit(mid);
-    let rules = &job.manner.rules;
-    let told = transaction_within(alloc, rules, &mut part, request, &asked.owned, limit)?;
-    let text = text_told(alloc, mid, request.id, &told)?;
-    Ok((part, text))
+    let mut draft = Draft::of_part(alloc, &job.part);
+    let text = carry_on(alloc, &job.manner, job.task.get(), &mut draft)?;
+    Ok((draft.into_part(alloc)?, text))
 }
 
 /// A job that is over: with its result, or unchanged.

@@ -1,6 +1,7 @@
 //! The transactions of a burst side by side: what may be open at the same time, and what it comes to.
 #![tactic(auto)]
 
+mod alone;
 mod asked;
 mod board;
 mod close;

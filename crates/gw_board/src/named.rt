@@ -105,9 +105,9 @@ fn add_link(
     Ok(())
 }
 
-/// What is asked, with what it names by itself, and the earlier places that name such a thing too. Those before the watched one were
-/// seen not to wait any more. Besides, one earlier place that was seen to have a context in common with this one. Each link is looked
-/// at anew each time, so any numbers will do.
+/// What is asked, with what it names by itself, and the earlier places that name such a thing too: both are empty until they are told
+/// for the first wave. Those before the watched one were seen not to wait any more. Besides, one earlier place that was seen to have a
+/// context in common with this one. Each link is looked at anew each time, so any numbers will do.
 #[derive(Drop)]
 pub(crate) struct Named<'b, 'h, 'a> {
     task: Task<'b, 'h, 'a>,
@@ -119,34 +119,43 @@ pub(crate) struct Named<'b, 'h, 'a> {
 
 impl<'b, 'h, 'a> Model for Named<'b, 'h, 'a> {
     ghost use Rattle.gw_board.specs.declared.asked.Asked.{Asked as Whole};
-    ghost use Rattle.gw_board.specs.Named.{AreNamed};
+    ghost use Rattle.gw_board.specs.Named.{AreOfNames};
 
     ghost Value = { Whole };
 
     ghost view = { λ a. a.task };
 
-    ghost invariant = { λ a. AreNamed a.task a.names.items };
+    ghost invariant = { λ a. AreOfNames a.task a.names.items };
 }
 
 impl<'b, 'h, 'a> Named<'b, 'h, 'a> {
-    /// What is asked at a place, where the namers know of the earlier places.
-    pub(crate) fn new(
-        alloc: Global,
-        asked: &'b Asked<'h, 'a>,
-        place: usize,
-        namers: &mut Namers,
-    ) -> Result<Self, NoMemory>
-        ensures { IfOk result (λ named. named ≡ asked.now) }
+    /// What is asked, of which no name is told yet. It takes no memory.
+    pub(crate) fn new(alloc: Global, asked: &'b Asked<'h, 'a>) -> Self
+        ensures { result ≡ asked.now }
     {
-        let names = names_of(alloc, asked)?;
-        let links = links_of(alloc, &names, place, namers)?;
-        Ok(Named {
+        Named {
             task: Task::new(asked),
-            names,
-            links,
+            names: Vec::new(alloc),
+            links: Vec::new(alloc),
             watched: Cell::new(0),
             beside: Cell::new(None),
-        })
+        }
+    }
+
+    /// Tells the names and the links of a place, where the namers know of the earlier places.
+    pub(crate) fn tell_names(
+        &mut self,
+        alloc: Global,
+        place: usize,
+        namers: &mut Namers,
+    ) -> Result<(), NoMemory>
+        ensures { self.new ≡ self.old }
+    {
+        let names = names_of(alloc, self.task.get())?;
+        let links = links_of(alloc, &names, place, namers)?;
+        self.names = names;
+        self.links = links;
+        Ok(())
     }
 
     pub(crate) fn task(&self) -> &Task<'b, 'h, 'a>

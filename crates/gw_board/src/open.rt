@@ -108,7 +108,7 @@ fn first_met(
 
 impl<'b, 'h, 'a> Board<'b, 'h, 'a> {
     /// What a pending place asks.
-    fn pending_task(&self, place: usize) -> Option<Task<'b, 'h, 'a>>
+    pub(crate) fn pending_task(&self, place: usize) -> Option<Task<'b, 'h, 'a>>
         ensures { PendsAt (slice_get self.now.places place) result }
     {
         let seat = self.seats.get(place)?;

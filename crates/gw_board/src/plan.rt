@@ -22,10 +22,12 @@ use crate::seat::{Seat, Stage};
 use crate::touch::Link;
 use crate::waiting::Waiting;
 use gw_base::NoMemory;
+use gw_foot::is_for_all;
 use gw_table::{Keys, Tables};
 use std::alloc::Global;
 
-/// The keys of a place that is pending and meets none of those that wait. If it is pending, it waits from now on.
+/// The keys of a place that is pending and meets none of those that wait. If it is pending, it waits from now on. One that is meant for
+/// all meets whatever waits, so that its keys are not told then.
 fn join_waiting(
     alloc: Global,
     tables: &Tables,
@@ -39,7 +41,12 @@ fn join_waiting(
     let Stage::Pending = seat.stage else {
         return Ok(None);
     };
-    let keys = keys_of(alloc, tables, seat.task.task())?;
+    let task = seat.task.task();
+    if waiting.is_any() && is_for_all(task.get().request.get()) {
+        waiting.add_whole();
+        return Ok(None);
+    }
+    let keys = keys_of(alloc, tables, task)?;
     let free = !waiting.meets(keys.list());
     waiting.add(keys.list())?;
     Ok(free.then_some(keys))
@@ -166,9 +173,10 @@ impl Board<'_, '_, '_> {
     }
 
     /// The next wave, as of `plan`, each place with its keys. While nothing is open, `open_planned` opens them in this order, one
-    /// after another. A place that waits for an earlier one which names a context or a termination that it names is not looked at in
-    /// the tables, but where a later one may be in the wave; nor is any behind one that has the whole of the tables. With n keys of
-    /// the places that are looked at the work is n log n.
+    /// after another. Nothing behind a place that has the whole of the tables is looked at, nor are the keys of such a place told, where
+    /// one before it is pending. Once `open_wave` has told the names of requests, a place that waits for an earlier one which names a
+    /// context or a termination that it names is not looked at in the tables either, but where a later one may be in the wave. With n
+    /// keys of the places that are looked at the work is n log n.
     ///
     /// # Errors
     ///

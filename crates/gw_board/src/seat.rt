@@ -41,14 +41,40 @@ pub(crate) fn seats_of<'b, 'h, 'a>(
     ensures { IfOk result (λ seats. map place_of seats.items ≡ map pending asked.now) }
 {
     let mut seats = Vec::with_capacity(alloc, asked.len())?;
-    let mut namers = Namers::new(alloc);
     for one in asked {
         seats.push(Seat {
-            task: Named::new(alloc, one, seats.len(), &mut namers)?,
+            task: Named::new(alloc, one),
             stage: Stage::Pending,
         })?;
     }
     Ok(seats)
+}
+
+/// Tells the names and the links of a place.
+fn tell_names_at(
+    alloc: Global,
+    seats: &mut Vec<Seat<'_, '_, '_>>,
+    place: usize,
+    namers: &mut Namers,
+) -> Result<(), NoMemory>
+    requires { place < length seats.old.items }
+    ensures places { map place_of seats.new.items ≡ map place_of seats.old.items }
+    ensures len { vec_len seats.new ≡ vec_len seats.old }
+{
+    let seat = &mut seats[place];
+    seat.task.tell_names(alloc, place, namers)
+}
+
+/// Tells the names and the links of all places. The places stay as they are, also after want of memory.
+pub(crate) fn tell_names(alloc: Global, seats: &mut Vec<Seat<'_, '_, '_>>) -> Result<(), NoMemory>
+    ensures places { map place_of seats.new.items ≡ map place_of seats.old.items }
+    ensures len { vec_len seats.new ≡ vec_len seats.old }
+{
+    let mut namers = Namers::new(alloc);
+    for place in 0..seats.len() {
+        tell_names_at(alloc, seats, place, &mut namers)?;
+    }
+    Ok(())
 }
 
 /// A place stands otherwise from now on.

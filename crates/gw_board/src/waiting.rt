@@ -1,6 +1,6 @@
 //! The keys of places that wait, in order.
 
-ghost use Rattle.std.specs.Prelude.{◌≡◌, ◌||◌, ◌&&◌, false, List, OnOk};
+ghost use Rattle.std.specs.Prelude.{◌≡◌, ◌||◌, ◌&&◌, true, false, List, OnOk};
 ghost use Rattle.std.specs.List.{list_any};
 ghost use Rattle.gw_base.specs.declared.key.Key.{Key as AKey};
 ghost use Rattle.gw_base.specs.declared.key.Key.TheVariants.{Whole};
@@ -34,6 +34,13 @@ impl Waiting {
             is_any: false,
             is_whole: false,
         }
+    }
+
+    /// Whether a place waits.
+    pub(crate) fn is_any(&self) -> bool
+        ensures { result ≡ self.now.is_any }
+    {
+        self.is_any
     }
 
     /// Whether a place that waits has the whole of the tables.
@@ -90,6 +97,14 @@ impl Waiting {
             self.note(key)?;
         }
         Ok(())
+    }
+
+    /// One more place waits, which has the whole of the tables.
+    pub(crate) fn add_whole(&mut self)
+        ensures { (k : List AKey) → meet_waiting self.new k ≡ true }
+    {
+        self.is_any = true;
+        self.is_whole = true;
     }
 
     /// One more place waits, with these keys.

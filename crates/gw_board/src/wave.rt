@@ -4,10 +4,13 @@ ghost use Rattle.std.specs.Prelude.{◌≡◌, ◌+◌, [], length, is_ok, IfOk,
 ghost use Rattle.std.specs.List.{list_all};
 ghost use Rattle.gw_board.specs.Boards.{core_of, AllClosed, unclosed};
 ghost use Rattle.gw_board.specs.OpenJobs.{AreOpen, AreAnswers, IsSameBurst};
+ghost use Rattle.gw_board.specs.Planned.{IsPlan, MayOpenInTurn};
 ghost use Rattle.gw_board.specs.Results.{NothingIsOpen};
 
 use crate::board::Board;
 use crate::job::{Done, Job};
+use crate::planned::Planned;
+use crate::seat::tell_names;
 use gw_base::{Items, NoMemory};
 use gw_table::Part;
 use std::alloc::Global;
@@ -33,8 +36,29 @@ fn result_in(answer: Option<Answer>) -> (Part, Items<u8>)
 }
 
 impl<'b, 'h, 'a> Board<'b, 'h, 'a> {
+    /// Tells the names and the links of all places, if that was not done yet.
+    fn tell_names(&mut self, alloc: Global) -> Result<(), NoMemory>
+        ensures { self.new ≡ self.old }
+    {
+        if !self.is_named {
+            tell_names(alloc, &mut self.seats)?;
+            self.is_named = true;
+        }
+        Ok(())
+    }
+
+    /// The next wave, as of `plan_wave`, where places that wait for earlier ones by name are not looked at in the tables.
+    fn plan_by_names(&mut self, alloc: Global) -> Result<Vec<Planned>, NoMemory>
+        ensures plan { IfOk result (λ planned. IsPlan self.old planned.items) }
+        ensures in_turn { IfOk result (λ planned. NothingIsOpen (core_of self.old) → MayOpenInTurn self.old planned.items) }
+        ensures stays { self.new ≡ self.old }
+    {
+        self.tell_names(alloc)?;
+        self.plan_wave(alloc)
+    }
+
     /// Plans the next wave, and opens its places: the jobs are all that is open then. There are none only where every place is closed.
-    /// The caller knows that nothing is open.
+    /// The caller knows that nothing is open. What the requests name by themselves is told before the first wave.
     ///
     /// # Errors
     ///
@@ -47,7 +71,7 @@ impl<'b, 'h, 'a> Board<'b, 'h, 'a> {
         ensures left { unclosed self.new.places ≡ unclosed self.old.places }
         ensures same { IsSameBurst self.old self.new }
     {
-        let wave = self.plan_wave(alloc)?;
+        let wave = self.plan_by_names(alloc)?;
         let mut jobs = Vec::with_capacity(alloc, wave.len())?;
         for planned in wave {
             let Ok(job) = self.open_planned(alloc, planned) else {

@@ -14,3 +14,4 @@ pub mod Reserving
 pub mod Carrying
 pub mod Answered
 pub mod Outcomes
+pub mod Unclosed

@@ -1,7 +1,7 @@
-//! Carrying out the new requests of a burst, in waves.
+//! Carrying out the new requests of a burst: by one worker one after another, by several in waves.
 
-ghost use Rattle.std.specs.Prelude.{◌≡◌, [], map, IfOk, IfErr, OnOk, OnErr, List, length, vec_len, vec_capacity, ◌≤◌, ◌+◌};
-ghost use Rattle.gw_board.specs.Boards.{core_of, AllClosed};
+ghost use Rattle.std.specs.Prelude.{◌≡◌, [], map, IfOk, IfErr, OnOk, OnErr, List, length, vec_len, vec_capacity, ◌<◌, ◌≤◌, ◌+◌};
+ghost use Rattle.gw_board.specs.Boards.{core_of, AllClosed, unclosed};
 ghost use Rattle.gw_board.specs.OpenJobs.{IsSameBurst};
 ghost use Rattle.gw_board.specs.Results.{NothingIsOpen, slots_of};
 ghost use Rattle.gw_kept.specs.declared.entry.Entry.{Entry as Pair};
@@ -33,8 +33,34 @@ pub(crate) struct Done {
     pub(crate) answers: Items<Datagram>,
 }
 
-/// Carries out what is pending on the board, wave after wave: a wave is all that may be carried out side by side. The caller knows
-/// that nothing is open. There are at most as many waves as requests.
+/// Carries out the next wave: all that may be carried out side by side. The caller knows that nothing is open, and that a place is not
+/// closed.
+///
+/// # Errors
+///
+/// Want of memory. Nothing is open then.
+fn carry_wave<R: Threads + Sync, G: Gate>(
+    crew: &Crew<'_, R, G>,
+    alloc: Global,
+    board: &mut Board<'_, '_, '_>,
+) -> Result<(), NoMemory>
+    requires none { NothingIsOpen (core_of board.old) }
+    requires some { 1 ≤ unclosed board.old.places }
+    ensures none { NothingIsOpen (core_of board.new) }
+    ensures fewer { OnOk result (unclosed board.new.places < unclosed board.old.places) }
+    ensures same { IsSameBurst board.old board.new }
+{
+    let jobs = board.open_wave(alloc)?;
+    let Ok(answers) = answers_to(crew, alloc, &jobs) else {
+        board.close_unchanged(jobs);
+        return Err(NoMemory);
+    };
+    board.close_wave(jobs, answers)
+}
+
+/// Carries out what is pending on the board. One worker carries out each request by itself, in order of arrival, and passes the gate with
+/// the number 0. Several go wave after wave, but for a request that is meant for all, which is a wave by itself and is carried out in
+/// that way, too. The caller knows that nothing is open. There are at most as many waves as requests.
 ///
 /// # Errors
 ///
@@ -49,17 +75,18 @@ fn carry_all<R: Threads + Sync, G: Gate>(
     ensures err { OnErr result (NothingIsOpen (core_of board.new)) }
     ensures same { IsSameBurst board.old board.new }
 {
-    loop {
-        let jobs = board.open_wave(alloc)?;
-        if jobs.is_empty() {
-            return Ok(());
+    let mut closed = 0;
+    while let Some(place) = board.first_unclosed(closed) {
+        if crew.workers == 1 || board.is_for_all(place) {
+            crew.gate.pass(0);
+            board.carry_alone(alloc, place)?;
+            closed = place;
+        } else {
+            carry_wave(crew, alloc, board)?;
+            closed = 0;
         }
-        let Ok(answers) = answers_to(crew, alloc, &jobs) else {
-            board.close_unchanged(jobs);
-            return Err(NoMemory);
-        };
-        board.close_wave(jobs, answers)?;
     }
+    Ok(())
 }
 
 /// Carries out what is pending on the board, and writes the answers.

@@ -39,7 +39,7 @@ fn in_turn<G: Gate>(
 }
 
 /// An answer for each job, in the job's place, by as many workers as there are and as the jobs allow. Each passes the gate with the
-/// job's number just before the job. One worker, and one job, needs no thread.
+/// job's number just before the job. One job needs no thread.
 ///
 /// # Errors
 ///
@@ -51,7 +51,7 @@ pub(crate) fn answers_to<R: Threads + Sync, G: Gate>(
 ) -> Result<Vec<Answer>, NoMemory>
     ensures { IfOk result (λ answers. AreAnswers jobs.now answers.items) }
 {
-    if crew.workers == 1 || jobs.len() < 2 || jobs.len() > MOST_DRAWN {
+    if jobs.len() < 2 || jobs.len() > MOST_DRAWN {
         return in_turn(alloc, jobs, crew.gate);
     }
     let drawn = draw_map(

@@ -30,7 +30,7 @@ module _ (c : After-then_some) where
   mine = keys_of c.args.seat.now.task (maps_of c.args.tables.now)
 
   same : SameKeys c.in_ok-keys.keys mine
-  same = λ q. c.in_ok-keys.ensures.same q ∙ ap (λ (x : Asked). has (keys_of x (maps_of c.args.tables.now)) q) c.task.ensures
+  same = λ q. c.in_ok-keys.ensures.same q ∙ ap (λ (x : Asked). has (keys_of x (maps_of c.args.tables.now)) q) c.task-task.ensures
 
   waits : c.meets-free.result ≡ meet_waiting c.args.waiting.now mine
   waits = c.meets-free.ensures ∙ ap (meet_waiting c.args.waiting.now) c.list.ensures.list ∙ waiting_alike c.args.waiting.now c.in_ok-keys.keys mine same

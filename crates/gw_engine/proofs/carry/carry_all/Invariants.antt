@@ -1,15 +1,17 @@
-use Rattle.gw_board.specs.Boards.{core_of, unclosed}
+use Rattle.std.proofs.Common.{take}
+use Rattle.gw_board.specs.Boards.{core_of, AllClosed, unclosed}
 use Rattle.gw_board.specs.OpenJobs.{IsSameBurst}
 use Rattle.gw_board.specs.Results.{NothingIsOpen}
 use Rattle.gw_engine.proofs.carry.carry_all.Given as goal
 
--- nothing is open between two waves
-abbrev pub invariant-loop-jobs : goal.invariant-loop-jobs
-invariant-loop-jobs g l = record {
+-- nothing is open between two steps, and so many places from the start on are closed
+abbrev pub invariant-loop-place : goal.invariant-loop-place
+invariant-loop-place g l = record {
   none : NothingIsOpen (core_of l.board);
+  closed : AllClosed (take l.closed l.board.places);
   same : IsSameBurst l.fn.board l.board;
 }
 
--- each wave closes a place at least
-abbrev pub decreases-loop-jobs : goal.decreases-loop-jobs
-decreases-loop-jobs g l = unclosed l.board.places
+-- each step closes a place at least
+abbrev pub decreases-loop-place : goal.decreases-loop-place
+decreases-loop-place g l = unclosed l.board.places

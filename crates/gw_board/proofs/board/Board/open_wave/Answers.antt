@@ -1,6 +1,6 @@
-use Rattle.std.proofs.Common.{◌≡◌, ◌+◌, map, length, List, [], ◌∷◌, ◌++◌, refl, sym, ap, subst, ◌∙◌, arith, length-append}
-use Rattle.gw_board.specs.Boards.{Seen, Handed, AllClosed, Opens}
-use Rattle.gw_board.specs.OpenJobs.{AreOpen}
+use Rattle.std.proofs.Common.{◌≡◌, ◌+◌, map, length, List, [], ◌∷◌, ◌++◌, sym, ap, subst, ◌∙◌, arith, length-append}
+use Rattle.gw_board.specs.Boards.{Seen, Handed, AllClosed, unclosed, Opens}
+use Rattle.gw_board.specs.OpenJobs.{AreOpen, IsSameBurst}
 use Rattle.gw_board.specs.Planned.{MayOpenInTurn}
 use Rattle.gw_board.specs.declared.planned.Planned.{Planned}
 use Rattle.gw_board.proofs.SeatFacts.{nil_of}
@@ -9,6 +9,8 @@ use Rattle.gw_board.proofs.board.Board.open_wave.Goals as goal
 
 pub loop-planned-init : goal.loop-planned-init
 loop-planned-init c =
+    let old : Seen = c.args.self.now in
+    let is : c.plan_by_names.new.self ≡ old = c.in_ok-wave.ensures.stays in
     let none : length c.in_ok-jobs.jobs.items ≡ 0 = ap length c.in_ok-jobs.ensures.items in
     let count = c.in_ok-jobs.jobs.ok.0 in
     let rest : length c.into_iter-planned-iterator.result.rest.items ≡ length c.in_ok-wave.wave.items = ap length c.into_iter-planned-iterator.ensures.into_iter_gives.0 in
@@ -16,13 +18,14 @@ loop-planned-init c =
     let room = c.in_ok-jobs.ensures.capacity in
     let asked = c.len.ensures in
     record {
-      open_still = subst (λ (l : List Handed). AreOpen c.args.self.now l) (sym c.in_ok-jobs.ensures.items) (no_jobs c.args.self.now c.requires);
-      turn = subst (λ (l : List Planned). MayOpenInTurn c.args.self.now l) (sym c.into_iter-planned-iterator.ensures.into_iter_gives.0) (c.in_ok-wave.ensures.in_turn c.requires);
+      open_still = subst (λ (x : Seen). AreOpen x c.in_ok-jobs.jobs.items) (sym is) (subst (λ (l : List Handed). AreOpen old l) (sym c.in_ok-jobs.ensures.items) (no_jobs old c.requires));
+      turn = subst (λ (x : Seen). MayOpenInTurn x c.into_iter-planned-iterator.result.rest.items) (sym is)
+          (subst (λ (l : List Planned). MayOpenInTurn old l) (sym c.into_iter-planned-iterator.ensures.into_iter_gives.0) (c.in_ok-wave.ensures.in_turn c.requires));
       each = omega arith;
       room = omega arith;
-      first = λ e. refl;
-      left = refl;
-      same = same_itself c.args.self.now;
+      first = λ e. is;
+      left = ap (λ (x : Seen). unclosed x.places) is;
+      same = subst (λ (x : Seen). IsSameBurst old x) (sym is) (same_itself old);
     }
 
 pub open_planned-requires : goal.open_planned-requires

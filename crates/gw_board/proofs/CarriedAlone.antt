@@ -1,0 +1,206 @@
+-- A place is carried out alone: nothing is open, and every place before it is closed. It comes to what opening it and closing it with its
+-- result comes to, with an original that has the changed keys alone.
+use Rattle.std.proofs.Common.{◌≡◌, ℕ, zero, suc, Bool, true, false, cond, not, List, [], ◌∷◌, ◌++◌, take, drop, Option, None, Some, refl, sym, ap, subst, ◌∙◌}
+use Rattle.std.specs.Prelude.{◌||◌, ◌&&◌, slice_get, slice_set}
+use Rattle.std.specs.List.{list_any}
+use Rattle.gw_base.specs.declared.key.Key.{Key}
+use Rattle.gw_base.specs.declared.key.Key.TheVariants.{Term, Ctx}
+use Rattle.gw_base.specs.Keys.{has}
+use Rattle.gw_base.proofs.Booleans.{neither}
+use Rattle.gw_reserve.specs.Owned.{AreFreeSlots}
+use Rattle.gw_table.specs.Locality.{KeepsTo}
+use Rattle.gw_table.specs.Maps.{Maps, Outcome, term, ctx}
+use Rattle.gw_table.specs.Parts.{restricted, cut, overlaid}
+use Rattle.gw_table.specs.Stored.{Stored, names_entry, AreReady, KeepReady, NoneIsOut}
+use Rattle.gw_table.specs.WellFormed.{AreWellFormed}
+use Rattle.gw_table.proofs.Lookups.{same_maps}
+use Rattle.gw_table.proofs.PartLookups.{term-restricted, ctx-restricted, term-overlaid, ctx-overlaid}
+use Rattle.gw_board.specs.Alone.{is_unclosed_at}
+use Rattle.gw_board.specs.BoardView.{IsOnTheWay, IsKeptIn}
+use Rattle.gw_board.specs.Boards.{Seen, Handed, core_of, asked_of, with_open, with_result, is_closed, is_pending_at, AllClosed, unclosed}
+use Rattle.gw_board.specs.Carried.{Asked, keys_of, done, carried}
+use Rattle.gw_board.specs.Core.{Standing, Pending, Opened, Closed, Place, Job, pending, open_with, closed_with, meets_at, meets_any, MayOpen}
+use Rattle.gw_board.specs.Fitting.{out, Stands, Beside, Stand}
+use Rattle.gw_board.specs.Journal.{Original, undone}
+use Rattle.gw_board.specs.OpenJobs.{IsSameBurst}
+use Rattle.gw_board.specs.Results.{is_open, carried_on, NothingIsOpen}
+use Rattle.gw_board.specs.Texts.{Text}
+use Rattle.gw_board.specs.Waves.{is_pending}
+use Rattle.gw_board.proofs.Comes.{out_of_none}
+use Rattle.gw_board.proofs.Drawing.{set_here}
+use Rattle.gw_board.proofs.KeptIn.{all_ready}
+use Rattle.gw_board.proofs.OnTheWay.{asked-set, set_twice, open_way, result_way}
+use Rattle.gw_board.proofs.Orders.{behind_in, each_joined}
+use Rattle.gw_board.proofs.Outs.{cut_none, laid_on}
+use Rattle.gw_board.proofs.Requests.{keeps}
+use Rattle.gw_board.proofs.SeatFacts.{unclosed-less}
+use Rattle.gw_board.proofs.Slices.{parts_at}
+use Rattle.gw_board.proofs.Steps.{made_of, undone-append}
+
+-- ---- places
+
+-- closed ones are met by nothing
+none_met : (keys : List Key) (m : Maps) (places : List Place) → AllClosed places → meets_any keys m places ≡ false
+none_met keys m [] h = refl
+none_met keys m (p ∷ ps) h =
+    let both = neither (not (is_closed p.standing)) (list_any (λ q. not (is_closed q.standing)) ps) h in
+    by p.standing both.0 (none_met keys m ps both.1)
+  where
+    by : (x : Standing) → not (is_closed x) ≡ false → meets_any keys m ps ≡ false → (meets_at keys m p.asked x || meets_any keys m ps) ≡ false
+    by Pending e g = absurd cc
+    by (Opened j) e g = absurd cc
+    by (Closed reply) e g = g
+
+still_none : (places : List Place) (i : ℕ) (new : Place) → is_open new.standing ≡ false → list_any (λ p. is_open p.standing) places ≡ false → list_any (λ p. is_open p.standing) (slice_set places i new) ≡ false
+still_none [] i new e h = refl
+still_none (p ∷ ps) zero new e h = ap (λ b. b || list_any (λ q. is_open q.standing) ps) e ∙ (neither (is_open p.standing) (list_any (λ q. is_open q.standing) ps) h).1
+still_none (p ∷ ps) (suc i) new e h =
+    let both = neither (is_open p.standing) (list_any (λ q. is_open q.standing) ps) h in
+    λ k. both.0 k || still_none ps i new e both.1 k
+
+closed_more : (places : List Place) (i : ℕ) (new : Place) → is_closed new.standing ≡ true → AllClosed (take i places) → AllClosed (take (suc i) (slice_set places i new))
+closed_more [] i new f h = refl
+closed_more (q ∷ qs) zero new f h = ap (λ b. not b || false) f
+closed_more (q ∷ qs) (suc i) new f h =
+    let both = neither (not (is_closed q.standing)) (list_any (λ p. not (is_closed p.standing)) (take i qs)) h in
+    λ k. both.0 k || closed_more qs i new f both.1 k
+
+-- one more is closed
+pub closed_here : (places : List Place) (i : ℕ) (p : Place) → slice_get places i ≡ Some p → is_closed p.standing ≡ true → AllClosed (take i places) → AllClosed (take (suc i) places)
+closed_here [] i p e f h = absurd cc
+closed_here (q ∷ qs) zero p e f h = let same : q ≡ p = cc in ap (λ (x : Place). not (is_closed x.standing) || false) same ∙ ap (λ b. not b || false) f
+closed_here (q ∷ qs) (suc i) p e f h =
+    let both = neither (not (is_closed q.standing)) (list_any (λ x. not (is_closed x.standing)) (take i qs)) h in
+    λ k. both.0 k || closed_here qs i p e f both.1 k
+
+-- what is neither closed nor open is pending
+pub unclosed_pends : (places : List Place) (i : ℕ) → list_any (λ p. is_open p.standing) places ≡ false → is_unclosed_at (slice_get places i) ≡ true → is_pending_at (slice_get places i) ≡ true
+unclosed_pends [] i none h = absurd cc
+unclosed_pends (q ∷ qs) zero none h = by q.standing (neither (is_open q.standing) (list_any (λ x. is_open x.standing) qs) none).0 h
+  where
+    by : (x : Standing) → is_open x ≡ false → not (is_closed x) ≡ true → is_pending x ≡ true
+    by Pending f g = refl
+    by (Opened j) f g = absurd cc
+    by (Closed reply) f g = absurd cc
+unclosed_pends (q ∷ qs) (suc i) none h = unclosed_pends qs i (neither (is_open q.standing) (list_any (λ x. is_open x.standing) qs) none).1 h
+
+-- ---- an original that is laid back
+
+module _ {X : Type 0} where
+  back_at : (b : Bool) (x y : Option X) → cond b (cond b x None) (cond b y x) ≡ x
+  back_at true x y = refl
+  back_at false x y = refl
+
+laid_back_over : (k : List Key) (p m : Maps) → overlaid k (restricted k m) (overlaid k p m) ≡ m
+laid_back_over k p m = same_maps (overlaid k (restricted k m) (overlaid k p m)) m
+    (λ q. term-overlaid k (restricted k m) (overlaid k p m) q ∙ (λ i. cond (has k (Term q)) (term-restricted k m q i) (term-overlaid k p m q i)) ∙ back_at (has k (Term q)) (term m q) (term p q))
+    (λ q. ctx-overlaid k (restricted k m) (overlaid k p m) q ∙ (λ i. cond (has k (Ctx q)) (ctx-restricted k m q i) (ctx-overlaid k p m q i)) ∙ back_at (has k (Ctx q)) (ctx m q) (ctx p q))
+
+or_nothing : (b : Bool) → b ≡ (b || false)
+or_nothing true = refl
+or_nothing false = refl
+
+-- a part laid over the maps without its keys is the part laid over the maps
+laid_same : (k : List Key) (p m : Maps) → overlaid k p (cut k m) ≡ overlaid k p m
+laid_same k p m = laid_on k [] k p m (λ q. or_nothing (has k q)) (λ q h. refl) ∙ cut_none [] (overlaid k p m) (λ q. refl)
+
+-- ---- the place
+
+-- the reply stands there, and the original with these keys is the journal's last
+abbrev pub with_alone : Seen → ℕ → Asked → List Key → Seen
+with_alone b i a keys = record b {
+  maps = (done b.manner a b.maps).maps;
+  places = slice_set b.places i (closed_with a (done b.manner a b.maps).answer);
+  originals = b.originals ++ record { keys = keys; part = restricted keys b.maps } ∷ [];
+}
+
+module _ (b : Seen) (w : IsOnTheWay b) (none : NothingIsOpen (core_of b)) (i : ℕ) (a : Asked) (pends : slice_get b.places i ≡ Some (pending a)) where
+  whole_is : b.maps ≡ w.fits.whole
+  whole_is = w.fits.maps ∙ cut_none (out b.places) w.fits.whole (out_of_none b.places none)
+
+  pub well_here : AreWellFormed b.manner.rules.members b.maps
+  well_here = subst (AreWellFormed b.manner.rules.members) (sym whole_is) w.fits.well
+
+  pub unused_here : AreFreeSlots b.maps a.owned.slots
+  unused_here = subst (λ (n : Maps). AreFreeSlots n a.owned.slots) (sym whole_is)
+      (behind_in (Stands b.manner w.fits.whole) (Beside w.fits.whole) (take i b.places) (pending a ∷ drop (suc i) b.places)
+      (subst (Stand b.manner w.fits.whole) (parts_at b.places i (pending a) pends) w.fits.stand)).0
+
+  abbrev o : Outcome Text
+  o = done b.manner a b.maps
+
+  abbrev closed : Place
+  closed = closed_with a o.answer
+
+  pub alone_none : list_any (λ p. is_open p.standing) (slice_set b.places i closed) ≡ false
+  alone_none = still_none b.places i closed refl none
+
+  pub alone_fewer : suc (unclosed (slice_set b.places i closed)) ≡ unclosed b.places
+  alone_fewer = unclosed-less b.places i (pending a) closed pends refl refl
+
+  pub alone_same : (keys : List Key) → IsSameBurst b (with_alone b i a keys)
+  alone_same keys = record { manner = refl; begun = refl; asked = asked-set b.places i (pending a) closed pends refl }
+
+  pub alone_kept : (keys : List Key) (s t : Stored) → IsKeptIn s b → NoneIsOut t → KeepReady s t → AreReady keys t → IsKeptIn t (with_alone b i a keys)
+  alone_kept keys s t kept here ready new = record {
+    out = λ k. here k ∙ ap (λ x. x && names_entry k) (sym (out_of_none (slice_set b.places i closed) alone_none k));
+    ready = each_joined (λ x. AreReady x.keys t) b.originals (record { keys = keys; part = restricted keys b.maps } ∷ []) (all_ready b.originals s t ready kept.ready) (new, tt);
+  }
+
+  module _ (first : AllClosed (take i b.places)) where
+    pub alone_closed : AllClosed (take (suc i) (slice_set b.places i closed))
+    alone_closed = closed_more b.places i closed refl first
+
+    abbrev keys : List Key
+    keys = keys_of a b.maps
+
+    abbrev job : Job
+    job = record { keys = keys; part = restricted keys b.maps; result = None }
+
+    abbrev handed : Handed
+    handed = record { manner = b.manner; place = i; asked = a; keys = keys; part = restricted keys b.maps }
+
+    may : MayOpen (core_of b) i a keys
+    may = record { pends = pends; listed = λ q. refl; free = none_met keys b.maps (take i b.places) first }
+
+    -- the board after opening the place and closing it
+    abbrev ended : Seen
+    ended = with_result (with_open b i a keys) handed
+
+    way : IsOnTheWay ended
+    way = result_way (with_open b i a keys) handed (open_way b w i a keys may) (record { manner = refl; stands = set_here b.places i (pending a) (open_with a job) pends })
+
+    keeping : KeepsTo keys (done b.manner a) b.maps
+    keeping = keeps b.manner a b.maps well_here unused_here
+
+    same_outcome : ended.maps ≡ o.maps
+    same_outcome = laid_same keys (done b.manner a (restricted keys b.maps)).maps b.maps ∙ keeping.maps
+
+    same_places : ended.places ≡ slice_set b.places i closed
+    same_places =
+        set_twice b.places i (open_with a job) (closed_with a (done b.manner a (restricted keys b.maps)).answer)
+        ∙ ap (λ (r : Text). slice_set b.places i (closed_with a r)) keeping.answer
+
+    none_ended : list_any (λ p. is_open p.standing) ended.places ≡ false
+    none_ended = ap (λ (l : List Place). list_any (λ p. is_open p.standing) l) same_places ∙ alone_none
+
+    whole_after : way.fits.whole ≡ o.maps
+    whole_after = sym (cut_none (out ended.places) way.fits.whole (out_of_none ended.places none_ended)) ∙ sym way.fits.maps ∙ same_outcome
+
+    -- whichever keys changed
+    pub alone_way : (changed : List Key) (part : Maps) → overlaid changed part b.maps ≡ o.maps → IsOnTheWay (with_alone b i a changed)
+    alone_way changed part is =
+        let c : Seen = with_alone b i a changed in
+        let last : Original = record { keys = changed; part = restricted changed b.maps } in
+        record {
+          fits = made_of b.manner (core_of c) way.fits.whole ended.places way.fits.well (sym same_places) (sym same_outcome ∙ way.fits.maps) way.fits.stand;
+          outcome =
+              ap (λ (l : List Place). carried_on b.manner l way.fits.whole) (sym same_places)
+              ∙ way.outcome
+              ∙ ap (λ (l : List Place). carried b.manner (asked_of l) b.begun) same_places;
+          back =
+              undone-append b.originals (last ∷ []) way.fits.whole
+              ∙ ap (λ (n : Maps). undone b.originals (overlaid changed (restricted changed b.maps) n)) (whole_after ∙ sym is)
+              ∙ ap (undone b.originals) (laid_back_over changed part b.maps ∙ whole_is)
+              ∙ w.back;
+        }
