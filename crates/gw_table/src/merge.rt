@@ -10,7 +10,7 @@ use std::alloc::Global;
 pub(crate) fn merge<T: Ord + Copy>(alloc: Global, a: &[T], b: &[T]) -> Result<Vec<T>, NoMemory>
     ensures { IfOk result (λ list. list.items ≡ merged T.cmp a.now b.now) }
 {
-    let mut list = Vec::new(alloc);
+    let mut list = Vec::with_capacity(alloc, a.len())?;
     let mut i = 0;
     let mut j = 0;
     while i < a.len() && j < b.len() {
