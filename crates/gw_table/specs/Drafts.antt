@@ -25,12 +25,13 @@ pub record AreChanges (keys : PartKeys) (s : Stored) : Type 0 where
   pub here : NoneIsOut s
   pub within : (k : Key) → names_entry k ≡ true → is_ready s k ≡ true → holds keys k ≡ true
 
--- changes of a part; and a part of whole tables is these
+-- What a draft keeps to: its changes are at the keys of what it is laid over, and where these are whole tables it has their maps.
 pub record IsDraft (base : Parted) (s : Stored) : Type 0 where
   pub changes : AreChanges base.keys s
   pub whole : (m : Maps) → base.keys ≡ Over m → base.maps ≡ m
 
--- the cell of a key: what was written there, and else the one below
+-- ---- the cell of a key: what was written there, and else the one below
+
 abbrev pub written_or : Cell → Option Cell → Cell
 written_or below None = below
 written_or below (Some c) = c
@@ -40,7 +41,9 @@ laid_cell s (Term t) c = written_or c (option_map (λ p. OfTerm p) (finite.get s
 laid_cell s (Ctx n) c = written_or c (option_map (λ p. OfCtx p) (finite.get s.contexts n.0))
 laid_cell s Whole c = c
 
--- one after another: lists in order, with no item in both, as one list in order
+-- ---- two lists in order, with no item in both, as one list in order
+
+-- the first of one list among the other, and its rest behind it
 abbrev pub put_among : {A : Type 0} → (A → A → Ordering) → A → (List A → List A) → List A → List A
 put_among cmp x rest [] = x ∷ rest []
 put_among cmp x rest (y ∷ ys) = cond (is_lt (cmp x y)) (x ∷ rest (y ∷ ys)) (y ∷ put_among cmp x rest ys)

@@ -23,11 +23,20 @@ use std::marker::Model;
 /// Changes that are laid over lent tables, or over a lent part of them: what is read at a key is what was written there last, and
 /// else the entry below. What is lent stays as it is, and no record is copied but where its change is a change of some of it. A
 /// look-up takes log c steps in the c keys that were written, and a look-up below where the key is none of them.
-#[derive(Drop)]
 pub struct Draft<'t> {
     base: Base<'t>,
     // A place for each key that was written.
     changed: Tables,
+}
+
+// By hand, so that a function that lets a draft go does so by one call. A derived one would stand in it field by field.
+impl<'t> Drop for Draft<'t> {
+    fn drop(self) {
+        let Draft {
+            base: _,
+            changed: _,
+        } = self;
+    }
 }
 
 impl<'t> Model for Draft<'t> {
@@ -268,8 +277,7 @@ impl<'t> Draft<'t> {
         }
         let kept = self.changed.unwritten_names(alloc, &below)?;
         let written = self.changed.names(alloc)?;
-        let names = merge(alloc, &kept, &written)?;
-        Ok(names)
+        merge(alloc, &kept, &written)
     }
 
     /// The numbers of all contexts that the draft shows, rising. The work is linear in the numbers, but for a look-up for each where
@@ -287,8 +295,7 @@ impl<'t> Draft<'t> {
         }
         let kept = self.changed.unwritten_numbers(alloc, &below)?;
         let written = self.changed.numbers(alloc)?;
-        let numbers = merge(alloc, &kept, &written)?;
-        Ok(numbers)
+        merge(alloc, &kept, &written)
     }
 
     /// The changes alone, as a part whose keys are those that were written. Nothing is copied; the work is linear in them.

@@ -1,4 +1,5 @@
 use Rattle.std.proofs.Common.{◌≡◌, ℕ, List, not, sym, ap, ◌∙◌}
+use Rattle.std.proofs.lemmas.Result.{IfOk-weaker}
 use Rattle.std.specs.List.{filter}
 use Rattle.gw_base.specs.NameLists.{name_cmp}
 use Rattle.gw_base.specs.declared.key.Key.TheVariants.{Term}
@@ -19,4 +20,5 @@ returns c =
     let kept : c.deref-2.result.now ≡ filter (λ t. not (is_ready s (Term t))) (names m) =
     c.deref-2.ensures.value ∙ c.in_ok-kept.ensures ∙ ap (λ (l : List (List ℕ)). filter (λ t. not (is_ready s (Term t))) l) (c.deref.ensures.value ∙ c.in_ok-below.ensures) in
     let written : c.deref-3.result.now ≡ names (maps_of s) = c.deref-3.ensures.value ∙ c.in_ok-written.ensures in
-    c.in_ok-names.ensures ∙ (λ i. merged name_cmp (kept i) (written i)) ∙ names_merged s m ∙ ap (λ (p : Parted). names p.maps) c.self.view_is
+    let all = (λ i. merged name_cmp (kept i) (written i)) ∙ names_merged s m ∙ ap (λ (p : Parted). names p.maps) c.self.view_is in
+    IfOk-weaker c.merge.result (λ list. list.items ≡ merged name_cmp c.deref-2.result.now c.deref-3.result.now) (λ list. list.items ≡ names c.args.self.now.maps) (λ list h. h ∙ all) c.merge.ensures

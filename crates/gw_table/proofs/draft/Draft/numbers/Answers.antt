@@ -1,4 +1,5 @@
 use Rattle.std.proofs.Common.{◌≡◌, List, not, refl, sym, ap, ◌∙◌}
+use Rattle.std.proofs.lemmas.Result.{IfOk-weaker}
 use Rattle.std.specs.List.{filter}
 use Rattle.gw_base.specs.contracts.ids.CtxNumOrd.TheImpl.{ghosts}
 use Rattle.gw_base.specs.declared.ids.CtxNum.{CtxNum}
@@ -20,4 +21,5 @@ returns c =
     let kept : c.deref-2.result.now ≡ filter (λ n. not (is_ready s (Ctx n))) (numbers m) =
     c.deref-2.ensures.value ∙ c.in_ok-kept.ensures ∙ ap (λ (l : List CtxNum). filter (λ n. not (is_ready s (Ctx n))) l) (c.deref.ensures.value ∙ c.in_ok-below.ensures) in
     let written : c.deref-3.result.now ≡ numbers (maps_of s) = c.deref-3.ensures.value ∙ c.in_ok-written.ensures in
-    c.in_ok-numbers.ensures ∙ (λ i. merged ghosts.cmp (kept i) (written i)) ∙ numbers_merged ghosts.cmp (λ a b. refl) s m ∙ ap (λ (p : Parted). numbers p.maps) c.self.view_is
+    let all = (λ i. merged ghosts.cmp (kept i) (written i)) ∙ numbers_merged ghosts.cmp (λ a b. refl) s m ∙ ap (λ (p : Parted). numbers p.maps) c.self.view_is in
+    IfOk-weaker c.merge.result (λ list. list.items ≡ merged ghosts.cmp c.deref-2.result.now c.deref-3.result.now) (λ list. list.items ≡ numbers c.args.self.now.maps) (λ list h. h ∙ all) c.merge.ensures
