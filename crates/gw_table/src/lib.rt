@@ -2,11 +2,15 @@
 #![tactic(auto)]
 
 mod attempts;
+mod base;
 mod cell;
+mod changes;
+mod draft;
 mod key_list;
 mod key_order;
 mod keys;
 mod laws;
+mod merge;
 mod moves;
 mod part;
 mod place;
@@ -15,8 +19,10 @@ mod slots;
 mod tables;
 mod text;
 mod unused;
+mod writes;
 
 pub use attempts::Attempts;
+pub use draft::Draft;
 pub use key_list::put_in_order;
 pub use key_order::compare_keys;
 pub use keys::Keys;
