@@ -3,6 +3,7 @@
 
 mod attempts;
 mod cell;
+mod draft;
 mod key_list;
 mod key_order;
 mod keys;
@@ -17,6 +18,7 @@ mod text;
 mod unused;
 
 pub use attempts::Attempts;
+pub use draft::Draft;
 pub use key_list::put_in_order;
 pub use key_order::compare_keys;
 pub use keys::Keys;
