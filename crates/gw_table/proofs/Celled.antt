@@ -36,7 +36,7 @@ use Rattle.gw_table.proofs.Places.{shown_alike, maps_of_nothing}
 
 -- ---- one more key
 
-one_term : (t : List ℕ) (k : Key) (c : Cell) (es : List (List ℕ × Place Termination)) → lookup (is_at (name_cmp t)) (with_term k c es) ≡ cond (same_key (Term t) k) (Some (cell_term c)) (lookup (is_at (name_cmp t)) es)
+pub one_term : (t : List ℕ) (k : Key) (c : Cell) (es : List (List ℕ × Place Termination)) → lookup (is_at (name_cmp t)) (with_term k c es) ≡ cond (same_key (Term t) k) (Some (cell_term c)) (lookup (is_at (name_cmp t)) es)
 one_term t (Term q) c es = ap (λ b. cond b (Some (cell_term c)) (lookup (is_at (name_cmp t)) es)) (name_test t q)
 one_term t (Ctx n) c es = refl
 one_term t Whole c es = refl
@@ -45,7 +45,7 @@ one_term t Whole c es = refl
 abbrev of_number : ℕ → Key
 of_number n = Ctx (record { 0 = n })
 
-one_ctx : (n : ℕ) (k : Key) (c : Cell) (es : List (ℕ × Place ContextRecord)) → lookup (is_at (nat_cmp n)) (with_ctx k c es) ≡ cond (same_key (of_number n) k) (Some (cell_ctx c)) (lookup (is_at (nat_cmp n)) es)
+pub one_ctx : (n : ℕ) (k : Key) (c : Cell) (es : List (ℕ × Place ContextRecord)) → lookup (is_at (nat_cmp n)) (with_ctx k c es) ≡ cond (same_key (of_number n) k) (Some (cell_ctx c)) (lookup (is_at (nat_cmp n)) es)
 one_ctx n (Term q) c es = refl
 one_ctx n (Ctx q) c es = ap (λ b. cond b (Some (cell_ctx c)) (lookup (is_at (nat_cmp n)) es)) (number_test n q.0)
 one_ctx n Whole c es = refl

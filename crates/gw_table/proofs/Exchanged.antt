@@ -15,12 +15,8 @@ use Rattle.gw_ctx.specs.Contexts.{ContextRecord}
 use Rattle.gw_term.specs.declared.record.Termination.{Termination}
 use Rattle.gw_table.specs.declared.place.Place.{Place}
 use Rattle.gw_table.specs.Maps.{number, names, numbers}
-use Rattle.gw_table.specs.Stored.{Stored, filled, maps_of, put_term_place, put_ctx_place, drop_term_place, drop_ctx_place}
+use Rattle.gw_table.specs.Stored.{Stored, stored, filled, maps_of, put_term_place, put_ctx_place, drop_term_place, drop_ctx_place}
 use Rattle.gw_table.proofs.Shown.{here_is, keys_here}
-
--- entries as stored tables
-abbrev pub stored : List (List ℕ × Place Termination) → List (ℕ × Place ContextRecord) → Stored
-stored ts cs = record { terms = from_entries ts; contexts = from_entries cs }
 
 pub term_written : (es fs : List (List ℕ × Place Termination)) (cs : List (ℕ × Place ContextRecord)) (t : List ℕ) (p : Place Termination)
     → ((q : List ℕ) → lookup (is_at (name_cmp q)) fs ≡ cond (is_at (name_cmp t) q) (Some p) (lookup (is_at (name_cmp q)) es))

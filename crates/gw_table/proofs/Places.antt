@@ -8,14 +8,13 @@ use Rattle.std.specs.Ordering.{nat_cmp}
 use Rattle.gw_base.specs.declared.ids.CtxNum.{CtxNum}
 use Rattle.gw_base.specs.declared.key.Key.{Key}
 use Rattle.gw_base.specs.declared.key.Key.TheVariants.{Term, Ctx, Whole}
-use Rattle.gw_base.specs.Keys.{has}
 use Rattle.gw_base.specs.NameLists.{name_cmp}
 use Rattle.gw_base.proofs.NameTests.{name_test, number_test, same_name, same_number}
 use Rattle.gw_term.specs.declared.record.Termination.{Termination}
 use Rattle.gw_ctx.specs.Contexts.{ContextRecord}
 use Rattle.gw_table.specs.declared.place.Place.{Place}
 use Rattle.gw_table.specs.Maps.{term, ctx, put_term, put_ctx, no_maps}
-use Rattle.gw_table.specs.Stored.{Stored, shown, has_left, placed, maps_of, is_ready, put_term_place, put_ctx_place, nothing_stored, ArePacked, NoneIsOut}
+use Rattle.gw_table.specs.Stored.{Stored, shown, has_left, placed, maps_of, is_ready, put_term_place, put_ctx_place, nothing_stored, NoneIsOut}
 use Rattle.gw_table.proofs.Lookups.{term-put_term, ctx-put_term, term-put_ctx, ctx-put_ctx, same_maps}
 use Rattle.gw_table.proofs.Shown.{got_shown, shown-cond}
 
@@ -100,17 +99,3 @@ pub in-put_ctx : (s : Stored) (n : CtxNum) (p : Place ContextRecord) → has_lef
 in-put_ctx s n p g h (Term q) = h (Term q)
 in-put_ctx s n p g h (Ctx q) = ap (λ o. has_left o) (got_ctx s n p q) ∙ in_still (nat_eq q.0 n.0) p (finite.get s.contexts q.0) g (h (Ctx q))
 in-put_ctx s n p g h Whole = refl
-
-pub packed-put_term : (keys : List Key) (s : Stored) (t : List ℕ) (o : Option Termination) → has keys (Term t) ≡ true → ArePacked keys s → ArePacked keys (put_term_place s t (placed o))
-packed-put_term keys s t o h p = record {
-  terms = λ q. ready-put_term s t (placed o) (Term q) (p.terms t ∙ h) ∙ p.terms q;
-  contexts = p.contexts;
-  here = in-put_term s t (placed o) (placed_here o) p.here;
-}
-
-pub packed-put_ctx : (keys : List Key) (s : Stored) (n : CtxNum) (o : Option ContextRecord) → has keys (Ctx n) ≡ true → ArePacked keys s → ArePacked keys (put_ctx_place s n (placed o))
-packed-put_ctx keys s n o h p = record {
-  terms = p.terms;
-  contexts = λ q. ready-put_ctx s n (placed o) (Ctx q) (p.contexts n ∙ h) ∙ p.contexts q;
-  here = in-put_ctx s n (placed o) (placed_here o) p.here;
-}

@@ -18,7 +18,7 @@ shown-cond true p o = refl
 shown-cond false p o = refl
 
 -- the entry of a place, in a list
-abbrev one_here : {K X : Type 0} → K → Option X → List (K × X)
+abbrev pub one_here : {K X : Type 0} → K → Option X → List (K × X)
 one_here k None = []
 one_here k (Some x) = (k, x) ∷ []
 
@@ -40,7 +40,7 @@ module _ {K X : Type 0} {R : K → K → Ordering} (total : IsTotalOrder R) wher
   got-put_at m k None q = get-remove total m k q
   got-put_at m k (Some x) q = get-insert total m k x q
 
-  got_filled : (es : List (K × Place X)) (q : K) → get (filled {R = R} es) q ≡ shown (find R q es)
+  pub got_filled : (es : List (K × Place X)) (q : K) → get (filled {R = R} es) q ≡ shown (find R q es)
   got_filled [] q = get-empty R q
   got_filled (e ∷ es) q =
       got-put_at (filled es) e.0 (shown (Some e.1)) q ∙ ap (cond (eq_by_cmp R q e.0) (shown (Some e.1))) (got_filled es q)

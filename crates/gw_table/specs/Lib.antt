@@ -1,7 +1,9 @@
 pub mod Accesses
 pub mod Cells
+pub mod Drafts
 pub mod Folds
 pub mod KeyLists
+pub mod Lent
 pub mod Locality
 pub mod Maps
 pub mod Members

@@ -20,6 +20,10 @@ pub record Stored : Type 0 where
   pub terms : finite.FinMap name_cmp (Place Termination)
   pub contexts : finite.FinMap nat_cmp (Place ContextRecord)
 
+-- entries as stored tables
+abbrev pub stored : List (List ℕ × Place Termination) → List (ℕ × Place ContextRecord) → Stored
+stored ts cs = record { terms = finite.from_entries ts; contexts = finite.from_entries cs }
+
 -- ---- one place
 
 -- the entry that stands there
@@ -209,6 +213,17 @@ pub record AreMoved (keys : List Key) (from to left full : Stored) : Type 0 wher
   pub terms_full : (t : List ℕ) → finite.get full.terms t ≡ cond (has keys (Term t)) (finite.get from.terms t) (finite.get to.terms t)
   pub contexts_left : (n : CtxNum) → finite.get left.contexts n.0 ≡ cond (has keys (Ctx n)) (Some Out) (finite.get from.contexts n.0)
   pub contexts_full : (n : CtxNum) → finite.get full.contexts n.0 ≡ cond (has keys (Ctx n)) (finite.get from.contexts n.0) (finite.get to.contexts n.0)
+
+-- What stood at these keys in `from` stands there in `full`, and all else is as in `to`.
+pub record AreLaid (keys : List Key) (from to full : Stored) : Type 0 where
+  pub terms : (t : List ℕ) → finite.get full.terms t ≡ cond (has keys (Term t)) (finite.get from.terms t) (finite.get to.terms t)
+  pub contexts : (n : CtxNum) → finite.get full.contexts n.0 ≡ cond (has keys (Ctx n)) (finite.get from.contexts n.0) (finite.get to.contexts n.0)
+
+-- there is no place for the key any more
+abbrev pub without_place : Stored → Key → Stored
+without_place s (Term t) = drop_term_place s t
+without_place s (Ctx n) = drop_ctx_place s n
+without_place s Whole = s
 
 -- ---- codes, by which values of models are told apart
 

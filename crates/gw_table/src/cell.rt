@@ -1,13 +1,11 @@
 //! What stands at the keys of a part: a cell for each, found by a search among the keys in order.
 
-ghost use Rattle.std.specs.Prelude.{◌≡◌, ◌≤◌, List, Some, true, length, map, IfOk, option_copied};
-ghost use Rattle.std.specs.FinMap as finite;
+ghost use Rattle.std.specs.Prelude.{◌≡◌, Some, map, IfOk, option_copied};
 ghost use Rattle.gw_base.specs.declared.key.Key.{Key};
 ghost use Rattle.gw_base.specs.declared.key.Key.TheVariants.{Term, Ctx};
-ghost use Rattle.gw_base.specs.Keys.{has};
-ghost use Rattle.gw_table.specs.Cells.{cell_term, cell_ctx, empty_cell, celled, IsFound};
+ghost use Rattle.gw_table.specs.Cells.{cell_term, cell_ctx, empty_cell, IsFound};
 ghost use Rattle.gw_table.specs.KeyLists.{key_cmp, IsInOrder};
-ghost use Rattle.gw_table.specs.Stored.{shown, put_term_place, put_ctx_place};
+ghost use Rattle.gw_table.specs.Stored.{shown};
 
 use crate::place::{Place, entry_at};
 use gw_base::{CtxNum, Held, Key, NoMemory, TermName};
@@ -15,7 +13,6 @@ use gw_ctx::Context;
 use gw_term::Termination;
 use std::alloc::Global;
 use std::cmp::Ordering;
-use std::mem;
 
 /// The place of a key of a part, by the kind of the key. Of `Whole` there is none.
 #[derive(Drop)]
@@ -61,7 +58,7 @@ impl Cell {
     }
 
     /// An equal cell.
-    fn copy(&self) -> Result<Cell, NoMemory>
+    pub(crate) fn copy(&self) -> Result<Cell, NoMemory>
         ensures { IfOk result (λ copy. copy ≡ self.now) }
     {
         match self {
@@ -137,46 +134,6 @@ pub(crate) fn find_number(keys: &[Key], number: CtxNum) -> Option<usize>
 {
     keys.binary_search_by(|key| compare_to_number(key, number))
         .ok()
-}
-
-/// Puts something else in the place of a termination, and answers what stood there. The caller knows that the name is one of the keys.
-pub(crate) fn exchange_term_cell(
-    keys: &[Key],
-    cells: &mut [Cell],
-    name: &TermName,
-    new: Place<Held<Termination>>,
-) -> Place<Held<Termination>>
-    requires order { IsInOrder keys.now }
-    requires as_many { length cells.old ≡ length keys.now }
-    requires key { has keys.now (Term name.now) ≡ true }
-    ensures before { Some result ≡ finite.get (celled keys.now cells.old).terms name.now }
-    ensures after { celled keys.now cells.new ≡ put_term_place (celled keys.now cells.old) name.now new }
-    ensures as_many { length cells.new ≡ length keys.now }
-{
-    match find_name(keys, name) {
-        Some(i) => mem::replace(&mut cells[i], Cell::OfTerm(new)).into_term(),
-        None => unreachable!(),
-    }
-}
-
-/// Puts something else in the place of a context, and answers what stood there. The caller knows that the number is one of the keys.
-pub(crate) fn exchange_ctx_cell(
-    keys: &[Key],
-    cells: &mut [Cell],
-    number: CtxNum,
-    new: Place<Held<Context>>,
-) -> Place<Held<Context>>
-    requires order { IsInOrder keys.now }
-    requires as_many { length cells.old ≡ length keys.now }
-    requires key { has keys.now (Ctx number) ≡ true }
-    ensures before { Some result ≡ finite.get (celled keys.now cells.old).contexts number.0 }
-    ensures after { celled keys.now cells.new ≡ put_ctx_place (celled keys.now cells.old) number new }
-    ensures as_many { length cells.new ≡ length keys.now }
-{
-    match find_number(keys, number) {
-        Some(i) => mem::replace(&mut cells[i], Cell::OfCtx(new)).into_ctx(),
-        None => unreachable!(),
-    }
 }
 
 /// Equal cells.

@@ -2,12 +2,15 @@
 #![tactic(auto)]
 
 mod attempts;
+mod base;
 mod cell;
+mod changes;
 mod draft;
 mod key_list;
 mod key_order;
 mod keys;
 mod laws;
+mod merge;
 mod moves;
 mod part;
 mod place;
@@ -16,6 +19,7 @@ mod slots;
 mod tables;
 mod text;
 mod unused;
+mod writes;
 
 pub use attempts::Attempts;
 pub use draft::Draft;

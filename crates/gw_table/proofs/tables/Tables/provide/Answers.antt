@@ -2,8 +2,8 @@ use Rattle.std.proofs.Common.{◌≡◌, subst, sym, ap, ◌∙◌, refl}
 use Rattle.gw_term.specs.Record.{provisioned}
 use Rattle.gw_term.specs.declared.record.Termination.{Termination}
 use Rattle.gw_table.specs.declared.place.Place.TheVariants.{Here}
-use Rattle.gw_table.specs.Stored.{Stored, maps_of, put_term_place, NoneIsOut}
-use Rattle.gw_table.proofs.Exchanged.{stored, term_written}
+use Rattle.gw_table.specs.Stored.{Stored, stored, maps_of, put_term_place, NoneIsOut}
+use Rattle.gw_table.proofs.Exchanged.{term_written}
 use Rattle.gw_table.proofs.Places.{maps-put_term_place, in-put_term}
 use Rattle.gw_table.proofs.tables.Tables.provide.Goals as goal
 

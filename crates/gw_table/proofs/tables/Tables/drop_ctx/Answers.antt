@@ -1,0 +1,12 @@
+use Rattle.std.proofs.Common.{ap, ◌∙◌}
+use Rattle.gw_table.specs.Stored.{Stored, drop_ctx_place}
+use Rattle.gw_table.proofs.Exchanged.{ctx_dropped, ctx_seen}
+use Rattle.gw_table.proofs.tables.Tables.drop_ctx.Goals as goal
+
+pub returns-clause-place : goal.returns-clause-place
+returns-clause-place c = c.remove.ensures.value ∙ ctx_seen c.self.inside.terms.entries c.self.inside.contexts.entries c.args.self.now c.args.number c.self.view_is
+
+pub returns-clause-left : goal.returns-clause-left
+returns-clause-left c =
+    ctx_dropped c.self.inside.terms.entries c.self.inside.contexts.entries c.remove.new.self.entries c.args.number c.remove.ensures.updates.0
+    ∙ ap (λ (s : Stored). drop_ctx_place s c.args.number) c.self.view_is

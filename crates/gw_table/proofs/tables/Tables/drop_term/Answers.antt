@@ -1,0 +1,12 @@
+use Rattle.std.proofs.Common.{ap, ◌∙◌}
+use Rattle.gw_table.specs.Stored.{Stored, drop_term_place}
+use Rattle.gw_table.proofs.Exchanged.{term_dropped, term_seen}
+use Rattle.gw_table.proofs.tables.Tables.drop_term.Goals as goal
+
+pub returns-clause-place : goal.returns-clause-place
+returns-clause-place c = c.remove.ensures.value ∙ term_seen c.self.inside.terms.entries c.self.inside.contexts.entries c.args.self.now c.args.name.now c.self.view_is
+
+pub returns-clause-left : goal.returns-clause-left
+returns-clause-left c =
+    term_dropped c.self.inside.terms.entries c.remove.new.self.entries c.self.inside.contexts.entries c.args.name.now c.remove.ensures.updates.0
+    ∙ ap (λ (s : Stored). drop_term_place s c.args.name.now) c.self.view_is

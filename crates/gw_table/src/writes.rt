@@ -1,0 +1,99 @@
+//! Single places of tables: read, written, and given up.
+
+ghost use Rattle.std.specs.Prelude.{◌≡◌, OnOk, OnErr, option_copied};
+ghost use Rattle.std.specs.Bool.{OnTrue};
+ghost use Rattle.std.specs.FinMap as finite;
+ghost use Rattle.gw_base.specs.declared.key.Key.TheVariants.{Term, Ctx};
+ghost use Rattle.gw_table.specs.Stored.{is_ready, put_term_place, put_ctx_place, drop_term_place, drop_ctx_place};
+
+use crate::place::Place;
+use crate::tables::Tables;
+use gw_base::{CtxNum, Held, NoMemory, TermName};
+use gw_ctx::Context;
+use gw_term::Termination;
+
+impl Tables {
+    /// Whether there is a place for a termination.
+    pub(crate) fn has_term(&self, name: &TermName) -> bool
+        ensures { result ≡ is_ready self.now (Term name.now) }
+    {
+        self.terms.contains_key(name)
+    }
+
+    /// Whether there is a place for a context.
+    pub(crate) fn has_ctx(&self, number: CtxNum) -> bool
+        ensures { result ≡ is_ready self.now (Ctx number) }
+    {
+        self.contexts.contains_key(&number.0)
+    }
+
+    /// Whether there is no place for any termination.
+    pub(crate) fn has_no_terms(&self) -> bool
+        ensures { OnTrue result (self.now.terms ≡ finite.empty) }
+    {
+        self.terms.is_empty()
+    }
+
+    /// Whether there is no place for any context.
+    pub(crate) fn has_no_contexts(&self) -> bool
+        ensures { OnTrue result (self.now.contexts ≡ finite.empty) }
+    {
+        self.contexts.is_empty()
+    }
+
+    /// The place of a termination.
+    pub(crate) fn term_place(&self, name: &TermName) -> Option<&Place<Held<Termination>>>
+        ensures { option_copied result ≡ finite.get self.now.terms name.now }
+    {
+        self.terms.get(name)
+    }
+
+    /// The place of a context.
+    pub(crate) fn ctx_place(&self, number: CtxNum) -> Option<&Place<Held<Context>>>
+        ensures { option_copied result ≡ finite.get self.now.contexts number.0 }
+    {
+        self.contexts.get(&number.0)
+    }
+
+    /// Sets the place of a termination. A refused growth changes nothing.
+    pub(crate) fn put_term(
+        &mut self,
+        name: TermName,
+        place: Place<Held<Termination>>,
+    ) -> Result<(), NoMemory>
+        ensures ok { OnOk result (self.new ≡ put_term_place self.old name place) }
+        ensures err { OnErr result (self.new ≡ self.old) }
+    {
+        self.terms.insert(name, place)?;
+        Ok(())
+    }
+
+    /// Sets the place of a context. A refused growth changes nothing.
+    pub(crate) fn put_ctx(
+        &mut self,
+        number: CtxNum,
+        place: Place<Held<Context>>,
+    ) -> Result<(), NoMemory>
+        ensures ok { OnOk result (self.new ≡ put_ctx_place self.old number place) }
+        ensures err { OnErr result (self.new ≡ self.old) }
+    {
+        self.contexts.insert(number.0, place)?;
+        Ok(())
+    }
+
+    /// Gives up the place of a termination, and answers what stood there.
+    pub(crate) fn drop_term(&mut self, name: &TermName) -> Option<Place<Held<Termination>>>
+        ensures place { result ≡ finite.get self.old.terms name.now }
+        ensures left { self.new ≡ drop_term_place self.old name.now }
+    {
+        self.terms.remove(name)
+    }
+
+    /// Gives up the place of a context, and answers what stood there.
+    pub(crate) fn drop_ctx(&mut self, number: CtxNum) -> Option<Place<Held<Context>>>
+        ensures place { result ≡ finite.get self.old.contexts number.0 }
+        ensures left { self.new ≡ drop_ctx_place self.old number }
+    {
+        self.contexts.remove(&number.0)
+    }
+}
