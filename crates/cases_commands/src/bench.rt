@@ -14,7 +14,7 @@ use cases_text::{CaseFault, Page};
 use gw_base::{Config, NoMemory, Rules, TermName};
 use gw_cmd::{CmdOutcome, command};
 use gw_msg::{Command, Item, Message, read_message};
-use gw_table::{Tables, is_reserved, slot_name};
+use gw_table::{Draft, Tables, is_reserved, slot_name};
 use std::alloc::Global;
 use std::marker::Model;
 
@@ -73,7 +73,7 @@ fn command_of<'m, 'a>(message: &'m Message<'a>) -> Option<&'m Command<'a>> {
     Some(command)
 }
 
-/// Carries a command out on all of the tables.
+/// Carries a command out on a draft of all of the tables.
 fn carry_out(
     alloc: Global,
     rules: &Rules,
@@ -89,9 +89,11 @@ fn carry_out(
 {
     let keys = enough_keys(alloc, tables, place, asked)?;
     tables.reserve_slots(keys.list())?;
-    let mut part = tables.take_out(keys);
-    let outcome = command(alloc, rules, &mut part, place.at, place.slot, asked)?;
-    tables.put_back(part);
+    let part = tables.take_out(keys);
+    let mut draft = Draft::of_part(alloc, &part);
+    let outcome = command(alloc, rules, &mut draft, place.at, place.slot, asked)?;
+    let after = draft.into_part(alloc)?;
+    tables.put_back(after);
     tables.sweep();
     Ok(outcome)
 }

@@ -29,7 +29,7 @@ use gw_length::Telling;
 use gw_msg::Command;
 use gw_refusal::{At, refusal_by_form, service_asked, targets};
 use gw_reply::CommandReply;
-use gw_table::{Part, slot_name};
+use gw_table::{Draft, slot_name};
 use std::alloc::Global;
 
 /// One reply to the TerminationID as sent.
@@ -48,20 +48,20 @@ fn refused(
 fn on_target(
     alloc: Global,
     rules: &Rules,
-    part: &mut Part,
+    draft: &mut Draft<'_>,
     at: At,
     command: &Command<'_>,
     name: TermName,
 ) -> Result<CommandReply, NoMemory>
-    requires sound { IsSound part.old.keys part.old.maps }
-    requires term_key { HoldsFound part.old.keys name part.old.maps }
-    requires ctx_key { HoldsPlace part.old.keys (place_at at) }
-    requires moved_key { HoldsMoved part.old.keys command.now.verb (place_of (term part.old.maps name)) }
-    ensures maps { OnOk result (part.new.maps ≡ (name_done rules.now (place_at at) command.now name part.old.maps).maps) }
-    ensures answer { IfOk result (λ r. r ≡ reply command.now (Name name) (name_done rules.now (place_at at) command.now name part.old.maps).answer) }
-    ensures keys { part.new.keys ≡ part.old.keys }
+    requires sound { IsSound draft.old.keys draft.old.maps }
+    requires term_key { HoldsFound draft.old.keys name draft.old.maps }
+    requires ctx_key { HoldsPlace draft.old.keys (place_at at) }
+    requires moved_key { HoldsMoved draft.old.keys command.now.verb (place_of (term draft.old.maps name)) }
+    ensures maps { OnOk result (draft.new.maps ≡ (name_done rules.now (place_at at) command.now name draft.old.maps).maps) }
+    ensures answer { IfOk result (λ r. r ≡ reply command.now (Name name) (name_done rules.now (place_at at) command.now name draft.old.maps).answer) }
+    ensures keys { draft.new.keys ≡ draft.old.keys }
 {
-    let told = match on_name(alloc, rules, part, at.place(), command, name) {
+    let told = match on_name(alloc, rules, draft, at.place(), command, name) {
         Ok(parts) => Ok(parts),
         Err(Refusal::Code(code)) => Err(code),
         Err(Refusal::NoMemory) => return Err(NoMemory),
@@ -73,25 +73,25 @@ fn on_target(
 fn on_targets(
     alloc: Global,
     rules: &Rules,
-    part: &mut Part,
+    draft: &mut Draft<'_>,
     at: At,
     command: &Command<'_>,
     named: &[TermName],
     told: Telling<CommandReply>,
 ) -> Result<Seen, NoMemory>
-    requires sound { IsSound part.old.keys part.old.maps }
-    requires term_keys { (t : List ℕ) → is_in t named.now ≡ true → HoldsFound part.old.keys t part.old.maps }
-    requires ctx_key { HoldsPlace part.old.keys (place_at at) }
+    requires sound { IsSound draft.old.keys draft.old.maps }
+    requires term_keys { (t : List ℕ) → is_in t named.now ≡ true → HoldsFound draft.old.keys t draft.old.maps }
+    requires ctx_key { HoldsPlace draft.old.keys (place_at at) }
     requires stays { is_move command.now.verb ≡ false }
-    ensures maps { OnOk result (part.new.maps ≡ (on_targets rules.now at command.now named.now part.old.maps).maps) }
-    ensures answer { IfOk result (λ done. done ≡ seen told (on_targets rules.now at command.now named.now part.old.maps).answer.answers) }
-    ensures keys { part.new.keys ≡ part.old.keys }
+    ensures maps { OnOk result (draft.new.maps ≡ (on_targets rules.now at command.now named.now draft.old.maps).maps) }
+    ensures answer { IfOk result (λ done. done ≡ seen told (on_targets rules.now at command.now named.now draft.old.maps).answer.answers) }
+    ensures keys { draft.new.keys ≡ draft.old.keys }
 {
     let mut told = told;
     let mut first_error = None;
     let mut any_done = false;
     for name in named {
-        let reply = on_target(alloc, rules, part, at, command, *name)?;
+        let reply = on_target(alloc, rules, draft, at, command, *name)?;
         let error = code_of(&reply);
         told = told.tell(reply)?;
         any_done = any_done || error.is_none();
@@ -108,21 +108,21 @@ fn on_targets(
 fn on_one(
     alloc: Global,
     rules: &Rules,
-    part: &mut Part,
+    draft: &mut Draft<'_>,
     at: At,
     command: &Command<'_>,
     name: TermName,
     told: Telling<CommandReply>,
 ) -> Result<CmdTold, NoMemory>
-    requires sound { IsSound part.old.keys part.old.maps }
-    requires term_key { HoldsFound part.old.keys name part.old.maps }
-    requires ctx_key { HoldsPlace part.old.keys (place_at at) }
-    requires moved_key { HoldsMoved part.old.keys command.now.verb (place_of (term part.old.maps name)) }
-    ensures maps { OnOk result (part.new.maps ≡ (on_targets rules.now at command.now (name ∷ []) part.old.maps).maps) }
-    ensures answer { IfOk result (λ done. done ≡ outcome_behind told (outcome_of at (on_targets rules.now at command.now (name ∷ []) part.old.maps).answer.answers)) }
-    ensures keys { part.new.keys ≡ part.old.keys }
+    requires sound { IsSound draft.old.keys draft.old.maps }
+    requires term_key { HoldsFound draft.old.keys name draft.old.maps }
+    requires ctx_key { HoldsPlace draft.old.keys (place_at at) }
+    requires moved_key { HoldsMoved draft.old.keys command.now.verb (place_of (term draft.old.maps name)) }
+    ensures maps { OnOk result (draft.new.maps ≡ (on_targets rules.now at command.now (name ∷ []) draft.old.maps).maps) }
+    ensures answer { IfOk result (λ done. done ≡ outcome_behind told (outcome_of at (on_targets rules.now at command.now (name ∷ []) draft.old.maps).answer.answers)) }
+    ensures keys { draft.new.keys ≡ draft.old.keys }
 {
-    let reply = on_target(alloc, rules, part, at, command, name)?;
+    let reply = on_target(alloc, rules, draft, at, command, name)?;
     one(told, at, reply)
 }
 
@@ -130,25 +130,25 @@ fn on_one(
 fn on_all(
     alloc: Global,
     rules: &Rules,
-    part: &mut Part,
+    draft: &mut Draft<'_>,
     at: At,
     command: &Command<'_>,
     named: &[TermName],
     told: Telling<CommandReply>,
 ) -> Result<CmdTold, NoMemory>
-    requires sound { IsSound part.old.keys part.old.maps }
-    requires term_keys { (t : List ℕ) → is_in t named.now ≡ true → HoldsFound part.old.keys t part.old.maps }
-    requires ctx_key { HoldsPlace part.old.keys (place_at at) }
+    requires sound { IsSound draft.old.keys draft.old.maps }
+    requires term_keys { (t : List ℕ) → is_in t named.now ≡ true → HoldsFound draft.old.keys t draft.old.maps }
+    requires ctx_key { HoldsPlace draft.old.keys (place_at at) }
     requires stays { is_move command.now.verb ≡ false }
-    ensures maps { OnOk result (part.new.maps ≡ (on_targets rules.now at command.now named.now part.old.maps).maps) }
-    ensures answer { IfOk result (λ done. done ≡ outcome_behind told (outcome_told at command.now (on_targets rules.now at command.now named.now part.old.maps).answer.answers)) }
-    ensures keys { part.new.keys ≡ part.old.keys }
+    ensures maps { OnOk result (draft.new.maps ≡ (on_targets rules.now at command.now named.now draft.old.maps).maps) }
+    ensures answer { IfOk result (λ done. done ≡ outcome_behind told (outcome_told at command.now (on_targets rules.now at command.now named.now draft.old.maps).answer.answers)) }
+    ensures keys { draft.new.keys ≡ draft.old.keys }
 {
     if has_one_reply(command) {
-        let seen = on_targets(alloc, rules, part, at, command, named, Telling::TooLong)?;
+        let seen = on_targets(alloc, rules, draft, at, command, named, Telling::TooLong)?;
         return outcome_of_all(alloc, told, at, command, seen);
     }
-    let seen = on_targets(alloc, rules, part, at, command, named, told)?;
+    let seen = on_targets(alloc, rules, draft, at, command, named, told)?;
     Ok(outcome_of(at, seen))
 }
 
@@ -156,22 +156,22 @@ fn on_all(
 fn on_names(
     alloc: Global,
     rules: &Rules,
-    part: &mut Part,
+    draft: &mut Draft<'_>,
     at: At,
     command: &Command<'_>,
     named: &[TermName],
     told: Telling<CommandReply>,
 ) -> Result<CmdTold, NoMemory>
-    requires sound { IsSound part.old.keys part.old.maps }
-    requires ready { IsReady part.old.keys at command.now part.old.maps }
-    requires named { named.now ≡ targets at command.now part.old.maps }
-    ensures maps { OnOk result (part.new.maps ≡ (on_names rules.now at command.now part.old.maps).maps) }
-    ensures answer { IfOk result (λ done. done ≡ outcome_behind told (on_names rules.now at command.now part.old.maps).answer) }
-    ensures keys { part.new.keys ≡ part.old.keys }
+    requires sound { IsSound draft.old.keys draft.old.maps }
+    requires ready { IsReady draft.old.keys at command.now draft.old.maps }
+    requires named { named.now ≡ targets at command.now draft.old.maps }
+    ensures maps { OnOk result (draft.new.maps ≡ (on_names rules.now at command.now draft.old.maps).maps) }
+    ensures answer { IfOk result (λ done. done ≡ outcome_behind told (on_names rules.now at command.now draft.old.maps).answer) }
+    ensures keys { draft.new.keys ≡ draft.old.keys }
 {
     match command.term {
-        TermRef::Name(name) => on_one(alloc, rules, part, at, command, name, told),
-        _ => on_all(alloc, rules, part, at, command, named, told),
+        TermRef::Name(name) => on_one(alloc, rules, draft, at, command, name, told),
+        _ => on_all(alloc, rules, draft, at, command, named, told),
     }
 }
 
@@ -179,24 +179,24 @@ fn on_names(
 fn on_slot(
     alloc: Global,
     rules: &Rules,
-    part: &mut Part,
+    draft: &mut Draft<'_>,
     at: At,
     slot: Option<u16>,
     command: &Command<'_>,
     told: Telling<CommandReply>,
 ) -> Result<CmdTold, NoMemory>
-    requires sound { IsSound part.old.keys part.old.maps }
-    requires ctx_key { HoldsPlace part.old.keys (place_at at) }
-    requires slot_key { HoldsSlot part.old.keys slot }
-    requires unused { IsUnused slot part.old.maps }
-    ensures maps { OnOk result (part.new.maps ≡ (made_new rules.now at command.now slot part.old.maps).maps) }
-    ensures answer { IfOk result (λ done. done ≡ outcome_behind told (made_new rules.now at command.now slot part.old.maps).answer) }
-    ensures keys { part.new.keys ≡ part.old.keys }
+    requires sound { IsSound draft.old.keys draft.old.maps }
+    requires ctx_key { HoldsPlace draft.old.keys (place_at at) }
+    requires slot_key { HoldsSlot draft.old.keys slot }
+    requires unused { IsUnused slot draft.old.maps }
+    ensures maps { OnOk result (draft.new.maps ≡ (made_new rules.now at command.now slot draft.old.maps).maps) }
+    ensures answer { IfOk result (λ done. done ≡ outcome_behind told (made_new rules.now at command.now slot draft.old.maps).answer) }
+    ensures keys { draft.new.keys ≡ draft.old.keys }
 {
     let Some(slot) = slot else {
         return refused(told, at, command, Code::NoTerminationLeft);
     };
-    let reply = match on_new(alloc, rules, part, at.place(), command, slot) {
+    let reply = match on_new(alloc, rules, draft, at.place(), command, slot) {
         Ok(parts) => reply(command, TermRef::Name(slot_name(slot)), Ok(parts)),
         Err(Refusal::Code(code)) => reply(command, TermRef::Choose, Err(code)),
         Err(Refusal::NoMemory) => return Err(NoMemory),
@@ -207,20 +207,20 @@ fn on_slot(
 /// Carries the command out on the gateway itself.
 fn on_root(
     alloc: Global,
-    part: &mut Part,
+    draft: &mut Draft<'_>,
     at: At,
     command: &Command<'_>,
     told: Telling<CommandReply>,
 ) -> Result<CmdTold, NoMemory>
-    requires term_keys { command.now.verb ≡ ServiceChange → (t : List ℕ) → is_in t (names part.old.maps) ≡ true → holds part.old.keys (Term t) ≡ true }
-    ensures maps { OnOk result (part.new.maps ≡ (root_done at command.now part.old.maps).maps) }
-    ensures answer { IfOk result (λ done. done ≡ outcome_behind told (root_done at command.now part.old.maps).answer) }
-    ensures keys { part.new.keys ≡ part.old.keys }
+    requires term_keys { command.now.verb ≡ ServiceChange → (t : List ℕ) → is_in t (names draft.old.maps) ≡ true → holds draft.old.keys (Term t) ≡ true }
+    ensures maps { OnOk result (draft.new.maps ≡ (root_done at command.now draft.old.maps).maps) }
+    ensures answer { IfOk result (λ done. done ≡ outcome_behind told (root_done at command.now draft.old.maps).answer) }
+    ensures keys { draft.new.keys ≡ draft.old.keys }
 {
     let descriptors = command.descriptors.as_slice();
     if let Verb::ServiceChange = command.verb {
         if let Some(service) = service_asked(descriptors) {
-            every_serviced(alloc, part, service)?;
+            every_serviced(alloc, draft, service)?;
         }
     }
     let parts = root_parts(alloc, descriptors)?;
@@ -231,26 +231,26 @@ fn on_root(
 fn carried(
     alloc: Global,
     rules: &Rules,
-    part: &mut Part,
+    draft: &mut Draft<'_>,
     at: At,
     slot: Option<u16>,
     command: &Command<'_>,
     named: &[TermName],
     told: Telling<CommandReply>,
 ) -> Result<CmdTold, NoMemory>
-    requires sound { IsSound part.old.keys part.old.maps }
-    requires ready { IsReady part.old.keys at command.now part.old.maps }
-    requires new { HoldsNew part.old.keys slot command.now }
-    requires unused { IsUnused slot part.old.maps }
-    requires named { named.now ≡ targets at command.now part.old.maps }
-    ensures maps { OnOk result (part.new.maps ≡ (carried_out rules.now at slot command.now part.old.maps command.now.term).maps) }
-    ensures answer { IfOk result (λ done. done ≡ outcome_behind told (carried_out rules.now at slot command.now part.old.maps command.now.term).answer) }
-    ensures keys { part.new.keys ≡ part.old.keys }
+    requires sound { IsSound draft.old.keys draft.old.maps }
+    requires ready { IsReady draft.old.keys at command.now draft.old.maps }
+    requires new { HoldsNew draft.old.keys slot command.now }
+    requires unused { IsUnused slot draft.old.maps }
+    requires named { named.now ≡ targets at command.now draft.old.maps }
+    ensures maps { OnOk result (draft.new.maps ≡ (carried_out rules.now at slot command.now draft.old.maps command.now.term).maps) }
+    ensures answer { IfOk result (λ done. done ≡ outcome_behind told (carried_out rules.now at slot command.now draft.old.maps command.now.term).answer) }
+    ensures keys { draft.new.keys ≡ draft.old.keys }
 {
     match command.term {
-        TermRef::Root => on_root(alloc, part, at, command, told),
-        TermRef::Choose => on_slot(alloc, rules, part, at, slot, command, told),
-        _ => on_names(alloc, rules, part, at, command, named, told),
+        TermRef::Root => on_root(alloc, draft, at, command, told),
+        TermRef::Choose => on_slot(alloc, rules, draft, at, slot, command, told),
+        _ => on_names(alloc, rules, draft, at, command, named, told),
     }
 }
 
@@ -258,26 +258,26 @@ fn carried(
 fn with_targets(
     alloc: Global,
     rules: &Rules,
-    part: &mut Part,
+    draft: &mut Draft<'_>,
     at: At,
     slot: Option<u16>,
     command: &Command<'_>,
     named: &[TermName],
     told: Telling<CommandReply>,
 ) -> Result<CmdTold, NoMemory>
-    requires sound { IsSound part.old.keys part.old.maps }
-    requires covered { Holds part.old.keys (command_keys at slot command.now part.old.maps) }
-    requires unused { IsUnused slot part.old.maps }
+    requires sound { IsSound draft.old.keys draft.old.maps }
+    requires covered { Holds draft.old.keys (command_keys at slot command.now draft.old.maps) }
+    requires unused { IsUnused slot draft.old.maps }
     requires form { refusal_by_form at command.now ≡ None }
-    requires named { named.now ≡ targets at command.now part.old.maps }
-    ensures maps { OnOk result (part.new.maps ≡ (allowed rules.now at slot command.now part.old.maps).maps) }
-    ensures answer { IfOk result (λ done. done ≡ outcome_behind told (allowed rules.now at slot command.now part.old.maps).answer) }
-    ensures keys { part.new.keys ≡ part.old.keys }
+    requires named { named.now ≡ targets at command.now draft.old.maps }
+    ensures maps { OnOk result (draft.new.maps ≡ (allowed rules.now at slot command.now draft.old.maps).maps) }
+    ensures answer { IfOk result (λ done. done ≡ outcome_behind told (allowed rules.now at slot command.now draft.old.maps).answer) }
+    ensures keys { draft.new.keys ≡ draft.old.keys }
 {
-    if let Some(code) = refusal_by_tables(part, at, slot, command, named) {
+    if let Some(code) = refusal_by_tables(draft, at, slot, command, named) {
         return refused(told, at, command, code);
     }
-    carried(alloc, rules, part, at, slot, command, named, told)
+    carried(alloc, rules, draft, at, slot, command, named, told)
 }
 
 /// Carries one command out as [`command`] does, and tells its replies behind those before it. Where they are too long, none is kept,
@@ -285,32 +285,32 @@ fn with_targets(
 ///
 /// # Errors
 ///
-/// Want of memory. The part is then spent: nothing is known of it but its keys.
+/// Want of memory. The draft is then spent: nothing is known of it but its keys.
 #[tactic(auto, unfolding(crate::specs::Commands::command))]
 pub fn command_told(
     alloc: Global,
     rules: &Rules,
-    part: &mut Part,
+    draft: &mut Draft<'_>,
     at: At,
     slot: Option<u16>,
     command: &Command<'_>,
     told: Telling<CommandReply>,
 ) -> Result<CmdTold, NoMemory>
-    requires sound { IsSound part.old.keys part.old.maps }
-    requires covered { Holds part.old.keys (command_keys at slot command.now part.old.maps) }
-    requires unused { IsUnused slot part.old.maps }
-    ensures maps { OnOk result (part.new.maps ≡ (command_done rules.now at slot command.now part.old.maps).maps) }
-    ensures answer { IfOk result (λ done. done ≡ outcome_behind told (command_done rules.now at slot command.now part.old.maps).answer) }
-    ensures keys { part.new.keys ≡ part.old.keys }
+    requires sound { IsSound draft.old.keys draft.old.maps }
+    requires covered { Holds draft.old.keys (command_keys at slot command.now draft.old.maps) }
+    requires unused { IsUnused slot draft.old.maps }
+    ensures maps { OnOk result (draft.new.maps ≡ (command_done rules.now at slot command.now draft.old.maps).maps) }
+    ensures answer { IfOk result (λ done. done ≡ outcome_behind told (command_done rules.now at slot command.now draft.old.maps).answer) }
+    ensures keys { draft.new.keys ≡ draft.old.keys }
 {
     if let Some(code) = refusal_by_form(at, command) {
         return refused(told, at, command, code);
     }
     if let TermRef::Name(name) = command.term {
-        return with_targets(alloc, rules, part, at, slot, command, &[name], told);
+        return with_targets(alloc, rules, draft, at, slot, command, &[name], told);
     }
-    let named = targets(alloc, part, at, command)?;
-    with_targets(alloc, rules, part, at, slot, command, &named, told)
+    let named = targets(alloc, draft, at, command)?;
+    with_targets(alloc, rules, draft, at, slot, command, &named, told)
 }
 
 /// Carries one command out (RFC 3525, section 7.2): its refusals in their order, and then what it does to each termination
@@ -318,29 +318,31 @@ pub fn command_told(
 /// context, of its descriptors and of the termination's record; a wildcard one pass of the members, or, in the null context
 /// and of an Add, of all names, and its matches.
 ///
-/// The caller knows that the tables are sound, that the part has the command's keys, and that no termination has the name of
+/// The caller knows that the tables are sound, that the draft has the command's keys, and that no termination has the name of
 /// the slot.
 ///
 /// # Errors
 ///
-/// Want of memory. The part is then spent: nothing is known of it but its keys.
+/// Want of memory. The draft is then spent: nothing is known of it but its keys.
 pub fn command(
     alloc: Global,
     rules: &Rules,
-    part: &mut Part,
+    draft: &mut Draft<'_>,
     at: At,
     slot: Option<u16>,
     command: &Command<'_>,
 ) -> Result<CmdOutcome, NoMemory>
-    requires sound { IsSound part.old.keys part.old.maps }
-    requires covered { Holds part.old.keys (command_keys at slot command.now part.old.maps) }
-    requires unused { IsUnused slot part.old.maps }
-    ensures maps { OnOk result (part.new.maps ≡ (command_done rules.now at slot command.now part.old.maps).maps) }
-    ensures answer { IfOk result (λ done. done ≡ (command_done rules.now at slot command.now part.old.maps).answer) }
-    ensures keys { part.new.keys ≡ part.old.keys }
+    requires sound { IsSound draft.old.keys draft.old.maps }
+    requires covered { Holds draft.old.keys (command_keys at slot command.now draft.old.maps) }
+    requires unused { IsUnused slot draft.old.maps }
+    ensures maps { OnOk result (draft.new.maps ≡ (command_done rules.now at slot command.now draft.old.maps).maps) }
+    ensures answer { IfOk result (λ done. done ≡ (command_done rules.now at slot command.now draft.old.maps).answer) }
+    ensures keys { draft.new.keys ≡ draft.old.keys }
 {
     let told = Telling::All(Items::new(alloc));
-    let CmdTold { told, failed, made } = command_told(alloc, rules, part, at, slot, command, told)?;
+    let CmdTold { told, failed, made } = command_told(
+        alloc, rules, draft, at, slot, command, told,
+    )?;
     let Telling::All(replies) = told else {
         unreachable!()
     };

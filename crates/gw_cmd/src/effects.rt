@@ -20,50 +20,50 @@ use gw_base::{Code, CtxNum, Held, Items, NoMemory, Rules, Service, TermName, Ver
 use gw_msg::Command;
 use gw_refusal::service_asked;
 use gw_reply::ReplyPart;
-use gw_table::{Part, slot_name};
+use gw_table::{Draft, slot_name};
 use gw_term::Termination;
 use std::alloc::Global;
 
 /// The termination's record becomes this one, or none.
-pub(crate) fn put(part: &mut Part, name: TermName, entry: Option<Held<Termination>>)
-    requires { holds part.old.keys (Term name) ≡ true }
-    ensures maps { part.new.maps ≡ put_term part.old.maps name entry }
-    ensures keys { part.new.keys ≡ part.old.keys }
+pub(crate) fn put(
+    draft: &mut Draft<'_>,
+    name: TermName,
+    entry: Option<Held<Termination>>,
+) -> Result<(), NoMemory>
+    requires { holds draft.old.keys (Term name) ≡ true }
+    ensures maps { OnOk result (draft.new.maps ≡ put_term draft.old.maps name entry) }
+    ensures keys { draft.new.keys ≡ draft.old.keys }
 {
-    part.set_term(name, entry);
+    draft.set_term(name, entry)
 }
 
 /// What a change makes of the tables.
 fn changed(
     alloc: Global,
     rules: &Rules,
-    part: &mut Part,
+    draft: &mut Draft<'_>,
     name: TermName,
     change: Change,
 ) -> Result<(), NoMemory>
-    requires { Suits rules.now part.old.keys name change part.old.maps }
-    ensures ok { OnOk result (part.new.maps ≡ changed name change part.old.maps) }
-    ensures keys { part.new.keys ≡ part.old.keys }
+    requires { Suits rules.now draft.old.keys name change draft.old.maps }
+    ensures ok { OnOk result (draft.new.maps ≡ changed name change draft.old.maps) }
+    ensures keys { draft.new.keys ≡ draft.old.keys }
 {
     match change {
         Change::Stays => Ok(()),
-        Change::Becomes(record) => {
-            put(part, name, Some(record));
-            Ok(())
-        }
+        Change::Becomes(record) => put(draft, name, Some(record)),
         Change::Joins(number, record) => {
-            put(part, name, Some(record));
-            part.join(alloc, number, name, usize::from(rules.members))
+            put(draft, name, Some(record))?;
+            draft.join(alloc, number, name, usize::from(rules.members))
         }
         Change::Crosses(from, number, record) => {
-            put(part, name, Some(record));
-            part.leave(from, &name);
-            part.join(alloc, number, name, usize::from(rules.members))
+            put(draft, name, Some(record))?;
+            draft.leave(alloc, from, &name)?;
+            draft.join(alloc, number, name, usize::from(rules.members))
         }
         Change::Leaves(number, remains) => {
-            put(part, name, remains);
-            part.leave(number, &name);
-            Ok(())
+            put(draft, name, remains)?;
+            draft.leave(alloc, number, &name)
         }
     }
 }
@@ -72,15 +72,15 @@ fn changed(
 fn done(
     alloc: Global,
     rules: &Rules,
-    part: &mut Part,
+    draft: &mut Draft<'_>,
     name: TermName,
     decided: Decided,
 ) -> Result<Items<ReplyPart>, Refusal>
-    requires { Suits rules.now part.old.keys name decided.change part.old.maps }
-    ensures told { Tells result part.new.maps (done name part.old.maps (Ok decided)) }
-    ensures keys { part.new.keys ≡ part.old.keys }
+    requires { Suits rules.now draft.old.keys name decided.change draft.old.maps }
+    ensures told { Tells result draft.new.maps (done name draft.old.maps (Ok decided)) }
+    ensures keys { draft.new.keys ≡ draft.old.keys }
 {
-    changed(alloc, rules, part, name, decided.change)?;
+    changed(alloc, rules, draft, name, decided.change)?;
     Ok(decided.parts)
 }
 
@@ -88,18 +88,18 @@ fn done(
 fn decided(
     alloc: Global,
     rules: &Rules,
-    part: &Part,
+    draft: &Draft<'_>,
     place: Option<CtxNum>,
     command: &Command<'_>,
     old: &Termination,
 ) -> Result<Decided, Refusal>
-    ensures { Answers result (decided_by rules.now place command.now part.now.maps old.now) }
+    ensures { Answers result (decided_by rules.now place command.now draft.now.maps old.now) }
 {
     let descriptors = command.descriptors.as_slice();
     match place {
         None => decided_in_null(alloc, rules, command.verb, descriptors, old),
         Some(number) => {
-            let full = is_full(rules, part, number);
+            let full = is_full(rules, draft, number);
             decided_in(alloc, rules, command.verb, descriptors, full, number, old)
         }
     }
@@ -122,20 +122,20 @@ fn unchanged(
 /// Changes the service state of a termination where it lies.
 fn serviced(
     alloc: Global,
-    part: &mut Part,
+    draft: &mut Draft<'_>,
     place: Option<CtxNum>,
     name: TermName,
     there: Option<CtxNum>,
     service: Service,
 ) -> Result<Items<ReplyPart>, Refusal>
-    requires { holds part.old.keys (Term name) ≡ true }
-    ensures told { Tells result part.new.maps (after_service (refusal_elsewhere place there) service name part.old.maps) }
-    ensures keys { part.new.keys ≡ part.old.keys }
+    requires { holds draft.old.keys (Term name) ≡ true }
+    ensures told { Tells result draft.new.maps (after_service (refusal_elsewhere place there) service name draft.old.maps) }
+    ensures keys { draft.new.keys ≡ draft.old.keys }
 {
     if let Some(code) = refusal_elsewhere(place, there) {
         return Err(Refusal::Code(code));
     }
-    part.set_service(&name, service);
+    draft.set_service(alloc, &name, service)?;
     Ok(Items::new(alloc))
 }
 
@@ -144,19 +144,19 @@ fn serviced(
 pub(crate) fn on_name(
     alloc: Global,
     rules: &Rules,
-    part: &mut Part,
+    draft: &mut Draft<'_>,
     place: Option<CtxNum>,
     command: &Command<'_>,
     name: TermName,
 ) -> Result<Items<ReplyPart>, Refusal>
-    requires sound { IsSound part.old.keys part.old.maps }
-    requires term_key { HoldsFound part.old.keys name part.old.maps }
-    requires ctx_key { HoldsPlace part.old.keys place }
-    requires moved_key { HoldsMoved part.old.keys command.now.verb (place_of (term part.old.maps name)) }
-    ensures told { Tells result part.new.maps (on_name rules.now place command.now name part.old.maps) }
-    ensures keys { part.new.keys ≡ part.old.keys }
+    requires sound { IsSound draft.old.keys draft.old.maps }
+    requires term_key { HoldsFound draft.old.keys name draft.old.maps }
+    requires ctx_key { HoldsPlace draft.old.keys place }
+    requires moved_key { HoldsMoved draft.old.keys command.now.verb (place_of (term draft.old.maps name)) }
+    ensures told { Tells result draft.new.maps (on_name rules.now place command.now name draft.old.maps) }
+    ensures keys { draft.new.keys ≡ draft.old.keys }
 {
-    let Some(old) = part.term(&name) else {
+    let Some(old) = draft.term(&name) else {
         return Err(Refusal::Code(Code::UnknownTermination));
     };
     match command.verb {
@@ -164,11 +164,11 @@ pub(crate) fn on_name(
         Verb::ServiceChange => {
             let there = old.place();
             let service = service_asked(command.descriptors.as_slice()).unwrap_or(old.service());
-            serviced(alloc, part, place, name, there, service)
+            serviced(alloc, draft, place, name, there, service)
         }
         _ => {
-            let decided = decided(alloc, rules, part, place, command, old)?;
-            done(alloc, rules, part, name, decided)
+            let decided = decided(alloc, rules, draft, place, command, old)?;
+            done(alloc, rules, draft, name, decided)
         }
     }
 }
@@ -177,15 +177,15 @@ pub(crate) fn on_name(
 fn decided_new(
     alloc: Global,
     rules: &Rules,
-    part: &Part,
+    draft: &Draft<'_>,
     place: Option<CtxNum>,
     command: &Command<'_>,
     slot: u16,
 ) -> Result<Decided, Refusal>
-    ensures { Answers result (decided_by rules.now place command.now part.now.maps (ephemeral slot)) }
+    ensures { Answers result (decided_by rules.now place command.now draft.now.maps (ephemeral slot)) }
 {
     let new = Termination::ephemeral(alloc, slot);
-    decided(alloc, rules, part, place, command, &new)
+    decided(alloc, rules, draft, place, command, &new)
 }
 
 /// Carries an Add out on a termination that it makes in a slot.
@@ -193,18 +193,18 @@ fn decided_new(
 pub(crate) fn on_new(
     alloc: Global,
     rules: &Rules,
-    part: &mut Part,
+    draft: &mut Draft<'_>,
     place: Option<CtxNum>,
     command: &Command<'_>,
     slot: u16,
 ) -> Result<Items<ReplyPart>, Refusal>
-    requires sound { IsSound part.old.keys part.old.maps }
-    requires unused { term part.old.maps (slot_name slot) ≡ None }
-    requires term_key { holds part.old.keys (Term (slot_name slot)) ≡ true }
-    requires ctx_key { HoldsPlace part.old.keys place }
-    ensures told { Tells result part.new.maps (on_record rules.now place command.now (slot_name slot) (ephemeral slot) part.old.maps) }
-    ensures keys { part.new.keys ≡ part.old.keys }
+    requires sound { IsSound draft.old.keys draft.old.maps }
+    requires unused { term draft.old.maps (slot_name slot) ≡ None }
+    requires term_key { holds draft.old.keys (Term (slot_name slot)) ≡ true }
+    requires ctx_key { HoldsPlace draft.old.keys place }
+    ensures told { Tells result draft.new.maps (on_record rules.now place command.now (slot_name slot) (ephemeral slot) draft.old.maps) }
+    ensures keys { draft.new.keys ≡ draft.old.keys }
 {
-    let decided = decided_new(alloc, rules, part, place, command, slot)?;
-    done(alloc, rules, part, slot_name(slot), decided)
+    let decided = decided_new(alloc, rules, draft, place, command, slot)?;
+    done(alloc, rules, draft, slot_name(slot), decided)
 }

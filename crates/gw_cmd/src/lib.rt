@@ -1,4 +1,4 @@
-//! One command on a part of the tables.
+//! One command on a draft of the tables.
 #![tactic(auto)]
 
 mod carry;

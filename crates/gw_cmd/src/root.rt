@@ -13,33 +13,38 @@ use gw_base::{Items, NoMemory, Service, Span, TermName};
 use gw_desc::{Descriptor, item_of};
 use gw_refusal::first_audit;
 use gw_reply::{AuditReply, ReplyPart};
-use gw_table::Part;
+use gw_table::Draft;
 use std::alloc::Global;
 
 /// The terminations of these names have this service state.
-fn all_serviced(part: &mut Part, service: Service, named: &[TermName])
-    requires { (t : List ℕ) → is_in t named.now ≡ true → holds part.old.keys (Term t) ≡ true }
-    ensures maps { part.new.maps ≡ all_serviced service named.now part.old.maps }
-    ensures keys { part.new.keys ≡ part.old.keys }
+fn all_serviced(
+    alloc: Global,
+    draft: &mut Draft<'_>,
+    service: Service,
+    named: &[TermName],
+) -> Result<(), NoMemory>
+    requires { (t : List ℕ) → is_in t named.now ≡ true → holds draft.old.keys (Term t) ≡ true }
+    ensures maps { OnOk result (draft.new.maps ≡ all_serviced service named.now draft.old.maps) }
+    ensures keys { draft.new.keys ≡ draft.old.keys }
 {
     for name in named {
-        part.set_service(name, service);
+        draft.set_service(alloc, name, service)?;
     }
+    Ok(())
 }
 
 /// Every termination has this service state.
 pub(crate) fn every_serviced(
     alloc: Global,
-    part: &mut Part,
+    draft: &mut Draft<'_>,
     service: Service,
 ) -> Result<(), NoMemory>
-    requires { (t : List ℕ) → is_in t (names part.old.maps) ≡ true → holds part.old.keys (Term t) ≡ true }
-    ensures ok { OnOk result (part.new.maps ≡ all_serviced service (names part.old.maps) part.old.maps) }
-    ensures keys { part.new.keys ≡ part.old.keys }
+    requires { (t : List ℕ) → is_in t (names draft.old.maps) ≡ true → holds draft.old.keys (Term t) ≡ true }
+    ensures ok { OnOk result (draft.new.maps ≡ all_serviced service (names draft.old.maps) draft.old.maps) }
+    ensures keys { draft.new.keys ≡ draft.old.keys }
 {
-    let named = part.names(alloc)?;
-    all_serviced(part, service, &named);
-    Ok(())
+    let named = draft.names(alloc)?;
+    all_serviced(alloc, draft, service, &named)
 }
 
 /// The items that the words ask for, each bare.

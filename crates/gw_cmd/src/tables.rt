@@ -8,31 +8,31 @@ use gw_base::{Code, TermName, TermRef};
 use gw_desc::check;
 use gw_msg::Command;
 use gw_refusal::At;
-use gw_table::Part;
+use gw_table::Draft;
 
 /// Whether the action's context has ended.
-fn has_ended(part: &Part, at: At) -> bool
-    ensures { result ≡ has_ended at part.now.maps }
+fn has_ended(draft: &Draft<'_>, at: At) -> bool
+    ensures { result ≡ has_ended at draft.now.maps }
 {
     match at {
-        At::Live(number) | At::Each(number) => part.ctx(number).is_none(),
+        At::Live(number) | At::Each(number) => draft.ctx(number).is_none(),
         At::Null | At::Unmade(_) => false,
     }
 }
 
 /// What is missing: the termination of a name, one that a wildcard matches, or a slot.
 fn missing(
-    part: &Part,
+    draft: &Draft<'_>,
     at: At,
     slot: Option<u16>,
     command: &Command<'_>,
     named: &[TermName],
 ) -> Option<Code>
-    requires { named.now ≡ targets at command.now part.now.maps }
-    ensures { result ≡ missing at slot command.now part.now.maps command.now.term }
+    requires { named.now ≡ targets at command.now draft.now.maps }
+    ensures { result ≡ missing at slot command.now draft.now.maps command.now.term }
 {
     match command.term {
-        TermRef::Name(name) if part.term(&name).is_none() => Some(Code::UnknownTermination),
+        TermRef::Name(name) if draft.term(&name).is_none() => Some(Code::UnknownTermination),
         TermRef::All | TermRef::Under(_) if named.is_empty() => Some(Code::NoWildcardMatch),
         TermRef::Choose if slot.is_none() => Some(Code::NoTerminationLeft),
         _ => None,
@@ -43,19 +43,19 @@ fn missing(
 /// missing, and what is wrong with its descriptors. The caller hands in the command's targets.
 #[tactic(auto, unfolding(crate::specs::Refusals::refusal_by_tables))]
 pub(crate) fn refusal_by_tables(
-    part: &Part,
+    draft: &Draft<'_>,
     at: At,
     slot: Option<u16>,
     command: &Command<'_>,
     named: &[TermName],
 ) -> Option<Code>
-    requires { named.now ≡ targets at command.now part.now.maps }
-    ensures { result ≡ refusal_by_tables at slot command.now part.now.maps }
+    requires { named.now ≡ targets at command.now draft.now.maps }
+    ensures { result ≡ refusal_by_tables at slot command.now draft.now.maps }
 {
-    if has_ended(part, at) {
+    if has_ended(draft, at) {
         return Some(Code::UnknownContext);
     }
-    if let Some(code) = missing(part, at, slot, command, named) {
+    if let Some(code) = missing(draft, at, slot, command, named) {
         return Some(code);
     }
     match check(command.verb, command.descriptors.as_slice()) {

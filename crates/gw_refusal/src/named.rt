@@ -10,45 +10,49 @@ use crate::asked::{is_add, matches};
 use crate::at::At;
 use gw_base::{CtxNum, NoMemory, TermName, TermRef};
 use gw_msg::Command;
-use gw_table::Part;
+use gw_table::Draft;
 use std::alloc::Global;
 
 /// Whether the termination of this name is in the null context.
-fn is_free(part: &Part, name: &TermName) -> bool
-    ensures { result ≡ is_free part.now.maps name.now }
+fn is_free(draft: &Draft<'_>, name: &TermName) -> bool
+    ensures { result ≡ is_free draft.now.maps name.now }
 {
-    match part.term(name) {
+    match draft.term(name) {
         Some(termination) => termination.place().is_none(),
         None => true,
     }
 }
 
 /// The terminations of the null context, in the order of their bytes.
-fn free(alloc: Global, part: &Part) -> Result<Vec<TermName>, NoMemory>
-    ensures { IfOk result (λ list. list.items ≡ filter (is_free part.now.maps) (names part.now.maps)) }
+fn free(alloc: Global, draft: &Draft<'_>) -> Result<Vec<TermName>, NoMemory>
+    ensures { IfOk result (λ list. list.items ≡ filter (is_free draft.now.maps) (names draft.now.maps)) }
 {
-    let mut named = part.names(alloc)?;
-    named.retain(|name| is_free(part, name));
+    let mut named = draft.names(alloc)?;
+    named.retain(|name| is_free(draft, name));
     Ok(named)
 }
 
 /// The members of a context in joining order.
-fn members(alloc: Global, part: &Part, number: CtxNum) -> Result<Vec<TermName>, NoMemory>
-    ensures { IfOk result (λ list. list.items ≡ members_of (ctx part.now.maps number)) }
+fn members(alloc: Global, draft: &Draft<'_>, number: CtxNum) -> Result<Vec<TermName>, NoMemory>
+    ensures { IfOk result (λ list. list.items ≡ members_of (ctx draft.now.maps number)) }
 {
-    match part.ctx(number) {
+    match draft.ctx(number) {
         Some(context) => Ok(context.members().iter().copied().collect(alloc)?),
         None => Ok(Vec::new(alloc)),
     }
 }
 
 /// The terminations in this place: a context, or none for the null context.
-fn those_in(alloc: Global, part: &Part, place: Option<CtxNum>) -> Result<Vec<TermName>, NoMemory>
-    ensures { IfOk result (λ list. list.items ≡ those_in place part.now.maps) }
+fn those_in(
+    alloc: Global,
+    draft: &Draft<'_>,
+    place: Option<CtxNum>,
+) -> Result<Vec<TermName>, NoMemory>
+    ensures { IfOk result (λ list. list.items ≡ those_in place draft.now.maps) }
 {
     match place {
-        Some(number) => members(alloc, part, number),
-        None => free(alloc, part),
+        Some(number) => members(alloc, draft, number),
+        None => free(alloc, draft),
     }
 }
 
@@ -67,13 +71,13 @@ fn source(at: At, command: &Command<'_>) -> Option<CtxNum>
 #[tactic(auto, unfolding(crate::specs::Targets::matched))]
 fn matched(
     alloc: Global,
-    part: &Part,
+    draft: &Draft<'_>,
     at: At,
     command: &Command<'_>,
 ) -> Result<Vec<TermName>, NoMemory>
-    ensures { IfOk result (λ list. list.items ≡ matched at command.now part.now.maps) }
+    ensures { IfOk result (λ list. list.items ≡ matched at command.now draft.now.maps) }
 {
-    let mut named = those_in(alloc, part, source(at, command))?;
+    let mut named = those_in(alloc, draft, source(at, command))?;
     named.retain(|name| matches(command.term, *name));
     Ok(named)
 }
@@ -81,11 +85,11 @@ fn matched(
 /// The names of the terminations that the command is for, in order, as the tables are now.
 pub fn targets(
     alloc: Global,
-    part: &Part,
+    draft: &Draft<'_>,
     at: At,
     command: &Command<'_>,
 ) -> Result<Vec<TermName>, NoMemory>
-    ensures { IfOk result (λ list. list.items ≡ targets at command.now part.now.maps) }
+    ensures { IfOk result (λ list. list.items ≡ targets at command.now draft.now.maps) }
 {
     match command.term {
         TermRef::Name(name) => {
@@ -93,7 +97,7 @@ pub fn targets(
             named.push(name)?;
             Ok(named)
         }
-        TermRef::All | TermRef::Under(_) => matched(alloc, part, at, command),
+        TermRef::All | TermRef::Under(_) => matched(alloc, draft, at, command),
         _ => Ok(Vec::new(alloc)),
     }
 }

@@ -27,37 +27,37 @@ use gw_cmd::At;
 use gw_length::Telling;
 use gw_msg::Action;
 use gw_reply::ActionReply;
-use gw_table::Part;
+use gw_table::Draft;
 use std::alloc::Global;
 
 /// Carries an action with a number out, where the context and what is to be linked in it are there.
 fn action_in(
     alloc: Global,
     rules: &Rules,
-    part: &mut Part,
+    draft: &mut Draft<'_>,
     number: CtxNum,
     slots: &[Option<u16>],
     sent: &Action<'_>,
     told: Telling<ActionReply>,
 ) -> Result<Counted<(), ActionReply>, NoMemory>
-    requires covered { Covers part.old (list_keys (Live number) (paired_commands slots.now sent.now.commands) part.old.maps) }
-    requires unused { AreFreeSlots part.old.maps slots.now }
-    requires key { holds part.old.keys (Ctx number) ≡ true }
+    requires covered { Covers draft.old (list_keys (Live number) (paired_commands slots.now sent.now.commands) draft.old.maps) }
+    requires unused { AreFreeSlots draft.old.maps slots.now }
+    requires key { holds draft.old.keys (Ctx number) ≡ true }
     requires low { list_any is_too_high sent.now.props ≡ false }
-    ensures maps { (owned : Option CtxNum) → OnOk result (part.new.maps ≡ (done_in rules.now number (paired_action owned slots.now sent.now) part.old.maps (ctx part.old.maps number)).maps) }
-    ensures answer { (owned : Option CtxNum) → IfOk result (λ done. done ≡ counted action_reply_text told (done_in rules.now number (paired_action owned slots.now sent.now) part.old.maps (ctx part.old.maps number)).answer) }
-    ensures keys { part.new.keys ≡ part.old.keys }
+    ensures maps { (owned : Option CtxNum) → OnOk result (draft.new.maps ≡ (done_in rules.now number (paired_action owned slots.now sent.now) draft.old.maps (ctx draft.old.maps number)).maps) }
+    ensures answer { (owned : Option CtxNum) → IfOk result (λ done. done ≡ counted action_reply_text told (done_in rules.now number (paired_action owned slots.now sent.now) draft.old.maps (ctx draft.old.maps number)).answer) }
+    ensures keys { draft.new.keys ≡ draft.old.keys }
 {
-    if part.ctx(number).is_none() {
+    if draft.ctx(number).is_none() {
         return action_error(alloc, told, CtxRef::Num(number), Code::UnknownContext);
     }
     let names = linked_names(alloc, sent.props.as_slice())?;
-    match refusal_of_links(part, number, &names) {
+    match refusal_of_links(draft, number, &names) {
         Some(code) => action_error(alloc, told, CtxRef::Num(number), code),
         None => in_context(
             alloc,
             rules,
-            part,
+            draft,
             At::Live(number),
             number,
             slots,
@@ -71,31 +71,31 @@ fn action_in(
 fn action_on(
     alloc: Global,
     rules: &Rules,
-    part: &mut Part,
+    draft: &mut Draft<'_>,
     number: Option<CtxNum>,
     slots: &[Option<u16>],
     sent: &Action<'_>,
     told: Telling<ActionReply>,
 ) -> Result<Counted<(), ActionReply>, NoMemory>
-    requires covered { Covers part.old (action_footprint (paired_action number slots.now sent.now) part.old.maps) }
-    requires unused { AreFreeSlots part.old.maps slots.now }
+    requires covered { Covers draft.old (action_footprint (paired_action number slots.now sent.now) draft.old.maps) }
+    requires unused { AreFreeSlots draft.old.maps slots.now }
     requires allowed { refusal_of_properties sent.now ≡ None }
-    ensures maps { OnOk result (part.new.maps ≡ (done_on rules.now (paired_action number slots.now sent.now) part.old.maps sent.now.ctx).maps) }
-    ensures answer { IfOk result (λ done. done ≡ counted action_reply_text told (done_on rules.now (paired_action number slots.now sent.now) part.old.maps sent.now.ctx).answer) }
-    ensures keys { part.new.keys ≡ part.old.keys }
+    ensures maps { OnOk result (draft.new.maps ≡ (done_on rules.now (paired_action number slots.now sent.now) draft.old.maps sent.now.ctx).maps) }
+    ensures answer { IfOk result (λ done. done ≡ counted action_reply_text told (done_on rules.now (paired_action number slots.now sent.now) draft.old.maps sent.now.ctx).answer) }
+    ensures keys { draft.new.keys ≡ draft.old.keys }
 {
     let asked = sent.commands.as_slice();
     let none = Items::new(alloc);
     match sent.ctx {
-        CtxRef::Null => commands_in(alloc, rules, part, &[], At::Null, slots, asked, none, told),
-        CtxRef::Num(number) => action_in(alloc, rules, part, number, slots, sent, told),
+        CtxRef::Null => commands_in(alloc, rules, draft, &[], At::Null, slots, asked, none, told),
+        CtxRef::Num(number) => action_in(alloc, rules, draft, number, slots, sent, told),
         CtxRef::Choose => match number {
             Some(number) => {
                 let late = sent.props.as_slice();
                 commands_in(
                     alloc,
                     rules,
-                    part,
+                    draft,
                     late,
                     At::Unmade(number),
                     slots,
@@ -106,7 +106,7 @@ fn action_on(
             }
             None => action_error(alloc, told, CtxRef::Choose, Code::NoContextLeft),
         },
-        CtxRef::All => action_for_each(alloc, rules, part, slots, sent, told),
+        CtxRef::All => action_for_each(alloc, rules, draft, slots, sent, told),
     }
 }
 
@@ -115,21 +115,21 @@ fn action_on(
 fn action(
     alloc: Global,
     rules: &Rules,
-    part: &mut Part,
+    draft: &mut Draft<'_>,
     number: Option<CtxNum>,
     slots: &[Option<u16>],
     sent: &Action<'_>,
     told: Telling<ActionReply>,
 ) -> Result<Counted<(), ActionReply>, NoMemory>
-    requires covered { Covers part.old (action_footprint (paired_action number slots.now sent.now) part.old.maps) }
-    requires unused { AreFreeSlots part.old.maps slots.now }
-    ensures maps { OnOk result (part.new.maps ≡ (action_done rules.now tt (paired_action number slots.now sent.now) part.old.maps).maps) }
-    ensures answer { IfOk result (λ done. done ≡ counted action_reply_text told (action_done rules.now tt (paired_action number slots.now sent.now) part.old.maps).answer) }
-    ensures keys { part.new.keys ≡ part.old.keys }
+    requires covered { Covers draft.old (action_footprint (paired_action number slots.now sent.now) draft.old.maps) }
+    requires unused { AreFreeSlots draft.old.maps slots.now }
+    ensures maps { OnOk result (draft.new.maps ≡ (action_done rules.now tt (paired_action number slots.now sent.now) draft.old.maps).maps) }
+    ensures answer { IfOk result (λ done. done ≡ counted action_reply_text told (action_done rules.now tt (paired_action number slots.now sent.now) draft.old.maps).answer) }
+    ensures keys { draft.new.keys ≡ draft.old.keys }
 {
     match refusal_of_properties(sent) {
         Some(code) => action_error(alloc, told, sent.ctx, code),
-        None => action_on(alloc, rules, part, number, slots, sent, told),
+        None => action_on(alloc, rules, draft, number, slots, sent, told),
     }
 }
 
@@ -137,24 +137,24 @@ fn action(
 pub(crate) fn actions(
     alloc: Global,
     rules: &Rules,
-    part: &mut Part,
+    draft: &mut Draft<'_>,
     numbers: &[Option<CtxNum>],
     slots: &[Option<u16>],
     asked: &[Action<'_>],
     told: Telling<ActionReply>,
 ) -> Result<Telling<ActionReply>, NoMemory>
-    requires covered { Covers part.old (footprint_of (paired_actions numbers.now slots.now asked.now) part.old.maps) }
-    requires unused { AreFreeSlots part.old.maps slots.now }
-    ensures maps { OnOk result (part.new.maps ≡ (all_actions rules.now (paired_actions numbers.now slots.now asked.now) part.old.maps).maps) }
-    ensures answer { IfOk result (λ all. all ≡ told_behind action_reply_text told (all_actions rules.now (paired_actions numbers.now slots.now asked.now) part.old.maps).answer.answers) }
-    ensures keys { part.new.keys ≡ part.old.keys }
+    requires covered { Covers draft.old (footprint_of (paired_actions numbers.now slots.now asked.now) draft.old.maps) }
+    requires unused { AreFreeSlots draft.old.maps slots.now }
+    ensures maps { OnOk result (draft.new.maps ≡ (all_actions rules.now (paired_actions numbers.now slots.now asked.now) draft.old.maps).maps) }
+    ensures answer { IfOk result (λ all. all ≡ told_behind action_reply_text told (all_actions rules.now (paired_actions numbers.now slots.now asked.now) draft.old.maps).answer.answers) }
+    ensures keys { draft.new.keys ≡ draft.old.keys }
 {
     let mut numbers_left = numbers;
     let mut slots_left = slots;
     let mut told = told;
     for sent in asked {
         let (number, later) = next_entry(numbers_left);
-        let done = action(alloc, rules, part, number, slots_left, sent, told)?;
+        let done = action(alloc, rules, draft, number, slots_left, sent, told)?;
         numbers_left = later;
         slots_left = entries_behind(slots_left, sent.commands.len());
         told = done.told;

@@ -19,7 +19,7 @@ use gw_cmd::{At, command_told};
 use gw_length::Telling;
 use gw_msg::{Command, ContextProp};
 use gw_reply::{ActionReply, CommandReply, ContextPart};
-use gw_table::Part;
+use gw_table::Draft;
 use std::alloc::Global;
 
 /// Carries one command out, with the slot that it owns, and tells its replies behind those of the commands before it. A context that
@@ -27,22 +27,22 @@ use std::alloc::Global;
 fn attempt(
     alloc: Global,
     rules: &Rules,
-    part: &mut Part,
+    draft: &mut Draft<'_>,
     late: &[ContextProp],
     at: At,
     slot: Option<u16>,
     sent: &Command<'_>,
     told: Telling<CommandReply>,
 ) -> Result<Counted<At, CommandReply>, NoMemory>
-    requires covered { Covers part.old (command_keys at slot sent.now part.old.maps) }
-    requires unused { IsUnused slot part.old.maps }
+    requires covered { Covers draft.old (command_keys at slot sent.now draft.old.maps) }
+    requires unused { IsUnused slot draft.old.maps }
     requires plain { ArePlain late.now }
-    ensures maps { OnOk result (part.new.maps ≡ (attempt rules.now late.now at (slot, sent.now) part.old.maps).maps) }
-    ensures answer { IfOk result (λ done. done ≡ counted command_reply_text told (attempt rules.now late.now at (slot, sent.now) part.old.maps).answer) }
-    ensures keys { part.new.keys ≡ part.old.keys }
+    ensures maps { OnOk result (draft.new.maps ≡ (attempt rules.now late.now at (slot, sent.now) draft.old.maps).maps) }
+    ensures answer { IfOk result (λ done. done ≡ counted command_reply_text told (attempt rules.now late.now at (slot, sent.now) draft.old.maps).answer) }
+    ensures keys { draft.new.keys ≡ draft.old.keys }
 {
-    let done = command_told(alloc, rules, part, at, slot, sent, told)?;
-    set_when_made(part, done.made, at, late)?;
+    let done = command_told(alloc, rules, draft, at, slot, sent, told)?;
+    set_when_made(alloc, draft, done.made, at, late)?;
     Ok(Counted {
         next: if done.made { at.made() } else { at },
         stopped: done.failed && !sent.optional,
@@ -55,19 +55,19 @@ fn attempt(
 pub(crate) fn commands(
     alloc: Global,
     rules: &Rules,
-    part: &mut Part,
+    draft: &mut Draft<'_>,
     late: &[ContextProp],
     at: At,
     slots: &[Option<u16>],
     asked: &[Command<'_>],
     told: Telling<CommandReply>,
 ) -> Result<Counted<At, CommandReply>, NoMemory>
-    requires covered { Covers part.old (list_keys at (paired_commands slots.now asked.now) part.old.maps) }
-    requires unused { AreFreeSlots part.old.maps slots.now }
+    requires covered { Covers draft.old (list_keys at (paired_commands slots.now asked.now) draft.old.maps) }
+    requires unused { AreFreeSlots draft.old.maps slots.now }
     requires plain { ArePlain late.now }
-    ensures maps { OnOk result (part.new.maps ≡ (all_commands rules.now late.now at (paired_commands slots.now asked.now) part.old.maps).maps) }
-    ensures answer { IfOk result (λ done. done ≡ counted command_reply_text told (all_commands rules.now late.now at (paired_commands slots.now asked.now) part.old.maps).answer) }
-    ensures keys { part.new.keys ≡ part.old.keys }
+    ensures maps { OnOk result (draft.new.maps ≡ (all_commands rules.now late.now at (paired_commands slots.now asked.now) draft.old.maps).maps) }
+    ensures answer { IfOk result (λ done. done ≡ counted command_reply_text told (all_commands rules.now late.now at (paired_commands slots.now asked.now) draft.old.maps).answer) }
+    ensures keys { draft.new.keys ≡ draft.old.keys }
 {
     let mut at = at;
     let mut left = slots;
@@ -75,7 +75,7 @@ pub(crate) fn commands(
     for sent in asked {
         let (slot, later) = next_entry(left);
         left = later;
-        let done = attempt(alloc, rules, part, late, at, slot, sent, told)?;
+        let done = attempt(alloc, rules, draft, late, at, slot, sent, told)?;
         at = done.next;
         told = done.told;
         if done.stopped {
@@ -98,7 +98,7 @@ pub(crate) fn commands(
 pub(crate) fn commands_in(
     alloc: Global,
     rules: &Rules,
-    part: &mut Part,
+    draft: &mut Draft<'_>,
     late: &[ContextProp],
     at: At,
     slots: &[Option<u16>],
@@ -106,17 +106,17 @@ pub(crate) fn commands_in(
     parts: Items<ContextPart>,
     told: Telling<ActionReply>,
 ) -> Result<Counted<(), ActionReply>, NoMemory>
-    requires covered { Covers part.old (list_keys at (paired_commands slots.now asked.now) part.old.maps) }
-    requires unused { AreFreeSlots part.old.maps slots.now }
+    requires covered { Covers draft.old (list_keys at (paired_commands slots.now asked.now) draft.old.maps) }
+    requires unused { AreFreeSlots draft.old.maps slots.now }
     requires plain { ArePlain late.now }
-    ensures maps { OnOk result (part.new.maps ≡ (all_commands rules.now late.now at (paired_commands slots.now asked.now) part.old.maps).maps) }
-    ensures answer { IfOk result (λ done. done ≡ counted action_reply_text told (action_replied parts (all_commands rules.now late.now at (paired_commands slots.now asked.now) part.old.maps).answer)) }
-    ensures keys { part.new.keys ≡ part.old.keys }
+    ensures maps { OnOk result (draft.new.maps ≡ (all_commands rules.now late.now at (paired_commands slots.now asked.now) draft.old.maps).maps) }
+    ensures answer { IfOk result (λ done. done ≡ counted action_reply_text told (action_replied parts (all_commands rules.now late.now at (paired_commands slots.now asked.now) draft.old.maps).answer)) }
+    ensures keys { draft.new.keys ≡ draft.old.keys }
 {
     let done = commands(
         alloc,
         rules,
-        part,
+        draft,
         late,
         at,
         slots,

@@ -24,32 +24,32 @@ use gw_cmd::At;
 use gw_length::Telling;
 use gw_msg::Action;
 use gw_reply::ActionReply;
-use gw_table::Part;
+use gw_table::Draft;
 use std::alloc::Global;
 
 /// Carries an action out in a context that is there: sets its properties, tells what it then is, and carries the commands out.
 pub(crate) fn in_context(
     alloc: Global,
     rules: &Rules,
-    part: &mut Part,
+    draft: &mut Draft<'_>,
     at: At,
     number: CtxNum,
     slots: &[Option<u16>],
     sent: &Action<'_>,
     told: Telling<ActionReply>,
 ) -> Result<Counted<(), ActionReply>, NoMemory>
-    requires covered { Covers part.old (list_keys at (paired_commands slots.now sent.now.commands) part.old.maps) }
-    requires unused { AreFreeSlots part.old.maps slots.now }
-    requires key { holds part.old.keys (Ctx number) ≡ true }
+    requires covered { Covers draft.old (list_keys at (paired_commands slots.now sent.now.commands) draft.old.maps) }
+    requires unused { AreFreeSlots draft.old.maps slots.now }
+    requires key { holds draft.old.keys (Ctx number) ≡ true }
     requires low { list_any is_too_high sent.now.props ≡ false }
-    ensures maps { (owned : Option CtxNum) → OnOk result (part.new.maps ≡ (done_in_context rules.now (paired_action owned slots.now sent.now) at number part.old.maps).maps) }
-    ensures answer { (owned : Option CtxNum) → IfOk result (λ done. done ≡ counted action_reply_text told (done_in_context rules.now (paired_action owned slots.now sent.now) at number part.old.maps).answer) }
-    ensures keys { part.new.keys ≡ part.old.keys }
+    ensures maps { (owned : Option CtxNum) → OnOk result (draft.new.maps ≡ (done_in_context rules.now (paired_action owned slots.now sent.now) at number draft.old.maps).maps) }
+    ensures answer { (owned : Option CtxNum) → IfOk result (λ done. done ≡ counted action_reply_text told (done_in_context rules.now (paired_action owned slots.now sent.now) at number draft.old.maps).answer) }
+    ensures keys { draft.new.keys ≡ draft.old.keys }
 {
-    set_properties(part, number, sent.props.as_slice())?;
-    let parts = context_parts_if(alloc, part, number, sent)?;
+    set_properties(alloc, draft, number, sent.props.as_slice())?;
+    let parts = context_parts_if(alloc, draft, number, sent)?;
     let asked = sent.commands.as_slice();
-    commands_in(alloc, rules, part, &[], at, slots, asked, parts, told)
+    commands_in(alloc, rules, draft, &[], at, slots, asked, parts, told)
 }
 
 /// Carries an action out in each of the contexts. A stop ends the commands of its context alone; that there was one is what the
@@ -57,19 +57,19 @@ pub(crate) fn in_context(
 fn in_all(
     alloc: Global,
     rules: &Rules,
-    part: &mut Part,
+    draft: &mut Draft<'_>,
     slots: &[Option<u16>],
     sent: &Action<'_>,
     numbers: &[CtxNum],
     told: Telling<ActionReply>,
 ) -> Result<Counted<bool, ActionReply>, NoMemory>
-    requires covered { (n : CtxNum) → Covers part.old (list_keys (Each n) (paired_commands slots.now sent.now.commands) part.old.maps) }
-    requires unused { AreFreeSlots part.old.maps slots.now }
-    requires key { All (λ n. holds part.old.keys (Ctx n) ≡ true) numbers.now }
+    requires covered { (n : CtxNum) → Covers draft.old (list_keys (Each n) (paired_commands slots.now sent.now.commands) draft.old.maps) }
+    requires unused { AreFreeSlots draft.old.maps slots.now }
+    requires key { All (λ n. holds draft.old.keys (Ctx n) ≡ true) numbers.now }
     requires plain { ArePlain sent.now.props }
-    ensures maps { (owned : Option CtxNum) → OnOk result (part.new.maps ≡ (in_all rules.now (paired_action owned slots.now sent.now) numbers.now part.old.maps).maps) }
-    ensures answer { (owned : Option CtxNum) → IfOk result (λ done. done ≡ counted action_reply_text told (in_all rules.now (paired_action owned slots.now sent.now) numbers.now part.old.maps).answer) }
-    ensures keys { part.new.keys ≡ part.old.keys }
+    ensures maps { (owned : Option CtxNum) → OnOk result (draft.new.maps ≡ (in_all rules.now (paired_action owned slots.now sent.now) numbers.now draft.old.maps).maps) }
+    ensures answer { (owned : Option CtxNum) → IfOk result (λ done. done ≡ counted action_reply_text told (in_all rules.now (paired_action owned slots.now sent.now) numbers.now draft.old.maps).answer) }
+    ensures keys { draft.new.keys ≡ draft.old.keys }
 {
     let mut stopped = false;
     let mut told = told;
@@ -77,7 +77,7 @@ fn in_all(
         let done = in_context(
             alloc,
             rules,
-            part,
+            draft,
             At::Each(*number),
             *number,
             slots,
@@ -98,23 +98,23 @@ fn in_all(
 pub(crate) fn action_for_each(
     alloc: Global,
     rules: &Rules,
-    part: &mut Part,
+    draft: &mut Draft<'_>,
     slots: &[Option<u16>],
     sent: &Action<'_>,
     told: Telling<ActionReply>,
 ) -> Result<Counted<(), ActionReply>, NoMemory>
-    requires covered { (n : CtxNum) → Covers part.old (list_keys (Each n) (paired_commands slots.now sent.now.commands) part.old.maps) }
-    requires unused { AreFreeSlots part.old.maps slots.now }
+    requires covered { (n : CtxNum) → Covers draft.old (list_keys (Each n) (paired_commands slots.now sent.now.commands) draft.old.maps) }
+    requires unused { AreFreeSlots draft.old.maps slots.now }
     requires plain { ArePlain sent.now.props }
-    ensures maps { (owned : Option CtxNum) → OnOk result (part.new.maps ≡ (action_for_each rules.now (paired_action owned slots.now sent.now) part.old.maps (numbers part.old.maps)).maps) }
-    ensures answer { (owned : Option CtxNum) → IfOk result (λ done. done ≡ counted action_reply_text told (action_for_each rules.now (paired_action owned slots.now sent.now) part.old.maps (numbers part.old.maps)).answer) }
-    ensures keys { part.new.keys ≡ part.old.keys }
+    ensures maps { (owned : Option CtxNum) → OnOk result (draft.new.maps ≡ (action_for_each rules.now (paired_action owned slots.now sent.now) draft.old.maps (numbers draft.old.maps)).maps) }
+    ensures answer { (owned : Option CtxNum) → IfOk result (λ done. done ≡ counted action_reply_text told (action_for_each rules.now (paired_action owned slots.now sent.now) draft.old.maps (numbers draft.old.maps)).answer) }
+    ensures keys { draft.new.keys ≡ draft.old.keys }
 {
-    let numbers = part.numbers(alloc)?;
+    let numbers = draft.numbers(alloc)?;
     if numbers.is_empty() {
         return action_error(alloc, told, CtxRef::All, Code::NoWildcardMatch);
     }
-    let done = in_all(alloc, rules, part, slots, sent, &numbers, told)?;
+    let done = in_all(alloc, rules, draft, slots, sent, &numbers, told)?;
     Ok(Counted {
         next: (),
         told: done.told,

@@ -1,4 +1,4 @@
-//! One transaction on a part of the tables.
+//! One transaction on a draft of the tables.
 #![tactic(auto)]
 
 mod actions;

@@ -7,7 +7,7 @@ ghost use Rattle.gw_tx.specs.Properties.{triples_in, names_in, linked_names, is_
 use crate::properties::name_of;
 use gw_base::{Code, CtxNum, NoMemory, TermName};
 use gw_msg::{ContextProp, Triple};
-use gw_table::Part;
+use gw_table::Draft;
 use std::alloc::Global;
 
 /// The names of one triple.
@@ -56,41 +56,45 @@ pub fn linked_names(alloc: Global, props: &[ContextProp]) -> Result<Vec<TermName
     Ok(names)
 }
 
-fn is_absent(part: &Part, name: &TermName) -> bool
-    ensures { result ≡ is_absent part.now.maps name.now }
+fn is_absent(draft: &Draft<'_>, name: &TermName) -> bool
+    ensures { result ≡ is_absent draft.now.maps name.now }
 {
-    part.term(name).is_none()
+    draft.term(name).is_none()
 }
 
-fn is_elsewhere(part: &Part, number: CtxNum, name: &TermName) -> bool
-    ensures { result ≡ is_elsewhere number part.now.maps name.now }
+fn is_elsewhere(draft: &Draft<'_>, number: CtxNum, name: &TermName) -> bool
+    ensures { result ≡ is_elsewhere number draft.now.maps name.now }
 {
-    match part.term(name) {
+    match draft.term(name) {
         Some(termination) => termination.place() != Some(number),
         None => true,
     }
 }
 
-fn is_any_absent(part: &Part, names: &[TermName]) -> bool
-    ensures { result ≡ list_any (is_absent part.now.maps) names.now }
+fn is_any_absent(draft: &Draft<'_>, names: &[TermName]) -> bool
+    ensures { result ≡ list_any (is_absent draft.now.maps) names.now }
 {
-    names.iter().any(|name| is_absent(part, name))
+    names.iter().any(|name| is_absent(draft, name))
 }
 
-fn is_any_elsewhere(part: &Part, number: CtxNum, names: &[TermName]) -> bool
-    ensures { result ≡ list_any (is_elsewhere number part.now.maps) names.now }
+fn is_any_elsewhere(draft: &Draft<'_>, number: CtxNum, names: &[TermName]) -> bool
+    ensures { result ≡ list_any (is_elsewhere number draft.now.maps) names.now }
 {
-    names.iter().any(|name| is_elsewhere(part, number, name))
+    names.iter().any(|name| is_elsewhere(draft, number, name))
 }
 
 /// Why these terminations are not linked in this context: the first code that applies. A name takes two look-ups.
-pub(crate) fn refusal_of_links(part: &Part, number: CtxNum, names: &[TermName]) -> Option<Code>
-    ensures { result ≡ refusal_of_links number names.now part.now.maps }
+pub(crate) fn refusal_of_links(
+    draft: &Draft<'_>,
+    number: CtxNum,
+    names: &[TermName],
+) -> Option<Code>
+    ensures { result ≡ refusal_of_links number names.now draft.now.maps }
 {
-    if is_any_absent(part, names) {
+    if is_any_absent(draft, names) {
         return Some(Code::UnknownTermination);
     }
-    if is_any_elsewhere(part, number, names) {
+    if is_any_elsewhere(draft, number, names) {
         return Some(Code::NotInContext);
     }
     None

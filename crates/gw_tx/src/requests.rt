@@ -13,33 +13,33 @@ use gw_length::Telling;
 use gw_msg::Request;
 use gw_reply::TxReply;
 use gw_reserve::Owned;
-use gw_table::Part;
+use gw_table::Draft;
 use std::alloc::Global;
 
 /// Carries a request out, with what it owns: its actions in order, and the commands of each in order, up to the first that
-/// stops. The caller knows that the part covers the request, and that the slots that are owned are unused there. The work is that
+/// stops. The caller knows that the draft covers the request, and that the slots that are owned are unused there. The work is that
 /// of the commands, in each context for an action with `*`.
 ///
 /// # Errors
 ///
-/// Want of memory. The part is then spent: nothing is known of it but its keys.
+/// Want of memory. The draft is then spent: nothing is known of it but its keys.
 pub fn transaction(
     alloc: Global,
     rules: &Rules,
-    part: &mut Part,
+    draft: &mut Draft<'_>,
     request: &Request<'_>,
     owned: &Owned,
 ) -> Result<TxReply, NoMemory>
-    requires covered { Covers part.old (footprint_of (paired request.now owned.now) part.old.maps) }
-    requires unused { AreFreeSlots part.old.maps owned.now.slots }
-    ensures maps { OnOk result (part.new.maps ≡ (paired_transaction rules.now request.now (paired request.now owned.now) part.old.maps).maps) }
-    ensures answer { IfOk result (λ reply. reply ≡ (paired_transaction rules.now request.now (paired request.now owned.now) part.old.maps).answer) }
-    ensures keys { part.new.keys ≡ part.old.keys }
+    requires covered { Covers draft.old (footprint_of (paired request.now owned.now) draft.old.maps) }
+    requires unused { AreFreeSlots draft.old.maps owned.now.slots }
+    ensures maps { OnOk result (draft.new.maps ≡ (paired_transaction rules.now request.now (paired request.now owned.now) draft.old.maps).maps) }
+    ensures answer { IfOk result (λ reply. reply ≡ (paired_transaction rules.now request.now (paired request.now owned.now) draft.old.maps).answer) }
+    ensures keys { draft.new.keys ≡ draft.old.keys }
 {
     let told = actions(
         alloc,
         rules,
-        part,
+        draft,
         owned.contexts.as_slice(),
         owned.slots.as_slice(),
         request.actions.as_slice(),
@@ -57,25 +57,25 @@ pub fn transaction(
 ///
 /// # Errors
 ///
-/// Want of memory. The part is then spent: nothing is known of it but its keys.
+/// Want of memory. The draft is then spent: nothing is known of it but its keys.
 pub fn transaction_within(
     alloc: Global,
     rules: &Rules,
-    part: &mut Part,
+    draft: &mut Draft<'_>,
     request: &Request<'_>,
     owned: &Owned,
     limit: usize,
 ) -> Result<Told, NoMemory>
-    requires covered { Covers part.old (footprint_of (paired request.now owned.now) part.old.maps) }
-    requires unused { AreFreeSlots part.old.maps owned.now.slots }
-    ensures maps { OnOk result (part.new.maps ≡ (paired_transaction rules.now request.now (paired request.now owned.now) part.old.maps).maps) }
-    ensures answer { IfOk result (λ told. told ≡ within limit (paired_transaction rules.now request.now (paired request.now owned.now) part.old.maps).answer) }
-    ensures keys { part.new.keys ≡ part.old.keys }
+    requires covered { Covers draft.old (footprint_of (paired request.now owned.now) draft.old.maps) }
+    requires unused { AreFreeSlots draft.old.maps owned.now.slots }
+    ensures maps { OnOk result (draft.new.maps ≡ (paired_transaction rules.now request.now (paired request.now owned.now) draft.old.maps).maps) }
+    ensures answer { IfOk result (λ told. told ≡ within limit (paired_transaction rules.now request.now (paired request.now owned.now) draft.old.maps).answer) }
+    ensures keys { draft.new.keys ≡ draft.old.keys }
 {
     let told = actions(
         alloc,
         rules,
-        part,
+        draft,
         owned.contexts.as_slice(),
         owned.slots.as_slice(),
         request.actions.as_slice(),

@@ -14,7 +14,8 @@ use gw_base::{CtxNum, Link, NoMemory};
 use gw_cmd::At;
 use gw_ctx::Context;
 use gw_msg::{ContextProp, Triple};
-use gw_table::Part;
+use gw_table::Draft;
+use std::alloc::Global;
 
 fn link_two(context: &mut Context, triple: &Triple) -> Result<(), NoMemory>
     ensures { OnOk result (context.new ≡ linked_if (link_of (name_of triple.now.a) (name_of triple.now.b) triple.now.flow) context.old) }
@@ -54,56 +55,62 @@ fn change(context: &mut Context, prop: &ContextProp) -> Result<(), NoMemory>
 }
 
 /// Sets one property, where the context is there.
-fn set_property(part: &mut Part, number: CtxNum, prop: &ContextProp) -> Result<(), NoMemory>
-    requires key { holds part.old.keys (Ctx number) ≡ true }
+fn set_property(
+    alloc: Global,
+    draft: &mut Draft<'_>,
+    number: CtxNum,
+    prop: &ContextProp,
+) -> Result<(), NoMemory>
+    requires key { holds draft.old.keys (Ctx number) ≡ true }
     requires low { is_too_high prop.now ≡ false }
-    ensures maps { OnOk result (part.new.maps ≡ set_property number prop.now part.old.maps) }
-    ensures keys { part.new.keys ≡ part.old.keys }
+    ensures maps { OnOk result (draft.new.maps ≡ set_property number prop.now draft.old.maps) }
+    ensures keys { draft.new.keys ≡ draft.old.keys }
 {
-    let Some(mut context) = part.set_ctx(number, None) else {
+    let Some(mut context) = draft.take_ctx(alloc, number)? else {
         return Ok(());
     };
     change(context.get_mut(), prop)?;
-    part.set_ctx(number, Some(context));
-    Ok(())
+    draft.set_ctx(number, Some(context))
 }
 
-/// Sets what is asked of a context, in the order written, where it is there. The caller knows that its number is one of the part's
+/// Sets what is asked of a context, in the order written, where it is there. The caller knows that its number is one of the draft's
 /// keys, and that each priority is one that there is. The work is a look-up for each, and for each triple one pass of the links.
 ///
 /// # Errors
 ///
-/// Want of memory. The context may then be gone from the part.
+/// Want of memory. The context may then be gone from the draft.
 pub(crate) fn set_properties(
-    part: &mut Part,
+    alloc: Global,
+    draft: &mut Draft<'_>,
     number: CtxNum,
     props: &[ContextProp],
 ) -> Result<(), NoMemory>
-    requires key { holds part.old.keys (Ctx number) ≡ true }
+    requires key { holds draft.old.keys (Ctx number) ≡ true }
     requires low { list_any is_too_high props.now ≡ false }
-    ensures maps { OnOk result (part.new.maps ≡ set_properties number props.now part.old.maps) }
-    ensures keys { part.new.keys ≡ part.old.keys }
+    ensures maps { OnOk result (draft.new.maps ≡ set_properties number props.now draft.old.maps) }
+    ensures keys { draft.new.keys ≡ draft.old.keys }
 {
     for prop in props {
-        set_property(part, number, prop)?;
+        set_property(alloc, draft, number, prop)?;
     }
     Ok(())
 }
 
 /// A context that has just been made gets its properties.
 pub(crate) fn set_when_made(
-    part: &mut Part,
+    alloc: Global,
+    draft: &mut Draft<'_>,
     made: bool,
     at: At,
     late: &[ContextProp],
 ) -> Result<(), NoMemory>
-    requires key { (number : CtxNum) → at ≡ Unmade number → holds part.old.keys (Ctx number) ≡ true }
+    requires key { (number : CtxNum) → at ≡ Unmade number → holds draft.old.keys (Ctx number) ≡ true }
     requires low { list_any is_too_high late.now ≡ false }
-    ensures maps { OnOk result (part.new.maps ≡ set_when_made made at late.now part.old.maps) }
-    ensures keys { part.new.keys ≡ part.old.keys }
+    ensures maps { OnOk result (draft.new.maps ≡ set_when_made made at late.now draft.old.maps) }
+    ensures keys { draft.new.keys ≡ draft.old.keys }
 {
     match at {
-        At::Unmade(number) if made => set_properties(part, number, late),
+        At::Unmade(number) if made => set_properties(alloc, draft, number, late),
         _ => Ok(()),
     }
 }

@@ -10,7 +10,7 @@ use gw_base::{CtxNum, Items, NoMemory};
 use gw_ctx::Context;
 use gw_msg::{Action, ContextItem, ContextProp};
 use gw_reply::ContextPart;
-use gw_table::Part;
+use gw_table::Draft;
 use std::alloc::Global;
 
 /// The items of each ContextAudit.
@@ -119,13 +119,13 @@ fn context_parts(
 /// Want of memory.
 pub(crate) fn context_parts_if(
     alloc: Global,
-    part: &Part,
+    draft: &Draft<'_>,
     number: CtxNum,
     sent: &Action<'_>,
 ) -> Result<Items<ContextPart>, NoMemory>
-    ensures { IfOk result (λ parts. parts ≡ context_parts_if sent.now (ctx part.now.maps number)) }
+    ensures { IfOk result (λ parts. parts ≡ context_parts_if sent.now (ctx draft.now.maps number)) }
 {
-    match part.ctx(number) {
+    match draft.ctx(number) {
         Some(context) => context_parts(alloc, context, sent),
         None => Ok(Items::new(alloc)),
     }

@@ -8,7 +8,7 @@ use Rattle.gw_cmd.proofs.carry.on_names.Goals as goal
 pub on_one-requires-clause-term_key : goal.on_one-requires-clause-term_key
 on_one-requires-clause-term_key c =
     c.requires.ready.targets c.in-Name.name
-    (subst (λ (r : TermRef). is_in c.in-Name.name (targets_of r c.args.at c.args.command.now c.args.part.now.maps) ≡ true) (sym c.in-Name.is)
+    (subst (λ (r : TermRef). is_in c.in-Name.name (targets_of r c.args.at c.args.command.now c.args.draft.now.maps) ≡ true) (sym c.in-Name.is)
     (or_left (bytes_eq c.in-Name.name c.in-Name.name) (is_in c.in-Name.name []) (itself c.in-Name.name)))
 
 pub on_one-requires-clause-moved_key : goal.on_one-requires-clause-moved_key

@@ -12,7 +12,7 @@ use Rattle.gw_cmd.proofs.carry.on_one.Goals as goal
 pub returns-clause-maps : goal.returns-clause-maps
 returns-clause-maps c =
     IfOk-weaker c.one.result _ _
-    (λ _ _. c.in_ok-reply.ensures.maps ∙ ap (λ (o : Outcome (Attempts Unit CommandReply)). o.maps) (sym (one_target c.args.rules.now c.args.at c.args.command.now c.args.name c.args.part.now.maps)))
+    (λ _ _. c.in_ok-reply.ensures.maps ∙ ap (λ (o : Outcome (Attempts Unit CommandReply)). o.maps) (sym (one_target c.args.rules.now c.args.at c.args.command.now c.args.name c.args.draft.now.maps)))
     c.one.ensures
 
 pub returns-clause-answer : goal.returns-clause-answer
@@ -20,5 +20,5 @@ returns-clause-answer c =
     let on : List CommandReply → CmdTold = λ l. outcome_behind c.args.told (outcome_of c.args.at l) in
     IfOk-weaker c.one.result _ _
     (λ _ e. e ∙ ap (λ (r : CommandReply). on (r ∷ [])) c.in_ok-reply.ensures.answer
-    ∙ ap (λ (o : Outcome (Attempts Unit CommandReply)). on o.answer.answers) (sym (one_target c.args.rules.now c.args.at c.args.command.now c.args.name c.args.part.now.maps)))
+    ∙ ap (λ (o : Outcome (Attempts Unit CommandReply)). on o.answer.answers) (sym (one_target c.args.rules.now c.args.at c.args.command.now c.args.name c.args.draft.now.maps)))
     c.one.ensures

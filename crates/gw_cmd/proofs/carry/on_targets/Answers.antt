@@ -46,7 +46,7 @@ pub on_target-requires-clause-term_key : goal.on_target-requires-clause-term_key
 on_target-requires-clause-term_key c = λ found.
     ap (λ (k : PartKeys). holds k (Term c.name-item.result)) c.loop-name.invariant.keys
     ∙ c.requires.term_keys c.name-item.result (in_at c.args.named.now c.loop-name.name-index c.name-item.result c.loop-name-test.true c.name-item.is)
-    (was_there c.name-item.result c.args.part.now.maps c.loop-name.part.maps (c.loop-name.invariant.absent c.name-item.result) found)
+    (was_there c.name-item.result c.args.draft.now.maps c.loop-name.draft.maps (c.loop-name.invariant.absent c.name-item.result) found)
 
 pub loop-name-preserved : goal.loop-name-preserved
 loop-name-preserved c =
@@ -54,8 +54,8 @@ loop-name-preserved c =
     let i = c.loop-name.name-index in
     let rest : List (List ℕ) = drop (i + 1) c.args.named.now in
     let split : drop i c.args.named.now ≡ t ∷ rest = rest_of c.args.named.now i t t c.loop-name-test.true c.name-item.is in
-    let now : Outcome (Attempts Unit CommandReply) = ended c.on_target.new.part.maps tt (c.in_ok-reply.reply ∷ []) false in
-    let did : now ≡ on_target c.args.rules.now c.args.at c.args.command.now tt t c.loop-name.part.maps = target_is c.args.rules.now c.args.at c.args.command.now t c.loop-name.part.maps c.on_target.new.part.maps c.in_ok-reply.reply c.in_ok-reply.ensures.maps c.in_ok-reply.ensures.answer in
+    let now : Outcome (Attempts Unit CommandReply) = ended c.on_target.new.draft.maps tt (c.in_ok-reply.reply ∷ []) false in
+    let did : now ≡ on_target c.args.rules.now c.args.at c.args.command.now tt t c.loop-name.draft.maps = target_is c.args.rules.now c.args.at c.args.command.now t c.loop-name.draft.maps c.on_target.new.draft.maps c.in_ok-reply.reply c.in_ok-reply.ensures.maps c.in_ok-reply.ensures.answer in
     let front : List CommandReply = c.loop-name.invariant.told.0 in
     let r : CommandReply = c.in_ok-reply.reply in
     let told : c.in_ok-told.told ≡ told_behind command_reply_text c.args.told (front ++ r ∷ []) =
@@ -68,26 +68,26 @@ loop-name-preserved c =
     ] in
     let any : c.if-any_done.any_done ≡ list_any is_done (front ++ r ∷ []) =
     or_none ∙ ap (λ (b : Bool). b || is_none c.code_of-error.result) c.loop-name.invariant.told.3 ∙ ap (λ (o : Option Code). list_any is_done front || is_none o) c.code_of-error.ensures ∙ ap (λ (b : Bool). list_any is_done front || b) (done_code r.result) ∙ sym (done_more front r) in
-    let held : is_some (term c.loop-name.part.maps t) ≡ true → holds c.args.part.now.keys (Term t) ≡ true = λ found. c.requires.term_keys t (in_at c.args.named.now i t c.loop-name-test.true c.name-item.is) (was_there t c.args.part.now.maps c.loop-name.part.maps (c.loop-name.invariant.absent t) found) in
+    let held : is_some (term c.loop-name.draft.maps t) ≡ true → holds c.args.draft.now.keys (Term t) ≡ true = λ found. c.requires.term_keys t (in_at c.args.named.now i t c.loop-name-test.true c.name-item.is) (was_there t c.args.draft.now.maps c.loop-name.draft.maps (c.loop-name.invariant.absent t) found) in
     record {
       told = (
         front ++ c.in_ok-reply.reply ∷ [],
         told,
         first,
         any,
-        goes_on (on_target c.args.rules.now c.args.at c.args.command.now) tt t (drop i c.args.named.now) rest c.loop-name.part.maps front now (on_targets c.args.rules.now c.args.at c.args.command.now c.args.named.now c.args.part.now.maps) split did refl c.loop-name.invariant.told.4,
+        goes_on (on_target c.args.rules.now c.args.at c.args.command.now) tt t (drop i c.args.named.now) rest c.loop-name.draft.maps front now (on_targets c.args.rules.now c.args.at c.args.command.now c.args.named.now c.args.draft.now.maps) split did refl c.loop-name.invariant.told.4,
       );
-      sound = subst (IsSound c.args.part.now.keys) (sym c.in_ok-reply.ensures.maps)
-          (kept_name c.args.rules.now (λ x. holds c.args.part.now.keys (Term x)) (λ _. Unit {0}) (sound_is_kept c.args.rules.now c.args.part.now.keys (λ _. Unit {0})) (place_at c.args.at) c.args.command.now t c.loop-name.part.maps held c.loop-name.invariant.sound);
+      sound = subst (IsSound c.args.draft.now.keys) (sym c.in_ok-reply.ensures.maps)
+          (kept_name c.args.rules.now (λ x. holds c.args.draft.now.keys (Term x)) (λ _. Unit {0}) (sound_is_kept c.args.rules.now c.args.draft.now.keys (λ _. Unit {0})) (place_at c.args.at) c.args.command.now t c.loop-name.draft.maps held c.loop-name.invariant.sound);
       absent = λ q none. ap (λ (x : Maps). term x q) c.in_ok-reply.ensures.maps
-          ∙ kept_name c.args.rules.now (λ _. true) (λ s. slot_name s ≢ q) (absent_is_kept c.args.rules.now q) (place_at c.args.at) c.args.command.now t c.loop-name.part.maps (λ _. refl) (c.loop-name.invariant.absent q none);
+          ∙ kept_name c.args.rules.now (λ _. true) (λ s. slot_name s ≢ q) (absent_is_kept c.args.rules.now q) (place_at c.args.at) c.args.command.now t c.loop-name.draft.maps (λ _. refl) (c.loop-name.invariant.absent q none);
       keys = c.in_ok-reply.ensures.keys ∙ c.loop-name.invariant.keys;
     }
 
 pub returns : goal.returns
 returns c =
     let left : drop c.loop-name.name-index c.args.named.now ≡ [] = drop_of_length-le c.args.named.now c.loop-name-test.false in
-    let all = ends (on_target c.args.rules.now c.args.at c.args.command.now) tt (drop c.loop-name.name-index c.args.named.now) c.loop-name.part.maps c.loop-name.invariant.told.0 (on_targets c.args.rules.now c.args.at c.args.command.now c.args.named.now c.args.part.now.maps) left c.loop-name.invariant.told.4 in
+    let all = ends (on_target c.args.rules.now c.args.at c.args.command.now) tt (drop c.loop-name.name-index c.args.named.now) c.loop-name.draft.maps c.loop-name.invariant.told.0 (on_targets c.args.rules.now c.args.at c.args.command.now c.args.named.now c.args.draft.now.maps) left c.loop-name.invariant.told.4 in
     let made : Telling CommandReply → Option Code → Bool → Seen = λ t e d. record { told = t; first_error = e; any_done = d } in
     record {
       maps = ap (λ (o : Outcome (Attempts Unit CommandReply)). o.maps) all;

@@ -4,9 +4,9 @@ use Rattle.gw_cmd.proofs.carry.with_targets.Goals as goal
 
 pub carried-requires-clause-ready : goal.carried-requires-clause-ready
 carried-requires-clause-ready c =
-    ready c.args.part.now.keys c.args.at c.args.slot c.args.command.now c.args.part.now.maps c.requires.covered
+    ready c.args.draft.now.keys c.args.at c.args.slot c.args.command.now c.args.draft.now.maps c.requires.covered
     c.requires.form (sym c.in_default.ensures)
 
 pub carried-requires-clause-new : goal.carried-requires-clause-new
 carried-requires-clause-new c =
-    ready_new c.args.part.now.keys c.args.at c.args.slot c.args.command.now c.args.part.now.maps c.requires.covered c.requires.form
+    ready_new c.args.draft.now.keys c.args.at c.args.slot c.args.command.now c.args.draft.now.maps c.requires.covered c.requires.form

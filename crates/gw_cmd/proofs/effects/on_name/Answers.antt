@@ -14,17 +14,17 @@ use Rattle.gw_cmd.proofs.effects.on_name.Goals as goal
 
 pub done-requires : goal.done-requires
 done-requires c =
-    let found : term c.args.part.now.maps c.args.name ≡ Some c.in-Some.old.now = sym c.in-Some.ensures in
-    let there : place_of (term c.args.part.now.maps c.args.name) ≡ c.in-Some.old.now.place = ap (λ (o : Option Termination). place_of o) found in
-    suits c.args.rules.now c.args.part.now.keys c.args.command.now.verb c.args.place c.args.name c.in-Some.old.now c.args.part.now.maps c.in_ok-decided-in_default-verb.decided.change
-    c.requires.sound (c.requires.term_key (ap (λ (o : Option Termination). is_some o) found)) c.requires.ctx_key (subst (λ (o : Option CtxNum). HoldsMoved c.args.part.now.keys c.args.command.now.verb o) there c.requires.moved_key) there
-    (decided_lawful c.args.rules.now c.args.place c.args.command.now c.args.part.now.maps c.in-Some.old.now c.in_ok-decided-in_default-verb.decided (sym c.in_ok-decided-in_default-verb.ensures))
+    let found : term c.args.draft.now.maps c.args.name ≡ Some c.in-Some.old.now = sym c.in-Some.ensures in
+    let there : place_of (term c.args.draft.now.maps c.args.name) ≡ c.in-Some.old.now.place = ap (λ (o : Option Termination). place_of o) found in
+    suits c.args.rules.now c.args.draft.now.keys c.args.command.now.verb c.args.place c.args.name c.in-Some.old.now c.args.draft.now.maps c.in_ok-decided-in_default-verb.decided.change
+    c.requires.sound (c.requires.term_key (ap (λ (o : Option Termination). is_some o) found)) c.requires.ctx_key (subst (λ (o : Option CtxNum). HoldsMoved c.args.draft.now.keys c.args.command.now.verb o) there c.requires.moved_key) there
+    (decided_lawful c.args.rules.now c.args.place c.args.command.now c.args.draft.now.maps c.in-Some.old.now c.in_ok-decided-in_default-verb.decided (sym c.in_ok-decided-in_default-verb.ensures))
 
 pub returns-in-Modify-clause-told : goal.returns-in-Modify-clause-told
 returns-in-Modify-clause-told c =
     let rules = c.args.rules.now in
     let command = c.args.command.now in
-    let m : Maps = c.args.part.now.maps in
+    let m : Maps = c.args.draft.now.maps in
     let r : Termination = c.in-Some.old.now in
     let found : term m c.args.name ≡ Some r = sym c.in-Some.ensures in
     let alone = ap (λ (o : Option Termination). on_found rules c.args.place command c.args.name o m) found

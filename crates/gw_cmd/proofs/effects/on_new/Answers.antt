@@ -10,8 +10,8 @@ use Rattle.gw_cmd.proofs.effects.on_new.Goals as goal
 
 pub done-requires : goal.done-requires
 done-requires c =
-    let there : place_of (term c.args.part.now.maps (slot_name c.args.slot)) ≡ (ephemeral c.args.slot).place = ap (λ (o : Option Termination). place_of o) c.requires.unused in
-    subst (λ (t : List ℕ). Suits c.args.rules.now c.args.part.now.keys t c.in_ok-decided.decided.change c.args.part.now.maps) (sym c.slot_name.ensures)
-    (suits c.args.rules.now c.args.part.now.keys c.args.command.now.verb c.args.place (slot_name c.args.slot) (ephemeral c.args.slot) c.args.part.now.maps c.in_ok-decided.decided.change
+    let there : place_of (term c.args.draft.now.maps (slot_name c.args.slot)) ≡ (ephemeral c.args.slot).place = ap (λ (o : Option Termination). place_of o) c.requires.unused in
+    subst (λ (t : List ℕ). Suits c.args.rules.now c.args.draft.now.keys t c.in_ok-decided.decided.change c.args.draft.now.maps) (sym c.slot_name.ensures)
+    (suits c.args.rules.now c.args.draft.now.keys c.args.command.now.verb c.args.place (slot_name c.args.slot) (ephemeral c.args.slot) c.args.draft.now.maps c.in_ok-decided.decided.change
     c.requires.sound c.requires.term_key c.requires.ctx_key (λ _. tt) there
-    (decided_lawful c.args.rules.now c.args.place c.args.command.now c.args.part.now.maps (ephemeral c.args.slot) c.in_ok-decided.decided (sym c.in_ok-decided.ensures)))
+    (decided_lawful c.args.rules.now c.args.place c.args.command.now c.args.draft.now.maps (ephemeral c.args.slot) c.in_ok-decided.decided (sym c.in_ok-decided.ensures)))

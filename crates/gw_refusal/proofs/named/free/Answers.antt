@@ -6,5 +6,5 @@ use Rattle.gw_refusal.proofs.named.free.Goals as goal
 
 pub returns : goal.returns
 returns c =
-    filter_same _ (is_free c.args.part.now.maps) _ (λ x b f' k. search rules) _ _ c.retain.ensures.filtered
-    ∙ ap (filter (is_free c.args.part.now.maps)) c.in_ok-named.ensures
+    filter_same _ (is_free c.args.draft.now.maps) _ (λ x b f' k. search rules) _ _ c.retain.ensures.filtered
+    ∙ ap (filter (is_free c.args.draft.now.maps)) c.in_ok-named.ensures

@@ -10,4 +10,4 @@ pub returns : goal.returns
 unfolding matched
 returns c =
     filter_same _ (matches c.args.command.now.term) _ (λ x b f' k. search rules) _ _ c.retain.ensures.filtered
-    ∙ ap (filter (matches c.args.command.now.term)) (c.in_ok-named.ensures ∙ ap (λ (o : Option CtxNum). those_in o c.args.part.now.maps) c.source.ensures)
+    ∙ ap (filter (matches c.args.command.now.term)) (c.in_ok-named.ensures ∙ ap (λ (o : Option CtxNum). those_in o c.args.draft.now.maps) c.source.ensures)

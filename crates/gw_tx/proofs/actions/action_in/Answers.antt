@@ -11,16 +11,16 @@ use Rattle.gw_tx.proofs.actions.action_in.Goals as goal
 
 pub returns-clause-maps : goal.returns-clause-maps
 returns-clause-maps c = λ owned.
-    let m : Maps = c.args.part.now.maps in
+    let m : Maps = c.args.draft.now.maps in
     let pair : OwnedAction = paired_action owned c.args.slots.now c.args.sent.now in
     let there : is_none (ctx m c.args.number) ≡ false = search rules in
     let names : c.deref.result.now ≡ linked_names c.args.sent.now.props = c.deref.ensures.value ∙ c.in_ok-names.ensures ∙ ap (λ l. linked_names l) c.as_slice.ensures in
     let fine : refusal_of_links c.args.number (linked_names c.args.sent.now.props) m ≡ None = ap (λ (l : List (List ℕ)). refusal_of_links c.args.number l m) (sym names) ∙ sym c.refusal_of_links.ensures ∙ c.in-None.is in
-    subst (λ (o : Outcome (Attempts Unit ActionReply)). OnOk c.in_context.result (c.in_context.new.part.maps ≡ o.maps)) (live_in c.args.rules.now c.args.number pair m (ctx m c.args.number) there fine) (c.in_context.ensures.maps owned)
+    subst (λ (o : Outcome (Attempts Unit ActionReply)). OnOk c.in_context.result (c.in_context.new.draft.maps ≡ o.maps)) (live_in c.args.rules.now c.args.number pair m (ctx m c.args.number) there fine) (c.in_context.ensures.maps owned)
 
 pub returns-clause-answer : goal.returns-clause-answer
 returns-clause-answer c = λ owned.
-    let m : Maps = c.args.part.now.maps in
+    let m : Maps = c.args.draft.now.maps in
     let pair : OwnedAction = paired_action owned c.args.slots.now c.args.sent.now in
     let there : is_none (ctx m c.args.number) ≡ false = search rules in
     let names : c.deref.result.now ≡ linked_names c.args.sent.now.props = c.deref.ensures.value ∙ c.in_ok-names.ensures ∙ ap (λ l. linked_names l) c.as_slice.ensures in

@@ -11,41 +11,41 @@ use Rattle.gw_tx.proofs.actions.action_on.Goals as goal
 
 pub commands_in-requires-clause-covered : goal.commands_in-requires-clause-covered
 commands_in-requires-clause-covered c =
-    let part : Parted = c.args.part.now in
+    let draft : Parted = c.args.draft.now in
     let sent : Action = c.args.sent.now in
     let pair : OwnedAction = paired_action c.args.number c.args.slots.now sent in
-    covers_in part c.args.number c.args.slots.now sent c.as_slice-asked.result.now c.as_slice-asked.ensures c.requires.covered Null
-    (λ h. in_null part.keys part.maps pair.commands sent.ctx c.args.number c.in-Null.is (without_links part.keys pair part.maps h))
+    covers_in draft c.args.number c.args.slots.now sent c.as_slice-asked.result.now c.as_slice-asked.ensures c.requires.covered Null
+    (λ h. in_null draft.keys draft.maps pair.commands sent.ctx c.args.number c.in-Null.is (without_links draft.keys pair draft.maps h))
 
 pub action_in-requires-clause-covered : goal.action_in-requires-clause-covered
 action_in-requires-clause-covered c =
-    let part : Parted = c.args.part.now in
+    let draft : Parted = c.args.draft.now in
     let sent : Action = c.args.sent.now in
     let pair : OwnedAction = paired_action c.args.number c.args.slots.now sent in
-    covers_in part c.args.number c.args.slots.now sent sent.commands refl c.requires.covered (Live c.in-Num.number)
-    (λ h. in_live part.keys part.maps pair.commands sent.ctx c.args.number c.in-Num.number c.in-Num.is (without_links part.keys pair part.maps h))
+    covers_in draft c.args.number c.args.slots.now sent sent.commands refl c.requires.covered (Live c.in-Num.number)
+    (λ h. in_live draft.keys draft.maps pair.commands sent.ctx c.args.number c.in-Num.number c.in-Num.is (without_links draft.keys pair draft.maps h))
 
 pub action_in-requires-clause-low : goal.action_in-requires-clause-low
 action_in-requires-clause-low c = (allowed c.args.sent.now c.requires.allowed).low
 
 pub commands_in-requires-in-Some-clause-covered : goal.commands_in-requires-in-Some-clause-covered
 commands_in-requires-in-Some-clause-covered c =
-    let part : Parted = c.args.part.now in
+    let draft : Parted = c.args.draft.now in
     let sent : Action = c.args.sent.now in
     let pair : OwnedAction = paired_action c.args.number c.args.slots.now sent in
-    covers_in part c.args.number c.args.slots.now sent c.as_slice-asked.result.now c.as_slice-asked.ensures c.requires.covered (Unmade c.in-Some.number)
-    (λ h. in_unmade part.keys part.maps pair.commands sent.ctx c.args.number c.in-Some.number c.in-Choose.is c.in-Some.is (without_links part.keys pair part.maps h))
+    covers_in draft c.args.number c.args.slots.now sent c.as_slice-asked.result.now c.as_slice-asked.ensures c.requires.covered (Unmade c.in-Some.number)
+    (λ h. in_unmade draft.keys draft.maps pair.commands sent.ctx c.args.number c.in-Some.number c.in-Choose.is c.in-Some.is (without_links draft.keys pair draft.maps h))
 
 pub commands_in-requires-in-Some-clause-plain : goal.commands_in-requires-in-Some-clause-plain
 commands_in-requires-in-Some-clause-plain c = subst ArePlain (sym c.as_slice-late.ensures) (are_plain c.args.sent.now (allowed c.args.sent.now c.requires.allowed) (ap (λ x. is_chosen_or_each x) c.in-Choose.is))
 
 pub action_for_each-requires-clause-covered : goal.action_for_each-requires-clause-covered
 action_for_each-requires-clause-covered c = λ n.
-    let part : Parted = c.args.part.now in
+    let draft : Parted = c.args.draft.now in
     let sent : Action = c.args.sent.now in
     let pair : OwnedAction = paired_action c.args.number c.args.slots.now sent in
-    covers_in part c.args.number c.args.slots.now sent sent.commands refl c.requires.covered (Each n)
-    (λ h. in_each part.keys part.maps pair.commands sent.ctx c.args.number n c.in-All.is (without_links part.keys pair part.maps h))
+    covers_in draft c.args.number c.args.slots.now sent sent.commands refl c.requires.covered (Each n)
+    (λ h. in_each draft.keys draft.maps pair.commands sent.ctx c.args.number n c.in-All.is (without_links draft.keys pair draft.maps h))
 
 pub action_for_each-requires-clause-plain : goal.action_for_each-requires-clause-plain
 action_for_each-requires-clause-plain c = are_plain c.args.sent.now (allowed c.args.sent.now c.requires.allowed) (ap (λ x. is_chosen_or_each x) c.in-All.is)

@@ -9,5 +9,5 @@ use Rattle.gw_tx.proofs.contexts.action_for_each.Goals as goal
 
 pub in_all-requires-clause-key : goal.in_all-requires-clause-key
 in_all-requires-clause-key c =
-    let part : Parted = c.args.part.now in
-    subst (λ (l : List CtxNum). All (λ n. holds part.keys (Ctx n) ≡ true) l) (sym (c.deref.ensures.value ∙ c.in_ok-numbers.ensures)) (numbers_held part.keys part.maps (c.requires.covered (number 0)).entries)
+    let draft : Parted = c.args.draft.now in
+    subst (λ (l : List CtxNum). All (λ n. holds draft.keys (Ctx n) ≡ true) l) (sym (c.deref.ensures.value ∙ c.in_ok-numbers.ensures)) (numbers_held draft.keys draft.maps (c.requires.covered (number 0)).entries)

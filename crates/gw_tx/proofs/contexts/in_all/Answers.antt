@@ -34,14 +34,14 @@ loop-number-init c =
     let asked : List (Option ℕ × Command) = paired_commands c.args.slots.now c.args.sent.now.commands in
     record {
       told = λ owned. ([], sym (told_none action_reply_text c.args.told), refl);
-      kept = starts c.args.part.now c.args.slots.now (list_keys (Each (number 0)) asked c.args.part.now.maps) (c.requires.covered (number 0)) c.requires.unused;
+      kept = starts c.args.draft.now c.args.slots.now (list_keys (Each (number 0)) asked c.args.draft.now.maps) (c.requires.covered (number 0)) c.requires.unused;
       keys = refl;
     }
 
 pub in_context-requires-clause-covered : goal.in_context-requires-clause-covered
 in_context-requires-clause-covered c =
     let n : CtxNum = get_or c.args.numbers.now c.loop-number.number-index (number 0) in
-    covers_list c.args.part.now c.loop-number.part c.args.slots.now c.loop-number.invariant.kept c.loop-number.invariant.keys (Each n) (paired_commands c.args.slots.now c.args.sent.now.commands) (c.requires.covered n).held
+    covers_list c.args.draft.now c.loop-number.draft c.args.slots.now c.loop-number.invariant.kept c.loop-number.invariant.keys (Each n) (paired_commands c.args.slots.now c.args.sent.now.commands) (c.requires.covered n).held
 
 pub in_context-requires-clause-key : goal.in_context-requires-clause-key
 in_context-requires-clause-key c =
@@ -52,7 +52,7 @@ in_context-requires-clause-key c =
 pub loop-number-preserved : goal.loop-number-preserved
 loop-number-preserved c =
     let i : ℕ = c.loop-number.number-index in
-    let start : Parted = c.args.part.now in
+    let start : Parted = c.args.draft.now in
     let sent : Action = c.args.sent.now in
     let n : CtxNum = get_or c.args.numbers.now i (number 0) in
     let rest : List CtxNum = drop (i + 1) c.args.numbers.now in
@@ -66,19 +66,19 @@ loop-number-preserved c =
     let told : c.if-stopped.told ≡ c.in_ok-done.done.told = elim c.if-stopped.branch [ then-stopped w ↦ w.told-is | else-stopped w ↦ w.told-is ] in
     record {
       told = λ owned.
-          let more : List ActionReply = (in_each c.args.rules.now (pair owned) c.loop-number.stopped n c.loop-number.part.maps).answer.answers in
+          let more : List ActionReply = (in_each c.args.rules.now (pair owned) c.loop-number.stopped n c.loop-number.draft.maps).answer.answers in
           let so_far = c.loop-number.invariant.told owned in
           let front : List ActionReply = so_far.0 in
-          let now : Outcome (Attempts Bool ActionReply) = ended c.in_context.new.part.maps c.if-stopped.stopped more false in
-          let did : now ≡ in_each c.args.rules.now (pair owned) c.loop-number.stopped n c.loop-number.part.maps =
-          each_is c.args.rules.now (pair owned) c.loop-number.stopped c.if-stopped.stopped n c.loop-number.part.maps c.in_context.new.part.maps c.loop-number.told c.in_ok-done.done (c.in_ok-done.ensures.maps owned) (c.in_ok-done.ensures.answer owned) stopped in
-          let whole : Outcome (Attempts Bool ActionReply) = in_all c.args.rules.now (pair owned) c.args.numbers.now c.args.part.now.maps in (
+          let now : Outcome (Attempts Bool ActionReply) = ended c.in_context.new.draft.maps c.if-stopped.stopped more false in
+          let did : now ≡ in_each c.args.rules.now (pair owned) c.loop-number.stopped n c.loop-number.draft.maps =
+          each_is c.args.rules.now (pair owned) c.loop-number.stopped c.if-stopped.stopped n c.loop-number.draft.maps c.in_context.new.draft.maps c.loop-number.told c.in_ok-done.done (c.in_ok-done.ensures.maps owned) (c.in_ok-done.ensures.answer owned) stopped in
+          let whole : Outcome (Attempts Bool ActionReply) = in_all c.args.rules.now (pair owned) c.args.numbers.now c.args.draft.now.maps in (
             front ++ more,
             told_on action_reply_text c.args.told c.loop-number.told c.if-stopped.told front more so_far.1 (told ∙ ap (λ (d : Counted Unit ActionReply). d.told) (c.in_ok-done.ensures.answer owned)),
-            goes_on (in_each c.args.rules.now (pair owned)) c.loop-number.stopped n (drop i c.args.numbers.now) rest c.loop-number.part.maps front now whole split did refl so_far.2,
+            goes_on (in_each c.args.rules.now (pair owned)) c.loop-number.stopped n (drop i c.args.numbers.now) rest c.loop-number.draft.maps front now whole split did refl so_far.2,
           );
       kept = subst (λ (m : Maps). With AnySlot (StaysPart start.keys start.maps) c.args.slots.now m) (sym (c.in_ok-done.ensures.maps None))
-          (kept_in_each c.args.rules.now (commands_keep_part c.args.rules.now start.keys start.maps) None n c.args.slots.now sent c.loop-number.part.maps (plain_can sent.props c.requires.plain) (listed start.keys start.maps (Each n) asked (c.requires.covered n).held) c.loop-number.invariant.kept);
+          (kept_in_each c.args.rules.now (commands_keep_part c.args.rules.now start.keys start.maps) None n c.args.slots.now sent c.loop-number.draft.maps (plain_can sent.props c.requires.plain) (listed start.keys start.maps (Each n) asked (c.requires.covered n).held) c.loop-number.invariant.kept);
       keys = c.in_ok-done.ensures.keys ∙ c.loop-number.invariant.keys;
     }
 
@@ -86,8 +86,8 @@ pub returns : goal.returns
 returns c =
     let none : drop c.loop-number.number-index c.args.numbers.now ≡ [] = drop_of_length-le c.args.numbers.now c.loop-number-test.false in
     let pair : Option CtxNum → OwnedAction = λ owned. paired_action owned c.args.slots.now c.args.sent.now in
-    let all : (owned : Option CtxNum) → ended c.loop-number.part.maps c.loop-number.stopped (c.loop-number.invariant.told owned).0 false ≡ in_all c.args.rules.now (pair owned) c.args.numbers.now c.args.part.now.maps =
-    λ owned. ends (in_each c.args.rules.now (pair owned)) c.loop-number.stopped (drop c.loop-number.number-index c.args.numbers.now) c.loop-number.part.maps (c.loop-number.invariant.told owned).0 (in_all c.args.rules.now (pair owned) c.args.numbers.now c.args.part.now.maps) none (c.loop-number.invariant.told owned).2 in
+    let all : (owned : Option CtxNum) → ended c.loop-number.draft.maps c.loop-number.stopped (c.loop-number.invariant.told owned).0 false ≡ in_all c.args.rules.now (pair owned) c.args.numbers.now c.args.draft.now.maps =
+    λ owned. ends (in_each c.args.rules.now (pair owned)) c.loop-number.stopped (drop c.loop-number.number-index c.args.numbers.now) c.loop-number.draft.maps (c.loop-number.invariant.told owned).0 (in_all c.args.rules.now (pair owned) c.args.numbers.now c.args.draft.now.maps) none (c.loop-number.invariant.told owned).2 in
     record {
       maps = λ owned. ap (λ (o : Outcome (Attempts Bool ActionReply)). o.maps) (all owned);
       answer = λ owned. ap (λ (t : Telling ActionReply). let r : Counted Bool ActionReply = record { next = c.loop-number.stopped; told = t; stopped = false } in r) (c.loop-number.invariant.told owned).1 ∙ ap (λ (o : Outcome (Attempts Bool ActionReply)). counted action_reply_text c.args.told o.answer) (all owned);

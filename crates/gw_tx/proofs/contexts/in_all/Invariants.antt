@@ -14,7 +14,7 @@ use Rattle.gw_tx.proofs.contexts.in_all.Given as goal
 -- what is told is that of some replies, which, and then those in the contexts that are left, are those of all, whatever the action owns
 abbrev pub invariant-loop-number : goal.invariant-loop-number
 invariant-loop-number l = record {
-  told : (owned : Option CtxNum) → (front : List ActionReply) × (l.told ≡ told_behind action_reply_text l.fn.told front) × (attempts_behind front (in_order (in_each l.rules (paired_action owned l.slots l.sent)) l.stopped (drop l.number-index l.numbers) l.part.maps) ≡ in_all l.rules (paired_action owned l.slots l.sent) l.numbers l.fn.part.maps);
-  kept : With AnySlot (StaysPart l.fn.part.keys l.fn.part.maps) l.slots l.part.maps;
-  keys : l.part.keys ≡ l.fn.part.keys;
+  told : (owned : Option CtxNum) → (front : List ActionReply) × (l.told ≡ told_behind action_reply_text l.fn.told front) × (attempts_behind front (in_order (in_each l.rules (paired_action owned l.slots l.sent)) l.stopped (drop l.number-index l.numbers) l.draft.maps) ≡ in_all l.rules (paired_action owned l.slots l.sent) l.numbers l.fn.draft.maps);
+  kept : With AnySlot (StaysPart l.fn.draft.keys l.fn.draft.maps) l.slots l.draft.maps;
+  keys : l.draft.keys ≡ l.fn.draft.keys;
 }

@@ -14,7 +14,7 @@ use Rattle.gw_tx.proofs.requests.transaction_within.Goals as goal
 pub returns : goal.returns
 unfolding paired_transaction
 returns c =
-    let on : List (Option CtxNum) → List (Option ℕ) → List Action → Outcome (Attempts Unit ActionReply) = λ n s a. actions c.args.rules.now (paired_actions n s a) c.args.part.now.maps in
+    let on : List (Option CtxNum) → List (Option ℕ) → List Action → Outcome (Attempts Unit ActionReply) = λ n s a. actions c.args.rules.now (paired_actions n s a) c.args.draft.now.maps in
     let same : on c.as_slice.result.now c.as_slice-2.result.now c.as_slice-3.result.now ≡ on c.args.owned.now.contexts c.args.owned.now.slots c.args.request.now.actions =
     ap (λ (l : List (Option CtxNum)). on l c.as_slice-2.result.now c.as_slice-3.result.now) c.as_slice.ensures
     ∙ ap (λ (l : List (Option ℕ)). on c.args.owned.now.contexts l c.as_slice-3.result.now) c.as_slice-2.ensures
