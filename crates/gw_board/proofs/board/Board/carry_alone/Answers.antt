@@ -82,7 +82,7 @@ pub unreachable-requires-in_default-push : goal.unreachable-requires-in_default-
 unreachable-requires-in_default-push c =
     let b : Seen = value_of c.self.inside in
     let fewer = alone_fewer b c.self.invariant.on_the_way (none_here b c.args.self.now c.self.view_is c.requires.«open») c.args.place c.in-Some.task
-        (pends_here b c.args.self.now c.args.place c.in-Some.task c.self.view_is c.in-Some.ensures) in
+    (pends_here b c.args.self.now c.args.place c.in-Some.task c.self.view_is c.in-Some.ensures) in
     let room = c.self.invariant.room.originals in
     let full = c.in_default-push.ensures.full in
     omega arith
@@ -120,7 +120,7 @@ module _ (c : In-Ok) where
   reply = c.in_ok-changes.ensures.reply ∙ ap (λ (x : Asked). (done b.manner x b.maps).answer) c.get.ensures
 
   abbrev tables : Stored
-  tables = c.exchange-original.new.tables
+  tables = c.exchange-original.new.self
 
   maps_are : maps_of tables ≡ (with_alone b i a changed).maps
   maps_are = c.exchange-original.ensures.maps ∙ ap (λ (m : Maps). overlaid changed c.in_ok-changes.changes.maps m) c.in_ok-reserve_slots.ensures.maps ∙ changes
