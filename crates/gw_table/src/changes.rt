@@ -65,8 +65,9 @@ impl Tables {
         ensures maps { IfOk result (λ part. part.maps ≡ maps_of self) }
     {
         let (terms, contexts) = self.into_maps();
-        let mut keys = Vec::new(alloc);
-        let mut cells = Vec::new(alloc);
+        let count = terms.len() + contexts.len();
+        let mut keys = Vec::with_capacity(alloc, count)?;
+        let mut cells = Vec::with_capacity(alloc, count)?;
         list_terms(terms, &mut keys, &mut cells)?;
         list_contexts(contexts, &mut keys, &mut cells)?;
         Ok(Part { keys, cells })

@@ -25,12 +25,12 @@ contexts c = c.into_maps-terms.result.1.entries
 keys_are : (c : goal.In_ok-list_contexts) → c.list_contexts.new.keys.items ≡ listed_keys (terms c) (contexts c)
 keys_are c =
     c.in_ok-list_contexts.ensures.keys
-    ∙ ap (λ (l : List Key). l ++ map (λ n. Ctx (number n)) (keys_of (contexts c))) (c.in_ok-list_terms.ensures.keys ∙ ap (λ (l : List Key). l ++ map (λ t. Term t) (keys_of (terms c))) c.new-keys.ensures.items)
+    ∙ ap (λ (l : List Key). l ++ map (λ n. Ctx (number n)) (keys_of (contexts c))) (c.in_ok-list_terms.ensures.keys ∙ ap (λ (l : List Key). l ++ map (λ t. Term t) (keys_of (terms c))) c.in_ok-keys.ensures.items)
 
 cells_are : (c : goal.In_ok-list_contexts) → c.list_contexts.new.cells.items ≡ listed_cells (terms c) (contexts c)
 cells_are c =
     c.in_ok-list_contexts.ensures.cells
-    ∙ ap (λ (l : List Cell). l ++ map (λ p. OfCtx p) (values_of (contexts c))) (c.in_ok-list_terms.ensures.cells ∙ ap (λ (l : List Cell). l ++ map (λ p. OfTerm p) (values_of (terms c))) c.new-cells.ensures.items)
+    ∙ ap (λ (l : List Cell). l ++ map (λ p. OfCtx p) (values_of (contexts c))) (c.in_ok-list_terms.ensures.cells ∙ ap (λ (l : List Cell). l ++ map (λ p. OfTerm p) (values_of (terms c))) c.in_ok-cells.ensures.items)
 
 pub invariant_of-result : goal.invariant_of-result
 invariant_of-result c =
