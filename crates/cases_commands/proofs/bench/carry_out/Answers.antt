@@ -1,4 +1,4 @@
-use Rattle.std.proofs.Common.{◌≡◌, true, List, subst, sym, ap, ◌∙◌}
+use Rattle.std.proofs.Common.{◌≡◌, List, subst, sym, ap, ◌∙◌}
 use Rattle.gw_base.specs.Keys.{has}
 use Rattle.gw_base.specs.declared.key.Key.{Key}
 use Rattle.gw_cmd.specs.Commands.{command}
