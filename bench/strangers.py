@@ -2,7 +2,7 @@
 """Measures what one datagram of a stranger may cost a new gateway: time, work and memory beyond its state.
 
 Run it at the top of the repository, after `rt run` in crates/h248gw has built the program. Each line is a datagram, or a burst of
-them, that asks for as many replies as it can and is answered with error 533. Time is that of its burst alone, from its last byte
+them, that asks for as much as it can and is answered with an error. Time is that of its burst alone, from its last byte
 to its answer, the best of three. Memory is the most that the process ever had, less the most that it had before: then it has
 answered an audit, so the state and the copy of the tables that a burst makes are left out. Work is instructions by valgrind's
 callgrind, of a burst of one eighth of the bytes or of the commands, less those of the same run without it; `--quick` leaves it out.
@@ -64,6 +64,14 @@ def contexts_and(command, share):
     return transaction(2, listed([made] + [each] * (room // (len(each) + 1))))
 
 
+def each_for_all(share):
+    """A datagram of as many transactions as fit it, each for every context, of which there is none."""
+    datagram, number = HEAD[:-1], 2
+    while len(datagram) + len(one := b" Transaction=%d{Context=*{Subtract=*}}" % number) <= LONGEST // share:
+        datagram, number = datagram + one, number + 1
+    return [datagram]
+
+
 def members():
     """A context of 64 members, each with 98 KB: Local and Remote in four streams, and four tails."""
     text = b"{\n" + b"a" * 7_900 + b"\n}"
@@ -91,6 +99,7 @@ class Line(NamedTuple):
     burst: Callable
     seconds: float
     mebibytes: int
+    answer: bytes = b"Error=533{"
 
 
 def nothing():
@@ -111,6 +120,7 @@ LINES = [
          lambda share: [repeated(b"-", b"AuditValue=*{Audit{}}", 1_000 // share)], 100.0, 64),
     Line("64 members of 98 KB, `AuditValue=*` of all items 100 times", 64, 0, members,
          lambda share: [repeated(b"1", b"AuditValue=*{" + ALL_ITEMS + b"}", 100 // share)], 0.2, 16),
+    Line("65,535 terminations, `Context=*{Subtract=*}` in 1,700 transactions", 65_535, 0, nothing, each_for_all, 1.0, 64, b"Error="),
 ]
 
 AUDIT = transaction(1, b"Context=-{O-AuditValue=T/1{Audit{}}}")
@@ -168,10 +178,6 @@ def instructions(conf, before, datagrams):
     return counted(conf, setting + [datagrams]) - counted(conf, setting)
 
 
-def is_too_long(answer):
-    return b"Error=533{" in answer
-
-
 def main():
     quick = "--quick" in sys.argv
     words = [word for word in sys.argv[1:] if word != "--quick"]
@@ -186,8 +192,8 @@ def main():
             runs = [measured(conf, before, line.burst(1)) for _ in range(3)]
             took, most = min(run[0] for run in runs), max(run[1] for run in runs)
             over |= took > line.seconds or most > line.mebibytes * MEBIBYTE
-            if not all(is_too_long(answer) for answer in runs[0][2]):
-                print(f"{line.name}: not answered with error 533", file=sys.stderr)
+            if not all(line.answer in answer for answer in runs[0][2]):
+                print(f"{line.name}: not answered with the error", file=sys.stderr)
                 over = True
             work = "" if quick else f"{instructions(conf, before, line.burst(8)):,}"
             print(f"| {line.name} | {took:.2f} | {line.seconds} | {most / MEBIBYTE:.1f} | {line.mebibytes} | {work} |", flush=True)
