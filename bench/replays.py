@@ -9,6 +9,8 @@ fill, and a Subtract of both.
 `--rates` measures 20,000 of them in bursts of 1, 16 and 256 datagrams, with 4 and with 400 terminations, and 200,000.
 `--tables` measures one transaction as the tables grow, the copy that each burst makes of them apart.
 `--bursts` measures new transactions and repeats in bursts of 64 and of 1,024, with 4,096 kept replies.
+`--waves` measures bursts of 1,024 transactions that stand in one another's way, or do not, with one worker and with three; it fails
+where the dearest costs more than ten times the mean.
 `--records` measures what carrying out costs where the copy of the tables is left out, and the memory of bare terminations; it
 fails where one is above its limit.
 """
@@ -66,8 +68,8 @@ def seconds(conf, replay):
     return best
 
 
-def instructions(conf, replay, out="/dev/null"):
-    run = subprocess.run(["valgrind", "--tool=callgrind", f"--callgrind-out-file={out}", PROGRAM, "replay", conf],
+def instructions(conf, replay, out="/dev/null", workers=1):
+    run = subprocess.run(["valgrind", "--tool=callgrind", f"--callgrind-out-file={out}", PROGRAM, "replay", conf, "--workers", str(workers)],
                          input=replay, stdout=subprocess.DEVNULL, stderr=subprocess.PIPE, check=True)
     return int(re.search(rb"Collected : (\d+)", run.stderr).group(1))
 
@@ -131,6 +133,29 @@ def repeats(folder):
             print(f"| {count:,} {name} | {work / count:,.0f} |")
 
 
+# Bursts of 1,024 transactions: what each asks, by its number from 0, over contexts of two that were made before.
+WAVES = {
+    "on one context": (1, lambda n: b"Context=1{AuditValue=T/1{Audit{}}}"),
+    "on 1,024 contexts": (1_024, lambda n: b"Context=%d{AuditValue=T/%d{Audit{}}}" % (n + 1, 2 * n + 1)),
+    "Moves between two contexts in turn": (2, lambda n: b"Context=%d{Move=T/1}" % (2 - n % 2)),
+    "each second one for every context, of sixteen": (16, lambda n: b"Context=*{AuditValue=*{Audit{}}}" if n % 2 else b"Context=1{AuditValue=T/1{Audit{}}}"),
+}
+
+
+def waves(folder):
+    conf = config(folder, 2_048)
+    found = {}
+    for name, (contexts, asked) in WAVES.items():
+        made = bursts([b"Transaction=%d{Context=${Add=T/%d,Add=T/%d}}" % (5_000 + n, 2 * n + 1, 2 * n + 2) for n in range(contexts)], 256)
+        bodies = [b"Transaction=%d{%s}" % (n + 1, asked(n)) for n in range(1_024)]
+        burst = bursts([b" ".join(bodies[place:place + 4]) for place in range(0, 1_024, 4)], 256)
+        found[name] = [(instructions(conf, made + burst, workers=workers) - instructions(conf, made, workers=workers)) / 1_024 for workers in (1, 3)]
+    print("| A burst of 1,024 transactions | instructions for each, one worker | three |\n|---|---|---|")
+    for name, (one, three) in found.items():
+        print(f"| {name} | {one:,.0f} | {three:,.0f} |")
+    return any(max(of[k] for of in found.values()) > 10 * sum(of[k] for of in found.values()) / len(found) for k in (0, 1))
+
+
 def of_all(folder, terms, fill, body):
     """What a transaction for all terminations costs for each: a second one in the same burst, where each has media or none."""
     conf = config(folder, terms, slots=0)
@@ -188,12 +213,14 @@ def records(folder):
 
 def main():
     with tempfile.TemporaryDirectory() as folder:
-        chosen = sys.argv[1:] or ["--rates", "--tables", "--bursts", "--records"]
+        chosen = sys.argv[1:] or ["--rates", "--tables", "--bursts", "--waves", "--records"]
         for word, measure in (("--rates", rates), ("--tables", tables), ("--bursts", repeats)):
             if word in chosen:
                 measure(folder)
                 print()
-        return 1 if "--records" in chosen and records(folder) else 0
+        over = "--waves" in chosen and waves(folder)
+        over |= "--records" in chosen and records(folder)
+        return 1 if over else 0
 
 
 if __name__ == "__main__":
