@@ -1,19 +1,14 @@
 -- Keys in order with a cell for each: what is found at a key, and what a change of one cell changes.
-use Rattle.std.proofs.Common.{◌≡◌, ℕ, suc, zero, ◌+◌, ◌<◌, Bool, true, false, cond, List, [], ◌∷◌, length, map, get_or, set, take, drop, ◌++◌, Option, None, Some, is_some, refl, sym, ap, subst, ◌∙◌, arith}
-use Rattle.std.specs.Prelude.{◌||◌, option_copied}
-use Rattle.std.specs.Borrow.{Bor}
-use Rattle.std.proofs.lemmas.List.{drop_more}
+use Rattle.std.proofs.Common.{◌≡◌, ℕ, suc, zero, ◌<◌, Bool, true, false, cond, List, [], ◌∷◌, length, map, get_or, set, take, drop, ◌++◌, Option, None, Some, is_some, refl, sym, ap, subst, ◌∙◌, arith}
+use Rattle.std.specs.Prelude.{◌||◌}
 use Rattle.std.specs.BTreeMap.{is_at}
 use Rattle.std.specs.Cmp.{nat_cmp_total, eq_by_cmp_equiv}
 use Rattle.std.specs.Cmp.Lexicographic.{nat_list_cmp_total}
 use Rattle.std.specs.FinMap as finite
 use Rattle.std.specs.FinMap.{get-empty}
-use Rattle.std.specs.List.{AllByRecursion}
-use Rattle.std.specs.List.Sorted.{IsStrictlySortedBy}
-use Rattle.std.specs.Map.{keys_of, lookup}
+use Rattle.std.specs.Map.{lookup}
 use Rattle.std.specs.Ordering.{nat_cmp}
 use Rattle.std.specs.declared.cmp.Ordering.{Ordering}
-use Rattle.std.specs.declared.cmp.Ordering.TheVariants.{Less}
 use Rattle.gw_base.specs.declared.ids.CtxNum.{CtxNum}
 use Rattle.gw_base.specs.declared.key.Key.{Key}
 use Rattle.gw_base.specs.declared.key.Key.TheVariants.{Term, Ctx, Whole}
@@ -28,11 +23,11 @@ use Rattle.gw_table.specs.declared.place.Place.{Place}
 use Rattle.gw_table.specs.declared.place.Place.TheVariants.{Empty}
 use Rattle.gw_table.specs.declared.cell.Cell.{Cell}
 use Rattle.gw_table.specs.Cells.{cell_term, cell_ctx, with_term, with_ctx, cells_by, term_cells, ctx_cells, celled, empty_cell, out_cell, cell_from, with_cell}
-use Rattle.gw_table.specs.KeyLists.{key_cmp, IsInOrder}
-use Rattle.gw_table.specs.Stored.{Stored, shown, has_left, is_ready, is_out, or_empty, with_out, with_place_of, put_term_place, put_ctx_place, AreBlank, nothing_stored}
+use Rattle.gw_table.specs.Parts.{Only, IsPart}
+use Rattle.gw_table.specs.Stored.{Stored, shown, has_left, maps_of, is_ready, is_out, or_empty, with_out, with_place_of, put_term_place, put_ctx_place, ArePacked, AreBlank, nothing_stored}
 use Rattle.gw_table.proofs.Exchanged.{term_written, ctx_written}
 use Rattle.gw_table.proofs.KeyOrder.{same_key_is}
-use Rattle.gw_table.proofs.Places.{shown_alike, maps_of_nothing}
+use Rattle.gw_table.proofs.Places.{term-maps_of, ctx-maps_of, shown_alike, maps_of_nothing}
 
 -- ---- one more key
 
@@ -272,38 +267,6 @@ blank_cells keys = record {
     here (Ctx n) = ap (λ o. has_left o) (seen nat_cmp_total (ctx_cells keys (map empty_cell keys)) n.0) ∙ none_out_ctxs keys n.0
     here Whole = refl
 
--- ---- entries in order
-
-above_terms : (t : List ℕ) (keys : List Key) (cells : List Cell) → AllByRecursion (λ k. key_cmp (Term t) k ≡ Less) keys → AllByRecursion (λ q. name_cmp t q ≡ Less) (keys_of (term_cells keys cells))
-above_terms t [] cells h = tt
-above_terms t (k ∷ keys) [] h = tt
-above_terms t (Term q ∷ keys) (c ∷ cells) h = (h.0, above_terms t keys cells h.1)
-above_terms t (Ctx n ∷ keys) (c ∷ cells) h = above_terms t keys cells h.1
-above_terms t (Whole ∷ keys) (c ∷ cells) h = above_terms t keys cells h.1
-
-pub terms_in_order : (keys : List Key) (cells : List Cell) → IsInOrder keys → IsStrictlySortedBy name_cmp (keys_of (term_cells keys cells))
-unfolding IsStrictlySortedBy
-terms_in_order [] cells s = tt
-terms_in_order (k ∷ keys) [] s = tt
-terms_in_order (Term t ∷ keys) (c ∷ cells) s = (above_terms t keys cells s.0, terms_in_order keys cells s.1)
-terms_in_order (Ctx n ∷ keys) (c ∷ cells) s = terms_in_order keys cells s.1
-terms_in_order (Whole ∷ keys) (c ∷ cells) s = terms_in_order keys cells s.1
-
-above_ctxs : (n : CtxNum) (keys : List Key) (cells : List Cell) → AllByRecursion (λ k. key_cmp (Ctx n) k ≡ Less) keys → AllByRecursion (λ q. nat_cmp n.0 q ≡ Less) (keys_of (ctx_cells keys cells))
-above_ctxs n [] cells h = tt
-above_ctxs n (k ∷ keys) [] h = tt
-above_ctxs n (Term q ∷ keys) (c ∷ cells) h = above_ctxs n keys cells h.1
-above_ctxs n (Ctx q ∷ keys) (c ∷ cells) h = (h.0, above_ctxs n keys cells h.1)
-above_ctxs n (Whole ∷ keys) (c ∷ cells) h = above_ctxs n keys cells h.1
-
-pub ctxs_in_order : (keys : List Key) (cells : List Cell) → IsInOrder keys → IsStrictlySortedBy nat_cmp (keys_of (ctx_cells keys cells))
-unfolding IsStrictlySortedBy
-ctxs_in_order [] cells s = tt
-ctxs_in_order (k ∷ keys) [] s = tt
-ctxs_in_order (Term t ∷ keys) (c ∷ cells) s = ctxs_in_order keys cells s.1
-ctxs_in_order (Ctx n ∷ keys) (c ∷ cells) s = (above_ctxs n keys cells s.0, ctxs_in_order keys cells s.1)
-ctxs_in_order (Whole ∷ keys) (c ∷ cells) s = ctxs_in_order keys cells s.1
-
 -- ---- cells that a slice of them wrote back
 
 pub written_back : {X : Type 0} (new old : List X) (n : ℕ) → length new ≡ n → length old ≡ n → take n (new ++ drop (length new) old) ≡ new
@@ -313,27 +276,14 @@ written_back (x ∷ new) old zero h g = absurd (omega arith)
 written_back (x ∷ new) [] (suc n) h g = absurd (omega arith)
 written_back (x ∷ new) (y ∷ old) (suc n) h g = ap (λ l. x ∷ l) (written_back new old n (omega arith) (omega arith))
 
--- ---- what is left of keys and cells
+-- ---- no entry is but at the keys
 
-pub terms_left : (keys : List Key) (cells : List Cell) (i : ℕ) (d : Key) (e : Cell) → length cells ≡ length keys → i < length keys
-    → term_cells (drop i keys) (drop i cells) ≡ with_term (get_or keys i d) (get_or cells i e) (term_cells (drop (i + 1) keys) (drop (i + 1) cells))
-terms_left keys cells i d e l h = λ j. cells_by with_term (drop_more keys i d h j) (drop_more cells i e (omega arith) j)
+entry_placed : {A : Type 0} (o : Option (Place A)) → is_some (shown o) ≡ true → is_some o ≡ true
+entry_placed None h = h
+entry_placed (Some p) h = refl
 
-pub ctxs_left : (keys : List Key) (cells : List Cell) (i : ℕ) (d : Key) (e : Cell) → length cells ≡ length keys → i < length keys
-    → ctx_cells (drop i keys) (drop i cells) ≡ with_ctx (get_or keys i d) (get_or cells i e) (ctx_cells (drop (i + 1) keys) (drop (i + 1) cells))
-ctxs_left keys cells i d e l h = λ j. cells_by with_ctx (drop_more keys i d h j) (drop_more cells i e (omega arith) j)
-
--- a key of another kind adds nothing
-pub other_term : (k : Key) (c : Cell) (es : List (List ℕ × Place Termination)) → ((t : List ℕ) → k ≡ Term t → ⊥) → with_term k c es ≡ es
-other_term (Term t) c es h = absurd (h t refl)
-other_term (Ctx n) c es h = refl
-other_term Whole c es h = refl
-
-pub other_ctx : (k : Key) (c : Cell) (es : List (ℕ × Place ContextRecord)) → ((n : CtxNum) → k ≡ Ctx n → ⊥) → with_ctx k c es ≡ es
-other_ctx (Term t) c es h = refl
-other_ctx (Ctx n) c es h = absurd (h n refl)
-other_ctx Whole c es h = refl
-
-pub copied_some : {A : Type 0} (o : Option (Bor A)) → is_some (option_copied o) ≡ is_some o
-copied_some None = refl
-copied_some (Some a) = refl
+pub packed_part : (keys : List Key) (s : Stored) → ArePacked keys s → IsPart (Only keys) (maps_of s)
+packed_part keys s p = record {
+  terms = λ t h. sym (p.terms t) ∙ entry_placed (finite.get s.terms t) (ap (λ o. is_some o) (sym (term-maps_of s t)) ∙ h);
+  contexts = λ n h. sym (p.contexts n) ∙ entry_placed (finite.get s.contexts n.0) (ap (λ o. is_some o) (sym (ctx-maps_of s n)) ∙ h);
+}

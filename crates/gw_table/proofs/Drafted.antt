@@ -1,5 +1,5 @@
 -- What is read in changes that are laid over maps, and what one more change comes to.
-use Rattle.std.proofs.Common.{nat_eq, ◌≡◌, ℕ, Bool, true, false, cond, List, [], ◌∷◌, ◌++◌, map, bytes_eq, Option, None, Some, is_some, refl, sym, ap, ◌∙◌}
+use Rattle.std.proofs.Common.{nat_eq, ◌≡◌, ℕ, Bool, true, false, cond, List, [], ◌∷◌, ◌++◌, map, bytes_eq, Option, None, Some, is_some, refl, sym, ap, subst, ◌∙◌}
 use Rattle.std.specs.Prelude.{◌||◌}
 use Rattle.std.specs.FinMap as finite
 use Rattle.std.specs.FinMap.{contains_key-keys, get-empty}
@@ -16,11 +16,13 @@ use Rattle.gw_term.specs.declared.record.Termination.{Termination}
 use Rattle.gw_ctx.specs.Contexts.{ContextRecord}
 use Rattle.gw_table.specs.declared.place.Place.{Place}
 use Rattle.gw_table.specs.Drafts.{written, drafted, AreChanges, IsDraft}
-use Rattle.gw_table.specs.Maps.{Maps, number, term, ctx, put_term, put_ctx}
-use Rattle.gw_table.specs.Parts.{PartKeys, Parted, Only, Over, holds}
+use Rattle.gw_table.specs.KeyLists.{IsInOrder}
+use Rattle.gw_table.specs.Maps.{Maps, number, term, ctx, put_term, put_ctx, names, numbers}
+use Rattle.gw_table.specs.Parts.{PartKeys, Parted, Only, IsPart, list_of, holds}
 use Rattle.gw_table.specs.Stored.{Stored, shown, has_left, maps_of, is_ready, names_entry, put_term_place, put_ctx_place, nothing_stored}
 use Rattle.gw_table.proofs.Lookups.{term-put_term, ctx-put_term, term-put_ctx, ctx-put_ctx, same_maps}
 use Rattle.gw_table.proofs.PartLookups.{term-overlaid, ctx-overlaid}
+use Rattle.gw_table.proofs.Picked.{name_in, number_in, has_name, has_number, picked, names_picked, numbers_picked}
 use Rattle.gw_table.proofs.Places.{term-maps_of, ctx-maps_of, got_term, got_ctx, in-put_term, in-put_ctx, nothing_out}
 
 -- ---- which keys were written
@@ -144,20 +146,38 @@ changed_ctx keys s n p g held c = record { here = in-put_ctx s n p g c.here; wit
 
 -- ---- a draft
 
-over_is : (a b : Maps) → Over a ≡ Over b → a ≡ b
-over_is a b e = cc
+pub no_draft : (part : Parted) (l : List Key) → part.keys ≡ Only l → IsDraft part nothing_stored
+no_draft part l is = record { changes = no_changes part.keys; listed = is ∙ ap (λ (k : PartKeys). Only (list_of k)) (sym is) }
 
-pub whole_tables : (base : Parted) (a : Maps) → base ≡ record { keys = Over a; maps = a } → (m : Maps) → base.keys ≡ Over m → base.maps ≡ m
-whole_tables base a is m e = ap (λ (p : Parted). p.maps) is ∙ over_is a m (sym (ap (λ (p : Parted). p.keys) is) ∙ e)
+pub draft_term : (part : Parted) (s : Stored) (t : List ℕ) (p : Place Termination) → has_left (Some p) ≡ false → holds part.keys (Term t) ≡ true → IsDraft part s → IsDraft part (put_term_place s t p)
+draft_term part s t p g held d = record { changes = changed_term part.keys s t p g held d.changes; listed = d.listed }
 
-pub whole_part : (base : Parted) (l : List Key) → base.keys ≡ Only l → (m : Maps) → base.keys ≡ Over m → base.maps ≡ m
-whole_part base l is m e = absurd (let clash : Only l ≡ Over m = sym is ∙ e in cc)
+pub draft_ctx : (part : Parted) (s : Stored) (n : CtxNum) (p : Place ContextRecord) → has_left (Some p) ≡ false → holds part.keys (Ctx n) ≡ true → IsDraft part s → IsDraft part (put_ctx_place s n p)
+draft_ctx part s n p g held d = record { changes = changed_ctx part.keys s n p g held d.changes; listed = d.listed }
 
-pub no_draft : (base : Parted) → ((m : Maps) → base.keys ≡ Over m → base.maps ≡ m) → IsDraft base nothing_stored
-no_draft base w = record { changes = no_changes base.keys; whole = w }
+-- there is no entry but at the part's keys
+within_keys : {A : Type 0} (own : Bool) (g : Option (Place A)) (o : Option A) → (is_some g ≡ true → own ≡ true) → (is_some o ≡ true → own ≡ true) → is_some (laid g o) ≡ true → own ≡ true
+within_keys own None o f e h = e h
+within_keys own (Some p) o f e h = f refl
 
-pub draft_term : (base : Parted) (s : Stored) (t : List ℕ) (p : Place Termination) → has_left (Some p) ≡ false → holds base.keys (Term t) ≡ true → IsDraft base s → IsDraft base (put_term_place s t p)
-draft_term base s t p g held d = record { changes = changed_term base.keys s t p g held d.changes; whole = d.whole }
+pub part_drafted : (part : Parted) (s : Stored) → IsDraft part s → IsPart part.keys part.maps → IsPart (Only (list_of part.keys)) (drafted s part.maps)
+part_drafted part s d p = subst (λ (k : PartKeys). IsPart k (drafted s part.maps)) d.listed (record {
+  terms = λ t h. within_keys (holds part.keys (Term t)) (finite.get s.terms t) (term part.maps t) (d.changes.within (Term t) refl) (p.terms t) (ap (λ o. is_some o) (sym (term-drafted s part.maps t)) ∙ h);
+  contexts = λ n h. within_keys (holds part.keys (Ctx n)) (finite.get s.contexts n.0) (ctx part.maps n) (d.changes.within (Ctx n) refl) (p.contexts n) (ap (λ o. is_some o) (sym (ctx-drafted s part.maps n)) ∙ h);
+})
 
-pub draft_ctx : (base : Parted) (s : Stored) (n : CtxNum) (p : Place ContextRecord) → has_left (Some p) ≡ false → holds base.keys (Ctx n) ≡ true → IsDraft base s → IsDraft base (put_ctx_place s n p)
-draft_ctx base s n p g held d = record { changes = changed_ctx base.keys s n p g held d.changes; whole = d.whole }
+-- ---- the names and the numbers that a draft shows, by the part's keys
+
+module _ (part now : Parted) (s : Stored) (keys : List Key) (d : IsDraft part s) (p : IsPart part.keys part.maps) (order : IsInOrder (list_of part.keys)) (listed : keys ≡ list_of part.keys)
+    (is : ◌≡◌ {A = Parted} (record { keys = part.keys; maps = drafted s part.maps }) now) where
+  at_keys : IsPart (Only keys) now.maps
+  at_keys = subst (λ (l : List Key). IsPart (Only l) now.maps) (sym listed) (subst (λ (q : Parted). IsPart (Only (list_of part.keys)) q.maps) is (part_drafted part s d p))
+
+  in_order : IsInOrder keys
+  in_order = subst (λ (l : List Key). IsInOrder l) (sym listed) order
+
+  pub names_drafted : picked name_in (has_name now.maps) keys ≡ names now.maps
+  names_drafted = names_picked keys now.maps in_order at_keys
+
+  pub numbers_drafted : map number (picked number_in (has_number now.maps) keys) ≡ numbers now.maps
+  numbers_drafted = numbers_picked keys now.maps in_order at_keys

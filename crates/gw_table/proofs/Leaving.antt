@@ -1,12 +1,12 @@
 -- What is taken out of its place and set again; who leaves a context.
-use Rattle.std.proofs.Common.{◌≡◌, ℕ, Bool, true, false, cond, length, List, [], ◌∷◌, bytes_eq, Option, None, Some, refl, sym, ap, ◌∙◌, arith}
+use Rattle.std.proofs.Common.{nat_eq, ◌≡◌, ℕ, Bool, true, false, cond, length, List, [], ◌∷◌, bytes_eq, Option, None, Some, refl, sym, ap, ◌∙◌, arith}
 use Rattle.gw_base.specs.declared.ids.CtxNum.{CtxNum}
-use Rattle.gw_base.proofs.NameTests.{same_name}
+use Rattle.gw_base.proofs.NameTests.{same_name, same_number}
 use Rattle.gw_ctx.specs.Contexts.{ContextRecord, left}
 use Rattle.gw_term.specs.declared.record.Termination.{Termination}
 use Rattle.gw_table.specs.Maps.{Maps, term, ctx, context_of, put_ctx, put_term}
 use Rattle.gw_table.specs.Members.{unless_none, unless_empty, without_member}
-use Rattle.gw_table.proofs.Lookups.{term-put_term, ctx-put_term, put_ctx-put_ctx, same_maps}
+use Rattle.gw_table.proofs.Lookups.{term-put_term, ctx-put_term, term-put_ctx, ctx-put_ctx, put_ctx-put_ctx, same_maps}
 
 twice : {A : Type 0} (b : Bool) (x y z : A) → cond b x (cond b y z) ≡ cond b x z
 twice true x y z = refl
@@ -24,6 +24,13 @@ put_term-same m t o e = same_maps (put_term m t o) m (λ q. term-put_term m t o 
   where
     at : (q : List ℕ) (b : Bool) → bytes_eq q t ≡ b → cond b o (term m q) ≡ term m q
     at q true h = e ∙ ap (term m) (sym (same_name q t h))
+    at q false h = refl
+
+pub put_ctx-same : (m : Maps) (n : CtxNum) (o : Option ContextRecord) → o ≡ ctx m n → put_ctx m n o ≡ m
+put_ctx-same m n o e = same_maps (put_ctx m n o) m (λ q. term-put_ctx m n o q) (λ q. ctx-put_ctx m n o q ∙ at q (nat_eq q.0 n.0) refl)
+  where
+    at : (q : CtxNum) (b : Bool) → nat_eq q.0 n.0 ≡ b → cond b o (ctx m q) ≡ ctx m q
+    at q true h = e ∙ ap (ctx m) (sym (same_number q n h))
     at q false h = refl
 
 -- ---- who leaves

@@ -3,18 +3,20 @@ use Rattle.std.proofs.Common.{nat_eq, ◌≡◌, ℕ, Bool, true, false, cond, L
 use Rattle.std.specs.Cmp.{nat_cmp_total}
 use Rattle.std.specs.Cmp.Lexicographic.{nat_list_cmp_total}
 use Rattle.std.specs.FinMap as finite
-use Rattle.std.specs.FinMap.{get-insert, get-empty}
+use Rattle.std.specs.FinMap.{FinMap, get-insert, get-empty, same_map}
 use Rattle.std.specs.Ordering.{nat_cmp}
+use Rattle.gw_base.specs.declared.command_words.Service.{Service}
 use Rattle.gw_base.specs.declared.ids.CtxNum.{CtxNum}
 use Rattle.gw_base.specs.declared.key.Key.{Key}
 use Rattle.gw_base.specs.declared.key.Key.TheVariants.{Term, Ctx, Whole}
 use Rattle.gw_base.specs.NameLists.{name_cmp}
-use Rattle.gw_base.proofs.NameTests.{name_test, number_test, same_name, same_number}
+use Rattle.gw_base.proofs.NameTests.{name_test, number_test, names_same, same_name, same_number}
 use Rattle.gw_term.specs.declared.record.Termination.{Termination}
 use Rattle.gw_ctx.specs.Contexts.{ContextRecord}
 use Rattle.gw_table.specs.declared.place.Place.{Place}
+use Rattle.gw_table.specs.declared.place.Place.TheVariants.{Empty, Here, Out}
 use Rattle.gw_table.specs.Maps.{term, ctx, put_term, put_ctx, no_maps}
-use Rattle.gw_table.specs.Stored.{Stored, shown, has_left, placed, maps_of, is_ready, put_term_place, put_ctx_place, nothing_stored, NoneIsOut}
+use Rattle.gw_table.specs.Stored.{Stored, shown, has_left, placed, served, maps_of, is_ready, is_out, put_term_place, put_ctx_place, with_service, nothing_stored, NoneIsOut, AreAsOut}
 use Rattle.gw_table.proofs.Lookups.{term-put_term, ctx-put_term, term-put_ctx, ctx-put_ctx, same_maps}
 use Rattle.gw_table.proofs.Shown.{got_shown, shown-cond}
 
@@ -62,6 +64,21 @@ maps-put_ctx_place s n p = same_maps (maps_of (put_ctx_place s n p)) (put_ctx (m
     (λ q. ctx-maps_of (put_ctx_place s n p) q ∙ ap (λ o. shown o) (got_ctx s n p q) ∙ sym (shown-cond (nat_eq q.0 n.0) p (finite.get s.contexts q.0))
     ∙ ap (cond (nat_eq q.0 n.0) (shown (Some p))) (sym (ctx-maps_of s q)) ∙ sym (ctx-put_ctx (maps_of s) n (shown (Some p)) q))
 
+-- a place that is written as it is
+pub same_term_place : (s : Stored) (t : List ℕ) (p : Place Termination) → finite.get s.terms t ≡ Some p → put_term_place s t p ≡ s
+same_term_place s t p e =
+    ap (λ (f : FinMap name_cmp (Place Termination)). record { terms = f; contexts = s.contexts })
+    (same_map nat_list_cmp_total names_same (finite.insert s.terms t p) s.terms (λ q. got_term s t p q ∙ at q (bytes_eq q t) refl))
+  where
+    at : (q : List ℕ) (b : Bool) → bytes_eq q t ≡ b → cond b (Some p) (finite.get s.terms q) ≡ finite.get s.terms q
+    at q true h = sym e ∙ ap (finite.get s.terms) (sym (same_name q t h))
+    at q false h = refl
+
+pub served_here : (s : Stored) (t : List ℕ) (state : Service) (p : Place Termination) → finite.get s.terms t ≡ Some p → put_term_place s t (served state p) ≡ with_service state t s (shown (Some p))
+served_here s t state Empty e = same_term_place s t Empty e
+served_here s t state (Here r) e = refl
+served_here s t state Out e = same_term_place s t Out e
+
 -- a place of an entry, or of none
 pub shown_placed : {A : Type 0} (o : Option A) → shown (Some (placed o)) ≡ o
 shown_placed None = refl
@@ -99,3 +116,18 @@ pub in-put_ctx : (s : Stored) (n : CtxNum) (p : Place ContextRecord) → has_lef
 in-put_ctx s n p g h (Term q) = h (Term q)
 in-put_ctx s n p g h (Ctx q) = ap (λ o. has_left o) (got_ctx s n p q) ∙ in_still (nat_eq q.0 n.0) p (finite.get s.contexts q.0) g (h (Ctx q))
 in-put_ctx s n p g h Whole = refl
+
+-- what is out stays so
+as_out : {K A : Type 0} (f : K → Option (Place A)) (b : Bool) (q t : K) (p : Place A) → (b ≡ true → q ≡ t) → has_left (Some p) ≡ false → has_left (f t) ≡ false → has_left (cond b (Some p) (f q)) ≡ has_left (f q)
+as_out f true q t p is g h = g ∙ sym (ap (λ y. has_left (f y)) (is refl) ∙ h)
+as_out f false q t p is g h = refl
+
+pub out-put_term : (s : Stored) (t : List ℕ) (p : Place Termination) → has_left (Some p) ≡ false → is_out s (Term t) ≡ false → AreAsOut s (put_term_place s t p)
+out-put_term s t p g h (Term q) = ap (λ o. has_left o) (got_term s t p q) ∙ as_out (λ y. finite.get s.terms y) (bytes_eq q t) q t p (same_name q t) g h
+out-put_term s t p g h (Ctx n) = refl
+out-put_term s t p g h Whole = refl
+
+pub out-put_ctx : (s : Stored) (n : CtxNum) (p : Place ContextRecord) → has_left (Some p) ≡ false → is_out s (Ctx n) ≡ false → AreAsOut s (put_ctx_place s n p)
+out-put_ctx s n p g h (Term q) = refl
+out-put_ctx s n p g h (Ctx q) = ap (λ o. has_left o) (got_ctx s n p q) ∙ as_out (λ (y : CtxNum). finite.get s.contexts y.0) (nat_eq q.0 n.0) q n p (same_number q n) g h
+out-put_ctx s n p g h Whole = refl

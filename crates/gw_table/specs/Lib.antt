@@ -2,11 +2,13 @@ pub mod Accesses
 pub mod Cells
 pub mod Drafts
 pub mod Folds
+pub mod Free
+pub mod Grounds
 pub mod KeyLists
-pub mod Lent
 pub mod Locality
 pub mod Maps
 pub mod Members
+pub mod Originals
 pub mod Parts
 pub mod Reserved
 pub mod Stored

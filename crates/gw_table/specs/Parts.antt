@@ -9,24 +9,31 @@ use Rattle.gw_base.specs.declared.key.Key.{Key}
 use Rattle.gw_base.specs.declared.key.Key.TheVariants.{Term, Ctx, Whole}
 use Rattle.gw_base.specs.Keys.{has}
 use Rattle.gw_table.specs.Maps.{Maps, term, ctx, put_term, put_ctx, coded_maps}
+use Rattle.gw_table.specs.Stored.{Stored, nothing_stored, coded_stored}
 
--- the keys of a part: each key that there is, or these alone; or each key, of what is laid over these maps
+-- the keys of a part: each key that there is, or these alone; or each key, of tables that were these at the start
 pub data PartKeys : Type 0 where
   Every : PartKeys
   Only : List Key → PartKeys
-  Over : Maps → PartKeys
+  Over : Stored → PartKeys
 
 -- the keys, where they are listed
 abbrev pub list_of : PartKeys → List Key
 list_of Every = []
 list_of (Only keys) = keys
-list_of (Over m) = []
+list_of (Over s) = []
+
+-- the tables at the start, where there are such
+abbrev pub start_of : PartKeys → Stored
+start_of Every = nothing_stored
+start_of (Only keys) = nothing_stored
+start_of (Over s) = s
 
 -- the key is the part's
 abbrev pub holds : PartKeys → Key → Bool
 holds Every k = true
 holds (Only keys) k = has keys k
-holds (Over m) k = true
+holds (Over s) k = true
 
 -- the part has the key of a context, if there is one
 abbrev pub HoldsPlace : PartKeys → Option CtxNum → Type 0
@@ -82,23 +89,23 @@ same_keyed Whole = refl
 abbrev pub coded_key : Coded Key
 coded_key = code_by (List ℕ ⊎ (ℕ ⊎ ℕ)) (coded⊎ (coded_list coded_ℕ) (coded⊎ coded_ℕ coded_ℕ)) keyed key_of same_keyed
 
-abbrev listed : PartKeys → Option (List Key) ⊎ Maps
+abbrev listed : PartKeys → Option (List Key) ⊎ Stored
 listed Every = inl None
 listed (Only keys) = inl (Some keys)
-listed (Over m) = inr m
+listed (Over s) = inr s
 
-abbrev keys_of : Option (List Key) ⊎ Maps → PartKeys
+abbrev keys_of : Option (List Key) ⊎ Stored → PartKeys
 keys_of (inl None) = Every
 keys_of (inl (Some keys)) = Only keys
-keys_of (inr m) = Over m
+keys_of (inr s) = Over s
 
 abbrev same_listed : (p : PartKeys) → keys_of (listed p) ≡ p
 same_listed Every = refl
 same_listed (Only keys) = refl
-same_listed (Over m) = refl
+same_listed (Over s) = refl
 
 abbrev coded_part_keys : Coded PartKeys
-coded_part_keys = code_by (Option (List Key) ⊎ Maps) (coded⊎ (coded_option (coded_list coded_key)) coded_maps) listed keys_of same_listed
+coded_part_keys = code_by (Option (List Key) ⊎ Stored) (coded⊎ (coded_option (coded_list coded_key)) coded_stored) listed keys_of same_listed
 
 abbrev pub coded_part : Coded Parted
 coded_part = code_by (PartKeys × Maps) (coded× coded_part_keys coded_maps) (λ p. (p.keys, p.maps)) (λ t. record { keys = t.0; maps = t.1 }) (λ _. refl)

@@ -4,12 +4,14 @@ use Rattle.std.specs.Ordering.{nat_cmp}
 use Rattle.std.specs.FinMap as finite
 use Rattle.std.specs.Coded.{Coded, code_by, coded×, coded_list, coded_option, coded_ℕ}
 use Rattle.std.specs.declared.cmp.Ordering.{Ordering}
+use Rattle.gw_base.specs.declared.command_words.Service.{Service}
 use Rattle.gw_base.specs.declared.ids.CtxNum.{CtxNum}
 use Rattle.gw_base.specs.declared.key.Key.{Key}
 use Rattle.gw_base.specs.declared.key.Key.TheVariants.{Term, Ctx, Whole}
 use Rattle.gw_base.specs.Keys.{has}
 use Rattle.gw_base.specs.NameLists.{name_cmp}
 use Rattle.gw_term.specs.declared.record.Termination.{Termination}
+use Rattle.gw_term.specs.Record.{serviced}
 use Rattle.gw_term.specs.RecordCodes.{coded_termination}
 use Rattle.gw_ctx.specs.Contexts.{ContextRecord, coded_context}
 use Rattle.gw_table.specs.declared.place.Place.{Place}
@@ -172,6 +174,17 @@ put_term_place s t p = record { terms = finite.insert s.terms t p; contexts = s.
 abbrev pub put_ctx_place : Stored → CtxNum → Place ContextRecord → Stored
 put_ctx_place s n p = record { terms = s.terms; contexts = finite.insert s.contexts n.0 p }
 
+-- where a termination stands, it has another service state
+abbrev pub served : Service → Place Termination → Place Termination
+served state Empty = Empty
+served state (Here r) = Here (serviced r state)
+served state Out = Out
+
+-- the termination of a name, which is this one, has another service state
+abbrev pub with_service : Service → List ℕ → Stored → Option Termination → Stored
+with_service state t s None = s
+with_service state t s (Some r) = put_term_place s t (Here (serviced r state))
+
 -- there is no place for the key any more
 abbrev pub drop_term_place : Stored → List ℕ → Stored
 drop_term_place s t = record { terms = finite.remove s.terms t; contexts = s.contexts }
@@ -213,11 +226,6 @@ pub record AreMoved (keys : List Key) (from to left full : Stored) : Type 0 wher
   pub terms_full : (t : List ℕ) → finite.get full.terms t ≡ cond (has keys (Term t)) (finite.get from.terms t) (finite.get to.terms t)
   pub contexts_left : (n : CtxNum) → finite.get left.contexts n.0 ≡ cond (has keys (Ctx n)) (Some Out) (finite.get from.contexts n.0)
   pub contexts_full : (n : CtxNum) → finite.get full.contexts n.0 ≡ cond (has keys (Ctx n)) (finite.get from.contexts n.0) (finite.get to.contexts n.0)
-
--- What stood at these keys in `from` stands there in `full`, and all else is as in `to`.
-pub record AreLaid (keys : List Key) (from to full : Stored) : Type 0 where
-  pub terms : (t : List ℕ) → finite.get full.terms t ≡ cond (has keys (Term t)) (finite.get from.terms t) (finite.get to.terms t)
-  pub contexts : (n : CtxNum) → finite.get full.contexts n.0 ≡ cond (has keys (Ctx n)) (finite.get from.contexts n.0) (finite.get to.contexts n.0)
 
 -- there is no place for the key any more
 abbrev pub without_place : Stored → Key → Stored

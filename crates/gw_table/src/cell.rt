@@ -135,14 +135,3 @@ pub(crate) fn find_number(keys: &[Key], number: CtxNum) -> Option<usize>
     keys.binary_search_by(|key| compare_to_number(key, number))
         .ok()
 }
-
-/// Equal cells.
-pub(crate) fn copy_cells(alloc: Global, cells: &[Cell]) -> Result<Vec<Cell>, NoMemory>
-    ensures { IfOk result (λ copy. copy.items ≡ cells.now) }
-{
-    let mut copy = Vec::with_capacity(alloc, cells.len())?;
-    for cell in cells {
-        copy.push(cell.copy()?)?;
-    }
-    Ok(copy)
-}

@@ -1,18 +1,18 @@
-//! Changes that are laid over lent entries, on which commands work.
+//! What commands work on: tables in place, or changes over a lent part.
 
 ghost use Rattle.std.specs.Prelude.{◌≡◌, ◌<◌, None, true, false, length, IfOk, OnOk, option_copied};
 ghost use Rattle.gw_base.specs.declared.key.Key.TheVariants.{Term, Ctx};
 ghost use Rattle.gw_base.specs.NameLists.{is_in};
 ghost use Rattle.gw_ctx.specs.Contexts.{joined};
-ghost use Rattle.gw_table.specs.Maps.{Maps, term, ctx, put_term, put_ctx, names, numbers, members_of, context_of};
+ghost use Rattle.gw_table.specs.Maps.{term, ctx, put_term, put_ctx, names, numbers, members_of, context_of};
 ghost use Rattle.gw_table.specs.Members.{put_service, with_member, without_member};
-ghost use Rattle.gw_table.specs.Parts.{Over, Only, list_of, holds, overlaid};
-ghost use Rattle.gw_table.specs.Stored.{maps_of};
+ghost use Rattle.gw_table.specs.Parts.{Over, Only, list_of, start_of, holds, restricted, overlaid};
+ghost use Rattle.gw_table.specs.Stored.{maps_of, NoneIsOut, AreReady, KeepReady};
 
-use crate::base::{Base, Lent};
-use crate::merge::merge;
+use crate::in_place::InPlace;
+use crate::originals::Originals;
+use crate::over_part::OverPart;
 use crate::part::Part;
-use crate::place::{Place, entry_at};
 use crate::tables::Tables;
 use gw_base::{CtxNum, Held, NoMemory, Service, TermName};
 use gw_ctx::{Context, JoinFault};
@@ -20,36 +20,38 @@ use gw_term::Termination;
 use std::alloc::Global;
 use std::marker::Model;
 
-/// Changes that are laid over lent tables, or over a lent part of them: what is read at a key is what was written there last, and
-/// else the entry below. What is lent stays as it is, and no record is copied but where its change is a change of some of it. A
-/// look-up takes log c steps in the c keys that were written, and a look-up below where the key is none of them.
+/// What a draft works on.
+#[derive(Drop)]
+pub(crate) enum Ground<'t> {
+    /// Changes over a lent part.
+    OfPart(OverPart<'t>),
+    /// Whole tables, in place.
+    OfTables(InPlace),
+}
+
+/// Whole tables that are changed in place, with a way back; or changes that are laid over a lent part, which stays as it is. What is
+/// read at a key is what was written there last. A record is moved and not copied, but where a change is one of some of it: then the
+/// original is kept, and a copy is changed.
 pub struct Draft<'t> {
-    base: Base<'t>,
-    // A place for each key that was written.
-    changed: Tables,
+    pub(crate) ground: Ground<'t>,
 }
 
 // By hand, so that a function that lets a draft go does so by one call. A derived one would stand in it field by field.
 impl<'t> Drop for Draft<'t> {
     fn drop(self) {
-        let Draft {
-            base: _,
-            changed: _,
-        } = self;
+        let Draft { ground: _ } = self;
     }
 }
 
 impl<'t> Model for Draft<'t> {
-    ghost use Rattle.gw_table.specs.Drafts.{drafted, IsDraft};
+    ghost use Rattle.gw_table.specs.Grounds.{ground_part};
     ghost use Rattle.gw_table.specs.Parts.{Parted, coded_part};
 
     ghost Value = { Parted };
 
     ghost coded = { coded_part };
 
-    ghost view = { λ a. record { keys = a.base.keys; maps = drafted a.changed a.base.maps } };
-
-    ghost invariant = { λ a. IsDraft a.base a.changed };
+    ghost view = { λ a. ground_part a.ground };
 }
 
 /// The name joins the context as its last member. The caller knows that there is room.
@@ -66,13 +68,13 @@ fn joined(context: &mut Context, name: TermName, limit: usize) -> Result<(), NoM
 }
 
 impl<'t> Draft<'t> {
-    /// Whole tables without changes. It takes no memory.
-    pub fn of_tables(alloc: Global, tables: &'t Tables) -> Draft<'t>
-        ensures { result ≡ record { keys = Over (maps_of tables.now); maps = maps_of tables.now } }
+    /// Whole tables without changes. The caller knows that nothing is out. It takes no memory.
+    pub fn of_tables(alloc: Global, tables: Tables) -> Draft<'t>
+        requires { NoneIsOut tables }
+        ensures { result ≡ record { keys = Over tables; maps = maps_of tables } }
     {
         Draft {
-            base: Base::of_tables(tables),
-            changed: Tables::new(alloc),
+            ground: Ground::OfTables(InPlace::new(alloc, tables)),
         }
     }
 
@@ -81,8 +83,7 @@ impl<'t> Draft<'t> {
         ensures { result ≡ part.now }
     {
         Draft {
-            base: Base::of_part(part),
-            changed: Tables::new(alloc),
+            ground: Ground::OfPart(OverPart::new(alloc, part)),
         }
     }
 
@@ -90,9 +91,9 @@ impl<'t> Draft<'t> {
     pub fn term(&self, name: &TermName) -> Option<&Termination>
         ensures { option_copied result ≡ term self.now.maps name.now }
     {
-        match self.changed.term_place(name) {
-            Some(place) => entry_at(Some(place)),
-            None => self.base.term(name),
+        match &self.ground {
+            Ground::OfPart(ground) => ground.term(name),
+            Ground::OfTables(ground) => ground.term(name),
         }
     }
 
@@ -100,9 +101,9 @@ impl<'t> Draft<'t> {
     pub fn ctx(&self, number: CtxNum) -> Option<&Context>
         ensures { option_copied result ≡ ctx self.now.maps number }
     {
-        match self.changed.ctx_place(number) {
-            Some(place) => entry_at(Some(place)),
-            None => self.base.ctx(number),
+        match &self.ground {
+            Ground::OfPart(ground) => ground.ctx(number),
+            Ground::OfTables(ground) => ground.ctx(number),
         }
     }
 
@@ -120,8 +121,10 @@ impl<'t> Draft<'t> {
         ensures maps { OnOk result (self.new.maps ≡ put_term self.old.maps name entry) }
         ensures keys { self.new.keys ≡ self.old.keys }
     {
-        self.changed.put_term(name, Place::of(entry))?;
-        Ok(())
+        match &mut self.ground {
+            Ground::OfPart(ground) => ground.set_term(name, entry),
+            Ground::OfTables(ground) => ground.set_term(name, entry),
+        }
     }
 
     /// Sets the context with a number, or none. The caller knows that the number is one of the draft's keys.
@@ -134,30 +137,13 @@ impl<'t> Draft<'t> {
         ensures maps { OnOk result (self.new.maps ≡ put_ctx self.old.maps number entry) }
         ensures keys { self.new.keys ≡ self.old.keys }
     {
-        self.changed.put_ctx(number, Place::of(entry))?;
-        Ok(())
-    }
-
-    /// Takes the termination of a name out of the draft, to be changed and set again: a copy, where it stands below.
-    fn take_term(
-        &mut self,
-        alloc: Global,
-        name: &TermName,
-    ) -> Result<Option<Held<Termination>>, NoMemory>
-        requires { holds self.old.keys (Term name.now) ≡ true }
-        ensures termination { IfOk result (λ termination. termination ≡ term self.old.maps name.now) }
-        ensures maps { OnOk result (self.new.maps ≡ put_term self.old.maps name.now None) }
-        ensures keys { self.new.keys ≡ self.old.keys }
-    {
-        if self.changed.has_term(name) {
-            return Ok(self.changed.exchange_term(name, Place::Empty).into_entry());
+        match &mut self.ground {
+            Ground::OfPart(ground) => ground.set_ctx(number, entry),
+            Ground::OfTables(ground) => ground.set_ctx(number, entry),
         }
-        let copy = self.base.copied_term(alloc, name)?;
-        self.changed.put_term(*name, Place::Empty)?;
-        Ok(copy)
     }
 
-    /// Takes the context with a number out of the draft, to be changed and set again: a copy, where it stands below. The caller
+    /// Takes the context with a number out of the draft, to be changed and set again: a copy, where the original is kept. The caller
     /// knows that the number is one of the draft's keys.
     ///
     /// # Errors
@@ -173,12 +159,10 @@ impl<'t> Draft<'t> {
         ensures maps { OnOk result (self.new.maps ≡ put_ctx self.old.maps number None) }
         ensures keys { self.new.keys ≡ self.old.keys }
     {
-        if self.changed.has_ctx(number) {
-            return Ok(self.changed.exchange_ctx(number, Place::Empty).into_entry());
+        match &mut self.ground {
+            Ground::OfPart(ground) => ground.take_ctx(alloc, number),
+            Ground::OfTables(ground) => ground.take_ctx(alloc, number),
         }
-        let copy = self.base.copied_ctx(alloc, number)?;
-        self.changed.put_ctx(number, Place::Empty)?;
-        Ok(copy)
     }
 
     /// The termination of a name has another service state, if there is one. The caller knows that the name is one of the draft's
@@ -197,11 +181,10 @@ impl<'t> Draft<'t> {
         ensures maps { OnOk result (self.new.maps ≡ put_service service name.now self.old.maps (term self.old.maps name.now)) }
         ensures keys { self.new.keys ≡ self.old.keys }
     {
-        if let Some(mut termination) = self.take_term(alloc, name)? {
-            termination.get_mut().set_service(service);
-            self.set_term(*name, Some(termination))?;
+        match &mut self.ground {
+            Ground::OfPart(ground) => ground.set_service(alloc, name, service),
+            Ground::OfTables(ground) => ground.set_service(alloc, name, service),
         }
-        Ok(())
     }
 
     /// Takes the context with a number out of its place. One that is not there is as one that has just come into being.
@@ -256,14 +239,14 @@ impl<'t> Draft<'t> {
             return Ok(());
         };
         context.get_mut().leave(name);
-        if !context.get().members().is_empty() {
-            self.set_ctx(number, Some(context))?;
+        if context.get().members().is_empty() {
+            return self.set_ctx(number, None);
         }
-        Ok(())
+        self.set_ctx(number, Some(context))
     }
 
-    /// The names of all terminations that the draft shows, in the order of their bytes. The work is linear in the names, but for a
-    /// look-up for each where a termination was written.
+    /// The names of all terminations that the draft shows, in the order of their bytes. The work is one pass over the tables, or a
+    /// look-up for each key of the part.
     ///
     /// # Errors
     ///
@@ -271,17 +254,14 @@ impl<'t> Draft<'t> {
     pub fn names(&self, alloc: Global) -> Result<Vec<TermName>, NoMemory>
         ensures { IfOk result (λ list. list.items ≡ names self.now.maps) }
     {
-        let below = self.base.names(alloc)?;
-        if self.changed.has_no_terms() {
-            return Ok(below);
+        match &self.ground {
+            Ground::OfPart(ground) => ground.names(alloc),
+            Ground::OfTables(ground) => ground.names(alloc),
         }
-        let kept = self.changed.unwritten_names(alloc, &below)?;
-        let written = self.changed.names(alloc)?;
-        merge(alloc, &kept, &written)
     }
 
-    /// The numbers of all contexts that the draft shows, rising. The work is linear in the numbers, but for a look-up for each where
-    /// a context was written.
+    /// The numbers of all contexts that the draft shows, rising. The work is one pass over the tables, or a look-up for each key of the
+    /// part.
     ///
     /// # Errors
     ///
@@ -289,26 +269,51 @@ impl<'t> Draft<'t> {
     pub fn numbers(&self, alloc: Global) -> Result<Vec<CtxNum>, NoMemory>
         ensures { IfOk result (λ list. list.items ≡ numbers self.now.maps) }
     {
-        let below = self.base.numbers(alloc)?;
-        if self.changed.has_no_contexts() {
-            return Ok(below);
+        match &self.ground {
+            Ground::OfPart(ground) => ground.numbers(alloc),
+            Ground::OfTables(ground) => ground.numbers(alloc),
         }
-        let kept = self.changed.unwritten_numbers(alloc, &below)?;
-        let written = self.changed.numbers(alloc)?;
-        merge(alloc, &kept, &written)
     }
 
-    /// The changes alone, as a part whose keys are those that were written. Nothing is copied; the work is linear in them.
-    ///
-    /// # Errors
-    ///
-    /// Want of memory.
-    pub fn into_changes(self, alloc: Global) -> Result<Part, NoMemory>
-        ensures keys { IfOk result (λ part. part.keys ≡ Only (list_of part.keys)) }
-        ensures maps { (m : Maps) → self.entry.keys ≡ Over m → IfOk result (λ part. overlaid (list_of part.keys) part.maps m ≡ self.entry.maps) }
+    /// A draft of whole tables as the tables that it left, with what stood there before: these, laid over them, give the tables of the
+    /// start. It takes no memory.
+    pub fn into_tables(self) -> (Tables, Originals)
+        requires { self.keys ≡ Over (start_of self.keys) }
+        ensures maps { maps_of result.0 ≡ self.entry.maps }
+        ensures here { NoneIsOut result.0 }
+        ensures kept { KeepReady (start_of self.entry.keys) result.0 }
+        ensures listed { result.1.keys ≡ Only (list_of result.1.keys) }
+        ensures ready { AreReady (list_of result.1.keys) result.0 }
+        ensures originals { result.1.maps ≡ restricted (list_of result.1.keys) (maps_of (start_of self.entry.keys)) }
+        ensures back { overlaid (list_of result.1.keys) result.1.maps (maps_of result.0) ≡ maps_of (start_of self.entry.keys) }
     {
-        let Draft { base: _, changed } = self;
-        changed.into_part(alloc)
+        let Draft { ground } = self;
+        match ground {
+            Ground::OfTables(ground) => ground.into_tables(),
+            Ground::OfPart(ground) => {
+                // No effect at run time. The proof reads here that it lists its keys.
+                let _ = &ground.part;
+                unreachable!()
+            }
+        }
+    }
+
+    /// A draft of whole tables as the tables of the start, whatever was written. It takes no memory.
+    pub fn undone(self) -> Tables
+        requires { self.keys ≡ Over (start_of self.keys) }
+        ensures maps { maps_of result ≡ maps_of (start_of self.entry.keys) }
+        ensures here { NoneIsOut result }
+        ensures kept { KeepReady (start_of self.entry.keys) result }
+    {
+        let Draft { ground } = self;
+        match ground {
+            Ground::OfTables(ground) => ground.undone(),
+            Ground::OfPart(ground) => {
+                // No effect at run time. The proof reads here that it lists its keys.
+                let _ = &ground.part;
+                unreachable!()
+            }
+        }
     }
 
     /// A draft of a part as a part of its own. Entries that were not changed are copied; a key takes a look-up.
@@ -320,10 +325,14 @@ impl<'t> Draft<'t> {
         requires { self.keys ≡ Only (list_of self.keys) }
         ensures { IfOk result (λ part. part ≡ self.entry) }
     {
-        let Draft { base, changed } = self;
-        match base.lent {
-            Lent::OfPart(part) => changed.over(alloc, part),
-            Lent::OfTables(_) => unreachable!(),
+        let Draft { ground } = self;
+        match ground {
+            Ground::OfPart(ground) => ground.into_part(alloc),
+            Ground::OfTables(ground) => {
+                // No effect at run time. The proof reads here that its keys are those of whole tables.
+                let _ = &ground.tables;
+                unreachable!()
+            }
         }
     }
 }

@@ -2,16 +2,18 @@
 #![tactic(auto)]
 
 mod attempts;
-mod base;
 mod cell;
 mod changes;
 mod draft;
+mod free;
+mod in_place;
 mod key_list;
 mod key_order;
 mod keys;
 mod laws;
-mod merge;
 mod moves;
+mod originals;
+mod over_part;
 mod part;
 mod place;
 mod reserved;
@@ -27,6 +29,7 @@ pub use key_list::put_in_order;
 pub use key_order::compare_keys;
 pub use keys::Keys;
 pub use laws::{part_put_back, slots_have_names_of_their_own, sound_part};
+pub use originals::Originals;
 pub use part::Part;
 pub use place::Place;
 pub use reserved::{is_reserved, slot_name};

@@ -8,7 +8,7 @@ ghost use Rattle.gw_base.specs.Keys.{has};
 ghost use Rattle.gw_table.specs.Cells.{celled, cell_from, out_cell, with_cell};
 ghost use Rattle.gw_table.specs.KeyLists.{IsInOrder};
 ghost use Rattle.gw_table.specs.Parts.{Only, list_of, restricted, cut, overlaid};
-ghost use Rattle.gw_table.specs.Stored.{maps_of, is_ready, put_term_place, put_ctx_place, with_out, AreMoved, AreLaid, AreReady, AreIn, AreOut, AreAsReady, AreAsOut, WentOut, CameBack};
+ghost use Rattle.gw_table.specs.Stored.{maps_of, is_ready, put_term_place, put_ctx_place, with_out, AreMoved, AreReady, AreIn, AreOut, AreAsReady, AreAsOut, WentOut, CameBack};
 
 use crate::cell::Cell;
 use crate::keys::Keys;
@@ -108,55 +108,6 @@ impl Tables {
         for (i, key) in keys.iter().enumerate() {
             self.put_one(key, &mut cells[i]);
         }
-    }
-
-    /// What is in the cell of a key changes places with what stands there.
-    fn swap_one(&mut self, key: &Key, cell: &mut Cell)
-        requires { is_ready self.old key.now ≡ true }
-        ensures here { self.new ≡ with_cell key.now cell.old self.old }
-        ensures there { cell.new ≡ cell_from self.old key.now }
-    {
-        *cell = match key {
-            Key::Term(name) => {
-                let place = mem::replace(cell, Cell::OfWhole).into_term();
-                Cell::OfTerm(self.exchange_term(name, place))
-            }
-            Key::Ctx(number) => {
-                let place = mem::replace(cell, Cell::OfWhole).into_ctx();
-                Cell::OfCtx(self.exchange_ctx(*number, place))
-            }
-            Key::Whole => Cell::OfWhole,
-        };
-    }
-
-    /// What is in the cell of each of the keys changes places with what stands there.
-    fn swap_each(&mut self, keys: &[Key], cells: &mut [Cell])
-        requires order { IsInOrder keys.now }
-        requires as_many { length cells.old ≡ length keys.now }
-        requires ready { AreReady keys.now self.old }
-        ensures here { AreLaid keys.now (celled keys.now cells.old) self.old self.new }
-        ensures there { AreLaid keys.now self.old (celled keys.now cells.old) (celled keys.now cells.new) }
-        ensures as_many { length cells.new ≡ length keys.now }
-    {
-        for (i, key) in keys.iter().enumerate() {
-            self.swap_one(key, &mut cells[i]);
-        }
-    }
-
-    /// The entries of a part change places with those that are here: each of its keys has the part's entry then, or none where the
-    /// part has none, and the answer has what was here. The caller knows that its keys are prepared and none is out. A key takes one
-    /// look-up, and no memory is taken.
-    pub fn exchange(&mut self, part: Part) -> Part
-        requires ready { AreReady (list_of part.keys) self.old }
-        requires here { AreIn (list_of part.keys) self.old }
-        ensures maps { maps_of self.new ≡ overlaid (list_of part.keys) part.maps (maps_of self.old) }
-        ensures before { result ≡ record { keys = part.keys; maps = restricted (list_of part.keys) (maps_of self.old) } }
-        ensures out { AreAsOut self.old self.new }
-        ensures ready { AreAsReady self.old self.new }
-    {
-        let Part { keys, mut cells } = part;
-        self.swap_each(&keys, &mut cells);
-        Part { keys, cells }
     }
 
     /// Takes the entries of the keys out, as a part. The caller knows that each key is prepared and none is out. Of `Whole` nothing

@@ -1,11 +1,12 @@
 //! A part of the tables: entries that were taken out of them.
 
 ghost use Rattle.std.specs.Prelude.{◌≡◌, IfOk, option_copied};
-ghost use Rattle.gw_table.specs.Maps.{term, ctx, names, numbers};
-ghost use Rattle.gw_table.specs.Parts.{list_of};
+ghost use Rattle.gw_table.specs.KeyLists.{IsInOrder};
+ghost use Rattle.gw_table.specs.Maps.{term, ctx};
+ghost use Rattle.gw_table.specs.Parts.{list_of, IsPart};
 
-use crate::cell::{Cell, copy_cells, find_name, find_number};
-use gw_base::{CtxNum, Key, NoMemory, TermName};
+use crate::cell::{Cell, find_name, find_number};
+use gw_base::{CtxNum, Held, Key, NoMemory, TermName};
 use gw_ctx::Context;
 use gw_term::Termination;
 use std::alloc::Global;
@@ -35,20 +36,6 @@ impl Model for Part {
 }
 
 impl Part {
-    /// A part with the same keys and equal entries.
-    ///
-    /// # Errors
-    ///
-    /// Want of memory.
-    pub fn copy(&self) -> Result<Part, NoMemory>
-        ensures { IfOk result (λ copy. copy ≡ self.now) }
-    {
-        Ok(Part {
-            keys: self.keys.clone()?,
-            cells: copy_cells(*self.keys.allocator(), &self.cells)?,
-        })
-    }
-
     /// A copy of its keys.
     pub(crate) fn copied_keys(&self) -> Result<Vec<Key>, NoMemory>
         ensures { IfOk result (λ keys. keys.items ≡ list_of self.now.keys) }
@@ -56,9 +43,11 @@ impl Part {
         Ok(self.keys.clone()?)
     }
 
-    /// The keys of the part, in order.
+    /// The keys of the part, in order. No entry is at another one.
     pub fn keys(&self) -> &[Key]
-        ensures { result.now ≡ list_of self.now.keys }
+        ensures keys { result.now ≡ list_of self.now.keys }
+        ensures order { IsInOrder (list_of self.now.keys) }
+        ensures entries { IsPart self.now.keys self.now.maps }
     {
         &self.keys
     }
@@ -83,33 +72,31 @@ impl Part {
         }
     }
 
-    /// The names of all terminations that the part shows, in the order of their bytes.
-    pub(crate) fn names(&self, alloc: Global) -> Result<Vec<TermName>, NoMemory>
-        ensures { IfOk result (λ list. list.items ≡ names self.now.maps) }
+    /// A copy of the termination of a name.
+    pub(crate) fn copied_term(
+        &self,
+        alloc: Global,
+        name: &TermName,
+    ) -> Result<Option<Held<Termination>>, NoMemory>
+        ensures { IfOk result (λ entry. entry ≡ term self.now.maps name.now) }
     {
-        let mut names = Vec::with_capacity(alloc, self.keys.len())?;
-        for (i, key) in self.keys.iter().enumerate() {
-            if let Key::Term(name) = key {
-                if self.cells[i].term().is_some() {
-                    names.push(*name)?;
-                }
-            }
+        match self.term(name) {
+            Some(termination) => Ok(Some(Held::new(alloc, termination.copy(alloc)?)?)),
+            None => Ok(None),
         }
-        Ok(names)
     }
 
-    /// The numbers of all contexts that the part shows, rising.
-    pub(crate) fn numbers(&self, alloc: Global) -> Result<Vec<CtxNum>, NoMemory>
-        ensures { IfOk result (λ list. list.items ≡ numbers self.now.maps) }
+    /// A copy of the context with a number.
+    pub(crate) fn copied_ctx(
+        &self,
+        alloc: Global,
+        number: CtxNum,
+    ) -> Result<Option<Held<Context>>, NoMemory>
+        ensures { IfOk result (λ entry. entry ≡ ctx self.now.maps number) }
     {
-        let mut numbers = Vec::with_capacity(alloc, self.keys.len())?;
-        for (i, key) in self.keys.iter().enumerate() {
-            if let Key::Ctx(number) = key {
-                if self.cells[i].ctx().is_some() {
-                    numbers.push(*number)?;
-                }
-            }
+        match self.ctx(number) {
+            Some(context) => Ok(Some(Held::new(alloc, context.copy()?)?)),
+            None => Ok(None),
         }
-        Ok(numbers)
     }
 }

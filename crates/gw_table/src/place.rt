@@ -1,12 +1,13 @@
 //! What stands at a prepared key.
 
-ghost use Rattle.std.specs.Prelude.{◌≡◌, Some, is_some, option_copied};
-ghost use Rattle.gw_table.specs.Stored.{shown, placed, is_vacant};
+ghost use Rattle.std.specs.Prelude.{◌≡◌, Some, is_some, IfOk, OnOk, OnErr, option_copied};
+ghost use Rattle.gw_table.specs.Stored.{shown, placed, served, is_vacant};
 
-use gw_base::Held;
+use gw_base::{Held, NoMemory, Service};
 use gw_ctx::Context;
 use gw_term::Termination;
-use std::alloc::AllocError;
+use std::alloc::{AllocError, Global};
+use std::mem;
 
 /// What stands at a prepared key.
 #[derive(Drop)]
@@ -56,6 +57,35 @@ pub(crate) fn entry_at<T>(place: Option<&Place<Held<T>>>) -> Option<&T>
         Some(Place::Here(entry)) => Some(entry.get()),
         _ => None,
     }
+}
+
+/// The entry that stood in a place, if there was such a place.
+pub(crate) fn entry_in<T>(place: Option<Place<T>>) -> Option<T>
+    ensures { result ≡ shown place }
+{
+    match place {
+        Some(place) => place.into_entry(),
+        None => None,
+    }
+}
+
+/// The termination that stands in a place has another service state, if there is one, as a copy. Answers the one that stood there.
+pub(crate) fn serve(
+    place: &mut Place<Held<Termination>>,
+    alloc: Global,
+    service: Service,
+) -> Result<Option<Held<Termination>>, NoMemory>
+    ensures before { IfOk result (λ before. before ≡ shown (Some place.old)) }
+    ensures after { OnOk result (place.new ≡ served service place.old) }
+    ensures err { OnErr result (place.new ≡ place.old) }
+{
+    let Place::Here(entry) = place else {
+        return Ok(None);
+    };
+    let mut copy = entry.get().copy(alloc)?;
+    copy.set_service(service);
+    let new = Held::new(alloc, copy)?;
+    Ok(Some(mem::replace(entry, new)))
 }
 
 /// Whether there is a place, and nothing that stands in it or went out of it.

@@ -3,7 +3,7 @@
 ghost use Rattle.std.specs.Prelude.{◌≡◌, Some, IfOk, OnOk, option_copied};
 ghost use Rattle.gw_term.specs.Record.{provisioned};
 ghost use Rattle.gw_table.specs.Maps.{term, ctx, put_term, names, numbers, new_maps};
-ghost use Rattle.gw_table.specs.Stored.{stored, maps_of, nothing_stored, NoneIsOut};
+ghost use Rattle.gw_table.specs.Stored.{maps_of, nothing_stored, NoneIsOut};
 
 use crate::place::{Place, entry_at};
 use gw_base::{Config, CtxNum, Held, NoMemory, TermName};
@@ -49,19 +49,6 @@ impl Tables {
             terms: BTreeMap::new(alloc),
             contexts: BTreeMap::new(alloc),
         }
-    }
-
-    /// The two maps.
-    pub(crate) fn into_maps(
-        self,
-    ) -> (
-        BTreeMap<TermName, Place<Held<Termination>>>,
-        BTreeMap<u32, Place<Held<Context>>>,
-    )
-        ensures { stored result.0.entries result.1.entries ≡ self }
-    {
-        let Tables { terms, contexts } = self;
-        (terms, contexts)
     }
 
     /// A termination in the null context under the name.

@@ -1,16 +1,17 @@
 //! Single places of tables: read, written, and given up.
 
-ghost use Rattle.std.specs.Prelude.{◌≡◌, OnOk, OnErr, option_copied};
-ghost use Rattle.std.specs.Bool.{OnTrue};
+ghost use Rattle.std.specs.Prelude.{◌≡◌, IfOk, OnOk, OnErr, option_copied};
 ghost use Rattle.std.specs.FinMap as finite;
 ghost use Rattle.gw_base.specs.declared.key.Key.TheVariants.{Term, Ctx};
-ghost use Rattle.gw_table.specs.Stored.{is_ready, put_term_place, put_ctx_place, drop_term_place, drop_ctx_place};
+ghost use Rattle.gw_table.specs.Maps.{term};
+ghost use Rattle.gw_table.specs.Stored.{maps_of, is_ready, put_term_place, put_ctx_place, with_service, drop_term_place, drop_ctx_place};
 
-use crate::place::Place;
+use crate::place::{Place, serve};
 use crate::tables::Tables;
-use gw_base::{CtxNum, Held, NoMemory, TermName};
+use gw_base::{CtxNum, Held, NoMemory, Service, TermName};
 use gw_ctx::Context;
 use gw_term::Termination;
+use std::alloc::Global;
 
 impl Tables {
     /// Whether there is a place for a termination.
@@ -27,20 +28,6 @@ impl Tables {
         self.contexts.contains_key(&number.0)
     }
 
-    /// Whether there is no place for any termination.
-    pub(crate) fn has_no_terms(&self) -> bool
-        ensures { OnTrue result (self.now.terms ≡ finite.empty) }
-    {
-        self.terms.is_empty()
-    }
-
-    /// Whether there is no place for any context.
-    pub(crate) fn has_no_contexts(&self) -> bool
-        ensures { OnTrue result (self.now.contexts ≡ finite.empty) }
-    {
-        self.contexts.is_empty()
-    }
-
     /// The place of a termination.
     pub(crate) fn term_place(&self, name: &TermName) -> Option<&Place<Held<Termination>>>
         ensures { option_copied result ≡ finite.get self.now.terms name.now }
@@ -55,30 +42,48 @@ impl Tables {
         self.contexts.get(&number.0)
     }
 
-    /// Sets the place of a termination. A refused growth changes nothing.
+    /// Sets the place of a termination, and answers the one that was there. A refused growth changes nothing.
     pub(crate) fn put_term(
         &mut self,
         name: TermName,
         place: Place<Held<Termination>>,
-    ) -> Result<(), NoMemory>
+    ) -> Result<Option<Place<Held<Termination>>>, NoMemory>
+        ensures before { IfOk result (λ before. before ≡ finite.get self.old.terms name) }
         ensures ok { OnOk result (self.new ≡ put_term_place self.old name place) }
         ensures err { OnErr result (self.new ≡ self.old) }
     {
-        self.terms.insert(name, place)?;
-        Ok(())
+        Ok(self.terms.insert(name, place)?)
     }
 
-    /// Sets the place of a context. A refused growth changes nothing.
+    /// Sets the place of a context, and answers the one that was there. A refused growth changes nothing.
     pub(crate) fn put_ctx(
         &mut self,
         number: CtxNum,
         place: Place<Held<Context>>,
-    ) -> Result<(), NoMemory>
+    ) -> Result<Option<Place<Held<Context>>>, NoMemory>
+        ensures before { IfOk result (λ before. before ≡ finite.get self.old.contexts number.0) }
         ensures ok { OnOk result (self.new ≡ put_ctx_place self.old number place) }
         ensures err { OnErr result (self.new ≡ self.old) }
     {
-        self.contexts.insert(number.0, place)?;
-        Ok(())
+        Ok(self.contexts.insert(number.0, place)?)
+    }
+
+    /// The termination of a name has another service state, if there is one, as a copy. Answers the one that stood there. After want of
+    /// memory nothing has changed.
+    pub(crate) fn set_service(
+        &mut self,
+        alloc: Global,
+        name: &TermName,
+        service: Service,
+    ) -> Result<Option<Held<Termination>>, NoMemory>
+        ensures before { IfOk result (λ before. before ≡ term (maps_of self.old) name.now) }
+        ensures after { IfOk result (λ before. self.new ≡ with_service service name.now self.old before) }
+        ensures err { OnErr result (self.new ≡ self.old) }
+    {
+        let Some(place) = self.terms.get_mut(name) else {
+            return Ok(None);
+        };
+        serve(place, alloc, service)
     }
 
     /// Gives up the place of a termination, and answers what stood there.

@@ -1,0 +1,91 @@
+-- Tables that are changed in place, with one more write.
+use Rattle.std.proofs.Common.{nat_eq, ◌≡◌, ℕ, Bool, true, false, cond, List, [], ◌∷◌, ◌++◌, bytes_eq, Option, Some, is_some, refl, sym, ap, subst, ◌∙◌}
+use Rattle.std.specs.Prelude.{◌||◌}
+use Rattle.std.specs.FinMap as finite
+use Rattle.gw_base.specs.declared.ids.CtxNum.{CtxNum}
+use Rattle.gw_base.specs.declared.key.Key.{Key}
+use Rattle.gw_base.specs.declared.key.Key.TheVariants.{Term, Ctx, Whole}
+use Rattle.gw_base.specs.Keys.{same_key, has}
+use Rattle.gw_term.specs.declared.record.Termination.{Termination}
+use Rattle.gw_ctx.specs.Contexts.{ContextRecord}
+use Rattle.gw_table.specs.declared.originals.Write.{Write}
+use Rattle.gw_table.specs.declared.originals.Write.TheVariants.{OfTerm, OfCtx}
+use Rattle.gw_table.specs.declared.place.Place.{Place}
+use Rattle.gw_table.specs.Maps.{term, ctx}
+use Rattle.gw_table.specs.Originals.{keys_written, undone, IsInPlace}
+use Rattle.gw_table.specs.Stored.{Stored, shown, has_left, maps_of, is_ready, put_term_place, put_ctx_place, NoneIsOut, AreReady, KeepReady}
+use Rattle.gw_table.proofs.Moved.{has-pushed}
+use Rattle.gw_table.proofs.Places.{got_term, got_ctx, maps-put_term_place, maps-put_ctx_place, in-put_term, in-put_ctx}
+use Rattle.gw_table.proofs.Undone.{keys_more, undone_term, undone_ctx, undone_again}
+
+pub same_in_place : (start old now : Stored) (ws vs : List Write) → now ≡ old → vs ≡ ws → IsInPlace start old ws → IsInPlace start now vs
+same_in_place start old now ws vs e f i = subst (λ (s : Stored). IsInPlace start s vs) (sym e) (subst (λ (l : List Write). IsInPlace start old l) (sym f) i)
+
+pub begun_in_place : (start : Stored) → NoneIsOut start → IsInPlace start start []
+begun_in_place start here = record { here = here; back = refl; places = λ k h. absurd cc; kept = λ k h. h }
+
+-- ---- a place that is written is there, and so is each that was
+
+there : {A : Type 0} (b : Bool) (p : A) (o : Option A) → is_some o ≡ true → is_some (cond b (Some p) o) ≡ true
+there true p o h = refl
+there false p o h = h
+
+at_it : {A : Type 0} (b : Bool) (p : A) (o : Option A) → b ≡ true → is_some (cond b (Some p) o) ≡ true
+at_it true p o h = refl
+at_it false p o h = absurd cc
+
+pub keep-put_term : (s : Stored) (t : List ℕ) (p : Place Termination) → KeepReady s (put_term_place s t p)
+keep-put_term s t p (Term q) h = ap (λ o. is_some o) (got_term s t p q) ∙ there (bytes_eq q t) p (finite.get s.terms q) h
+keep-put_term s t p (Ctx n) h = h
+keep-put_term s t p Whole h = refl
+
+pub keep-put_ctx : (s : Stored) (n : CtxNum) (p : Place ContextRecord) → KeepReady s (put_ctx_place s n p)
+keep-put_ctx s n p (Term q) h = h
+keep-put_ctx s n p (Ctx q) h = ap (λ o. is_some o) (got_ctx s n p q) ∙ there (nat_eq q.0 n.0) p (finite.get s.contexts q.0) h
+keep-put_ctx s n p Whole h = refl
+
+made-put_term : (s : Stored) (t : List ℕ) (p : Place Termination) (k : Key) → same_key k (Term t) ≡ true → is_ready (put_term_place s t p) k ≡ true
+made-put_term s t p (Term q) h = ap (λ o. is_some o) (got_term s t p q) ∙ at_it (bytes_eq q t) p (finite.get s.terms q) h
+made-put_term s t p (Ctx n) h = absurd cc
+made-put_term s t p Whole h = absurd cc
+
+made-put_ctx : (s : Stored) (n : CtxNum) (p : Place ContextRecord) (k : Key) → same_key k (Ctx n) ≡ true → is_ready (put_ctx_place s n p) k ≡ true
+made-put_ctx s n p (Term q) h = absurd cc
+made-put_ctx s n p (Ctx q) h = ap (λ o. is_some o) (got_ctx s n p q) ∙ at_it (nat_eq q.0 n.0) p (finite.get s.contexts q.0) h
+made-put_ctx s n p Whole h = absurd cc
+
+one_more : (keys : List Key) (k : Key) (old new : Stored) → KeepReady old new → ((q : Key) → same_key q k ≡ true → is_ready new q ≡ true) → AreReady keys old → AreReady (keys ++ k ∷ []) new
+one_more keys k old new kept made ready q h = by (has keys q) (same_key q k) refl refl (sym (has-pushed keys k q) ∙ h)
+  where
+    by : (a b : Bool) → has keys q ≡ a → same_key q k ≡ b → (a || b) ≡ true → is_ready new q ≡ true
+    by true b e f g = kept q (ready q e)
+    by false true e f g = made q f
+    by false false e f g = absurd cc
+
+-- ---- one more write
+
+module _ (start now : Stored) (ws : List Write) (i : IsInPlace start now ws) where
+  pub wrote_term : (t : List ℕ) (p : Place Termination) (before : Option Termination) → has_left (Some p) ≡ false → before ≡ term (maps_of now) t → IsInPlace start (put_term_place now t p) (ws ++ OfTerm t before ∷ [])
+  wrote_term t p before g was = record {
+    here = in-put_term now t p g i.here;
+    back = ap (undone (ws ++ OfTerm t before ∷ [])) (maps-put_term_place now t p) ∙ undone_term ws (maps_of now) t (shown (Some p)) before was ∙ i.back;
+    places = λ k h. one_more (keys_written ws) (Term t) now (put_term_place now t p) (keep-put_term now t p) (made-put_term now t p) i.places k (ap (λ (l : List Key). has l k) (sym (keys_more ws (OfTerm t before))) ∙ h);
+    kept = λ k h. keep-put_term now t p k (i.kept k h);
+  }
+
+  pub wrote_ctx : (n : CtxNum) (p : Place ContextRecord) (before : Option ContextRecord) → has_left (Some p) ≡ false → before ≡ ctx (maps_of now) n → IsInPlace start (put_ctx_place now n p) (ws ++ OfCtx n before ∷ [])
+  wrote_ctx n p before g was = record {
+    here = in-put_ctx now n p g i.here;
+    back = ap (undone (ws ++ OfCtx n before ∷ [])) (maps-put_ctx_place now n p) ∙ undone_ctx ws (maps_of now) n (shown (Some p)) before was ∙ i.back;
+    places = λ k h. one_more (keys_written ws) (Ctx n) now (put_ctx_place now n p) (keep-put_ctx now n p) (made-put_ctx now n p) i.places k (ap (λ (l : List Key). has l k) (sym (keys_more ws (OfCtx n before))) ∙ h);
+    kept = λ k h. keep-put_ctx now n p k (i.kept k h);
+  }
+
+  -- a context that was written before
+  pub wrote_again : (n : CtxNum) (p : Place ContextRecord) → has_left (Some p) ≡ false → has (keys_written ws) (Ctx n) ≡ true → IsInPlace start (put_ctx_place now n p) ws
+  wrote_again n p g h = record {
+    here = in-put_ctx now n p g i.here;
+    back = ap (undone ws) (maps-put_ctx_place now n p) ∙ undone_again ws (maps_of now) n (shown (Some p)) h ∙ i.back;
+    places = λ k e. keep-put_ctx now n p k (i.places k e);
+    kept = λ k e. keep-put_ctx now n p k (i.kept k e);
+  }

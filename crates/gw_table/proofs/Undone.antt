@@ -1,0 +1,133 @@
+-- Writes that are taken back: what is read then, and what one more write comes to.
+use Rattle.std.proofs.Common.{nat_eq, ◌≡◌, ℕ, zero, suc, take, drop, Bool, true, false, cond, List, [], ◌∷◌, ◌++◌, bytes_eq, Option, None, refl, sym, ap, ◌∙◌}
+use Rattle.std.specs.Prelude.{◌||◌}
+use Rattle.std.specs.Bool.{OnTrue}
+use Rattle.std.specs.FinMap.{get-empty}
+use Rattle.std.specs.List.{list_any}
+use Rattle.std.specs.Ordering.{nat_cmp}
+use Rattle.gw_base.specs.declared.ids.CtxNum.{CtxNum}
+use Rattle.gw_base.specs.declared.key.Key.{Key}
+use Rattle.gw_base.specs.declared.key.Key.TheVariants.{Term, Ctx}
+use Rattle.gw_base.specs.Keys.{same_key, has}
+use Rattle.gw_base.specs.NameLists.{name_cmp}
+use Rattle.gw_base.proofs.KeyTests.{same-itself}
+use Rattle.gw_base.proofs.NameTests.{same_number}
+use Rattle.gw_base.proofs.NamesInLists.{or_left, or_right}
+use Rattle.gw_term.specs.declared.record.Termination.{Termination}
+use Rattle.gw_ctx.specs.Contexts.{ContextRecord}
+use Rattle.gw_table.specs.declared.originals.Write.{Write}
+use Rattle.gw_table.specs.declared.originals.Write.TheVariants.{OfTerm, OfCtx}
+use Rattle.gw_table.specs.Maps.{Maps, term, ctx, put_term, put_ctx, no_maps}
+use Rattle.gw_table.specs.Originals.{key_written, keys_written, without_write, undone}
+use Rattle.gw_table.specs.Parts.{restricted, overlaid}
+use Rattle.gw_table.proofs.Leaving.{put_term-put_term, put_term-same, put_ctx-same}
+use Rattle.gw_table.proofs.Lookups.{term-put_term, ctx-put_term, term-put_ctx, ctx-put_ctx, put_ctx-put_ctx, same_maps}
+use Rattle.gw_table.proofs.PartLookups.{term-restricted, ctx-restricted, term-overlaid, ctx-overlaid}
+
+pub undone_more : (ws : List Write) (w : Write) (m : Maps) → undone (ws ++ w ∷ []) m ≡ undone ws (without_write w m)
+undone_more [] w m = refl
+undone_more (v ∷ ws) w m = ap (without_write v) (undone_more ws w m)
+
+pub keys_more : (ws : List Write) (w : Write) → keys_written (ws ++ w ∷ []) ≡ keys_written ws ++ key_written w ∷ []
+keys_more [] w = refl
+keys_more (v ∷ ws) w = ap (λ (l : List Key). key_written v ∷ l) (keys_more ws w)
+
+-- ---- at each key what its first write found there, and else the entry of the maps
+
+first : {A : Type 0} (b h : Bool) (o x y : A) → cond b o (cond h x y) ≡ cond (b || h) (cond b o x) y
+first true h o x y = refl
+first false h o x y = refl
+
+term-undone : (ws : List Write) (m : Maps) (q : List ℕ) → term (undone ws m) q ≡ cond (has (keys_written ws) (Term q)) (term (undone ws no_maps) q) (term m q)
+term-undone [] m q = refl
+term-undone (OfTerm t o ∷ ws) m q =
+    term-put_term (undone ws m) t o q ∙ ap (cond (bytes_eq q t) o) (term-undone ws m q) ∙ first (bytes_eq q t) (has (keys_written ws) (Term q)) o (term (undone ws no_maps) q) (term m q)
+    ∙ ap (λ x. cond (bytes_eq q t || has (keys_written ws) (Term q)) x (term m q)) (sym (term-put_term (undone ws no_maps) t o q))
+term-undone (OfCtx n o ∷ ws) m q =
+    term-put_ctx (undone ws m) n o q ∙ term-undone ws m q ∙ ap (λ x. cond (has (keys_written ws) (Term q)) x (term m q)) (sym (term-put_ctx (undone ws no_maps) n o q))
+
+ctx-undone : (ws : List Write) (m : Maps) (q : CtxNum) → ctx (undone ws m) q ≡ cond (has (keys_written ws) (Ctx q)) (ctx (undone ws no_maps) q) (ctx m q)
+ctx-undone [] m q = refl
+ctx-undone (OfTerm t o ∷ ws) m q =
+    ctx-put_term (undone ws m) t o q ∙ ctx-undone ws m q ∙ ap (λ x. cond (has (keys_written ws) (Ctx q)) x (ctx m q)) (sym (ctx-put_term (undone ws no_maps) t o q))
+ctx-undone (OfCtx n o ∷ ws) m q =
+    ctx-put_ctx (undone ws m) n o q ∙ ap (cond (nat_eq q.0 n.0) o) (ctx-undone ws m q) ∙ first (nat_eq q.0 n.0) (has (keys_written ws) (Ctx q)) o (ctx (undone ws no_maps) q) (ctx m q)
+    ∙ ap (λ x. cond (nat_eq q.0 n.0 || has (keys_written ws) (Ctx q)) x (ctx m q)) (sym (ctx-put_ctx (undone ws no_maps) n o q))
+
+pub undone_laid : (ws : List Write) (m : Maps) → undone ws m ≡ overlaid (keys_written ws) (undone ws no_maps) m
+undone_laid ws m = same_maps (undone ws m) (overlaid (keys_written ws) (undone ws no_maps) m)
+    (λ q. term-undone ws m q ∙ sym (term-overlaid (keys_written ws) (undone ws no_maps) m q))
+    (λ q. ctx-undone ws m q ∙ sym (ctx-overlaid (keys_written ws) (undone ws no_maps) m q))
+
+-- what the writes found are the entries of the start at their keys
+at_keys : {A : Type 0} (h : Bool) (x y z : A) → cond h x z ≡ cond h (cond h x y) z
+at_keys true x y z = refl
+at_keys false x y z = refl
+
+pub originals_are : (ws : List Write) (now start : Maps) → undone ws now ≡ start → undone ws no_maps ≡ restricted (keys_written ws) start
+originals_are ws now start back = same_maps (undone ws no_maps) (restricted (keys_written ws) start)
+    (λ q. term-undone ws no_maps q ∙ ap (cond (has (keys_written ws) (Term q)) (term (undone ws no_maps) q)) (get-empty name_cmp q)
+    ∙ at_keys (has (keys_written ws) (Term q)) (term (undone ws no_maps) q) (term now q) None
+    ∙ ap (λ o. cond (has (keys_written ws) (Term q)) o None) (sym (term-undone ws now q) ∙ ap (λ m. term m q) back)
+    ∙ sym (term-restricted (keys_written ws) start q))
+    (λ q. ctx-undone ws no_maps q ∙ ap (cond (has (keys_written ws) (Ctx q)) (ctx (undone ws no_maps) q)) (get-empty nat_cmp q.0)
+    ∙ at_keys (has (keys_written ws) (Ctx q)) (ctx (undone ws no_maps) q) (ctx now q) None
+    ∙ ap (λ o. cond (has (keys_written ws) (Ctx q)) o None) (sym (ctx-undone ws now q) ∙ ap (λ m. ctx m q) back)
+    ∙ sym (ctx-restricted (keys_written ws) start q))
+
+-- ---- one more write, of what is noted as it stood there
+
+pub undone_term : (ws : List Write) (m : Maps) (t : List ℕ) (o before : Option Termination) → before ≡ term m t → undone (ws ++ OfTerm t before ∷ []) (put_term m t o) ≡ undone ws m
+undone_term ws m t o before e = undone_more ws (OfTerm t before) (put_term m t o) ∙ ap (undone ws) (put_term-put_term m t o before ∙ put_term-same m t before e)
+
+pub undone_ctx : (ws : List Write) (m : Maps) (n : CtxNum) (o before : Option ContextRecord) → before ≡ ctx m n → undone (ws ++ OfCtx n before ∷ []) (put_ctx m n o) ≡ undone ws m
+undone_ctx ws m n o before e = undone_more ws (OfCtx n before) (put_ctx m n o) ∙ ap (undone ws) (put_ctx-put_ctx m n o before ∙ put_ctx-same m n before e)
+
+-- or of a context that was written before
+pub undone_again : (ws : List Write) (m : Maps) (n : CtxNum) (o : Option ContextRecord) → has (keys_written ws) (Ctx n) ≡ true → undone ws (put_ctx m n o) ≡ undone ws m
+undone_again ws m n o h = same_maps (undone ws (put_ctx m n o)) (undone ws m)
+    (λ q. term-undone ws (put_ctx m n o) q ∙ ap (cond (has (keys_written ws) (Term q)) (term (undone ws no_maps) q)) (term-put_ctx m n o q) ∙ sym (term-undone ws m q))
+    (λ q. ctx-undone ws (put_ctx m n o) q ∙ ap (cond (has (keys_written ws) (Ctx q)) (ctx (undone ws no_maps) q)) (ctx-put_ctx m n o q)
+    ∙ at q (nat_eq q.0 n.0) refl ∙ sym (ctx-undone ws m q))
+  where
+    at : (q : CtxNum) (b : Bool) → nat_eq q.0 n.0 ≡ b → cond (has (keys_written ws) (Ctx q)) (ctx (undone ws no_maps) q) (cond b o (ctx m q)) ≡ cond (has (keys_written ws) (Ctx q)) (ctx (undone ws no_maps) q) (ctx m q)
+    at q true e =
+        let there : has (keys_written ws) (Ctx q) ≡ true = ap (λ (x : CtxNum). has (keys_written ws) (Ctx x)) (same_number q n e) ∙ h in
+        ap (λ b. cond b (ctx (undone ws no_maps) q) o) there ∙ ap (λ b. cond b (ctx (undone ws no_maps) q) (ctx m q)) (sym there)
+    at q false e = refl
+
+-- ---- a context that was written lately
+
+any_mapped : (p : Key → Bool) (ws : List Write) → list_any (λ w. p (key_written w)) ws ≡ list_any p (keys_written ws)
+any_mapped p [] = refl
+any_mapped p (w ∷ ws) = ap (λ b. p (key_written w) || b) (any_mapped p ws)
+
+any_behind : (p : Write → Bool) (i : ℕ) (ws : List Write) → list_any p (drop i ws) ≡ true → list_any p ws ≡ true
+any_behind p zero ws h = h
+any_behind p (suc i) [] h = h
+any_behind p (suc i) (w ∷ ws) h = or_right (p w) (list_any p ws) (any_behind p i ws h)
+
+either_way : (a b c : Bool) → (a || b) ≡ true → (b ≡ true → c ≡ true) → (a || c) ≡ true
+either_way true b c h f = refl
+either_way false b c h f = f h
+
+any_front : (p : Write → Bool) (i : ℕ) (ws : List Write) → list_any p (take i ws) ≡ true → list_any p ws ≡ true
+any_front p zero ws h = absurd cc
+any_front p (suc i) [] h = h
+any_front p (suc i) (w ∷ ws) h = either_way (p w) (list_any p (take i ws)) (list_any p ws) h (any_front p i ws)
+
+pub late_write : (ws : List Write) (i k : ℕ) (n : CtxNum) (b : Bool) → b ≡ list_any (λ w. same_key (Ctx n) (key_written w)) (take k (drop i ws)) → OnTrue b (has (keys_written ws) (Ctx n) ≡ true)
+late_write ws i k n true e =
+    let p : Write → Bool = λ w. same_key (Ctx n) (key_written w) in
+    sym (any_mapped (same_key (Ctx n)) ws) ∙ any_behind p i ws (any_front p k (drop i ws) (sym e))
+late_write ws i k n false e = tt
+
+-- ---- the last write
+
+pub last_written : (ws : List Write) (w : Write) → has (keys_written (ws ++ w ∷ [])) (key_written w) ≡ true
+last_written [] w = or_left (same_key (key_written w) (key_written w)) false (same-itself (key_written w))
+last_written (v ∷ ws) w = or_right (same_key (key_written w) (key_written v)) (has (keys_written (ws ++ w ∷ [])) (key_written w)) (last_written ws w)
+
+pub written_before : (ws : List Write) (w : Write) (k : Key) → has (keys_written ws) k ≡ true → has (keys_written (ws ++ w ∷ [])) k ≡ true
+written_before [] w k h = absurd cc
+written_before (v ∷ ws) w k h = either_way (same_key k (key_written v)) (has (keys_written ws) k) (has (keys_written (ws ++ w ∷ [])) k) h (written_before ws w k)

@@ -1,0 +1,41 @@
+use Rattle.std.proofs.Common.{◌≡◌, true, List, ◌∷◌, [], ◌++◌, refl, ap, sym, ◌∙◌}
+use Rattle.gw_base.specs.Keys.{has}
+use Rattle.gw_base.specs.declared.key.Key.TheVariants.{Ctx}
+use Rattle.gw_table.specs.declared.originals.Write.{Write}
+use Rattle.gw_table.specs.declared.originals.Write.TheVariants.{OfCtx}
+use Rattle.gw_table.specs.Maps.{put_ctx}
+use Rattle.gw_table.specs.Originals.{keys_written}
+use Rattle.gw_table.specs.Parts.{Parted}
+use Rattle.gw_table.specs.Stored.{Stored, shown, placed, maps_of, put_ctx_place}
+use Rattle.gw_table.proofs.InPlace.{same_in_place, wrote_ctx, wrote_again}
+use Rattle.gw_table.proofs.Places.{ctx-maps_of, maps-put_ctx_place, shown_placed, placed_here}
+use Rattle.gw_table.proofs.in_place.InPlace.set_ctx.Goals as goal
+
+-- ---- where it was written lately
+
+pub invariant_of-self-then-was_written : goal.invariant_of-self-then-was_written
+invariant_of-self-then-was_written c =
+    let there : has (keys_written c.self.inside.writes.items) (Ctx c.args.number) ≡ true = ap (λ (l : List Write). has (keys_written l) (Ctx c.args.number)) (sym c.deref.ensures.value) ∙ c.if-was_written.ensures in
+    same_in_place c.self.inside.start.value (put_ctx_place c.self.inside.tables c.args.number (placed c.args.entry)) c.exchange_ctx.new.self c.self.inside.writes.items c.self.inside.writes.items
+    (c.exchange_ctx.ensures.after ∙ ap (λ p. put_ctx_place c.self.inside.tables c.args.number p) c.of.ensures) refl
+    (wrote_again c.self.inside.start.value c.self.inside.tables c.self.inside.writes.items c.self.invariant c.args.number (placed c.args.entry) (placed_here c.args.entry) there)
+
+pub returns-then-was_written-clause-maps : goal.returns-then-was_written-clause-maps
+returns-then-was_written-clause-maps c =
+    ap (λ s. maps_of s) (c.exchange_ctx.ensures.after ∙ ap (λ p. put_ctx_place c.self.inside.tables c.args.number p) c.of.ensures) ∙ maps-put_ctx_place c.self.inside.tables c.args.number (placed c.args.entry)
+    ∙ ap (put_ctx (maps_of c.self.inside.tables) c.args.number) (shown_placed c.args.entry) ∙ ap (λ (p : Parted). put_ctx p.maps c.args.number c.args.entry) c.self.view_is
+
+-- ---- where it was not
+
+pub invariant_of-self-2 : goal.invariant_of-self-2
+invariant_of-self-2 c =
+    let old : Stored = c.self.inside.tables in
+    same_in_place c.self.inside.start.value (put_ctx_place old c.args.number (placed c.args.entry)) c.put_ctx.new.self (c.self.inside.writes.items ++ OfCtx c.args.number c.entry_in-before.result ∷ []) c.push.new.self.items
+    (c.in_ok-put_ctx.ensures.ok ∙ ap (λ p. put_ctx_place old c.args.number p) c.of-2.ensures) (c.in-Ok.ensures.items ∙ ap (λ (l : List Write). l ++ OfCtx c.args.number c.entry_in-before.result ∷ []) c.in_ok-reserve.ensures.items)
+    (wrote_ctx c.self.inside.start.value old c.self.inside.writes.items c.self.invariant c.args.number (placed c.args.entry) c.entry_in-before.result (placed_here c.args.entry)
+    (c.entry_in-before.ensures ∙ ap (λ o. shown o) c.in_ok-put_ctx.ensures.before ∙ sym (ctx-maps_of old c.args.number)))
+
+pub returns-clause-maps : goal.returns-clause-maps
+returns-clause-maps c =
+    ap (λ s. maps_of s) (c.in_ok-put_ctx.ensures.ok ∙ ap (λ p. put_ctx_place c.self.inside.tables c.args.number p) c.of-2.ensures) ∙ maps-put_ctx_place c.self.inside.tables c.args.number (placed c.args.entry)
+    ∙ ap (put_ctx (maps_of c.self.inside.tables) c.args.number) (shown_placed c.args.entry) ∙ ap (λ (p : Parted). put_ctx p.maps c.args.number c.args.entry) c.self.view_is

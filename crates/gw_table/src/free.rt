@@ -1,0 +1,145 @@
+//! Terminations of the null context.
+
+ghost use Rattle.std.specs.Prelude.{◌≡◌, ◌&&◌, nat_eq, is_some, IfOk};
+ghost use Rattle.std.specs.List.{filter, list_any, starts_with};
+ghost use Rattle.gw_table.specs.Free.{is_free_at};
+ghost use Rattle.gw_table.specs.Maps.{term, is_free, names};
+ghost use Rattle.gw_table.specs.Stored.{maps_of};
+
+use crate::draft::{Draft, Ground};
+use crate::in_place::InPlace;
+use crate::over_part::OverPart;
+use crate::place::Place;
+use crate::tables::Tables;
+use gw_base::{Held, Key, NoMemory, TermName};
+use gw_term::Termination;
+use std::alloc::Global;
+
+/// Whether a termination of the null context stands in a place.
+fn is_free_at(place: &Place<Held<Termination>>) -> bool
+    ensures { result ≡ is_free_at place.now }
+{
+    match place {
+        Place::Here(termination) => termination.get().place().is_none(),
+        Place::Empty | Place::Out => false,
+    }
+}
+
+/// Whether a name begins so.
+fn begins_with(name: &TermName, prefix: &[u8]) -> bool
+    ensures { result ≡ starts_with nat_eq name.now prefix.now }
+{
+    name.as_bytes().starts_with(prefix)
+}
+
+impl Tables {
+    /// The names of the terminations of the null context, in the order of their bytes.
+    fn free_names(&self, alloc: Global) -> Result<Vec<TermName>, NoMemory>
+        ensures { IfOk result (λ list. list.items ≡ filter (is_free (maps_of self.now)) (names (maps_of self.now))) }
+    {
+        let mut names = Vec::with_capacity(alloc, self.terms.len())?;
+        for (name, place) in &self.terms {
+            if is_free_at(place) {
+                names.push(*name)?;
+            }
+        }
+        Ok(names)
+    }
+
+    /// Whether there is a termination of the null context with a name that begins so.
+    fn has_free_under(&self, prefix: &[u8]) -> bool
+        ensures { result ≡ list_any (λ t. is_free (maps_of self.now) t && starts_with nat_eq t prefix.now) (names (maps_of self.now)) }
+    {
+        for (name, place) in &self.terms {
+            if is_free_at(place) && begins_with(name, prefix) {
+                return true;
+            }
+        }
+        false
+    }
+}
+
+impl InPlace {
+    fn free_names(&self, alloc: Global) -> Result<Vec<TermName>, NoMemory>
+        ensures { IfOk result (λ list. list.items ≡ filter (is_free self.now.maps) (names self.now.maps)) }
+    {
+        self.tables.free_names(alloc)
+    }
+
+    fn has_free_under(&self, prefix: &[u8]) -> bool
+        ensures { result ≡ list_any (λ t. is_free self.now.maps t && starts_with nat_eq t prefix.now) (names self.now.maps) }
+    {
+        self.tables.has_free_under(prefix)
+    }
+}
+
+impl OverPart<'_> {
+    /// Whether the termination of this name is in the null context.
+    fn is_free(&self, name: &TermName) -> bool
+        ensures { result ≡ is_free self.now.maps name.now }
+    {
+        match self.term(name) {
+            Some(termination) => termination.place().is_none(),
+            None => true,
+        }
+    }
+
+    /// Whether there is a termination of this name, in the null context, and its name begins so.
+    fn is_free_under(&self, name: &TermName, prefix: &[u8]) -> bool
+        ensures { result ≡ (is_some (term self.now.maps name.now) && (is_free self.now.maps name.now && starts_with nat_eq name.now prefix.now)) }
+    {
+        match self.term(name) {
+            Some(termination) => termination.place().is_none() && begins_with(name, prefix),
+            None => false,
+        }
+    }
+
+    fn free_names(&self, alloc: Global) -> Result<Vec<TermName>, NoMemory>
+        ensures { IfOk result (λ list. list.items ≡ filter (is_free self.now.maps) (names self.now.maps)) }
+    {
+        let mut named = self.names(alloc)?;
+        named.retain(|name| self.is_free(name));
+        Ok(named)
+    }
+
+    fn has_free_under(&self, prefix: &[u8]) -> bool
+        ensures { result ≡ list_any (λ t. is_free self.now.maps t && starts_with nat_eq t prefix.now) (names self.now.maps) }
+    {
+        for key in self.part.keys() {
+            if let Key::Term(name) = key {
+                if self.is_free_under(name, prefix) {
+                    return true;
+                }
+            }
+        }
+        false
+    }
+}
+
+impl Draft<'_> {
+    /// The names of the terminations of the null context, in the order of their bytes. The work is one pass over the tables, without a
+    /// look-up; or two look-ups for each key of the part.
+    ///
+    /// # Errors
+    ///
+    /// Want of memory.
+    pub fn free_names(&self, alloc: Global) -> Result<Vec<TermName>, NoMemory>
+        ensures { IfOk result (λ list. list.items ≡ filter (is_free self.now.maps) (names self.now.maps)) }
+    {
+        match &self.ground {
+            Ground::OfPart(ground) => ground.free_names(alloc),
+            Ground::OfTables(ground) => ground.free_names(alloc),
+        }
+    }
+
+    /// Whether there is a termination of the null context with a name that begins so. The work is at most one pass over the tables,
+    /// without a look-up and without memory, which ends at the first; or two look-ups for each key of the part.
+    pub fn has_free_under(&self, prefix: &[u8]) -> bool
+        ensures { result ≡ list_any (λ t. is_free self.now.maps t && starts_with nat_eq t prefix.now) (names self.now.maps) }
+    {
+        match &self.ground {
+            Ground::OfPart(ground) => ground.has_free_under(prefix),
+            Ground::OfTables(ground) => ground.has_free_under(prefix),
+        }
+    }
+}

@@ -1,0 +1,110 @@
+//! What stood at keys of tables before they were written, and the way back.
+
+ghost use Rattle.std.specs.Prelude.{◌≡◌, true, false};
+ghost use Rattle.gw_base.specs.Keys.{same_key};
+ghost use Rattle.gw_base.specs.declared.key.Key.TheVariants.{Ctx};
+ghost use Rattle.gw_table.specs.Originals.{key_written, keys_written, without_write, undone};
+ghost use Rattle.gw_table.specs.Parts.{list_of, overlaid};
+ghost use Rattle.gw_table.specs.Stored.{maps_of, is_ready, is_out, AreReady, AreIn, AreAsReady, AreAsOut, NoneIsOut};
+
+use crate::place::Place;
+use crate::tables::Tables;
+use gw_base::{CtxNum, Held, Key, TermName};
+use gw_ctx::Context;
+use gw_term::Termination;
+use std::marker::Model;
+
+/// What stood at a key before a write of it.
+#[derive(Drop)]
+pub enum Write {
+    /// The termination of a name, or none.
+    OfTerm(TermName, Option<Held<Termination>>),
+    /// The context with a number, or none.
+    OfCtx(CtxNum, Option<Held<Context>>),
+}
+
+impl Write {
+    /// Whether a context was written: that with this number.
+    pub(crate) fn is_of(&self, number: CtxNum) -> bool
+        ensures { result ≡ same_key (Ctx number) (key_written self.now) }
+    {
+        match self {
+            Write::OfTerm(_, _) => false,
+            Write::OfCtx(own, _) => own.0 == number.0,
+        }
+    }
+}
+
+/// What stood at keys of tables before they were written, in the order of the writes: a key for each, which may stand there more than
+/// once, and of each key what its first write found there.
+#[derive(Drop)]
+pub struct Originals {
+    pub(crate) writes: Vec<Write>,
+    // Keys that were left without an entry, whose places may be given up.
+    pub(crate) vacated: Vec<Key>,
+}
+
+impl Model for Originals {
+    ghost use Rattle.gw_table.specs.Maps.{no_maps};
+    ghost use Rattle.gw_table.specs.Originals.{keys_written, undone};
+    ghost use Rattle.gw_table.specs.Parts.{Parted, Only, coded_part};
+
+    ghost Value = { Parted };
+
+    ghost coded = { coded_part };
+
+    ghost view = { λ a. record { keys = Only (keys_written a.writes.items); maps = undone a.writes.items no_maps } };
+}
+
+impl Tables {
+    /// Puts back what stood at a key before a write of it.
+    fn take_back(&mut self, write: Write)
+        requires ready { is_ready self.old (key_written write) ≡ true }
+        requires here { is_out self.old (key_written write) ≡ false }
+        ensures maps { maps_of self.new ≡ without_write write (maps_of self.old) }
+        ensures out { AreAsOut self.old self.new }
+        ensures ready { AreAsReady self.old self.new }
+    {
+        match write {
+            Write::OfTerm(name, before) => drop(self.exchange_term(&name, Place::of(before))),
+            Write::OfCtx(number, before) => drop(self.exchange_ctx(number, Place::of(before))),
+        }
+    }
+
+    /// Puts back what stood at each key before its first write. The caller knows that each has a place, and that none is out. A write
+    /// takes one look-up, and no memory is taken.
+    pub(crate) fn take_all_back(&mut self, mut writes: Vec<Write>)
+        requires ready { AreReady (keys_written writes.items) self.old }
+        requires here { AreIn (keys_written writes.items) self.old }
+        ensures maps { maps_of self.new ≡ undone writes.items (maps_of self.old) }
+        ensures out { AreAsOut self.old self.new }
+        ensures ready { AreAsReady self.old self.new }
+    {
+        while let Some(write) = writes.pop() {
+            self.take_back(write);
+        }
+    }
+
+    /// Puts originals in place of what is here: each of their keys has its entry then, or none where there was none. The caller knows
+    /// that each has a place, and that none is out. A write takes one look-up, and no memory is taken.
+    pub fn restore(&mut self, originals: Originals)
+        requires ready { AreReady (list_of originals.keys) self.old }
+        requires here { AreIn (list_of originals.keys) self.old }
+        ensures maps { maps_of self.new ≡ overlaid (list_of originals.keys) originals.maps (maps_of self.old) }
+        ensures out { AreAsOut self.old self.new }
+        ensures ready { AreAsReady self.old self.new }
+    {
+        let Originals { writes, vacated: _ } = originals;
+        self.take_all_back(writes);
+    }
+
+    /// Gives up the places of those keys that were left without an entry and still have none. The caller knows that nothing is out.
+    /// Such a key takes two look-ups; memory is given back and none is taken.
+    pub fn sweep_vacated(&mut self, originals: &Originals)
+        requires { NoneIsOut self.old }
+        ensures maps { maps_of self.new ≡ maps_of self.old }
+        ensures here { NoneIsOut self.new }
+    {
+        self.sweep_keys(&originals.vacated);
+    }
+}
