@@ -1,10 +1,12 @@
 //! A reply that is kept, and the key by which a repeat finds it.
 
 ghost use Rattle.std.specs.Prelude.{◌≡◌};
+ghost use Rattle.gw_kept.specs.Order.{key_cmp};
 ghost use Rattle.gw_kept.specs.Pairs.{key_of};
 
 use gw_base::{Items, Mid, TxId};
 use std::alloc::Global;
+use std::cmp::Ordering;
 
 /// A reply that is kept for repeats (own to this profile; RFC 3525, Annex D.1, asks that a repeat is not carried out again).
 #[derive(Drop)]
@@ -41,6 +43,17 @@ impl RequestKey {
 }
 
 impl Entry {
+    /// How the key of the pair stands to another. Most senders are the same, which is told at once.
+    pub(crate) fn compare_key(&self, key: &RequestKey) -> Ordering
+        ensures { result ≡ key_cmp (key_of self.now) key.now }
+    {
+        if self.mid == key.mid {
+            self.id.0.cmp(&key.id)
+        } else {
+            self.mid.cmp(&key.mid).then(self.id.0.cmp(&key.id))
+        }
+    }
+
     /// The key of the pair.
     pub(crate) fn key(&self) -> RequestKey
         ensures { result ≡ key_of self.now }

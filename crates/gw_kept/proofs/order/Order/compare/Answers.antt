@@ -12,8 +12,7 @@ pub returns-in-Some : goal.returns-in-Some
 returns-in-Some c =
     let row = c.args.ring.now.items in
     let key = c.args.key.now in
-    c.cmp.ensures
-    ∙ ap (λ k. key_cmp k key) c.key.ensures
+    c.compare_key.ensures
     ∙ ap (λ o. key_cmp (unwrap_or (option_map key_of o) key) key) c.in-Some.ensures
     ∙ ap (λ k. key_cmp (unwrap_or k key) key) (sym (keys_get row c.place.result))
     ∙ ap (λ p. key_cmp (key_in (keys_in row) p key) key) c.place.ensures
