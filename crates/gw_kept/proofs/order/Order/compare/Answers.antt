@@ -3,9 +3,8 @@ use Rattle.std.specs.Cmp.{tied_itself}
 use Rattle.std.specs.Option.{option_map, unwrap_or}
 use Rattle.gw_kept.specs.Pairs.{key_of}
 use Rattle.gw_kept.specs.Rows.{keys_in, key_in}
-use Rattle.gw_kept.specs.Order.{key_cmp}
+use Rattle.gw_kept.specs.Order.{key_cmp, key_total}
 use Rattle.gw_kept.proofs.Forgetting.{keys_get}
-use Rattle.gw_kept.proofs.Orders.{key_total}
 use Rattle.gw_kept.proofs.order.Order.compare.Goals as goal
 
 pub returns-in-Some : goal.returns-in-Some
