@@ -110,7 +110,7 @@ pub(crate) fn asks_of<'h, 'a>(
 ) -> Result<Items<Ask<'h, 'a>>, NoMemory>
     ensures { IfOk result (λ asks. asks ≡ asks_of heard.now) }
 {
-    let mut asks = Items::new(alloc);
+    let mut asks = Items::from(Vec::with_capacity(alloc, heard.len())?);
     for datagram in heard {
         push_asks(&mut asks, datagram)?;
     }
@@ -124,7 +124,7 @@ pub(crate) fn points_of<'h>(
 ) -> Result<Items<Point<'h>>, NoMemory>
     ensures { IfOk result (λ points. points ≡ points_of asks.now) }
 {
-    let mut points = Items::new(alloc);
+    let mut points = Items::from(Vec::with_capacity(alloc, asks.len())?);
     for ask in asks {
         points.push(ask.point())?;
     }

@@ -83,8 +83,8 @@ pub(crate) fn classify<'h, 'a>(
     let classes = kept.classify(alloc, points.as_slice())?;
     let mut classified = Classified {
         tasks: Items::from(Vec::with_capacity(alloc, asks.len())?),
-        requests: Items::new(alloc),
-        turns: Items::new(alloc),
+        requests: Items::from(Vec::with_capacity(alloc, asks.len())?),
+        turns: Items::from(Vec::with_capacity(alloc, asks.len())?),
     };
     for (ask, class) in asks.iter().zip(classes.as_slice()) {
         classified.push(ask, *class)?;

@@ -5,8 +5,7 @@ use Rattle.std.proofs.lemmas.List.Edits.{length-remove, length-insert, get_or-re
 use Rattle.std.proofs.lemmas.List.Elements.{All-map}
 use Rattle.std.proofs.lemmas.List.Quantifiers.{all_pairs_remove}
 use Rattle.std.proofs.lemmas.List.Sorted.{searchable_from_sorted}
-use Rattle.std.specs.Cmp.{IsTotalOrder, nat_cmp_total, on_total, then_total, tied_itself}
-use Rattle.std.specs.Cmp.Lexicographic.{nat_list_cmp_total}
+use Rattle.std.specs.Cmp.{tied_itself}
 use Rattle.std.specs.List.{All, Contains, insert, remove}
 use Rattle.std.specs.List.Sorted.{IsSearchInRange, IsBinarySearchResult, IsNonDecreasingBy}
 use Rattle.std.specs.Option.{unwrap_or}
@@ -15,16 +14,13 @@ use Rattle.std.specs.declared.cmp.Ordering.{Ordering}
 use Rattle.std.specs.declared.cmp.Ordering.TheVariants.{Less, Equal, Greater}
 use Rattle.gw_kept.specs.declared.entry.RequestKey.{RequestKey}
 use Rattle.gw_kept.specs.Rows.{present, key_in, most_places}
-use Rattle.gw_kept.specs.Order.{key_cmp, number_at, place_of, Before, IsTaken, IsSorted, IsOrder, IsStand}
+use Rattle.gw_kept.specs.Order.{key_cmp, key_total, number_at, place_of, Before, IsTaken, IsSorted, IsOrder, IsStand}
 use Rattle.gw_kept.proofs.Circle.{place_back, number_next, next_around}
 use Rattle.gw_kept.proofs.Lists.{three_ways, below_or_not, all_insert, contains_insert, contains_itself, all_pairs_insert, all_pairs_weaker, all_weaker_here, all_pairs_map, map_agree, map_map, map_insert, map_remove}
 use Rattle.gw_kept.proofs.Places.{key_test, same_key}
 use Rattle.gw_kept.proofs.Rows.{present_append, present_gap, present_behind, taken_below, key_default, key_is}
 
 -- ---- the order of keys
-
-pub key_total : IsTotalOrder key_cmp
-key_total = then_total (on_total (λ (k : RequestKey). k.mid) nat_list_cmp_total) (on_total (λ (k : RequestKey). k.id) nat_cmp_total)
 
 pub keys_tie : (a b : RequestKey) → key_cmp a b ≡ Equal → a ≡ b
 keys_tie a b e = same_key a b (sym (key_test a b) ∙ ap is_eq e)

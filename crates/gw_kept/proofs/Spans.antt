@@ -11,9 +11,9 @@ use Rattle.std.specs.declared.cmp.Ordering.TheVariants.{Less, Equal, Greater}
 use Rattle.gw_msg.specs.declared.message.AckRange.{AckRange}
 use Rattle.gw_kept.specs.declared.entry.RequestKey.{RequestKey}
 use Rattle.gw_kept.specs.Forgotten.{is_within, is_named}
-use Rattle.gw_kept.specs.Order.{key_cmp, key_there, IsSorted, IsSpan, IsStand}
+use Rattle.gw_kept.specs.Order.{key_total, key_cmp, key_there, IsSorted, IsSpan, IsStand}
 use Rattle.gw_kept.proofs.Lists.{three_ways, below_or_not}
-use Rattle.gw_kept.proofs.Orders.{key_total, ties_itself}
+use Rattle.gw_kept.proofs.Orders.{ties_itself}
 use Rattle.gw_kept.proofs.Rows.{key_default}
 
 -- ---- before, at and behind the place of a key

@@ -4,7 +4,8 @@ use Rattle.std.specs.Prelude.{◌≡◌, ◌≤◌, ◌<◌, ◌+◌, ◌-◌, �
 use Rattle.std.specs.List.{All, AllPairs, Contains}
 use Rattle.std.specs.List.Sorted.{IsPartitionPoint}
 use Rattle.std.specs.Ordering.{nat_cmp, ordering_then}
-use Rattle.std.specs.Cmp.Lexicographic.{slice_cmp}
+use Rattle.std.specs.Cmp.{IsTotalOrder, nat_cmp_total, on_total, then_total}
+use Rattle.std.specs.Cmp.Lexicographic.{slice_cmp, nat_list_cmp_total}
 use Rattle.std.specs.declared.cmp.Ordering.{Ordering}
 use Rattle.std.specs.declared.cmp.Ordering.TheVariants.{Less, Greater}
 use Rattle.gw_msg.specs.declared.message.AckRange.{AckRange}
@@ -15,6 +16,9 @@ use Rattle.gw_kept.specs.Rows.{present, key_in, most_places}
 -- by the bytes of the sender, and then by the number: what one sender asked stands together
 abbrev pub key_cmp : RequestKey → RequestKey → Ordering
 key_cmp a b = ordering_then (slice_cmp nat_cmp a.mid b.mid) (nat_cmp a.id b.id)
+
+pub key_total : IsTotalOrder key_cmp
+key_total = then_total (on_total (λ (k : RequestKey). k.mid) nat_list_cmp_total) (on_total (λ (k : RequestKey). k.id) nat_cmp_total)
 
 -- the number of a place, where the foremost has the first; and the place that has a number
 abbrev pub number_at : (first : ℕ) → ℕ → ℕ

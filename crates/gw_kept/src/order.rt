@@ -69,7 +69,7 @@ impl Order {
         ensures { result ≡ key_cmp (key_in (keys_in ring.now.items) (place_of self.now.first number) key.now) key.now }
     {
         match pair_at(ring, self.place(number)) {
-            Some(entry) => entry.key().cmp(key),
+            Some(entry) => entry.compare_key(key),
             None => Ordering::Equal,
         }
     }

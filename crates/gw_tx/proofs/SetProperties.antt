@@ -18,14 +18,15 @@ use Rattle.gw_ctx.specs.Contexts.{ContextRecord}
 use Rattle.gw_ctx.specs.Fitting.{priority_max, IsFit}
 use Rattle.gw_ctx.proofs.Fits.{fit_new, fit_prioritized, fit_marked, fit_linked}
 use Rattle.gw_msg.specs.declared.message.Action.{Action}
+use Rattle.gw_msg.specs.declared.message.ContextItem.{ContextItem}
 use Rattle.gw_msg.specs.declared.message.Triple.{Triple}
 use Rattle.gw_msg.specs.declared.message.ContextProp.{ContextProp}
 use Rattle.gw_msg.specs.declared.message.ContextProp.TheVariants.{Priority, Emergency, Topology, ContextAudit}
-use Rattle.gw_table.specs.Maps.{Maps, term, ctx, place_of, context_of, members_of}
+use Rattle.gw_table.specs.Maps.{Maps, term, ctx, put_ctx, place_of, context_of, members_of}
 use Rattle.gw_table.specs.Parts.{PartKeys, IsPart}
 use Rattle.gw_table.specs.WellFormed.{IsSound, AreWellFormed}
 use Rattle.gw_table.proofs.Growth.{Grows, grows_on}
-use Rattle.gw_table.proofs.Lookups.{term-put_ctx, ctx-put_ctx}
+use Rattle.gw_table.proofs.Lookups.{term-put_ctx, ctx-put_ctx, same_maps}
 use Rattle.gw_refusal.specs.Places.{same_place}
 use Rattle.gw_cmd.proofs.Parted.{StaysPart}
 use Rattle.gw_tx.specs.Properties.{is_topology, triples_in, triples_of, any_triple, name_of, name_in, names_in, linked_names, is_chosen_or_each, has_no_name, is_left_out, is_with_itself, are_same, is_asked_wrongly, is_misplaced, has_twice, is_too_high, refusal_of_properties, ArePlain, is_absent, is_elsewhere, refusal_of_links, link_of, linked_if, linked_by, with_property, with_property_if, set_property, set_properties}
@@ -318,3 +319,21 @@ can_set_always a h e = plain_can a.props (are_plain a h e)
 pub stays_part_all : (keys : PartKeys) (start : Maps) (n : CtxNum) (ps : List ContextProp) (m : Maps) → StaysPart keys start m → StaysPart keys start (set_properties n ps m)
 stays_part_all keys start n [] m s = s
 stays_part_all keys start n (p ∷ ps) m s = stays_part_all keys start n ps (set_property n p m) (stays_part_set n p m keys start s)
+
+-- ---- what only asks
+
+-- the context that is there, put where it is
+put_ctx-same : (m : Maps) (n : CtxNum) (o : Option ContextRecord) → o ≡ ctx m n → put_ctx m n o ≡ m
+put_ctx-same m n o e = same_maps (put_ctx m n o) m (λ q. term-put_ctx m n o q) (λ q. ctx-put_ctx m n o q ∙ at q (nat_eq q.0 n.0) refl)
+  where
+    at : (q : CtxNum) (b : Bool) → nat_eq q.0 n.0 ≡ b → cond b o (ctx m q) ≡ ctx m q
+    at q true h = e ∙ ap (ctx m) (sym (same_number q n h))
+    at q false h = refl
+
+-- a ContextAudit sets nothing
+pub set_asked : (n : CtxNum) (p : ContextProp) (items : List ContextItem) (m : Maps) → p ≡ ContextAudit items → m ≡ set_property n p m
+set_asked n p items m is = sym (ap (λ (x : ContextProp). set_property n x m) is ∙ put_ctx-same m n (with_property_if (ContextAudit items) (ctx m n)) (stays (ctx m n)))
+  where
+    stays : (o : Option ContextRecord) → with_property_if (ContextAudit items) o ≡ o
+    stays None = refl
+    stays (Some c) = refl

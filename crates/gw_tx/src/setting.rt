@@ -54,8 +54,8 @@ fn change(context: &mut Context, prop: &ContextProp) -> Result<(), NoMemory>
     Ok(())
 }
 
-/// Sets one property, where the context is there.
-fn set_property(
+/// Changes one property of the context, where it is there.
+fn change_in_place(
     alloc: Global,
     draft: &mut Draft<'_>,
     number: CtxNum,
@@ -71,6 +71,24 @@ fn set_property(
     };
     change(context.get_mut(), prop)?;
     draft.set_ctx(number, Some(context))
+}
+
+/// Sets one property, where the context is there. What only asks leaves it where it lies.
+fn set_property(
+    alloc: Global,
+    draft: &mut Draft<'_>,
+    number: CtxNum,
+    prop: &ContextProp,
+) -> Result<(), NoMemory>
+    requires key { holds draft.old.keys (Ctx number) ≡ true }
+    requires low { is_too_high prop.now ≡ false }
+    ensures maps { OnOk result (draft.new.maps ≡ set_property number prop.now draft.old.maps) }
+    ensures keys { draft.new.keys ≡ draft.old.keys }
+{
+    match prop {
+        ContextProp::ContextAudit(_) => Ok(()),
+        _ => change_in_place(alloc, draft, number, prop),
+    }
 }
 
 /// Sets what is asked of a context, in the order written, where it is there. The caller knows that its number is one of the draft's

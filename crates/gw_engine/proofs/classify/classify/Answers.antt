@@ -21,11 +21,13 @@ loop-ask-init c =
     let points : c.as_slice.result.now ≡ points_of asks = c.as_slice.ensures ∙ c.in_ok-points.ensures in
     let classes : c.as_slice-2.result.now ≡ classes_of c.args.kept.now (points_of asks) = c.as_slice-2.ensures ∙ c.in_ok-classes.ensures.classes ∙ ap (λ (l : List Point). classes_of c.args.kept.now l) points in
     let all : left_of it ≡ told c.args.kept.now asks = at_start asks c.as_slice-2.result.now it first second ∙ ap (λ (l : List Class). zip asks l) classes in
-    let none : c.from.result ≡ [] = c.from.ensures ∙ c.in_ok-with_capacity.ensures.items in
+    let no_tasks : c.from.result ≡ [] = c.from.ensures ∙ c.in_ok-with_capacity.ensures.items in
+    let no_requests : c.from-2.result ≡ [] = c.from-2.ensures ∙ c.in_ok-with_capacity-2.ensures.items in
+    let no_turns : c.from-3.result ≡ [] = c.from-3.ensures ∙ c.in_ok-with_capacity-3.ensures.items in
     record {
-      tasks = λ i. none i ++ tasks_in (length (c.new.ensures i)) (all i);
-      requests = λ i. c.new.ensures i ++ new_in (all i);
-      turns = λ i. c.new-2.ensures i ++ turns_in (all i);
+      tasks = λ i. no_tasks i ++ tasks_in (length (no_requests i)) (all i);
+      requests = λ i. no_requests i ++ new_in (all i);
+      turns = λ i. no_turns i ++ turns_in (all i);
     }
 
 pub loop-ask-preserved : goal.loop-ask-preserved

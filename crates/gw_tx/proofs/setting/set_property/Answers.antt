@@ -1,20 +1,5 @@
-use Rattle.std.proofs.Common.{◌≡◌, Option, None, Some, sym, ap, ◌∙◌}
-use Rattle.std.proofs.lemmas.Result.{on_ok_weaker}
-use Rattle.gw_ctx.specs.Contexts.{ContextRecord}
-use Rattle.gw_table.specs.Maps.{Maps, ctx, put_ctx}
-use Rattle.gw_table.proofs.Lookups.{put_ctx-put_ctx}
-use Rattle.gw_tx.specs.Properties.{with_property, with_property_if}
+use Rattle.gw_tx.proofs.SetProperties.{set_asked}
 use Rattle.gw_tx.proofs.setting.set_property.Goals as goal
 
-pub returns-clause-maps : goal.returns-clause-maps
-returns-clause-maps c =
-    let m : Maps = c.args.draft.now.maps in
-    let found : Some c.in-Some.context ≡ ctx m c.args.number = sym c.in-Some.is ∙ c.in_ok-context.ensures.context in
-    let new : c.change.new.context ≡ with_property c.args.prop.now c.in-Some.context = c.in_ok-change.ensures ∙ ap (λ (x : ContextRecord). with_property c.args.prop.now x) c.get_mut.ensures.value in
-    on_ok_weaker c.set_ctx.result
-    (λ e. e
-    ∙ ap (λ (x : Maps). put_ctx x c.args.number (Some c.change.new.context)) c.in_ok-context.ensures.maps
-    ∙ put_ctx-put_ctx m c.args.number None (Some c.change.new.context)
-    ∙ ap (λ (x : ContextRecord). put_ctx m c.args.number (Some x)) new
-    ∙ ap (λ (o : Option ContextRecord). put_ctx m c.args.number (with_property_if c.args.prop.now o)) found)
-    c.set_ctx.ensures.maps
+pub returns-in-ContextAudit-clause-maps : goal.returns-in-ContextAudit-clause-maps
+returns-in-ContextAudit-clause-maps c = set_asked c.args.number c.args.prop.now c.in-ContextAudit.field-0 c.args.draft.now.maps c.in-ContextAudit.is

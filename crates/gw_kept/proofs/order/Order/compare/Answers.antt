@@ -3,17 +3,15 @@ use Rattle.std.specs.Cmp.{tied_itself}
 use Rattle.std.specs.Option.{option_map, unwrap_or}
 use Rattle.gw_kept.specs.Pairs.{key_of}
 use Rattle.gw_kept.specs.Rows.{keys_in, key_in}
-use Rattle.gw_kept.specs.Order.{key_cmp}
+use Rattle.gw_kept.specs.Order.{key_cmp, key_total}
 use Rattle.gw_kept.proofs.Forgetting.{keys_get}
-use Rattle.gw_kept.proofs.Orders.{key_total}
 use Rattle.gw_kept.proofs.order.Order.compare.Goals as goal
 
 pub returns-in-Some : goal.returns-in-Some
 returns-in-Some c =
     let row = c.args.ring.now.items in
     let key = c.args.key.now in
-    c.cmp.ensures
-    ∙ ap (λ k. key_cmp k key) c.key.ensures
+    c.compare_key.ensures
     ∙ ap (λ o. key_cmp (unwrap_or (option_map key_of o) key) key) c.in-Some.ensures
     ∙ ap (λ k. key_cmp (unwrap_or k key) key) (sym (keys_get row c.place.result))
     ∙ ap (λ p. key_cmp (key_in (keys_in row) p key) key) c.place.ensures
