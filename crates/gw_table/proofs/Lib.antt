@@ -4,6 +4,7 @@ pub mod DraftNames
 pub mod Exchanged
 pub mod Folding
 pub mod Frames
+pub mod Frees
 pub mod Growth
 pub mod KeyLists
 pub mod KeyOrder

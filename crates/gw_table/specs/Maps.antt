@@ -1,5 +1,6 @@
 -- The tables of a gateway as two finite maps (RFC 3525, section 6): names to terminations, and numbers to contexts.
-use Rattle.std.specs.Prelude.{ℕ, List, map, Option, None, Some, refl}
+use Rattle.std.specs.Prelude.{ℕ, Bool, List, map, Option, None, Some, refl}
+use Rattle.std.specs.Option.{is_none}
 use Rattle.std.specs.Ordering.{nat_cmp}
 use Rattle.std.specs.FinMap as finite
 use Rattle.std.specs.Coded.{Coded, code_by, coded×, coded_list, coded_ℕ}
@@ -52,6 +53,10 @@ numbers m = map number (finite.keys m.contexts)
 abbrev pub place_of : Option Termination → Option CtxNum
 place_of None = None
 place_of (Some r) = r.place
+
+-- the termination is in the null context
+abbrev pub is_free : Maps → List ℕ → Bool
+is_free m name = is_none (place_of (term m name))
 
 -- a context that is not there is as one that has just come into being
 abbrev pub context_of : Option ContextRecord → ContextRecord

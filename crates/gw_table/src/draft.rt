@@ -24,9 +24,9 @@ use std::marker::Model;
 /// else the entry below. What is lent stays as it is, and no record is copied but where its change is a change of some of it. A
 /// look-up takes log c steps in the c keys that were written, and a look-up below where the key is none of them.
 pub struct Draft<'t> {
-    base: Base<'t>,
+    pub(crate) base: Base<'t>,
     // A place for each key that was written.
-    changed: Tables,
+    pub(crate) changed: Tables,
 }
 
 // By hand, so that a function that lets a draft go does so by one call. A derived one would stand in it field by field.

@@ -6,6 +6,7 @@ mod base;
 mod cell;
 mod changes;
 mod draft;
+mod free;
 mod key_list;
 mod key_order;
 mod keys;
