@@ -74,7 +74,7 @@ live_by at slot c m h = by (has_ended at m) refl h
 
 -- ---- keys
 
-has_term : (l : List (List ℕ)) (t : List ℕ) → is_in t l ≡ true → has (map Term l) (Term t) ≡ true
+pub has_term : (l : List (List ℕ)) (t : List ℕ) → is_in t l ≡ true → has (map Term l) (Term t) ≡ true
 has_term [] t h = absurd cc
 has_term (x ∷ xs) t h = either (or_cases (bytes_eq t x) (is_in t xs) h) (λ a. or_left (bytes_eq t x) (has (map Term xs) (Term t)) a) (λ b. or_right (bytes_eq t x) (has (map Term xs) (Term t)) (has_term xs t b))
 
@@ -86,9 +86,12 @@ pub same_any : {X : Type 0} (p q : X → Bool) (l : List X) → ((x : X) → p x
 same_any p q [] h = refl
 same_any p q (x ∷ xs) h = ap (λ b. b || list_any p xs) (h x) ∙ ap (λ b. q x || b) (same_any p q xs h)
 
--- a name with an entry is one of the names
+-- the names are those with an entry
+pub is_named : (m : Maps) (t : List ℕ) → is_in t (names m) ≡ is_some (term m t)
+is_named m t = sym (same_any (λ q. Rattle.std.specs.Ordering.eq_by_cmp name_cmp t q) (bytes_eq t) (names m) (name_test t)) ∙ sym (contains_key-keys m.terms t)
+
 pub named : (m : Maps) (t : List ℕ) → is_some (term m t) ≡ true → is_in t (names m) ≡ true
-named m t h = sym (same_any (λ q. Rattle.std.specs.Ordering.eq_by_cmp name_cmp t q) (bytes_eq t) (names m) (name_test t)) ∙ sym (contains_key-keys m.terms t) ∙ h
+named m t h = is_named m t ∙ h
 
 numbered : (m : Maps) (n : CtxNum) → is_some (ctx m n) ≡ true → list_any (nat_eq n.0) (finite.keys m.contexts) ≡ true
 numbered m n h = sym (same_any (λ q. Rattle.std.specs.Ordering.eq_by_cmp nat_cmp n.0 q) (nat_eq n.0) (finite.keys m.contexts) (number_test n.0)) ∙ sym (contains_key-keys m.contexts n.0) ∙ h

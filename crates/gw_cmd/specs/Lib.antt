@@ -1,5 +1,6 @@
 pub mod Commands
 pub mod Effects
+pub mod Idle
 pub mod Keys
 pub mod Changes
 pub mod Needs

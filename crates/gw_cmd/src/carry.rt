@@ -1,6 +1,6 @@
 //! Carrying one command out.
 
-ghost use Rattle.std.specs.Prelude.{◌≡◌, true, false, ◌∷◌, [], ℕ, List, Option, None, Some, Err, IfOk, OnOk};
+ghost use Rattle.std.specs.Prelude.{◌≡◌, ◌&&◌, true, false, ◌∷◌, [], ℕ, List, Option, None, Some, Err, IfOk, OnOk};
 ghost use Rattle.gw_base.specs.declared.key.Key.TheVariants.{Term};
 ghost use Rattle.gw_base.specs.declared.command_words.Verb.TheVariants.{ServiceChange};
 ghost use Rattle.gw_base.specs.declared.term_ref.TermRef.TheVariants.{Name};
@@ -8,9 +8,11 @@ ghost use Rattle.gw_base.specs.NameLists.{is_in};
 ghost use Rattle.gw_table.specs.Maps.{term, names, place_of};
 ghost use Rattle.gw_table.specs.Parts.{holds, Holds, HoldsPlace};
 ghost use Rattle.gw_table.specs.WellFormed.{IsSound};
-ghost use Rattle.gw_refusal.specs.Asked.{is_move};
+ghost use Rattle.gw_refusal.specs.Asked.{is_move, is_some_list, is_wildcard};
 ghost use Rattle.gw_cmd.specs.Commands.{reply, outcome_of, outcome_told, on_targets, refused, on_names, on_new as made_new, on_root as root_done, carried as carried_out, allowed, command as command_done};
 ghost use Rattle.gw_cmd.specs.Effects.{on_name as name_done};
+ghost use Rattle.gw_cmd.specs.Idle.{IsIdle};
+ghost use Rattle.gw_length.specs.declared.telling.Telling.TheVariants.{TooLong};
 ghost use Rattle.gw_cmd.specs.Told.{outcome_behind, seen};
 ghost use Rattle.gw_cmd.specs.Keys.{command_keys};
 ghost use Rattle.gw_refusal.specs.Places.{place_at};
@@ -19,6 +21,7 @@ ghost use Rattle.gw_refusal.specs.Forms.{refusal_by_form};
 ghost use Rattle.gw_refusal.specs.Targets.{targets};
 
 use crate::effects::{on_name, on_new};
+use crate::idle::{is_idle, seen_idle};
 use crate::outcome::{CmdOutcome, CmdTold, Seen};
 use crate::refusal::Refusal;
 use crate::replies::{code_of, has_one_reply, one, outcome_of, outcome_of_all, reply};
@@ -27,7 +30,7 @@ use crate::tables::refusal_by_tables;
 use gw_base::{Code, Items, NoMemory, Rules, TermName, TermRef, Verb};
 use gw_length::Telling;
 use gw_msg::Command;
-use gw_refusal::{At, refusal_by_form, service_asked, targets};
+use gw_refusal::{At, has_targets, refusal_by_form, service_asked, targets};
 use gw_reply::CommandReply;
 use gw_table::{Draft, slot_name};
 use std::alloc::Global;
@@ -254,6 +257,12 @@ fn carried(
     }
 }
 
+fn is_some(named: &[TermName]) -> bool
+    ensures { result ≡ is_some_list named.now }
+{
+    !named.is_empty()
+}
+
 /// Carries out a command that its form allows, on its targets, unless the tables refuse it.
 fn with_targets(
     alloc: Global,
@@ -274,14 +283,51 @@ fn with_targets(
     ensures answer { IfOk result (λ done. done ≡ outcome_behind told (allowed rules.now at slot command.now draft.old.maps).answer) }
     ensures keys { draft.new.keys ≡ draft.old.keys }
 {
-    if let Some(code) = refusal_by_tables(draft, at, slot, command, named) {
+    if let Some(code) = refusal_by_tables(draft, at, slot, command, is_some(named)) {
         return refused(told, at, command, code);
     }
     carried(alloc, rules, draft, at, slot, command, named, told)
 }
 
+/// Whether nothing of what the targets are told one by one is kept: they have one reply together, or what was told is too long.
+fn keeps_none(command: &Command<'_>, told: &Telling<CommandReply>) -> bool
+    ensures { result ≡ true → ((command.now.wild && is_wildcard command.now.term) ≡ false → told.now ≡ TooLong) }
+{
+    has_one_reply(command) || matches!(told, Telling::TooLong)
+}
+
+/// Carries out a command that its form allows and that leaves every termination as it is, where nothing of their single replies is
+/// kept: no target is named, and it is only told whether there is one.
+fn with_none(
+    alloc: Global,
+    rules: &Rules,
+    draft: &Draft<'_>,
+    at: At,
+    slot: Option<u16>,
+    command: &Command<'_>,
+    told: Telling<CommandReply>,
+) -> Result<CmdTold, NoMemory>
+    requires sound { IsSound draft.now.keys draft.now.maps }
+    requires covered { Holds draft.now.keys (command_keys at slot command.now draft.now.maps) }
+    requires form { refusal_by_form at command.now ≡ None }
+    requires idle { IsIdle draft.now.keys rules.now at command.now draft.now.maps }
+    requires kept { (command.now.wild && is_wildcard command.now.term) ≡ false → told ≡ TooLong }
+    ensures maps { (allowed rules.now at slot command.now draft.now.maps).maps ≡ draft.now.maps }
+    ensures answer { IfOk result (λ done. done ≡ outcome_behind told (allowed rules.now at slot command.now draft.now.maps).answer) }
+{
+    let any = has_targets(draft, at, command);
+    if let Some(code) = refusal_by_tables(draft, at, slot, command, any) {
+        return refused(told, at, command, code);
+    }
+    let seen = seen_idle(command.verb);
+    if !has_one_reply(command) {
+        return Ok(outcome_of(at, seen));
+    }
+    outcome_of_all(alloc, told, at, command, seen)
+}
+
 /// Carries one command out as [`command`] does, and tells its replies behind those before it. Where they are too long, none is kept,
-/// and the command is carried out all the same.
+/// and the command is carried out all the same; one that leaves each of its targets as it is then costs as little as with `W-`.
 ///
 /// # Errors
 ///
@@ -309,6 +355,9 @@ pub fn command_told(
     if let TermRef::Name(name) = command.term {
         return with_targets(alloc, rules, draft, at, slot, command, &[name], told);
     }
+    if keeps_none(command, &told) && is_idle(rules, draft, at, command) {
+        return with_none(alloc, rules, draft, at, slot, command, told);
+    }
     let named = targets(alloc, draft, at, command)?;
     with_targets(alloc, rules, draft, at, slot, command, &named, told)
 }
@@ -316,7 +365,9 @@ pub fn command_told(
 /// Carries one command out (RFC 3525, section 7.2): its refusals in their order, and then what it does to each termination
 /// that it is for. `slot` is what an Add of `$` owns. A command by name costs look-ups in the tables and the size of its
 /// context, of its descriptors and of the termination's record; a wildcard one pass of the members, or, in the null context
-/// and of an Add, of all names, and its matches.
+/// and of an Add, of all names, and its matches. With `W-` an AuditValue, a Modify without descriptors and an Add without them into a
+/// full context cost that pass up to the first match, since each target stays as it is; in an action for each context they do so where
+/// the draft is of whole tables.
 ///
 /// The caller knows that the tables are sound, that the draft has the command's keys, and that no termination has the name of
 /// the slot.

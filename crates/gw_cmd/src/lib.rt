@@ -5,6 +5,7 @@ mod carry;
 mod change;
 mod decide;
 mod effects;
+mod idle;
 mod laws;
 mod members;
 mod merge;

@@ -2,9 +2,10 @@
 
 ghost use Rattle.std.specs.Prelude.{◌≡◌};
 ghost use Rattle.gw_cmd.specs.Refusals.{has_ended, missing, refusal_by_tables};
+ghost use Rattle.gw_refusal.specs.Asked.{is_some_list};
 ghost use Rattle.gw_refusal.specs.Targets.{targets};
 
-use gw_base::{Code, TermName, TermRef};
+use gw_base::{Code, TermRef};
 use gw_desc::check;
 use gw_msg::Command;
 use gw_refusal::At;
@@ -26,36 +27,36 @@ fn missing(
     at: At,
     slot: Option<u16>,
     command: &Command<'_>,
-    named: &[TermName],
+    any: bool,
 ) -> Option<Code>
-    requires { named.now ≡ targets at command.now draft.now.maps }
+    requires { any ≡ is_some_list (targets at command.now draft.now.maps) }
     ensures { result ≡ missing at slot command.now draft.now.maps command.now.term }
 {
     match command.term {
         TermRef::Name(name) if draft.term(&name).is_none() => Some(Code::UnknownTermination),
-        TermRef::All | TermRef::Under(_) if named.is_empty() => Some(Code::NoWildcardMatch),
+        TermRef::All | TermRef::Under(_) if !any => Some(Code::NoWildcardMatch),
         TermRef::Choose if slot.is_none() => Some(Code::NoTerminationLeft),
         _ => None,
     }
 }
 
 /// Why a command is refused that its form allows: the first of `UnknownContext` (the action's context has ended), what is
-/// missing, and what is wrong with its descriptors. The caller hands in the command's targets.
+/// missing, and what is wrong with its descriptors. The caller says whether the command is for any termination.
 #[tactic(auto, unfolding(crate::specs::Refusals::refusal_by_tables))]
 pub(crate) fn refusal_by_tables(
     draft: &Draft<'_>,
     at: At,
     slot: Option<u16>,
     command: &Command<'_>,
-    named: &[TermName],
+    any: bool,
 ) -> Option<Code>
-    requires { named.now ≡ targets at command.now draft.now.maps }
+    requires { any ≡ is_some_list (targets at command.now draft.now.maps) }
     ensures { result ≡ refusal_by_tables at slot command.now draft.now.maps }
 {
     if has_ended(draft, at) {
         return Some(Code::UnknownContext);
     }
-    if let Some(code) = missing(draft, at, slot, command, named) {
+    if let Some(code) = missing(draft, at, slot, command, any) {
         return Some(code);
     }
     match check(command.verb, command.descriptors.as_slice()) {

@@ -9,4 +9,4 @@ mod named;
 pub use asked::{asks_media, first_audit, is_add, is_wildcard, matches, service_asked};
 pub use at::At;
 pub use forms::refusal_by_form;
-pub use named::targets;
+pub use named::{has_targets, targets};

@@ -1,9 +1,9 @@
 //! The terminations that a command is for.
 
-ghost use Rattle.std.specs.Prelude.{◌≡◌, IfOk};
-ghost use Rattle.std.specs.List.{filter};
+ghost use Rattle.std.specs.Prelude.{◌≡◌, ◌&&◌, IfOk};
+ghost use Rattle.std.specs.List.{list_any};
 ghost use Rattle.gw_table.specs.Maps.{names, ctx, members_of};
-ghost use Rattle.gw_refusal.specs.Asked.{matches};
+ghost use Rattle.gw_refusal.specs.Asked.{matches, is_some_list};
 ghost use Rattle.gw_refusal.specs.Targets.{is_free, those_in, source, matched, targets};
 
 use crate::asked::{is_add, matches};
@@ -12,25 +12,6 @@ use gw_base::{CtxNum, NoMemory, TermName, TermRef};
 use gw_msg::Command;
 use gw_table::Draft;
 use std::alloc::Global;
-
-/// Whether the termination of this name is in the null context.
-fn is_free(draft: &Draft<'_>, name: &TermName) -> bool
-    ensures { result ≡ is_free draft.now.maps name.now }
-{
-    match draft.term(name) {
-        Some(termination) => termination.place().is_none(),
-        None => true,
-    }
-}
-
-/// The terminations of the null context, in the order of their bytes.
-fn free(alloc: Global, draft: &Draft<'_>) -> Result<Vec<TermName>, NoMemory>
-    ensures { IfOk result (λ list. list.items ≡ filter (is_free draft.now.maps) (names draft.now.maps)) }
-{
-    let mut named = draft.names(alloc)?;
-    named.retain(|name| is_free(draft, name));
-    Ok(named)
-}
 
 /// The members of a context in joining order.
 fn members(alloc: Global, draft: &Draft<'_>, number: CtxNum) -> Result<Vec<TermName>, NoMemory>
@@ -52,7 +33,7 @@ fn those_in(
 {
     match place {
         Some(number) => members(alloc, draft, number),
-        None => free(alloc, draft),
+        None => draft.free_names(alloc),
     }
 }
 
@@ -67,7 +48,7 @@ fn source(at: At, command: &Command<'_>) -> Option<CtxNum>
     }
 }
 
-/// Those that a wildcard matches. The work is one pass of the members, or of all names and their records.
+/// Those that a wildcard matches. The work is one pass of the members, or that of listing the terminations of the null context.
 #[tactic(auto, unfolding(crate::specs::Targets::matched))]
 fn matched(
     alloc: Global,
@@ -78,6 +59,9 @@ fn matched(
     ensures { IfOk result (λ list. list.items ≡ matched at command.now draft.now.maps) }
 {
     let mut named = those_in(alloc, draft, source(at, command))?;
+    if let TermRef::All = command.term {
+        return Ok(named);
+    }
     named.retain(|name| matches(command.term, *name));
     Ok(named)
 }
@@ -99,5 +83,50 @@ pub fn targets(
         }
         TermRef::All | TermRef::Under(_) => matched(alloc, draft, at, command),
         _ => Ok(Vec::new(alloc)),
+    }
+}
+
+/// Whether the wildcard matches a member of the context.
+fn has_member(draft: &Draft<'_>, number: CtxNum, term: TermRef) -> bool
+    ensures { result ≡ list_any (matches term) (members_of (ctx draft.now.maps number)) }
+{
+    match draft.ctx(number) {
+        Some(context) => context.members().iter().any(|name| matches(term, *name)),
+        None => false,
+    }
+}
+
+/// Whether the wildcard matches a termination of the null context.
+fn has_free(draft: &Draft<'_>, term: TermRef) -> bool
+    ensures { result ≡ list_any (λ name. is_free draft.now.maps name && matches term name) (names draft.now.maps) }
+{
+    match term {
+        TermRef::All => draft.has_free_under(&[]),
+        TermRef::Under(prefix) => draft.has_free_under(prefix.as_bytes()),
+        _ => false,
+    }
+}
+
+/// Whether a wildcard matches a termination. The work ends at the first.
+#[tactic(auto, unfolding(crate::specs::Targets::matched))]
+fn has_matched(draft: &Draft<'_>, at: At, command: &Command<'_>) -> bool
+    ensures { result ≡ is_some_list (matched at command.now draft.now.maps) }
+{
+    match source(at, command) {
+        Some(number) => has_member(draft, number, command.term),
+        None => has_free(draft, command.term),
+    }
+}
+
+/// Whether the command is for a termination, as the tables are now: whether [`targets`] has a name. It takes no memory. A wildcard
+/// costs a look-up of the context and one pass of its members, which are not looked up, or, in the null context and of an Add, one
+/// pass of the names, up to the first that matches.
+pub fn has_targets(draft: &Draft<'_>, at: At, command: &Command<'_>) -> bool
+    ensures { result ≡ is_some_list (targets at command.now draft.now.maps) }
+{
+    match command.term {
+        TermRef::Name(_) => true,
+        TermRef::All | TermRef::Under(_) => has_matched(draft, at, command),
+        _ => false,
     }
 }

@@ -21,6 +21,7 @@ mod slots;
 mod tables;
 mod text;
 mod unused;
+mod whole;
 mod writes;
 
 pub use attempts::Attempts;
