@@ -84,17 +84,7 @@ unclosed_pends (q ∷ qs) zero none h = by q.standing (neither (is_open q.standi
     by (Closed reply) f g = absurd cc
 unclosed_pends (q ∷ qs) (suc i) none h = unclosed_pends qs i (neither (is_open q.standing) (list_any (λ x. is_open x.standing) qs) none).1 h
 
--- ---- an original that is laid back
-
-module _ {X : Type 0} where
-  back_at : (b : Bool) (x y : Option X) → cond b (cond b x None) (cond b y x) ≡ x
-  back_at true x y = refl
-  back_at false x y = refl
-
-laid_back_over : (k : List Key) (p m : Maps) → overlaid k (restricted k m) (overlaid k p m) ≡ m
-laid_back_over k p m = same_maps (overlaid k (restricted k m) (overlaid k p m)) m
-    (λ q. term-overlaid k (restricted k m) (overlaid k p m) q ∙ (λ i. cond (has k (Term q)) (term-restricted k m q i) (term-overlaid k p m q i)) ∙ back_at (has k (Term q)) (term m q) (term p q))
-    (λ q. ctx-overlaid k (restricted k m) (overlaid k p m) q ∙ (λ i. cond (has k (Ctx q)) (ctx-restricted k m q i) (ctx-overlaid k p m q i)) ∙ back_at (has k (Ctx q)) (ctx m q) (ctx p q))
+-- ---- a part that is laid
 
 or_nothing : (b : Bool) → b ≡ (b || false)
 or_nothing true = refl
@@ -187,9 +177,9 @@ module _ (b : Seen) (w : IsOnTheWay b) (none : NothingIsOpen (core_of b)) (i : �
     whole_after : way.fits.whole ≡ o.maps
     whole_after = sym (cut_none (out ended.places) way.fits.whole (out_of_none ended.places none_ended)) ∙ sym way.fits.maps ∙ same_outcome
 
-    -- whichever keys changed
-    pub alone_way : (changed : List Key) (part : Maps) → overlaid changed part b.maps ≡ o.maps → IsOnTheWay (with_alone b i a changed)
-    alone_way changed part is =
+    -- whichever keys changed: what stood there leads back
+    pub alone_way : (changed : List Key) → overlaid changed (restricted changed b.maps) o.maps ≡ b.maps → IsOnTheWay (with_alone b i a changed)
+    alone_way changed is =
         let c : Seen = with_alone b i a changed in
         let last : Original = record { keys = changed; part = restricted changed b.maps } in
         record {
@@ -200,7 +190,7 @@ module _ (b : Seen) (w : IsOnTheWay b) (none : NothingIsOpen (core_of b)) (i : �
               ∙ ap (λ (l : List Place). carried b.manner (asked_of l) b.begun) same_places;
           back =
               undone-append b.originals (last ∷ []) way.fits.whole
-              ∙ ap (λ (n : Maps). undone b.originals (overlaid changed (restricted changed b.maps) n)) (whole_after ∙ sym is)
-              ∙ ap (undone b.originals) (laid_back_over changed part b.maps ∙ whole_is)
+              ∙ ap (λ (n : Maps). undone b.originals (overlaid changed (restricted changed b.maps) n)) whole_after
+              ∙ ap (undone b.originals) (is ∙ whole_is)
               ∙ w.back;
         }
