@@ -1,20 +1,17 @@
 -- A place is carried out alone: nothing is open, and every place before it is closed. It comes to what opening it and closing it with its
 -- result comes to, with an original that has the changed keys alone.
-use Rattle.std.proofs.Common.{◌≡◌, ℕ, zero, suc, Bool, true, false, cond, not, List, [], ◌∷◌, ◌++◌, take, drop, Option, None, Some, refl, sym, ap, subst, ◌∙◌}
+use Rattle.std.proofs.Common.{◌≡◌, ℕ, zero, suc, Bool, true, false, not, List, [], ◌∷◌, ◌++◌, take, drop, None, Some, refl, sym, ap, subst, ◌∙◌}
 use Rattle.std.specs.Prelude.{◌||◌, ◌&&◌, slice_get, slice_set}
 use Rattle.std.specs.List.{list_any}
 use Rattle.gw_base.specs.declared.key.Key.{Key}
-use Rattle.gw_base.specs.declared.key.Key.TheVariants.{Term, Ctx}
 use Rattle.gw_base.specs.Keys.{has}
 use Rattle.gw_base.proofs.Booleans.{neither}
 use Rattle.gw_reserve.specs.Owned.{AreFreeSlots}
 use Rattle.gw_table.specs.Locality.{KeepsTo}
-use Rattle.gw_table.specs.Maps.{Maps, Outcome, term, ctx}
+use Rattle.gw_table.specs.Maps.{Maps, Outcome}
 use Rattle.gw_table.specs.Parts.{restricted, cut, overlaid}
 use Rattle.gw_table.specs.Stored.{Stored, names_entry, AreReady, KeepReady, NoneIsOut}
 use Rattle.gw_table.specs.WellFormed.{AreWellFormed}
-use Rattle.gw_table.proofs.Lookups.{same_maps}
-use Rattle.gw_table.proofs.PartLookups.{term-restricted, ctx-restricted, term-overlaid, ctx-overlaid}
 use Rattle.gw_board.specs.Alone.{is_unclosed_at}
 use Rattle.gw_board.specs.BoardView.{IsOnTheWay, IsKeptIn}
 use Rattle.gw_board.specs.Boards.{Seen, Handed, core_of, asked_of, with_open, with_result, is_closed, is_pending_at, AllClosed, unclosed}
@@ -84,17 +81,7 @@ unclosed_pends (q ∷ qs) zero none h = by q.standing (neither (is_open q.standi
     by (Closed reply) f g = absurd cc
 unclosed_pends (q ∷ qs) (suc i) none h = unclosed_pends qs i (neither (is_open q.standing) (list_any (λ x. is_open x.standing) qs) none).1 h
 
--- ---- an original that is laid back
-
-module _ {X : Type 0} where
-  back_at : (b : Bool) (x y : Option X) → cond b (cond b x None) (cond b y x) ≡ x
-  back_at true x y = refl
-  back_at false x y = refl
-
-laid_back_over : (k : List Key) (p m : Maps) → overlaid k (restricted k m) (overlaid k p m) ≡ m
-laid_back_over k p m = same_maps (overlaid k (restricted k m) (overlaid k p m)) m
-    (λ q. term-overlaid k (restricted k m) (overlaid k p m) q ∙ (λ i. cond (has k (Term q)) (term-restricted k m q i) (term-overlaid k p m q i)) ∙ back_at (has k (Term q)) (term m q) (term p q))
-    (λ q. ctx-overlaid k (restricted k m) (overlaid k p m) q ∙ (λ i. cond (has k (Ctx q)) (ctx-restricted k m q i) (ctx-overlaid k p m q i)) ∙ back_at (has k (Ctx q)) (ctx m q) (ctx p q))
+-- ---- a part that is laid
 
 or_nothing : (b : Bool) → b ≡ (b || false)
 or_nothing true = refl
@@ -187,9 +174,9 @@ module _ (b : Seen) (w : IsOnTheWay b) (none : NothingIsOpen (core_of b)) (i : �
     whole_after : way.fits.whole ≡ o.maps
     whole_after = sym (cut_none (out ended.places) way.fits.whole (out_of_none ended.places none_ended)) ∙ sym way.fits.maps ∙ same_outcome
 
-    -- whichever keys changed
-    pub alone_way : (changed : List Key) (part : Maps) → overlaid changed part b.maps ≡ o.maps → IsOnTheWay (with_alone b i a changed)
-    alone_way changed part is =
+    -- whichever keys changed: what stood there leads back
+    pub alone_way : (changed : List Key) → overlaid changed (restricted changed b.maps) o.maps ≡ b.maps → IsOnTheWay (with_alone b i a changed)
+    alone_way changed is =
         let c : Seen = with_alone b i a changed in
         let last : Original = record { keys = changed; part = restricted changed b.maps } in
         record {
@@ -200,7 +187,7 @@ module _ (b : Seen) (w : IsOnTheWay b) (none : NothingIsOpen (core_of b)) (i : �
               ∙ ap (λ (l : List Place). carried b.manner (asked_of l) b.begun) same_places;
           back =
               undone-append b.originals (last ∷ []) way.fits.whole
-              ∙ ap (λ (n : Maps). undone b.originals (overlaid changed (restricted changed b.maps) n)) (whole_after ∙ sym is)
-              ∙ ap (undone b.originals) (laid_back_over changed part b.maps ∙ whole_is)
+              ∙ ap (λ (n : Maps). undone b.originals (overlaid changed (restricted changed b.maps) n)) whole_after
+              ∙ ap (undone b.originals) (is ∙ whole_is)
               ∙ w.back;
         }

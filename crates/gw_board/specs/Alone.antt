@@ -1,7 +1,12 @@
--- The first place that is not closed (own).
+-- Places that are carried out one after another (own): the first that is not closed, and what carrying its request out comes to.
 use Rattle.std.specs.Prelude.{◌≡◌, ℕ, Bool, true, false, not, List, take, slice_get, Option, None, Some}
+use Rattle.gw_board.specs.declared.manner.Manner.{Manner}
+use Rattle.gw_table.specs.Parts.{Parted, list_of, restricted, overlaid}
+use Rattle.gw_table.specs.Stored.{Stored, maps_of, AreReady, KeepReady, NoneIsOut}
 use Rattle.gw_board.specs.Boards.{is_closed, AllClosed}
+use Rattle.gw_board.specs.Carried.{Asked, done}
 use Rattle.gw_board.specs.Core.{Place}
+use Rattle.gw_board.specs.Texts.{Text}
 
 -- there is a place, and it is not closed
 abbrev pub is_unclosed_at : Option Place → Bool
@@ -17,3 +22,22 @@ pub record IsFirstUnclosed (places : List Place) (i : ℕ) : Type 0 where
 abbrev pub FindsFirst : List Place → Option ℕ → Type 0
 FindsFirst places None = AllClosed places
 FindsFirst places (Some i) = IsFirstUnclosed places i
+
+-- ---- tables in which a request was carried out
+
+-- They have its maps, the text is that of its reply, and the originals lead back: they are the entries that stood at their keys, and no
+-- other has changed. What was prepared is so still, and so are these keys.
+pub record WasCarried (manner : Manner) (a : Asked) (before after : Stored) (originals : Parted) (text : Text) : Type 0 where
+  pub maps : maps_of after ≡ (done manner a (maps_of before)).maps
+  pub reply : text ≡ (done manner a (maps_of before)).answer
+  pub here : NoneIsOut after
+  pub kept : KeepReady before after
+  pub ready : AreReady (list_of originals.keys) after
+  pub part : originals.maps ≡ restricted (list_of originals.keys) (maps_of before)
+  pub back : overlaid (list_of originals.keys) originals.maps (maps_of after) ≡ maps_of before
+
+-- they are as they were, but for places without an entry
+pub record AreAsBefore (before after : Stored) : Type 0 where
+  pub maps : maps_of after ≡ maps_of before
+  pub here : NoneIsOut after
+  pub kept : KeepReady before after

@@ -15,6 +15,7 @@ pub mod Planned
 pub mod Refused
 pub mod Results
 pub mod Seats
+pub mod Stood
 pub mod Texts
 pub mod Waiting
 pub mod Waves

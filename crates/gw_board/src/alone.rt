@@ -1,13 +1,11 @@
 //! Carrying places out one after another, on the tables where they lie.
 
-ghost use Rattle.std.specs.Prelude.{◌≡◌, ◌+◌, true, take, IfOk, IfSome, OnErr, OnOk, slice_get};
+ghost use Rattle.std.specs.Prelude.{◌≡◌, ◌+◌, true, take, IfErr, IfOk, IfSome, OnErr, OnOk, slice_get};
 ghost use Rattle.gw_reserve.specs.Owned.{AreFreeSlots};
-ghost use Rattle.gw_table.specs.Parts.{Only, list_of, overlaid};
-ghost use Rattle.gw_table.specs.Stored.{maps_of};
+ghost use Rattle.gw_table.specs.Stored.{maps_of, NoneIsOut};
 ghost use Rattle.gw_table.specs.WellFormed.{AreWellFormed};
-ghost use Rattle.gw_board.specs.Alone.{FindsFirst};
+ghost use Rattle.gw_board.specs.Alone.{FindsFirst, WasCarried, AreAsBefore};
 ghost use Rattle.gw_board.specs.Boards.{core_of, is_closed, is_pending_at, AllClosed, GivesTheFold, unclosed};
-ghost use Rattle.gw_board.specs.Carried.{done};
 ghost use Rattle.gw_board.specs.OpenJobs.{IsSameBurst};
 ghost use Rattle.gw_board.specs.Results.{NothingIsOpen};
 ghost use Rattle.gw_board.specs.Seats.{standing_of};
@@ -16,28 +14,50 @@ use crate::asked::Asked;
 use crate::board::Board;
 use crate::job::carry_on;
 use crate::manner::Manner;
+use crate::original::Original;
 use crate::seat::{Seat, Stage, set_stage};
 use gw_base::{Items, NoMemory};
 use gw_foot::is_for_all;
-use gw_table::{Draft, Part, Tables};
+use gw_table::{Draft, Originals, Tables};
 use std::alloc::Global;
+use std::mem;
 
-/// The changes that a request makes to the tables, alone, and the text of the reply to it. The caller knows that the tables are
-/// well-formed, and that the slots that it owns are unused.
-fn changes_of(
+/// What carrying a request out left.
+#[derive(Drop)]
+struct Left {
+    tables: Tables,
+    originals: Originals,
+    text: Items<u8>,
+}
+
+/// Carries a request out, alone, on the tables where they lie: the tables then, what stood there before, and the text of the reply.
+/// The caller knows that the tables are well-formed, that nothing is out, and that the slots that the request owns are unused.
+///
+/// # Errors
+///
+/// Want of memory. The tables come back as they were.
+fn carry_in_place(
     alloc: Global,
     manner: &Manner,
-    tables: &Tables,
+    tables: Tables,
     asked: &Asked<'_, '_>,
-) -> Result<(Part, Items<u8>), NoMemory>
-    requires whole { AreWellFormed manner.now.rules.members (maps_of tables.now) }
-    requires unused { AreFreeSlots (maps_of tables.now) asked.now.owned.slots }
-    ensures maps { IfOk result (λ new. overlaid (list_of new.0.keys) new.0.maps (maps_of tables.now) ≡ (done manner.now asked.now (maps_of tables.now)).maps) }
-    ensures reply { IfOk result (λ new. new.1 ≡ (done manner.now asked.now (maps_of tables.now)).answer) }
+) -> Result<Left, Tables>
+    requires whole { AreWellFormed manner.now.rules.members (maps_of tables) }
+    requires here { NoneIsOut tables }
+    requires unused { AreFreeSlots (maps_of tables) asked.now.owned.slots }
+    ensures ok { IfOk result (λ left. WasCarried manner.now asked.now tables left.tables left.originals left.text) }
+    ensures err { IfErr result (AreAsBefore tables) }
 {
     let mut draft = Draft::of_tables(alloc, tables);
-    let text = carry_on(alloc, manner, asked, &mut draft)?;
-    Ok((draft.into_changes(alloc)?, text))
+    let Ok(text) = carry_on(alloc, manner, asked, &mut draft) else {
+        return Err(draft.undone());
+    };
+    let (tables, originals) = draft.into_tables();
+    Ok(Left {
+        tables,
+        originals,
+        text,
+    })
 }
 
 fn is_closed(seat: &Seat<'_, '_, '_>) -> bool
@@ -72,10 +92,9 @@ impl Board<'_, '_, '_> {
     }
 
     /// Carries out the first place that is not closed, on the tables where they lie, and closes it with its reply: what opening the
-    /// place, carrying its job out and closing it with the result come to. No footprint is told, and no entry is taken out: the changes
-    /// are laid beside the tables and change places with the entries that were there, which go to the journal. So the work is that of the
-    /// commands, and some look-ups for each entry that is changed. The caller knows that nothing is open, that all earlier places are
-    /// closed, and that this one is pending.
+    /// place, carrying its job out and closing it with the result come to. No footprint is told, and no entry is taken out: what stood
+    /// where the commands write goes to the journal. So the work is that of the commands. The caller knows that nothing is open, that all
+    /// earlier places are closed, and that this one is pending.
     ///
     /// # Errors
     ///
@@ -94,11 +113,17 @@ impl Board<'_, '_, '_> {
         let Some(task) = self.pending_task(place) else {
             unreachable!()
         };
-        let (changes, text) = changes_of(alloc, &self.manner, &self.tables, task.get())?;
-        self.tables.reserve_slots(changes.keys())?;
-        let original = self.tables.exchange(changes);
-        set_stage(&mut self.seats, place, Stage::Closed(text));
-        let Ok(()) = self.originals.push(original) else {
+        let tables = mem::replace(&mut self.tables, Tables::new(alloc));
+        let left = match carry_in_place(alloc, &self.manner, tables, task.get()) {
+            Ok(left) => left,
+            Err(tables) => {
+                self.tables = tables;
+                return Err(NoMemory);
+            }
+        };
+        self.tables = left.tables;
+        set_stage(&mut self.seats, place, Stage::Closed(left.text));
+        let Ok(()) = self.originals.push(Original::of_writes(left.originals)) else {
             unreachable!()
         };
         Ok(())

@@ -11,9 +11,10 @@ ghost use Rattle.gw_board.specs.Results.{slots_of};
 use crate::asked::Asked;
 use crate::fault::BoardFault;
 use crate::manner::Manner;
+use crate::original::Original;
 use crate::seat::{Seat, seats_of};
 use gw_base::Items;
-use gw_table::{Part, Tables};
+use gw_table::Tables;
 use std::alloc::Global;
 use std::marker::Model;
 use std::snapshot::Snapshot;
@@ -28,7 +29,7 @@ pub struct Board<'b, 'h, 'a> {
     pub(crate) seats: Vec<Seat<'b, 'h, 'a>>,
     /// The names of all places are told.
     pub(crate) is_named: bool,
-    pub(crate) originals: Vec<Part>,
+    pub(crate) originals: Vec<Original>,
     pub(crate) replies: Vec<Items<u8>>,
     pub(crate) start: Snapshot<Tables>,
 }

@@ -9,18 +9,19 @@ ghost use Rattle.gw_board.specs.Results.{NothingIsOpen};
 
 use crate::board::Board;
 use crate::job::{Done, Job};
+use crate::original::Original;
 use crate::seat::{Seat, Stage, set_stage};
 use gw_base::Items;
 use gw_table::{Part, Tables};
 
-/// Gives up the places that were made for keys of the journal and have no entry. A key takes a look-up.
-fn sweep_journal(tables: &mut Tables, originals: &[Part])
+/// Gives up the places that were made for keys of the journal and have no entry.
+fn sweep_journal(tables: &mut Tables, originals: &[Original])
     requires { NoneIsOut tables.old }
     ensures maps { maps_of tables.new ≡ maps_of tables.old }
     ensures here { NoneIsOut tables.new }
 {
-    for part in originals {
-        tables.sweep_keys(part.keys());
+    for original in originals {
+        original.sweep(tables);
     }
 }
 
@@ -41,7 +42,7 @@ impl<'b, 'h, 'a> Board<'b, 'h, 'a> {
         } = job;
         self.tables.put_back(part);
         set_stage(&mut self.seats, place, Stage::Closed(reply));
-        let Ok(()) = self.originals.push(original) else {
+        let Ok(()) = self.originals.push(Original::of_job(original)) else {
             unreachable!()
         };
     }
@@ -77,7 +78,7 @@ impl<'b, 'h, 'a> Board<'b, 'h, 'a> {
         }
     }
 
-    /// The tables as they were when the board was made: the parts of the journal go back, the last one first. The caller knows that
+    /// The tables as they were when the board was made: the originals of the journal go back, the last one first. The caller knows that
     /// nothing is open. No place stays that has no entry. The work is a look-up for each key of the journal, and one pass over all
     /// places.
     pub fn undo(self) -> Tables
@@ -94,8 +95,8 @@ impl<'b, 'h, 'a> Board<'b, 'h, 'a> {
             replies: _,
             start: _,
         } = self;
-        while let Some(part) = originals.pop() {
-            tables.replace(part);
+        while let Some(original) = originals.pop() {
+            original.put_back(&mut tables);
         }
         tables.sweep();
         tables
@@ -103,7 +104,7 @@ impl<'b, 'h, 'a> Board<'b, 'h, 'a> {
 
     /// The tables, and the texts of the replies in the order of the places: what carrying the requests out one after another gives, on the tables
     /// that the board was made with. The caller knows that every place is closed with a reply. Places that were made for its keys and
-    /// have no entry are given up: the work is a look-up for each key of the journal.
+    /// have no entry are given up: the work is a look-up for each key of a job, and for each that was left without an entry.
     pub fn finish(self) -> (Tables, Vec<Items<u8>>)
         requires { AllClosed self.places }
         ensures maps { maps_of result.0 ≡ (carried self.entry.manner (asked_of self.entry.places) self.entry.begun).maps }

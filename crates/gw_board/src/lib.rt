@@ -12,6 +12,7 @@ mod manner;
 mod named;
 mod namers;
 mod open;
+mod original;
 mod plan;
 mod planned;
 mod reply;

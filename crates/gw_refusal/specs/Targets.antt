@@ -1,19 +1,16 @@
 -- The terminations that a command is for: those that match when it begins (RFC 3525, section 6.2.2; their order is own).
 use Rattle.std.specs.Prelude.{ℕ, Bool, ◌&&◌, ◌||◌, if◌then◌else◌, List, [], ◌∷◌, Option, None, Some}
-use Rattle.std.specs.Option.{is_none}
 use Rattle.std.specs.List.{filter}
 use Rattle.gw_base.specs.declared.ids.CtxNum.{CtxNum}
 use Rattle.gw_base.specs.declared.term_ref.TermRef.{TermRef}
 use Rattle.gw_base.specs.declared.term_ref.TermRef.TheVariants.{Root, All, Under, Choose, Name, Other}
 use Rattle.gw_msg.specs.declared.message.Command.{Command}
-use Rattle.gw_table.specs.Maps.{Maps, term, ctx, names, place_of, members_of}
+use Rattle.gw_table.specs.Maps.{Maps, ctx, names, members_of}
 use Rattle.gw_refusal.specs.declared.at.At.{At}
 use Rattle.gw_refusal.specs.Places.{place_at, is_null}
 use Rattle.gw_refusal.specs.Asked.{is_add, matches}
-
 -- the termination is in the null context
-abbrev pub is_free : Maps → List ℕ → Bool
-is_free m name = is_none (place_of (term m name))
+pub use Rattle.gw_table.specs.Maps.{is_free}
 
 -- the members of the context in joining order; of the null context, all that are in none, in the order of their bytes
 abbrev pub those_in : Option CtxNum → Maps → List (List ℕ)

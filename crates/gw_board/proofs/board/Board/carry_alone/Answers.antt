@@ -1,14 +1,16 @@
-use Rattle.std.proofs.Common.{◌≡◌, ◌+◌, ℕ, suc, List, ◌∷◌, ◌++◌, [], map, take, Some, sym, ap, subst, ◌∙◌, add-one, arith}
+use Rattle.std.proofs.Common.{◌≡◌, ℕ, suc, List, ◌∷◌, ◌++◌, [], map, take, Some, sym, ap, subst, ◌∙◌, add-one, arith}
 use Rattle.std.specs.List.{list_any}
 use Rattle.std.specs.Prelude.{slice_get, slice_set}
 use Rattle.gw_base.specs.declared.key.Key.{Key}
 use Rattle.gw_reserve.specs.Owned.{AreFreeSlots}
 use Rattle.gw_table.specs.Maps.{Maps}
-use Rattle.gw_table.specs.Parts.{Parted, list_of, restricted, overlaid}
-use Rattle.gw_table.specs.Stored.{Stored, maps_of, AreReady, NoneIsOut}
+use Rattle.gw_table.specs.Parts.{Parted, list_of, overlaid}
+use Rattle.gw_table.specs.Stored.{Stored, maps_of, NoneIsOut}
+use Rattle.gw_table.specs.WellFormed.{AreWellFormed}
+use Rattle.gw_board.specs.Alone.{WasCarried, AreAsBefore}
 use Rattle.gw_board.specs.BoardView.{value_of, IsOnTheWay, IsKeptIn}
-use Rattle.gw_board.specs.Boards.{Seen, core_of, AllClosed, GivesTheFold, unclosed}
-use Rattle.gw_board.specs.Carried.{Asked, done}
+use Rattle.gw_board.specs.Boards.{Seen, core_of, AllClosed, unclosed}
+use Rattle.gw_board.specs.Carried.{Asked}
 use Rattle.gw_board.specs.Core.{Place, Closed, pending}
 use Rattle.gw_board.specs.OpenJobs.{IsSameBurst}
 use Rattle.gw_board.specs.Results.{is_open, NothingIsOpen}
@@ -18,7 +20,7 @@ use Rattle.gw_board.proofs.KeptIn.{all_ready, none_out}
 use Rattle.gw_board.proofs.OnTheWay.{gives_the_fold}
 use Rattle.gw_board.proofs.SeatFacts.{seat_inside, one_more_original}
 use Rattle.gw_board.proofs.board.Board.carry_alone.Goals as goal
-use Rattle.gw_board.proofs.board.Board.carry_alone.Goals.{In-Ok}
+use Rattle.gw_board.proofs.board.Board.carry_alone.Goals.{In-Ok-push}
 
 -- what the caller knows of the board holds of it as its fields are
 none_here : (b now : Seen) → b ≡ now → NothingIsOpen (core_of now) → NothingIsOpen (core_of b)
@@ -34,44 +36,49 @@ with_maps b m = record { manner = b.manner; begun = b.begun; maps = m; places = 
 prepared_way : (b : Seen) (m : Maps) → m ≡ b.maps → IsOnTheWay b → IsOnTheWay (with_maps b m)
 prepared_way b m e w = subst (λ (n : Maps). IsOnTheWay (with_maps b n)) (sym e) w
 
-pub changes_of-requires-clause-whole : goal.changes_of-requires-clause-whole
-changes_of-requires-clause-whole c =
+pub carry_in_place-requires-clause-whole : goal.carry_in_place-requires-clause-whole
+carry_in_place-requires-clause-whole c =
     let b : Seen = value_of c.self.inside in
-    well_here b c.self.invariant.on_the_way (none_here b c.args.self.now c.self.view_is c.requires.«open») c.args.place c.in-Some.task
-    (pends_here b c.args.self.now c.args.place c.in-Some.task c.self.view_is c.in-Some.ensures)
-
-pub changes_of-requires-clause-unused : goal.changes_of-requires-clause-unused
-changes_of-requires-clause-unused c =
-    let b : Seen = value_of c.self.inside in
-    subst (λ (x : Asked). AreFreeSlots b.maps x.owned.slots) (sym c.get.ensures)
-    (unused_here b c.self.invariant.on_the_way (none_here b c.args.self.now c.self.view_is c.requires.«open») c.args.place c.in-Some.task
+    subst (λ (s : Stored). AreWellFormed b.manner.rules.members (maps_of s)) (sym c.replace-tables.ensures.value)
+    (well_here b c.self.invariant.on_the_way (none_here b c.args.self.now c.self.view_is c.requires.«open») c.args.place c.in-Some.task
     (pends_here b c.args.self.now c.args.place c.in-Some.task c.self.view_is c.in-Some.ensures))
 
-pub returns-in_err-changes-clause-outcome : goal.returns-in_err-changes-clause-outcome
-returns-in_err-changes-clause-outcome c = subst GivesTheFold c.self.view_is (gives_the_fold (value_of c.self.inside) c.self.invariant.on_the_way)
+pub carry_in_place-requires-clause-unused : goal.carry_in_place-requires-clause-unused
+carry_in_place-requires-clause-unused c =
+    let b : Seen = value_of c.self.inside in
+    subst (λ (s : Stored). AreFreeSlots (maps_of s) c.get.result.now.owned.slots) (sym c.replace-tables.ensures.value)
+    (subst (λ (x : Asked). AreFreeSlots b.maps x.owned.slots) (sym c.get.ensures)
+    (unused_here b c.self.invariant.on_the_way (none_here b c.args.self.now c.self.view_is c.requires.«open») c.args.place c.in-Some.task
+    (pends_here b c.args.self.now c.args.place c.in-Some.task c.self.view_is c.in-Some.ensures)))
+
+pub carry_in_place-requires-clause-here : goal.carry_in_place-requires-clause-here
+carry_in_place-requires-clause-here c =
+    let b : Seen = value_of c.self.inside in
+    subst (λ (s : Stored). NoneIsOut s) (sym c.replace-tables.ensures.value) (none_out b c.self.inside.tables c.self.invariant.kept (none_here b c.args.self.now c.self.view_is c.requires.«open»))
+
+-- ---- after want of memory
 
 pub invariant_of-self : goal.invariant_of-self
 invariant_of-self c =
     let b : Seen = value_of c.self.inside in
     let room = c.self.invariant.room in
+    let was : AreAsBefore c.self.inside.tables c.in-Err.tables = subst (λ (s : Stored). AreAsBefore s c.in-Err.tables) c.replace-tables.ensures.value c.in-Err.ensures.err in
     record {
-      on_the_way = prepared_way b (maps_of c.reserve_slots.new.self) c.in_err-reserve_slots.ensures.maps c.self.invariant.on_the_way;
+      on_the_way = prepared_way b (maps_of c.in-Err.tables) was.maps c.self.invariant.on_the_way;
       kept = record {
-        out = λ k. c.in_err-reserve_slots.ensures.out k ∙ c.self.invariant.kept.out k;
-        ready = all_ready b.originals c.self.inside.tables c.reserve_slots.new.self c.in_err-reserve_slots.ensures.kept c.self.invariant.kept.ready;
+        out = λ k. was.here k ∙ sym (none_out b c.self.inside.tables c.self.invariant.kept (none_here b c.args.self.now c.self.view_is c.requires.«open») k) ∙ c.self.invariant.kept.out k;
+        ready = all_ready b.originals c.self.inside.tables c.in-Err.tables was.kept c.self.invariant.kept.ready;
       };
       room = record { originals = room.originals; replies = room.replies; no_replies = room.no_replies };
     }
 
-pub returns-in_err-reserve_slots-clause-outcome : goal.returns-in_err-reserve_slots-clause-outcome
-returns-in_err-reserve_slots-clause-outcome c =
+pub returns-in-Err-clause-outcome : goal.returns-in-Err-clause-outcome
+returns-in-Err-clause-outcome c =
     let b : Seen = value_of c.self.inside in
-    gives_the_fold (with_maps b (maps_of c.reserve_slots.new.self)) (prepared_way b (maps_of c.reserve_slots.new.self) c.in_err-reserve_slots.ensures.maps c.self.invariant.on_the_way)
+    let was : AreAsBefore c.self.inside.tables c.in-Err.tables = subst (λ (s : Stored). AreAsBefore s c.in-Err.tables) c.replace-tables.ensures.value c.in-Err.ensures.err in
+    gives_the_fold (with_maps b (maps_of c.in-Err.tables)) (prepared_way b (maps_of c.in-Err.tables) was.maps c.self.invariant.on_the_way)
 
-pub exchange-original-requires-clause-here : goal.exchange-original-requires-clause-here
-exchange-original-requires-clause-here c = λ k h.
-    let b : Seen = value_of c.self.inside in
-    c.in_ok-reserve_slots.ensures.out k ∙ none_out b c.self.inside.tables c.self.invariant.kept (none_here b c.args.self.now c.self.view_is c.requires.«open») k
+-- ---- with its result
 
 pub set_stage-requires : goal.set_stage-requires
 set_stage-requires c =
@@ -87,7 +94,7 @@ unreachable-requires-in_default-push c =
     let full = c.in_default-push.ensures.full in
     omega arith
 
-module _ (c : In-Ok) where
+module _ (c : In-Ok-push) where
   abbrev b : Seen
   b = value_of c.self.inside
 
@@ -109,52 +116,39 @@ module _ (c : In-Ok) where
   first : AllClosed (take i b.places)
   first = subst (λ (x : Seen). AllClosed (take i x.places)) (sym c.self.view_is) c.requires.first
 
-  -- the keys that changed
-  abbrev changed : List Key
-  changed = list_of c.in_ok-changes.changes.keys
-
-  changes : overlaid changed c.in_ok-changes.changes.maps b.maps ≡ (done b.manner a b.maps).maps
-  changes = c.in_ok-changes.ensures.maps ∙ ap (λ (x : Asked). (done b.manner x b.maps).maps) c.get.ensures
-
-  reply : c.in_ok-changes.text ≡ (done b.manner a b.maps).answer
-  reply = c.in_ok-changes.ensures.reply ∙ ap (λ (x : Asked). (done b.manner x b.maps).answer) c.get.ensures
-
   abbrev tables : Stored
-  tables = c.exchange-original.new.self
+  tables = c.in-Ok.left.tables
 
-  maps_are : maps_of tables ≡ (with_alone b i a changed).maps
-  maps_are = c.exchange-original.ensures.maps ∙ ap (λ (m : Maps). overlaid changed c.in_ok-changes.changes.maps m) c.in_ok-reserve_slots.ensures.maps ∙ changes
+  was : WasCarried b.manner a c.self.inside.tables tables c.in-Ok.left.originals c.in-Ok.left.text
+  was =
+      subst (λ (s : Stored). WasCarried b.manner a s tables c.in-Ok.left.originals c.in-Ok.left.text) c.replace-tables.ensures.value
+      (subst (λ (x : Asked). WasCarried b.manner x c.replace-tables.result tables c.in-Ok.left.originals c.in-Ok.left.text) c.get.ensures c.in-Ok.ensures.ok)
+
+  -- the keys that were written
+  abbrev changed : List Key
+  changed = list_of c.in-Ok.left.originals.keys
 
   places_are : map place_of c.set_stage.new.seats.items ≡ (with_alone b i a changed).places
-  places_are = c.set_stage.ensures.places (pending a) pends ∙ (λ j. slice_set b.places i (record { asked = a; standing = Closed (reply j) }))
+  places_are = c.set_stage.ensures.places (pending a) pends ∙ (λ j. slice_set b.places i (record { asked = a; standing = Closed (was.reply j) }))
 
   originals_are : map original_of_part c.push.new.self.items ≡ (with_alone b i a changed).originals
   originals_are =
-      ap (map original_of_part) c.in-Ok.ensures.items
-      ∙ one_more_original c.self.inside.originals.items c.exchange-original.result
-      ∙ ap (λ (p : Parted). b.originals ++ original_of_part p ∷ []) c.exchange-original.ensures.before
-      ∙ ap (λ (m : Maps). b.originals ++ record { keys = changed; part = restricted changed m } ∷ []) c.in_ok-reserve_slots.ensures.maps
+      ap (map original_of_part) c.in-Ok-push.ensures.items
+      ∙ one_more_original c.self.inside.originals.items c.of_writes.result
+      ∙ ap (λ (p : Parted). b.originals ++ original_of_part p ∷ []) c.of_writes.ensures
+      ∙ ap (λ (m : Maps). b.originals ++ record { keys = changed; part = m } ∷ []) was.part
 
   abbrev new : Seen
   new = record { manner = b.manner; begun = b.begun; maps = maps_of tables; places = map place_of c.set_stage.new.seats.items; originals = map original_of_part c.push.new.self.items }
 
   is_new : new ≡ with_alone b i a changed
-  is_new = λ j. record { manner = b.manner; begun = b.begun; maps = maps_are j; places = places_are j; originals = originals_are j }
+  is_new = λ j. record { manner = b.manner; begun = b.begun; maps = was.maps j; places = places_are j; originals = originals_are j }
 
   new_way : IsOnTheWay new
-  new_way = subst IsOnTheWay (sym is_new) (alone_way b way none i a pends first changed c.in_ok-changes.changes.maps changes)
-
-  here : NoneIsOut tables
-  here k = c.exchange-original.ensures.out k ∙ c.in_ok-reserve_slots.ensures.out k ∙ none_out b c.self.inside.tables c.self.invariant.kept none k
-
-  changed_ready : AreReady changed c.reserve_slots.new.self
-  changed_ready = subst (λ (l : List Key). AreReady l c.reserve_slots.new.self) c.keys.ensures c.in_ok-reserve_slots.ensures.ready
+  new_way = subst IsOnTheWay (sym is_new) (alone_way b way none i a pends first changed ((λ j. overlaid changed (sym was.part j) (sym was.maps j)) ∙ was.back))
 
   new_kept : IsKeptIn tables new
-  new_kept = subst (IsKeptIn tables) (sym is_new)
-      (alone_kept b way none i a pends changed c.self.inside.tables tables c.self.invariant.kept here
-      (λ k h. c.exchange-original.ensures.ready k ∙ c.in_ok-reserve_slots.ensures.kept k h)
-      (λ k h. c.exchange-original.ensures.ready k ∙ changed_ready k h))
+  new_kept = subst (IsKeptIn tables) (sym is_new) (alone_kept b way none i a pends changed c.self.inside.tables tables c.self.invariant.kept was.here was.kept was.ready)
 
   fewer : suc (unclosed new.places) ≡ unclosed b.places
   fewer = ap (λ (l : List Place). suc (unclosed l)) places_are ∙ alone_fewer b way none i a pends
@@ -165,8 +159,8 @@ invariant_of-self-2 c =
     let room = c.self.invariant.room.originals in
     let replies = c.self.invariant.room.replies in
     let len = c.set_stage.ensures.len in
-    let more = c.in-Ok.ensures.len in
-    let space = c.in-Ok.ensures.capacity in
+    let more = c.in-Ok-push.ensures.len in
+    let space = c.in-Ok-push.ensures.capacity in
     record {
       on_the_way = new_way c;
       kept = new_kept c;

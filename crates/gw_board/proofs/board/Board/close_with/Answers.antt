@@ -62,7 +62,8 @@ module _ (c : In-Ok) where
   originals_are : map original_of_part c.push.new.self.items ≡ (with_result b h).originals
   originals_are =
       ap (map original_of_part) c.in-Ok.ensures.items
-      ∙ one_more_original c.self.inside.originals.items c.job.inside.part
+      ∙ one_more_original c.self.inside.originals.items c.of_job.result
+      ∙ ap (λ (p : Parted). b.originals ++ original_of_part p ∷ []) c.of_job.ensures
       ∙ ap (λ (x : Handed). b.originals ++ original_in x ∷ []) c.job.view_is
 
   abbrev new : Seen

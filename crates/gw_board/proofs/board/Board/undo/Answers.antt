@@ -16,8 +16,8 @@ use Rattle.gw_board.proofs.SeatFacts.{one_more_original}
 use Rattle.gw_board.proofs.Steps.{undone-append}
 use Rattle.gw_board.proofs.board.Board.undo.Goals as goal
 
-pub loop-part-init : goal.loop-part-init
-loop-part-init c =
+pub loop-original-init : goal.loop-original-init
+loop-original-init c =
     let b : Seen = value_of c.self.inside in
     let none : NothingIsOpen (core_of b) = subst (λ (x : Seen). NothingIsOpen (core_of x)) (sym c.self.view_is) c.requires in
     let way = c.self.invariant.on_the_way in
@@ -31,25 +31,25 @@ loop-part-init c =
 last_of : (l parts : List Parted) (p : Parted) → l ≡ parts ++ p ∷ [] → map original_of_part l ≡ map original_of_part parts ++ original_of_part p ∷ []
 last_of l parts p e = ap (map original_of_part) e ∙ one_more_original parts p
 
-pub replace-requires-clause-ready : goal.replace-requires-clause-ready
-replace-requires-clause-ready c =
+pub put_back-requires-clause-ready : goal.put_back-requires-clause-ready
+put_back-requires-clause-ready c =
     let front : List Original = map original_of_part c.pop.new.self.items in
-    (each_behind (λ o. AreReady o.keys c.loop-part.tables) front (original_of_part c.in-Some.part ∷ [])
-    (subst (λ (l : List Original). Each (λ o. AreReady o.keys c.loop-part.tables) l) (last_of c.loop-part.originals.items c.pop.new.self.items c.in-Some.part c.in-Some.ensures.items) c.loop-part.invariant.ready)).0
+    (each_behind (λ o. AreReady o.keys c.loop-original.tables) front (original_of_part c.in-Some.original ∷ [])
+    (subst (λ (l : List Original). Each (λ o. AreReady o.keys c.loop-original.tables) l) (last_of c.loop-original.originals.items c.pop.new.self.items c.in-Some.original c.in-Some.ensures.items) c.loop-original.invariant.ready)).0
 
-pub loop-part-preserved : goal.loop-part-preserved
-loop-part-preserved c =
+pub loop-original-preserved : goal.loop-original-preserved
+loop-original-preserved c =
     let front : List Original = map original_of_part c.pop.new.self.items in
-    let last : Original = original_of_part c.in-Some.part in
-    let m : Maps = maps_of c.loop-part.tables in
-    let split : map original_of_part c.loop-part.originals.items ≡ front ++ last ∷ [] = last_of c.loop-part.originals.items c.pop.new.self.items c.in-Some.part c.in-Some.ensures.items in
+    let last : Original = original_of_part c.in-Some.original in
+    let m : Maps = maps_of c.loop-original.tables in
+    let split : map original_of_part c.loop-original.originals.items ≡ front ++ last ∷ [] = last_of c.loop-original.originals.items c.pop.new.self.items c.in-Some.original c.in-Some.ensures.items in
     record {
-      here = λ k. c.replace.ensures.out k ∙ c.loop-part.invariant.here k;
-      ready = all_ready front c.loop-part.tables c.replace.new.self (λ k i. c.replace.ensures.ready k ∙ i)
-          (each_front (λ o. AreReady o.keys c.loop-part.tables) front (last ∷ []) (subst (λ (l : List Original). Each (λ o. AreReady o.keys c.loop-part.tables) l) split c.loop-part.invariant.ready));
+      here = λ k. c.put_back.ensures.out k ∙ c.loop-original.invariant.here k;
+      ready = all_ready front c.loop-original.tables c.put_back.new.tables (λ k i. c.put_back.ensures.ready k ∙ i)
+          (each_front (λ o. AreReady o.keys c.loop-original.tables) front (last ∷ []) (subst (λ (l : List Original). Each (λ o. AreReady o.keys c.loop-original.tables) l) split c.loop-original.invariant.ready));
       back =
-          ap (undone front) c.replace.ensures.maps
+          ap (undone front) c.put_back.ensures.maps
           ∙ sym (undone-append front (last ∷ []) m)
           ∙ ap (λ (l : List Original). undone l m) (sym split)
-          ∙ c.loop-part.invariant.back;
+          ∙ c.loop-original.invariant.back;
     }

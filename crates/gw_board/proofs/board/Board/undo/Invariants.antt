@@ -6,12 +6,12 @@ use Rattle.gw_board.specs.Seats.{original_of_part}
 use Rattle.gw_board.proofs.board.Board.undo.Given as goal
 
 -- the originals that are left, laid over the maps, give those of the start
-abbrev pub invariant-loop-part : goal.invariant-loop-part
-invariant-loop-part l = record {
+abbrev pub invariant-loop-original : goal.invariant-loop-original
+invariant-loop-original l = record {
   here : NoneIsOut l.tables;
   ready : Each (λ o. AreReady o.keys l.tables) (map original_of_part l.originals.items);
   back : undone (map original_of_part l.originals.items) (maps_of l.tables) ≡ l.fn.self.begun;
 }
 
-abbrev pub decreases-loop-part : goal.decreases-loop-part
-decreases-loop-part l = vec_len l.originals
+abbrev pub decreases-loop-original : goal.decreases-loop-original
+decreases-loop-original l = vec_len l.originals

@@ -1,0 +1,82 @@
+//! What stood in the tables before a place was closed with its result.
+
+ghost use Rattle.std.specs.Prelude.{◌≡◌};
+ghost use Rattle.gw_table.specs.Parts.{list_of, overlaid};
+ghost use Rattle.gw_table.specs.Stored.{maps_of, AreReady, AreIn, AreAsReady, AreAsOut, NoneIsOut};
+
+use gw_table::{Originals, Part, Tables};
+use std::marker::Model;
+
+/// What stood at the keys of a place.
+#[derive(Drop)]
+pub(crate) enum Stood {
+    /// The part that its job took out.
+    OfJob(Part),
+    /// What its writes found, where it was carried out alone.
+    OfWrites(Originals),
+}
+
+/// What stood at the keys of a place, which contracts see as a part.
+#[derive(Drop)]
+pub(crate) struct Original {
+    stood: Stood,
+}
+
+impl Model for Original {
+    ghost use Rattle.gw_table.specs.Parts.{Parted, coded_part};
+    ghost use Rattle.gw_board.specs.Stood.{stood_part};
+
+    ghost Value = { Parted };
+
+    ghost coded = { coded_part };
+
+    ghost view = { λ a. stood_part a.stood };
+}
+
+impl Original {
+    /// Of a place that was open.
+    pub(crate) fn of_job(part: Part) -> Original
+        ensures { result ≡ part }
+    {
+        Original {
+            stood: Stood::OfJob(part),
+        }
+    }
+
+    /// Of a place that was carried out alone.
+    pub(crate) fn of_writes(originals: Originals) -> Original
+        ensures { result ≡ originals }
+    {
+        Original {
+            stood: Stood::OfWrites(originals),
+        }
+    }
+
+    /// Puts it in place of what is in the tables. The caller knows that its keys have places and none is out. A key takes one look-up.
+    pub(crate) fn put_back(self, tables: &mut Tables)
+        requires ready { AreReady (list_of self.keys) tables.old }
+        requires here { AreIn (list_of self.keys) tables.old }
+        ensures maps { maps_of tables.new ≡ overlaid (list_of self.keys) self.maps (maps_of tables.old) }
+        ensures out { AreAsOut tables.old tables.new }
+        ensures ready { AreAsReady tables.old tables.new }
+    {
+        let Original { stood } = self;
+        match stood {
+            Stood::OfJob(part) => tables.replace(part),
+            Stood::OfWrites(originals) => tables.restore(originals),
+        }
+    }
+
+    /// Gives up the places of its keys that have no entry: a job's keys take a look-up each, and of the others those that were left
+    /// without an entry.
+    pub(crate) fn sweep(&self, tables: &mut Tables)
+        requires { NoneIsOut tables.old }
+        ensures maps { maps_of tables.new ≡ maps_of tables.old }
+        ensures here { NoneIsOut tables.new }
+    {
+        match &self.stood {
+            Stood::OfJob(part) => tables.sweep_keys(part.keys()),
+            Stood::OfWrites(originals) => tables.sweep_vacated(originals),
+        }
+    }
+}
