@@ -1,7 +1,8 @@
 -- Idle commands: what comes of a target, and of all of them.
-use Rattle.std.proofs.Common.{◌≡◌, ℕ, Bool, true, false, List, [], ◌∷◌, Option, None, Some, is_some, is_none, Result, Ok, Err, bytes_eq, refl, sym, ap, subst, ◌∙◌}
+use Rattle.std.proofs.Common.{◌≡◌, ℕ, Bool, true, false, List, [], ◌∷◌, ◌++◌, map, take, drop, Option, None, Some, is_some, is_none, Result, Ok, Err, bytes_eq, refl, sym, ap, ◌∙◌}
 use Rattle.std.specs.Prelude.{◌||◌, ◌&&◌, not, is_err, if◌then◌else◌}
 use Rattle.std.specs.List.{list_any, filter, find}
+use Rattle.std.proofs.lemmas.List.{take-append-drop, map-append}
 use Rattle.gw_base.specs.declared.code.Code.{Code}
 use Rattle.gw_base.specs.declared.code.Code.TheVariants.{ContextFull, NotInContext, NoWildcardMatch}
 use Rattle.gw_base.specs.declared.ids.CtxNum.{CtxNum}
@@ -16,10 +17,15 @@ use Rattle.gw_base.specs.NameLists.{is_in}
 use Rattle.gw_base.proofs.NameTests.{same_name, number_itself}
 use Rattle.gw_base.proofs.NamesInLists.{or_left, or_right, or_cases, either, itself}
 use Rattle.gw_desc.specs.Checks.{check_code}
+use Rattle.gw_desc.specs.declared.descriptor.Descriptor.{Descriptor}
+use Rattle.gw_length.specs.declared.telling.Telling.{Telling}
 use Rattle.gw_length.specs.declared.telling.Telling.TheVariants.{TooLong}
+use Rattle.gw_length.specs.Tellings.{told_behind}
+use Rattle.gw_length.proofs.Tellings.{told_more}
 use Rattle.gw_msg.specs.declared.message.Command.{Command}
 use Rattle.gw_reply.specs.declared.parts.ReplyPart.{ReplyPart}
 use Rattle.gw_reply.specs.declared.reply.CommandReply.{CommandReply}
+use Rattle.gw_reply.specs.Replies.{command_reply_text}
 use Rattle.gw_term.specs.Audit.{audit_parts}
 use Rattle.gw_term.specs.declared.record.Termination.{Termination}
 use Rattle.gw_table.specs.declared.attempts.Attempts.{Attempts}
@@ -27,7 +33,7 @@ use Rattle.gw_table.specs.Folds.{attempts_behind, in_order}
 use Rattle.gw_table.specs.Maps.{Maps, Outcome, term, ctx, names, place_of, members_of, is_free}
 use Rattle.gw_table.specs.Parts.{PartKeys, holds, Holds}
 use Rattle.gw_table.specs.WellFormed.{IsSound}
-use Rattle.gw_table.proofs.Folding.{in_order-more, in_order-none}
+use Rattle.gw_table.proofs.Folding.{ended, in_order-more, in_order-none}
 use Rattle.gw_refusal.specs.declared.at.At.{At}
 use Rattle.gw_refusal.specs.declared.at.At.TheVariants.{Null, Live, Unmade, Each}
 use Rattle.gw_refusal.specs.Asked.{is_add, is_wildcard, matches, audited, is_some_list}
@@ -36,9 +42,9 @@ use Rattle.gw_refusal.specs.Targets.{those_in, source, matched, targets_of, targ
 use Rattle.gw_cmd.specs.declared.change.Change.TheVariants.{Stays}
 use Rattle.gw_cmd.specs.declared.outcome.CmdOutcome.{CmdOutcome}
 use Rattle.gw_cmd.specs.declared.outcome.Seen.{Seen}
-use Rattle.gw_cmd.specs.Commands.{reply, has_error, is_done, error_of, error_in, first_error, on_target, on_targets, on_names, carried, unless_refused, allowed}
+use Rattle.gw_cmd.specs.Commands.{reply, has_error, is_done, error_of, error_in, first_error, outcome_told, on_target, on_targets, on_names, carried, unless_refused, allowed}
 use Rattle.gw_cmd.specs.Effects.{refusal_elsewhere, refusal_to_add, is_full, joins, unless, decided_in, decided_in_null, done, on_record, on_found, on_name}
-use Rattle.gw_cmd.specs.Idle.{is_full_at, leaves_all, idle_code, idle_seen, IsIdle}
+use Rattle.gw_cmd.specs.Idle.{is_full_at, leaves_all, idle_code, idle_answer, idle_reply, idle_seen, IsIdle}
 use Rattle.gw_cmd.specs.Keys.{member_keys, term_keys, command_keys}
 use Rattle.gw_cmd.specs.Refusals.{code_if, missing, first_code, refusal_by_tables}
 use Rattle.gw_cmd.specs.Told.{code_of, seen}
@@ -47,11 +53,8 @@ use Rattle.gw_cmd.proofs.Ready.{has_term, is_named, in_filter, among_term}
 
 -- ---- one target
 
--- the maps stay, and what is told has the code, if it is refused
-pub record IsLeft (rules : Rules) (at : At) (c : Command) (t : List ℕ) (m : Maps) : Type 0 where
-  pub answer : Result (List ReplyPart) Code
-  pub is : on_name rules (place_at at) c t m ≡ record { maps = m; answer = answer }
-  pub code : code_of answer ≡ idle_code c.verb
+abbrev left : Command → List ℕ → Maps → Outcome (Result (List ReplyPart) Code)
+left c t m = record { maps = m; answer = idle_answer c.verb c.descriptors (term m t) }
 
 place_itself : (p : Option CtxNum) → same_place p p ≡ true
 place_itself None = refl
@@ -90,31 +93,23 @@ both_of true b h = (refl, h)
 both_of false b h = absurd cc
 
 left_one : (rules : Rules) (at : At) (c : Command) (t : List ℕ) (r : Termination) (m : Maps) → leaves_all c.verb (is_some_list c.descriptors) (is_full_at rules (place_at at) m) ≡ true → term m t ≡ Some r → r.place ≡ source at c
-    → IsLeft rules at c t m
+    → on_name rules (place_at at) c t m ≡ left c t m
 left_one rules at c t r m leaves found there = by c.verb refl leaves there
   where
     here : on_name rules (place_at at) c t m ≡ on_record rules (place_at at) c t r m
     here = ap (λ (o : Option Termination). on_found rules (place_at at) c t o m) found
 
-    add : (p : Option CtxNum) → place_at at ≡ p → c.verb ≡ Add → c.descriptors ≡ [] → is_full_at rules p m ≡ true → r.place ≡ None → IsLeft rules at c t m
-    add None e verb none full free = absurd cc
-    add (Some n) e verb none full free = record {
-      answer = Err ContextFull;
-      is = here ∙ ap (λ (p : Option CtxNum). on_record rules p c t r m) e ∙ add_alone rules n c t r m verb none full free;
-      code = sym (ap (λ (v : Verb). idle_code v) verb);
-    }
+    told : (v : Verb) → c.verb ≡ v → ◌≡◌ {A = Outcome (Result (List ReplyPart) Code)} (record { maps = m; answer = idle_answer v c.descriptors (Some r) }) (left c t m)
+    told v e = ap (λ (o : Option Termination). let x : Outcome (Result (List ReplyPart) Code) = record { maps = m; answer = idle_answer v c.descriptors o } in x) (sym found) ∙ ap (λ (w : Verb). let x : Outcome (Result (List ReplyPart) Code) = record { maps = m; answer = idle_answer w c.descriptors (term m t) } in x) (sym e)
 
-    by : (v : Verb) → c.verb ≡ v → leaves_all v (is_some_list c.descriptors) (is_full_at rules (place_at at) m) ≡ true → r.place ≡ (if is_add v then None else place_at at) → IsLeft rules at c t m
-    by AuditValue verb h there = record {
-      answer = Ok (audit_parts (audited c.descriptors) r);
-      is = here ∙ audit_alone rules (place_at at) c t r m verb there;
-      code = sym (ap (λ (v : Verb). idle_code v) verb);
-    }
-    by Modify verb h there = record {
-      answer = Ok [];
-      is = here ∙ modify_alone rules (place_at at) c t r m verb (no_items c.descriptors h) found ∙ ap (λ (o : Option Code). left_alone o m) (stands_here (place_at at) r.place there);
-      code = sym (ap (λ (v : Verb). idle_code v) verb);
-    }
+    add : (p : Option CtxNum) → place_at at ≡ p → c.verb ≡ Add → c.descriptors ≡ [] → is_full_at rules p m ≡ true → r.place ≡ None → on_name rules (place_at at) c t m ≡ left c t m
+    add None e verb none full free = absurd cc
+    add (Some n) e verb none full free = here ∙ ap (λ (p : Option CtxNum). on_record rules p c t r m) e ∙ add_alone rules n c t r m verb none full free ∙ told Add verb
+
+    by : (v : Verb) → c.verb ≡ v → leaves_all v (is_some_list c.descriptors) (is_full_at rules (place_at at) m) ≡ true → r.place ≡ (if is_add v then None else place_at at) → on_name rules (place_at at) c t m ≡ left c t m
+    by AuditValue verb h there = here ∙ audit_alone rules (place_at at) c t r m verb there ∙ told AuditValue verb
+    by Modify verb h there =
+        here ∙ modify_alone rules (place_at at) c t r m verb (no_items c.descriptors h) found ∙ ap (λ (o : Option Code). left_alone o m) (stands_here (place_at at) r.place there) ∙ told Modify verb
     by Add verb h there = let two = both_of (not (is_some_list c.descriptors)) (is_full_at rules (place_at at) m) h in add (place_at at) refl verb (no_items c.descriptors two.0) two.1 there
     by Move verb h there = absurd cc
     by Subtract verb h there = absurd cc
@@ -124,10 +119,24 @@ left_one rules at c t r m leaves found there = by c.verb refl leaves there
 
 -- ---- one after another
 
-record AreLeft (verb : Verb) (m : Maps) (ts : List (List ℕ)) (o : Outcome (Attempts Unit CommandReply)) : Type 0 where
-  maps : o.maps ≡ m
-  first : code_of (first_error o.answer.answers) ≡ (if is_some_list ts then idle_code verb else None)
-  any : list_any is_done o.answer.answers ≡ (is_some_list ts && is_none (idle_code verb))
+left_all : (rules : Rules) (at : At) (c : Command) (m : Maps) (ts : List (List ℕ)) → ((t : List ℕ) → is_in t ts ≡ true → on_name rules (place_at at) c t m ≡ left c t m) → on_targets rules at c ts m ≡ ended m tt (map (idle_reply c m) ts) false
+left_all rules at c m [] each = in_order-none (on_target rules at c) tt m
+left_all rules at c m (t ∷ ts) each =
+    in_order-more (on_target rules at c) tt t ts m
+    ∙ ap (λ (o : Outcome (Result (List ReplyPart) Code)). attempts_behind (reply c (Name t) o.answer ∷ []) (in_order (on_target rules at c) tt ts o.maps)) (each t (or_left (bytes_eq t t) (is_in t ts) (itself t)))
+    ∙ ap (λ (o : Outcome (Attempts Unit CommandReply)). attempts_behind (idle_reply c m t ∷ []) o) (left_all rules at c m ts (λ q h. each q (or_right (bytes_eq q t) (is_in q ts) h)))
+
+-- ---- the errors among what is told
+
+idle_code_of : (v : Verb) (descriptors : List Descriptor) (o : Option Termination) → code_of (idle_answer v descriptors o) ≡ idle_code v
+idle_code_of Add descriptors o = refl
+idle_code_of AuditValue descriptors o = refl
+idle_code_of Modify descriptors o = refl
+idle_code_of Move descriptors o = refl
+idle_code_of Subtract descriptors o = refl
+idle_code_of AuditCapability descriptors o = refl
+idle_code_of Notify descriptors o = refl
+idle_code_of ServiceChange descriptors o = refl
 
 -- a reply before others, by what it is
 first_by : (r : CommandReply) (rest : List CommandReply) (x : Result (List ReplyPart) Code) (b : Bool) (k : Option Code) → r.result ≡ x → code_of x ≡ k → code_of (first_error rest) ≡ (if b then k else None) → code_of (first_error (r ∷ rest)) ≡ k
@@ -146,28 +155,35 @@ any_by rest (Err e) b k code h = h ∙ ap (λ o. b && is_none o) (sym code) ∙ 
     none true = refl
     none false = refl
 
-left_more : (rules : Rules) (at : At) (c : Command) (m : Maps) (t : List ℕ) (ts : List (List ℕ)) → IsLeft rules at c t m → AreLeft c.verb m ts (on_targets rules at c ts m) → AreLeft c.verb m (t ∷ ts) (on_targets rules at c (t ∷ ts) m)
-left_more rules at c m t ts one later = subst (λ o. AreLeft c.verb m (t ∷ ts) o) (sym now) (record {
-  maps = later.maps;
-  first = first_by r rest one.answer (is_some_list ts) (idle_code c.verb) refl one.code later.first;
-  any = any_by rest one.answer (is_some_list ts) (idle_code c.verb) one.code later.any;
-})
-  where
-    r : CommandReply
-    r = reply c (Name t) one.answer
+module _ (c : Command) (m : Maps) where
+  idle_first : (ts : List (List ℕ)) → code_of (first_error (map (idle_reply c m) ts)) ≡ (if is_some_list ts then idle_code c.verb else None)
+  idle_first [] = refl
+  idle_first (t ∷ ts) = first_by (idle_reply c m t) (map (idle_reply c m) ts) (idle_answer c.verb c.descriptors (term m t)) (is_some_list ts) (idle_code c.verb) refl (idle_code_of c.verb c.descriptors (term m t)) (idle_first ts)
 
-    rest : List CommandReply
-    rest = (on_targets rules at c ts m).answer.answers
+  idle_done : (ts : List (List ℕ)) → list_any is_done (map (idle_reply c m) ts) ≡ (is_some_list ts && is_none (idle_code c.verb))
+  idle_done [] = refl
+  idle_done (t ∷ ts) = any_by (map (idle_reply c m) ts) (idle_answer c.verb c.descriptors (term m t)) (is_some_list ts) (idle_code c.verb) (idle_code_of c.verb c.descriptors (term m t)) (idle_done ts)
 
-    now : on_targets rules at c (t ∷ ts) m ≡ attempts_behind (r ∷ []) (on_targets rules at c ts m)
-    now =
-        in_order-more (on_target rules at c) tt t ts m
-        ∙ ap (λ (o : Outcome (Result (List ReplyPart) Code)). attempts_behind (reply c (Name t) o.answer ∷ []) (in_order (on_target rules at c) tt ts o.maps)) one.is
+  -- what comes of some, told behind what was told before them
+  pub seen_idle : (told whole : Telling CommandReply) (ts : List (List ℕ)) → is_some_list ts ≡ true → whole ≡ told_behind command_reply_text told (map (idle_reply c m) ts) → idle_seen c.verb whole ≡ seen told (map (idle_reply c m) ts)
+  seen_idle told whole ts some is =
+      let first = idle_first ts ∙ ap (λ (b : Bool). if b then idle_code c.verb else None) some in
+      let any = idle_done ts ∙ ap (λ (b : Bool). b && is_none (idle_code c.verb)) some in
+      let made : Telling CommandReply → Option Code → Bool → Seen = λ t f d. record { told = t; first_error = f; any_done = d } in
+      λ i. made (is i) (sym first i) (sym any i)
 
-left_all : (rules : Rules) (at : At) (c : Command) (m : Maps) (ts : List (List ℕ)) → ((t : List ℕ) → is_in t ts ≡ true → IsLeft rules at c t m) → AreLeft c.verb m ts (on_targets rules at c ts m)
-left_all rules at c m [] each = subst (λ o. AreLeft c.verb m [] o) (sym (in_order-none (on_target rules at c) tt m)) (record { maps = refl; first = refl; any = refl })
-left_all rules at c m (t ∷ ts) each =
-    left_more rules at c m t ts (each t (or_left (bytes_eq t t) (is_in t ts) (itself t))) (left_all rules at c m ts (λ q h. each q (or_right (bytes_eq q t) (is_in q ts) h)))
+-- ---- told one after another
+
+module _ (told : Telling CommandReply) (f : List ℕ → CommandReply) where
+  -- these, and then those
+  pub told_both : (xs ys : List (List ℕ)) → told_behind command_reply_text (told_behind command_reply_text told (map f xs)) (map f ys) ≡ told_behind command_reply_text told (map f (xs ++ ys))
+  told_both xs ys = told_more command_reply_text told (map f xs) (map f ys) ∙ ap (λ (l : List CommandReply). told_behind command_reply_text told l) (sym (map-append f xs ys))
+
+  -- once it is too long, it stays so
+  pub too_long : (ts : List (List ℕ)) (i : ℕ) → TooLong ≡ told_behind command_reply_text told (map f (take i ts)) → TooLong ≡ told_behind command_reply_text told (map f ts)
+  too_long ts i e =
+      ap (λ (t : Telling CommandReply). told_behind command_reply_text t (map f (drop i ts))) e ∙ told_both (take i ts) (drop i ts)
+      ∙ ap (λ (l : List (List ℕ)). told_behind command_reply_text told (map f l)) (take-append-drop i ts)
 
 -- ---- the targets of a command
 
@@ -240,19 +256,8 @@ module _ (keys : PartKeys) (rules : Rules) (at : At) (slot : Option ℕ) (c : Co
       in_action None e h = free_one t m h
       in_action (Some n) e h = member_one t n m (sound.recorded t n (held t at refl n e (ap (λ (p : Option CtxNum). is_in t (those_in p m)) e ∙ h)) h)
 
-  each_left : (t : List ℕ) → is_in t (targets at c m) ≡ true → IsLeft rules at c t m
+  each_left : (t : List ℕ) → is_in t (targets at c m) ≡ true → on_name rules (place_at at) c t m ≡ left c t m
   each_left t h = let one = stands t (is_add c.verb) (in_place t (in_matched t c.term idle.wildcard h)) in left_one rules at c t one.0 m idle.leaves one.1 one.2
-
-  all_left : AreLeft c.verb m (targets at c m) (on_targets rules at c (targets at c m) m)
-  all_left = left_all rules at c m (targets at c m) each_left
-
-  -- what comes of them all, where there are any and no reply is kept
-  pub seen_left : is_some_list (targets at c m) ≡ true → idle_seen c.verb ≡ seen TooLong (on_targets rules at c (targets at c m) m).answer.answers
-  seen_left some =
-      let first = all_left.first ∙ ap (λ (b : Bool). if b then idle_code c.verb else None) some in
-      let any = all_left.any ∙ ap (λ (b : Bool). b && is_none (idle_code c.verb)) some in
-      let whole : Option Code → Bool → Seen = λ f d. record { told = TooLong; first_error = f; any_done = d } in
-      λ i. whole (sym first i) (sym any i)
 
   -- ---- one that is not refused
 
@@ -289,8 +294,8 @@ module _ (keys : PartKeys) (rules : Rules) (at : At) (slot : Option ℕ) (c : Co
   carried_on (Name x) w = absurd cc
   carried_on (Other x) w = absurd cc
 
-  pub idle_carried : refusal_by_tables at slot c m ≡ None → allowed rules at slot c m ≡ on_names rules at c m
-  idle_carried h = ap (λ (o : Option Code). unless_refused o at c m (carried rules at slot c m c.term)) h ∙ carried_on c.term idle.wildcard
-
-  pub maps_stay : refusal_by_tables at slot c m ≡ None → (allowed rules at slot c m).maps ≡ m
-  maps_stay h = ap (λ (o : Outcome CmdOutcome). o.maps) (idle_carried h) ∙ all_left.maps
+  -- the maps stay, and each target has its reply
+  pub idle_carried : refusal_by_tables at slot c m ≡ None → allowed rules at slot c m ≡ record { maps = m; answer = outcome_told at c (map (idle_reply c m) (targets at c m)) }
+  idle_carried h =
+      ap (λ (o : Option Code). unless_refused o at c m (carried rules at slot c m c.term)) h ∙ carried_on c.term idle.wildcard
+      ∙ ap (λ (o : Outcome (Attempts Unit CommandReply)). let x : Outcome CmdOutcome = record { maps = o.maps; answer = outcome_told at c o.answer.answers } in x) (left_all rules at c m (targets at c m) each_left)

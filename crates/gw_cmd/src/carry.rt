@@ -21,31 +21,19 @@ ghost use Rattle.gw_refusal.specs.Forms.{refusal_by_form};
 ghost use Rattle.gw_refusal.specs.Targets.{targets};
 
 use crate::effects::{on_name, on_new};
-use crate::idle::{is_idle, seen_idle};
+use crate::idle::{is_idle, on_idle};
 use crate::outcome::{CmdOutcome, CmdTold, Seen};
 use crate::refusal::Refusal;
-use crate::replies::{code_of, has_one_reply, one, outcome_of, outcome_of_all, reply};
+use crate::replies::{code_of, has_one_reply, one, outcome_of, outcome_of_all, refused, reply};
 use crate::root::{every_serviced, root_parts};
-use crate::tables::refusal_by_tables;
+use crate::tables::{is_some, refusal_by_tables};
 use gw_base::{Code, Items, NoMemory, Rules, TermName, TermRef, Verb};
 use gw_length::Telling;
 use gw_msg::Command;
-use gw_refusal::{At, has_targets, refusal_by_form, service_asked, targets};
+use gw_refusal::{At, refusal_by_form, service_asked, targets};
 use gw_reply::CommandReply;
 use gw_table::{Draft, slot_name};
 use std::alloc::Global;
-
-/// One reply to the TerminationID as sent.
-fn refused(
-    told: Telling<CommandReply>,
-    at: At,
-    command: &Command<'_>,
-    code: Code,
-) -> Result<CmdTold, NoMemory>
-    ensures { IfOk result (λ done. done ≡ outcome_behind told (outcome_of at (reply command.now command.now.term (Err code) ∷ []))) }
-{
-    one(told, at, reply(command, command.term, Err(code)))
-}
 
 /// The reply of a command on the termination of a name.
 fn on_target(
@@ -257,12 +245,6 @@ fn carried(
     }
 }
 
-fn is_some(named: &[TermName]) -> bool
-    ensures { result ≡ is_some_list named.now }
-{
-    !named.is_empty()
-}
-
 /// Carries out a command that its form allows, on its targets, unless the tables refuse it.
 fn with_targets(
     alloc: Global,
@@ -289,45 +271,9 @@ fn with_targets(
     carried(alloc, rules, draft, at, slot, command, named, told)
 }
 
-/// Whether nothing of what the targets are told one by one is kept: they have one reply together, or what was told is too long.
-fn keeps_none(command: &Command<'_>, told: &Telling<CommandReply>) -> bool
-    ensures { result ≡ true → ((command.now.wild && is_wildcard command.now.term) ≡ false → told.now ≡ TooLong) }
-{
-    has_one_reply(command) || matches!(told, Telling::TooLong)
-}
-
-/// Carries out a command that its form allows and that leaves every termination as it is, where nothing of their single replies is
-/// kept: no target is named, and it is only told whether there is one.
-fn with_none(
-    alloc: Global,
-    rules: &Rules,
-    draft: &Draft<'_>,
-    at: At,
-    slot: Option<u16>,
-    command: &Command<'_>,
-    told: Telling<CommandReply>,
-) -> Result<CmdTold, NoMemory>
-    requires sound { IsSound draft.now.keys draft.now.maps }
-    requires covered { Holds draft.now.keys (command_keys at slot command.now draft.now.maps) }
-    requires form { refusal_by_form at command.now ≡ None }
-    requires idle { IsIdle draft.now.keys rules.now at command.now draft.now.maps }
-    requires kept { (command.now.wild && is_wildcard command.now.term) ≡ false → told ≡ TooLong }
-    ensures maps { (allowed rules.now at slot command.now draft.now.maps).maps ≡ draft.now.maps }
-    ensures answer { IfOk result (λ done. done ≡ outcome_behind told (allowed rules.now at slot command.now draft.now.maps).answer) }
-{
-    let any = has_targets(draft, at, command);
-    if let Some(code) = refusal_by_tables(draft, at, slot, command, any) {
-        return refused(told, at, command, code);
-    }
-    let seen = seen_idle(command.verb);
-    if !has_one_reply(command) {
-        return Ok(outcome_of(at, seen));
-    }
-    outcome_of_all(alloc, told, at, command, seen)
-}
-
 /// Carries one command out as [`command`] does, and tells its replies behind those before it. Where they are too long, none is kept,
-/// and the command is carried out all the same; one that leaves each of its targets as it is then costs as little as with `W-`.
+/// and the command is carried out all the same. One that leaves each of its targets as it is ends there, and begun behind the limit it
+/// costs as little as with `W-`.
 ///
 /// # Errors
 ///
@@ -355,8 +301,8 @@ pub fn command_told(
     if let TermRef::Name(name) = command.term {
         return with_targets(alloc, rules, draft, at, slot, command, &[name], told);
     }
-    if keeps_none(command, &told) && is_idle(rules, draft, at, command) {
-        return with_none(alloc, rules, draft, at, slot, command, told);
+    if is_idle(rules, draft, at, command) {
+        return on_idle(alloc, rules, draft, at, slot, command, told);
     }
     let named = targets(alloc, draft, at, command)?;
     with_targets(alloc, rules, draft, at, slot, command, &named, told)

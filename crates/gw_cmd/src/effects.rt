@@ -1,13 +1,15 @@
 //! What a command does to one termination.
 
-ghost use Rattle.std.specs.Prelude.{◌≡◌, true, None, Ok, OnOk};
+ghost use Rattle.std.specs.Prelude.{◌≡◌, true, List, None, Ok, OnOk};
 ghost use Rattle.gw_base.specs.declared.key.Key.TheVariants.{Term, Ctx};
 ghost use Rattle.gw_table.specs.Maps.{term, put_term, place_of};
 ghost use Rattle.gw_table.specs.Parts.{holds, HoldsPlace};
 ghost use Rattle.gw_table.specs.Reserved.{slot_name};
 ghost use Rattle.gw_table.specs.WellFormed.{IsSound};
 ghost use Rattle.gw_term.specs.Record.{ephemeral};
-ghost use Rattle.gw_cmd.specs.Effects.{refusal_elsewhere, nothing_told, after_service, decided as decided_by, done, on_record, on_name};
+ghost use Rattle.gw_term.specs.declared.record.Termination.{Termination};
+ghost use Rattle.gw_desc.specs.declared.descriptor.Descriptor.{Descriptor};
+ghost use Rattle.gw_cmd.specs.Effects.{refusal_elsewhere, nothing_told, after_service, is_full, decided_in, decided as decided_by, done, on_record, on_name};
 ghost use Rattle.gw_cmd.specs.Changes.{changed};
 ghost use Rattle.gw_cmd.specs.Refused.{Answers, Tells};
 ghost use Rattle.gw_cmd.specs.Suits.{Suits, HoldsMoved, HoldsFound};
@@ -84,6 +86,16 @@ fn done(
     Ok(decided.parts)
 }
 
+/// Whether the context takes no more members, as far as the command asks: an Add and a Move do, and no other costs a look-up.
+fn is_full_for(rules: &Rules, draft: &Draft<'_>, verb: Verb, number: CtxNum) -> bool
+    ensures { (descriptors : List Descriptor) (r : Termination) → decided_in rules.now verb descriptors result number r ≡ decided_in rules.now verb descriptors (is_full rules.now number draft.now.maps) number r }
+{
+    match verb {
+        Verb::Add | Verb::Move => is_full(rules, draft, number),
+        _ => false,
+    }
+}
+
 /// What is decided of a termination with this record.
 fn decided(
     alloc: Global,
@@ -99,7 +111,7 @@ fn decided(
     match place {
         None => decided_in_null(alloc, rules, command.verb, descriptors, old),
         Some(number) => {
-            let full = is_full(rules, draft, number);
+            let full = is_full_for(rules, draft, command.verb, number);
             decided_in(alloc, rules, command.verb, descriptors, full, number, old)
         }
     }

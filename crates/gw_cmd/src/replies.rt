@@ -1,6 +1,6 @@
 //! The replies to a command.
 
-ghost use Rattle.std.specs.Prelude.{◌≡◌, ◌∷◌, [], ◌&&◌, true, false, List, IfOk};
+ghost use Rattle.std.specs.Prelude.{◌≡◌, ◌∷◌, [], ◌&&◌, true, false, List, Err, IfOk};
 ghost use Rattle.gw_length.specs.declared.telling.Telling.{Telling};
 ghost use Rattle.gw_reply.specs.declared.reply.CommandReply.{CommandReply};
 ghost use Rattle.gw_cmd.specs.Commands.{reply, outcome_of, outcome_told};
@@ -54,6 +54,18 @@ pub(crate) fn one(
         failed,
         made: at.is_unmade() && !failed,
     })
+}
+
+/// One reply to the TerminationID as sent.
+pub(crate) fn refused(
+    told: Telling<CommandReply>,
+    at: At,
+    command: &Command<'_>,
+    code: Code,
+) -> Result<CmdTold, NoMemory>
+    ensures { IfOk result (λ done. done ≡ outcome_behind told (outcome_of at (reply command.now command.now.term (Err code) ∷ []))) }
+{
+    one(told, at, reply(command, command.term, Err(code)))
 }
 
 /// What a command gave whose targets' replies are told.

@@ -5,7 +5,7 @@ ghost use Rattle.gw_cmd.specs.Refusals.{has_ended, missing, refusal_by_tables};
 ghost use Rattle.gw_refusal.specs.Asked.{is_some_list};
 ghost use Rattle.gw_refusal.specs.Targets.{targets};
 
-use gw_base::{Code, TermRef};
+use gw_base::{Code, TermName, TermRef};
 use gw_desc::check;
 use gw_msg::Command;
 use gw_refusal::At;
@@ -19,6 +19,13 @@ fn has_ended(draft: &Draft<'_>, at: At) -> bool
         At::Live(number) | At::Each(number) => draft.ctx(number).is_none(),
         At::Null | At::Unmade(_) => false,
     }
+}
+
+/// Whether there is one of them.
+pub(crate) fn is_some(named: &[TermName]) -> bool
+    ensures { result ≡ is_some_list named.now }
+{
+    !named.is_empty()
 }
 
 /// What is missing: the termination of a name, one that a wildcard matches, or a slot.
