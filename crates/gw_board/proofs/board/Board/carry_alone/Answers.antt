@@ -1,4 +1,4 @@
-use Rattle.std.proofs.Common.{◌≡◌, ℕ, suc, List, ◌∷◌, ◌++◌, [], map, take, Some, sym, ap, subst, ◌∙◌, add-one, arith}
+use Rattle.std.proofs.Common.{◌≡◌, ◌+◌, ℕ, suc, List, ◌∷◌, ◌++◌, [], map, take, Some, sym, ap, subst, ◌∙◌, add-one, arith}
 use Rattle.std.specs.List.{list_any}
 use Rattle.std.specs.Prelude.{slice_get, slice_set, ◌&&◌}
 use Rattle.gw_base.specs.declared.key.Key.{Key}
@@ -9,8 +9,8 @@ use Rattle.gw_table.specs.Stored.{Stored, maps_of, names_entry, NoneIsOut}
 use Rattle.gw_table.specs.WellFormed.{AreWellFormed}
 use Rattle.gw_board.specs.Alone.{WasCarried, AreAsBefore}
 use Rattle.gw_board.specs.BoardView.{value_of, IsOnTheWay, IsKeptIn}
-use Rattle.gw_board.specs.Boards.{Seen, core_of, AllClosed, unclosed}
-use Rattle.gw_board.specs.Carried.{Asked}
+use Rattle.gw_board.specs.Boards.{Seen, core_of, AllClosed, GivesTheFold, unclosed}
+use Rattle.gw_board.specs.Carried.{Asked, done}
 use Rattle.gw_board.specs.Core.{Place, Closed, pending}
 use Rattle.gw_board.specs.OpenJobs.{IsSameBurst}
 use Rattle.gw_board.specs.Results.{is_open, NothingIsOpen}
@@ -67,7 +67,6 @@ invariant_of-self c =
     let back : AreAsBefore c.self.inside.tables c.in-Err.tables = subst (λ (s : Stored). AreAsBefore s c.in-Err.tables) before c.in-Err.ensures.err in
     let none : NothingIsOpen (core_of b) = none_here b c.args.self.now c.self.view_is c.requires.«open» in
     let room = c.self.invariant.room in
-    let was : AreAsBefore c.self.inside.tables c.in-Err.tables = subst (λ (s : Stored). AreAsBefore s c.in-Err.tables) c.replace-tables.ensures.value c.in-Err.ensures.err in
     record {
       on_the_way = prepared_way b (maps_of c.in-Err.tables) back.maps c.self.invariant.on_the_way;
       kept = record {
