@@ -16,7 +16,7 @@ use Rattle.gw_table.specs.Originals.{keys_written, undone, IsInPlace}
 use Rattle.gw_table.specs.Stored.{Stored, shown, has_left, maps_of, is_ready, put_term_place, put_ctx_place, NoneIsOut, AreReady, KeepReady}
 use Rattle.gw_table.proofs.Moved.{has-pushed}
 use Rattle.gw_table.proofs.Places.{got_term, got_ctx, maps-put_term_place, maps-put_ctx_place, in-put_term, in-put_ctx}
-use Rattle.gw_table.proofs.Undone.{keys_more, undone_term, undone_ctx, undone_again}
+use Rattle.gw_table.proofs.Undone.{keys_more, undone_term, undone_ctx, undone_term_again, undone_ctx_again}
 
 pub same_in_place : (start old now : Stored) (ws vs : List Write) → now ≡ old → vs ≡ ws → IsInPlace start old ws → IsInPlace start now vs
 same_in_place start old now ws vs e f i = subst (λ (s : Stored). IsInPlace start s vs) (sym e) (subst (λ (l : List Write). IsInPlace start old l) (sym f) i)
@@ -81,11 +81,19 @@ module _ (start now : Stored) (ws : List Write) (i : IsInPlace start now ws) whe
     kept = λ k h. keep-put_ctx now n p k (i.kept k h);
   }
 
-  -- a context that was written before
-  pub wrote_again : (n : CtxNum) (p : Place ContextRecord) → has_left (Some p) ≡ false → has (keys_written ws) (Ctx n) ≡ true → IsInPlace start (put_ctx_place now n p) ws
-  wrote_again n p g h = record {
+  -- of a key that was written before
+  pub wrote_term_again : (t : List ℕ) (p : Place Termination) → has_left (Some p) ≡ false → has (keys_written ws) (Term t) ≡ true → IsInPlace start (put_term_place now t p) ws
+  wrote_term_again t p g h = record {
+    here = in-put_term now t p g i.here;
+    back = ap (undone ws) (maps-put_term_place now t p) ∙ undone_term_again ws (maps_of now) t (shown (Some p)) h ∙ i.back;
+    places = λ k e. keep-put_term now t p k (i.places k e);
+    kept = λ k e. keep-put_term now t p k (i.kept k e);
+  }
+
+  pub wrote_ctx_again : (n : CtxNum) (p : Place ContextRecord) → has_left (Some p) ≡ false → has (keys_written ws) (Ctx n) ≡ true → IsInPlace start (put_ctx_place now n p) ws
+  wrote_ctx_again n p g h = record {
     here = in-put_ctx now n p g i.here;
-    back = ap (undone ws) (maps-put_ctx_place now n p) ∙ undone_again ws (maps_of now) n (shown (Some p)) h ∙ i.back;
+    back = ap (undone ws) (maps-put_ctx_place now n p) ∙ undone_ctx_again ws (maps_of now) n (shown (Some p)) h ∙ i.back;
     places = λ k e. keep-put_ctx now n p k (i.places k e);
     kept = λ k e. keep-put_ctx now n p k (i.kept k e);
   }

@@ -1,9 +1,10 @@
 -- Writes that are taken back: what is read then, and what one more write comes to.
-use Rattle.std.proofs.Common.{nat_eq, ◌≡◌, ℕ, zero, suc, take, drop, Bool, true, false, cond, List, [], ◌∷◌, ◌++◌, bytes_eq, Option, None, refl, sym, ap, ◌∙◌}
+use Rattle.std.proofs.Common.{nat_eq, ◌≡◌, ℕ, ◌<◌, length, get_or, Bool, true, false, cond, List, [], ◌∷◌, ◌++◌, bytes_eq, Option, None, refl, sym, ap, ◌∙◌}
 use Rattle.std.specs.Prelude.{◌||◌}
 use Rattle.std.specs.Bool.{OnTrue}
 use Rattle.std.specs.FinMap.{get-empty}
 use Rattle.std.specs.List.{list_any}
+use Rattle.std.proofs.lemmas.List.Folds.{list_any_at}
 use Rattle.std.specs.Ordering.{nat_cmp}
 use Rattle.gw_base.specs.declared.ids.CtxNum.{CtxNum}
 use Rattle.gw_base.specs.declared.key.Key.{Key}
@@ -11,7 +12,7 @@ use Rattle.gw_base.specs.declared.key.Key.TheVariants.{Term, Ctx}
 use Rattle.gw_base.specs.Keys.{same_key, has}
 use Rattle.gw_base.specs.NameLists.{name_cmp}
 use Rattle.gw_base.proofs.KeyTests.{same-itself}
-use Rattle.gw_base.proofs.NameTests.{same_number}
+use Rattle.gw_base.proofs.NameTests.{same_name, same_number}
 use Rattle.gw_base.proofs.NamesInLists.{or_left, or_right}
 use Rattle.gw_term.specs.declared.record.Termination.{Termination}
 use Rattle.gw_ctx.specs.Contexts.{ContextRecord}
@@ -83,44 +84,46 @@ undone_term ws m t o before e = undone_more ws (OfTerm t before) (put_term m t o
 pub undone_ctx : (ws : List Write) (m : Maps) (n : CtxNum) (o before : Option ContextRecord) → before ≡ ctx m n → undone (ws ++ OfCtx n before ∷ []) (put_ctx m n o) ≡ undone ws m
 undone_ctx ws m n o before e = undone_more ws (OfCtx n before) (put_ctx m n o) ∙ ap (undone ws) (put_ctx-put_ctx m n o before ∙ put_ctx-same m n before e)
 
--- or of a context that was written before
-pub undone_again : (ws : List Write) (m : Maps) (n : CtxNum) (o : Option ContextRecord) → has (keys_written ws) (Ctx n) ≡ true → undone ws (put_ctx m n o) ≡ undone ws m
-undone_again ws m n o h = same_maps (undone ws (put_ctx m n o)) (undone ws m)
+-- or of a key that was written before
+there_already : {A : Type 0} (h b : Bool) (x o y : A) → (b ≡ true → h ≡ true) → cond h x (cond b o y) ≡ cond h x y
+there_already true b x o y f = refl
+there_already false true x o y f = absurd (let clash : false ≡ true = f refl in cc)
+there_already false false x o y f = refl
+
+pub undone_term_again : (ws : List Write) (m : Maps) (t : List ℕ) (o : Option Termination) → has (keys_written ws) (Term t) ≡ true → undone ws (put_term m t o) ≡ undone ws m
+undone_term_again ws m t o h = same_maps (undone ws (put_term m t o)) (undone ws m)
+    (λ q. term-undone ws (put_term m t o) q ∙ ap (cond (has (keys_written ws) (Term q)) (term (undone ws no_maps) q)) (term-put_term m t o q)
+    ∙ there_already (has (keys_written ws) (Term q)) (bytes_eq q t) (term (undone ws no_maps) q) o (term m q) (λ e. ap (λ (x : List ℕ). has (keys_written ws) (Term x)) (same_name q t e) ∙ h) ∙ sym (term-undone ws m q))
+    (λ q. ctx-undone ws (put_term m t o) q ∙ ap (cond (has (keys_written ws) (Ctx q)) (ctx (undone ws no_maps) q)) (ctx-put_term m t o q) ∙ sym (ctx-undone ws m q))
+
+pub undone_ctx_again : (ws : List Write) (m : Maps) (n : CtxNum) (o : Option ContextRecord) → has (keys_written ws) (Ctx n) ≡ true → undone ws (put_ctx m n o) ≡ undone ws m
+undone_ctx_again ws m n o h = same_maps (undone ws (put_ctx m n o)) (undone ws m)
     (λ q. term-undone ws (put_ctx m n o) q ∙ ap (cond (has (keys_written ws) (Term q)) (term (undone ws no_maps) q)) (term-put_ctx m n o q) ∙ sym (term-undone ws m q))
     (λ q. ctx-undone ws (put_ctx m n o) q ∙ ap (cond (has (keys_written ws) (Ctx q)) (ctx (undone ws no_maps) q)) (ctx-put_ctx m n o q)
-    ∙ at q (nat_eq q.0 n.0) refl ∙ sym (ctx-undone ws m q))
-  where
-    at : (q : CtxNum) (b : Bool) → nat_eq q.0 n.0 ≡ b → cond (has (keys_written ws) (Ctx q)) (ctx (undone ws no_maps) q) (cond b o (ctx m q)) ≡ cond (has (keys_written ws) (Ctx q)) (ctx (undone ws no_maps) q) (ctx m q)
-    at q true e =
-        let there : has (keys_written ws) (Ctx q) ≡ true = ap (λ (x : CtxNum). has (keys_written ws) (Ctx x)) (same_number q n e) ∙ h in
-        ap (λ b. cond b (ctx (undone ws no_maps) q) o) there ∙ ap (λ b. cond b (ctx (undone ws no_maps) q) (ctx m q)) (sym there)
-    at q false e = refl
+    ∙ there_already (has (keys_written ws) (Ctx q)) (nat_eq q.0 n.0) (ctx (undone ws no_maps) q) o (ctx m q) (λ e. ap (λ (x : CtxNum). has (keys_written ws) (Ctx x)) (same_number q n e) ∙ h) ∙ sym (ctx-undone ws m q))
 
--- ---- a context that was written lately
+-- ---- a key that is found among the writes
 
 any_mapped : (p : Key → Bool) (ws : List Write) → list_any (λ w. p (key_written w)) ws ≡ list_any p (keys_written ws)
 any_mapped p [] = refl
 any_mapped p (w ∷ ws) = ap (λ b. p (key_written w) || b) (any_mapped p ws)
 
-any_behind : (p : Write → Bool) (i : ℕ) (ws : List Write) → list_any p (drop i ws) ≡ true → list_any p ws ≡ true
-any_behind p zero ws h = h
-any_behind p (suc i) [] h = h
-any_behind p (suc i) (w ∷ ws) h = or_right (p w) (list_any p ws) (any_behind p i ws h)
+pub among_them : (ws : List Write) (k : Key) (b : Bool) → b ≡ list_any (λ w. same_key k (key_written w)) ws → OnTrue b (has (keys_written ws) k ≡ true)
+among_them ws k true e = sym (any_mapped (same_key k) ws) ∙ sym e
+among_them ws k false e = tt
+
+pub one_of_them : (ws : List Write) (i : ℕ) (w : Write) (k : Key) (b : Bool) → i < length ws → w ≡ get_or ws i w → b ≡ same_key k (key_written w) → OnTrue b (has (keys_written ws) k ≡ true)
+one_of_them ws i w k true h is e = sym (any_mapped (same_key k) ws) ∙ list_any_at (λ x. same_key k (key_written x)) ws i w h (ap (λ (x : Write). same_key k (key_written x)) (sym is) ∙ sym e)
+one_of_them ws i w k false h is e = tt
+
+-- what was told holds of the same writes
+pub told : (seen ws : List Write) (k : Key) (b : Bool) → seen ≡ ws → OnTrue b (has (keys_written seen) k ≡ true) → b ≡ true → has (keys_written ws) k ≡ true
+told seen ws k true is t e = ap (λ (l : List Write). has (keys_written l) k) (sym is) ∙ t
+told seen ws k false is t e = absurd cc
 
 either_way : (a b c : Bool) → (a || b) ≡ true → (b ≡ true → c ≡ true) → (a || c) ≡ true
 either_way true b c h f = refl
 either_way false b c h f = f h
-
-any_front : (p : Write → Bool) (i : ℕ) (ws : List Write) → list_any p (take i ws) ≡ true → list_any p ws ≡ true
-any_front p zero ws h = absurd cc
-any_front p (suc i) [] h = h
-any_front p (suc i) (w ∷ ws) h = either_way (p w) (list_any p (take i ws)) (list_any p ws) h (any_front p i ws)
-
-pub late_write : (ws : List Write) (i k : ℕ) (n : CtxNum) (b : Bool) → b ≡ list_any (λ w. same_key (Ctx n) (key_written w)) (take k (drop i ws)) → OnTrue b (has (keys_written ws) (Ctx n) ≡ true)
-late_write ws i k n true e =
-    let p : Write → Bool = λ w. same_key (Ctx n) (key_written w) in
-    sym (any_mapped (same_key (Ctx n)) ws) ∙ any_behind p i ws (any_front p k (drop i ws) (sym e))
-late_write ws i k n false e = tt
 
 -- ---- the last write
 

@@ -1,16 +1,12 @@
 //! Tables that are changed in place, with what stood there before.
 
-ghost use Rattle.std.specs.Prelude.{◌≡◌, None, true, IfOk, OnOk, option_copied};
-ghost use Rattle.std.specs.Bool.{OnTrue};
-ghost use Rattle.std.specs.List.{list_any};
-ghost use Rattle.gw_base.specs.declared.key.Key.TheVariants.{Ctx};
-ghost use Rattle.gw_base.specs.Keys.{same_key, has};
+ghost use Rattle.std.specs.Prelude.{◌≡◌, None, IfOk, OnOk, option_copied};
 ghost use Rattle.gw_table.specs.Maps.{term, ctx, put_term, put_ctx, names, numbers};
 ghost use Rattle.gw_table.specs.Members.{put_service};
-ghost use Rattle.gw_table.specs.Originals.{key_written, keys_written};
 ghost use Rattle.gw_table.specs.Parts.{Over, Only, list_of, start_of, restricted, overlaid};
 ghost use Rattle.gw_table.specs.Stored.{maps_of, NoneIsOut, AreReady, KeepReady};
 
+use crate::noted::was_written;
 use crate::originals::{Originals, Write};
 use crate::place::{Place, entry_in};
 use crate::tables::Tables;
@@ -21,11 +17,14 @@ use std::alloc::Global;
 use std::marker::Model;
 use std::snapshot::Snapshot;
 
-/// Tables that are changed in place: every write is noted with what stood there, so that there is a way back, which takes no memory.
-/// A look-up is one in the tables, and a write takes one.
+/// Tables that are changed in place: the first write of each key is noted with what stood there, so that there is a way back, which
+/// takes no memory. A look-up is one in the tables, and a write takes one. Beside what is written only the originals are held, one for
+/// each key, however often it is written.
 pub(crate) struct InPlace {
     pub(crate) tables: Tables,
     writes: Vec<Write>,
+    // The writes in the order of their keys, where there are many, for the search among them.
+    order: Vec<usize>,
     vacated: Vec<Key>,
     start: Snapshot<Tables>,
 }
@@ -36,6 +35,7 @@ impl Drop for InPlace {
         let InPlace {
             tables: _,
             writes: _,
+            order: _,
             vacated: _,
             start: _,
         } = self;
@@ -56,24 +56,6 @@ impl Model for InPlace {
     ghost invariant = { λ a. IsInPlace a.start.value a.tables a.writes.items };
 }
 
-/// How many of the last writes are looked at for an earlier one of the same context. A command writes a context at most twice, and a
-/// termination once.
-const LATELY: usize = 8;
-
-fn is_among(writes: &[Write], number: CtxNum) -> bool
-    ensures { result ≡ list_any (λ w. same_key (Ctx number) (key_written w)) writes.now }
-{
-    writes.iter().any(|write| write.is_of(number))
-}
-
-/// Whether a context is among those that were written last.
-fn was_written(writes: &[Write], number: CtxNum) -> bool
-    ensures { OnTrue result (has (keys_written writes.now) (Ctx number) ≡ true) }
-{
-    let first = writes.len().saturating_sub(LATELY);
-    is_among(&writes[first..], number)
-}
-
 /// Notes a key that is left without an entry.
 fn note_vacated(vacated: &mut Vec<Key>, key: Key, is_vacated: bool) -> Result<(), NoMemory> {
     if is_vacated {
@@ -92,6 +74,7 @@ impl InPlace {
         InPlace {
             tables,
             writes: Vec::new(alloc),
+            order: Vec::new(alloc),
             vacated: Vec::new(alloc),
             start,
         }
@@ -111,7 +94,8 @@ impl InPlace {
         self.tables.find_ctx(number)
     }
 
-    /// Sets the termination of a name, or none. What stood there is moved.
+    /// Sets the termination of a name, or none. What stood there is moved; where it was written before it is let go, since what stood
+    /// there first is known.
     pub(crate) fn set_term(
         &mut self,
         name: TermName,
@@ -120,7 +104,13 @@ impl InPlace {
         ensures maps { OnOk result (self.new.maps ≡ put_term self.old.maps name entry) }
         ensures keys { self.new.keys ≡ self.old.keys }
     {
-        note_vacated(&mut self.vacated, Key::Term(name), entry.is_none())?;
+        let key = Key::Term(name);
+        note_vacated(&mut self.vacated, key, entry.is_none())?;
+        let is_noted = was_written(&self.writes, &mut self.order, &key)?;
+        if is_noted {
+            drop(self.tables.exchange_term(&name, Place::of(entry)));
+            return Ok(());
+        }
         self.writes.reserve(1)?;
         let before = entry_in(self.tables.put_term(name, Place::of(entry))?);
         let Ok(()) = self.writes.push(Write::OfTerm(name, before)) else {
@@ -129,8 +119,7 @@ impl InPlace {
         Ok(())
     }
 
-    /// Sets the context with a number, or none. What stood there is moved; where it was written lately it is let go, since what stood
-    /// there first is known.
+    /// Sets the context with a number, or none, as `set_term` does.
     pub(crate) fn set_ctx(
         &mut self,
         number: CtxNum,
@@ -139,8 +128,10 @@ impl InPlace {
         ensures maps { OnOk result (self.new.maps ≡ put_ctx self.old.maps number entry) }
         ensures keys { self.new.keys ≡ self.old.keys }
     {
-        note_vacated(&mut self.vacated, Key::Ctx(number), entry.is_none())?;
-        if was_written(&self.writes, number) {
+        let key = Key::Ctx(number);
+        note_vacated(&mut self.vacated, key, entry.is_none())?;
+        let is_noted = was_written(&self.writes, &mut self.order, &key)?;
+        if is_noted {
             drop(self.tables.exchange_ctx(number, Place::of(entry)));
             return Ok(());
         }
@@ -152,7 +143,7 @@ impl InPlace {
         Ok(())
     }
 
-    /// Takes the context with a number out, to be changed and set again: the context itself where it was written lately, and else a
+    /// Takes the context with a number out, to be changed and set again: the context itself where it was written before, and else a
     /// copy, since the original is kept.
     pub(crate) fn take_ctx(
         &mut self,
@@ -163,7 +154,8 @@ impl InPlace {
         ensures maps { OnOk result (self.new.maps ≡ put_ctx self.old.maps number None) }
         ensures keys { self.new.keys ≡ self.old.keys }
     {
-        if was_written(&self.writes, number) {
+        let is_noted = was_written(&self.writes, &mut self.order, &Key::Ctx(number))?;
+        if is_noted {
             return Ok(self.tables.exchange_ctx(number, Place::Empty).into_entry());
         }
         let Some(context) = self.tables.find_ctx(number) else {
@@ -178,7 +170,7 @@ impl InPlace {
         Ok(Some(copy))
     }
 
-    /// The termination of a name has another service state, if there is one: it is copied, since the original is kept.
+    /// The termination of a name has another service state, if there is one. It is copied, since the original is kept.
     pub(crate) fn set_service(
         &mut self,
         alloc: Global,
@@ -188,10 +180,14 @@ impl InPlace {
         ensures maps { OnOk result (self.new.maps ≡ put_service service name.now self.old.maps (term self.old.maps name.now)) }
         ensures keys { self.new.keys ≡ self.old.keys }
     {
+        let is_noted = was_written(&self.writes, &mut self.order, &Key::Term(*name))?;
         self.writes.reserve(1)?;
         let Some(before) = self.tables.set_service(alloc, name, service)? else {
             return Ok(());
         };
+        if is_noted {
+            return Ok(());
+        }
         let Ok(()) = self.writes.push(Write::OfTerm(*name, Some(before))) else {
             unreachable!()
         };
@@ -225,6 +221,7 @@ impl InPlace {
         let InPlace {
             tables,
             writes,
+            order: _,
             vacated,
             start: _,
         } = self;
@@ -240,6 +237,7 @@ impl InPlace {
         let InPlace {
             mut tables,
             writes,
+            order: _,
             vacated: _,
             start: _,
         } = self;

@@ -12,6 +12,7 @@ mod key_order;
 mod keys;
 mod laws;
 mod moves;
+mod noted;
 mod originals;
 mod over_part;
 mod part;

@@ -2,7 +2,7 @@
 
 ghost use Rattle.std.specs.Prelude.{◌≡◌, true, false};
 ghost use Rattle.gw_base.specs.Keys.{same_key};
-ghost use Rattle.gw_base.specs.declared.key.Key.TheVariants.{Ctx};
+ghost use Rattle.gw_table.specs.KeyLists.{key_cmp};
 ghost use Rattle.gw_table.specs.Originals.{key_written, keys_written, without_write, undone};
 ghost use Rattle.gw_table.specs.Parts.{list_of, overlaid};
 ghost use Rattle.gw_table.specs.Stored.{maps_of, is_ready, is_out, AreReady, AreIn, AreAsReady, AreAsOut, NoneIsOut};
@@ -12,6 +12,7 @@ use crate::tables::Tables;
 use gw_base::{CtxNum, Held, Key, TermName};
 use gw_ctx::Context;
 use gw_term::Termination;
+use std::cmp::Ordering;
 use std::marker::Model;
 
 /// What stood at a key before a write of it.
@@ -24,19 +25,43 @@ pub enum Write {
 }
 
 impl Write {
-    /// Whether a context was written: that with this number.
-    pub(crate) fn is_of(&self, number: CtxNum) -> bool
-        ensures { result ≡ same_key (Ctx number) (key_written self.now) }
+    /// The key that was written.
+    pub(crate) fn key(&self) -> Key
+        ensures { result ≡ key_written self.now }
     {
         match self {
-            Write::OfTerm(_, _) => false,
-            Write::OfCtx(own, _) => own.0 == number.0,
+            Write::OfTerm(name, _) => Key::Term(*name),
+            Write::OfCtx(number, _) => Key::Ctx(*number),
+        }
+    }
+
+    /// Whether it is a write of this key.
+    pub(crate) fn is_of(&self, key: &Key) -> bool
+        ensures { result ≡ same_key key.now (key_written self.now) }
+    {
+        match (self, key) {
+            (Write::OfTerm(own, _), Key::Term(name)) => own == name,
+            (Write::OfCtx(own, _), Key::Ctx(number)) => own.0 == number.0,
+            _ => false,
+        }
+    }
+
+    /// Whether the key that was written comes before another one, or after it.
+    pub(crate) fn compare(&self, key: &Key) -> Ordering
+        ensures { result ≡ key_cmp (key_written self.now) key.now }
+    {
+        match (self, key) {
+            (Write::OfTerm(own, _), Key::Term(name)) => own.cmp(name),
+            (Write::OfTerm(_, _), _) => Ordering::Less,
+            (Write::OfCtx(_, _), Key::Term(_)) => Ordering::Greater,
+            (Write::OfCtx(own, _), Key::Ctx(number)) => own.0.cmp(&number.0),
+            (Write::OfCtx(_, _), Key::Whole) => Ordering::Less,
         }
     }
 }
 
-/// What stood at keys of tables before they were written, in the order of the writes: a key for each, which may stand there more than
-/// once, and of each key what its first write found there.
+/// What stood at keys of tables before they were written, in the order of the writes: a key for each, and of each key what its first
+/// write found there.
 #[derive(Drop)]
 pub struct Originals {
     pub(crate) writes: Vec<Write>,

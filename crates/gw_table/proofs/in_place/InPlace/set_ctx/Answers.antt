@@ -7,21 +7,22 @@ use Rattle.gw_table.specs.Maps.{put_ctx}
 use Rattle.gw_table.specs.Originals.{keys_written}
 use Rattle.gw_table.specs.Parts.{Parted}
 use Rattle.gw_table.specs.Stored.{Stored, shown, placed, maps_of, put_ctx_place}
-use Rattle.gw_table.proofs.InPlace.{same_in_place, wrote_ctx, wrote_again}
+use Rattle.gw_table.proofs.InPlace.{same_in_place, wrote_ctx, wrote_ctx_again}
 use Rattle.gw_table.proofs.Places.{ctx-maps_of, maps-put_ctx_place, shown_placed, placed_here}
+use Rattle.gw_table.proofs.Undone.{told}
 use Rattle.gw_table.proofs.in_place.InPlace.set_ctx.Goals as goal
 
 -- ---- where it was written lately
 
-pub invariant_of-self-then-was_written : goal.invariant_of-self-then-was_written
-invariant_of-self-then-was_written c =
-    let there : has (keys_written c.self.inside.writes.items) (Ctx c.args.number) ≡ true = ap (λ (l : List Write). has (keys_written l) (Ctx c.args.number)) (sym c.deref.ensures.value) ∙ c.if-was_written.ensures in
+pub invariant_of-self-then-is_noted : goal.invariant_of-self-then-is_noted
+invariant_of-self-then-is_noted c =
+    let there : has (keys_written c.self.inside.writes.items) (Ctx c.args.number) ≡ true = told c.deref.result.now c.self.inside.writes.items (Ctx c.args.number) c.in_ok-is_noted.is_noted c.deref.ensures.value c.in_ok-is_noted.ensures c.if-is_noted.true in
     same_in_place c.self.inside.start.value (put_ctx_place c.self.inside.tables c.args.number (placed c.args.entry)) c.exchange_ctx.new.self c.self.inside.writes.items c.self.inside.writes.items
     (c.exchange_ctx.ensures.after ∙ ap (λ p. put_ctx_place c.self.inside.tables c.args.number p) c.of.ensures) refl
-    (wrote_again c.self.inside.start.value c.self.inside.tables c.self.inside.writes.items c.self.invariant c.args.number (placed c.args.entry) (placed_here c.args.entry) there)
+    (wrote_ctx_again c.self.inside.start.value c.self.inside.tables c.self.inside.writes.items c.self.invariant c.args.number (placed c.args.entry) (placed_here c.args.entry) there)
 
-pub returns-then-was_written-clause-maps : goal.returns-then-was_written-clause-maps
-returns-then-was_written-clause-maps c =
+pub returns-then-is_noted-clause-maps : goal.returns-then-is_noted-clause-maps
+returns-then-is_noted-clause-maps c =
     ap (λ s. maps_of s) (c.exchange_ctx.ensures.after ∙ ap (λ p. put_ctx_place c.self.inside.tables c.args.number p) c.of.ensures) ∙ maps-put_ctx_place c.self.inside.tables c.args.number (placed c.args.entry)
     ∙ ap (put_ctx (maps_of c.self.inside.tables) c.args.number) (shown_placed c.args.entry) ∙ ap (λ (p : Parted). put_ctx p.maps c.args.number c.args.entry) c.self.view_is
 

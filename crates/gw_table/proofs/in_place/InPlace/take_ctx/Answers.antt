@@ -9,32 +9,33 @@ use Rattle.gw_table.specs.Maps.{ctx, put_ctx}
 use Rattle.gw_table.specs.Originals.{keys_written}
 use Rattle.gw_table.specs.Parts.{Parted}
 use Rattle.gw_table.specs.Stored.{Stored, shown, maps_of, put_ctx_place}
-use Rattle.gw_table.proofs.InPlace.{same_in_place, wrote_ctx, wrote_again}
+use Rattle.gw_table.proofs.InPlace.{same_in_place, wrote_ctx, wrote_ctx_again}
 use Rattle.gw_table.proofs.Leaving.{put_ctx-same}
 use Rattle.gw_table.proofs.Places.{ctx-maps_of, maps-put_ctx_place}
+use Rattle.gw_table.proofs.Undone.{told}
 use Rattle.gw_table.proofs.in_place.InPlace.take_ctx.Goals as goal
 
 -- ---- where it was written lately
 
-pub invariant_of-self : goal.invariant_of-self
-invariant_of-self c =
-    let there : has (keys_written c.self.inside.writes.items) (Ctx c.args.number) ≡ true = ap (λ (l : List Write). has (keys_written l) (Ctx c.args.number)) (sym c.deref.ensures.value) ∙ c.if-was_written.ensures in
+pub invariant_of-self-then-is_noted : goal.invariant_of-self-then-is_noted
+invariant_of-self-then-is_noted c =
+    let there : has (keys_written c.self.inside.writes.items) (Ctx c.args.number) ≡ true = told c.deref.result.now c.self.inside.writes.items (Ctx c.args.number) c.in_ok-is_noted.is_noted c.deref.ensures.value c.in_ok-is_noted.ensures c.if-is_noted.true in
     same_in_place c.self.inside.start.value (put_ctx_place c.self.inside.tables c.args.number Empty) c.exchange_ctx.new.self c.self.inside.writes.items c.self.inside.writes.items c.exchange_ctx.ensures.after refl
-    (wrote_again c.self.inside.start.value c.self.inside.tables c.self.inside.writes.items c.self.invariant c.args.number Empty refl there)
+    (wrote_ctx_again c.self.inside.start.value c.self.inside.tables c.self.inside.writes.items c.self.invariant c.args.number Empty refl there)
 
-pub returns-then-was_written-clause-context : goal.returns-then-was_written-clause-context
-returns-then-was_written-clause-context c =
+pub returns-then-is_noted-clause-context : goal.returns-then-is_noted-clause-context
+returns-then-is_noted-clause-context c =
     c.into_entry.ensures ∙ ap (λ o. shown o) c.exchange_ctx.ensures.before ∙ sym (ctx-maps_of c.self.inside.tables c.args.number) ∙ ap (λ (p : Parted). ctx p.maps c.args.number) c.self.view_is
 
-pub returns-then-was_written-clause-maps : goal.returns-then-was_written-clause-maps
-returns-then-was_written-clause-maps c =
+pub returns-then-is_noted-clause-maps : goal.returns-then-is_noted-clause-maps
+returns-then-is_noted-clause-maps c =
     ap (λ s. maps_of s) c.exchange_ctx.ensures.after ∙ maps-put_ctx_place c.self.inside.tables c.args.number Empty ∙ ap (λ (p : Parted). put_ctx p.maps c.args.number None) c.self.view_is
 
 -- ---- where it was not
 
 pub returns-in_default-clause-maps : goal.returns-in_default-clause-maps
 returns-in_default-clause-maps c =
-    sym (put_ctx-same c.args.self.now.maps c.args.number None (ap (λ o. option_copied o) (sym c.in_default.is) ∙ c.find_ctx.ensures ∙ ap (λ (p : Parted). ctx p.maps c.args.number) c.self.view_is))
+    ap (λ (p : Parted). p.maps) c.self.view_is ∙ sym (put_ctx-same c.args.self.now.maps c.args.number None (ap (λ o. option_copied o) (sym c.in_default.is) ∙ c.find_ctx.ensures ∙ ap (λ (p : Parted). ctx p.maps c.args.number) c.self.view_is))
 
 pub invariant_of-self-2 : goal.invariant_of-self-2
 invariant_of-self-2 c =
