@@ -34,7 +34,7 @@ asked-set [] i p new e f = absurd cc
 asked-set (q ∷ qs) zero p new e f = let same : q ≡ p = cc in ap (λ (a : Asked). a ∷ asked_of qs) (f ∙ ap (λ (x : Place). x.asked) (sym same))
 asked-set (q ∷ qs) (suc i) p new e f = ap (λ (l : List Asked). q.asked ∷ l) (asked-set qs i p new e f)
 
-asked-pending : (asked : List Asked) → asked_of (map pending asked) ≡ asked
+pub asked-pending : (asked : List Asked) → asked_of (map pending asked) ≡ asked
 asked-pending [] = refl
 asked-pending (a ∷ more) = ap (λ (l : List Asked). a ∷ l) (asked-pending more)
 

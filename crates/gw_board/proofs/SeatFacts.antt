@@ -147,11 +147,11 @@ next_pending (q ∷ qs) zero p e = let same : q ≡ p = cc in ap (λ (x : Place)
 next_pending (q ∷ qs) (suc n) p e = ap (λ (l : List Place). pending q.asked ∷ l) (next_pending qs n p e)
 
 -- or all
-pub all_are_pending : (places : List Place) (n : ℕ) → length places ≡ n → front_pending n places ≡ map pending (asked_of places)
-all_are_pending [] zero e = refl
-all_are_pending [] (suc n) e = refl
-all_are_pending (p ∷ ps) zero e = absurd cc
-all_are_pending (p ∷ ps) (suc n) e = ap (λ (l : List Place). pending p.asked ∷ l) (all_are_pending ps n (omega (arith, e)))
+pub all_are_pending : (places : List Place) (n : ℕ) → length places ≤ n → front_pending n places ≡ map pending (asked_of places)
+all_are_pending [] zero h = refl
+all_are_pending [] (suc n) h = refl
+all_are_pending (p ∷ ps) zero h = absurd (omega arith)
+all_are_pending (p ∷ ps) (suc n) h = ap (λ (l : List Place). pending p.asked ∷ l) (all_are_pending ps n (omega arith))
 
 -- there is a place
 pub place_there : (places : List Place) (n : ℕ) → n < length places → (p : Place) × (slice_get places n ≡ Some p)

@@ -16,7 +16,7 @@ use std::alloc::Global;
 pub(crate) fn last_alone(alloc: Global, originals: &mut Vec<Original>) -> Originals
     ensures last { TakesLast (map original_of_part originals.old.items) (map original_of_part originals.new.items) (original_of_part result) }
     ensures len { vec_len originals.new ≤ vec_len originals.old }
-    ensures capacity { vec_capacity originals.new ≡ vec_capacity originals.old }
+    ensures capacity { vec_capacity originals.old ≤ vec_capacity originals.new }
 {
     let Some(last) = originals.pop() else {
         return Originals::new(alloc);

@@ -54,8 +54,8 @@ impl Original {
 
     /// What writes found, where the place was carried out alone; else it comes back.
     pub(crate) fn into_writes(self) -> Result<Originals, Original>
-        ensures ok { IfOk result (λ originals. originals ≡ self.entry) }
-        ensures err { IfErr result (λ original. original ≡ self.entry) }
+        ensures ok { IfOk result (λ originals. originals ≡ self) }
+        ensures err { IfErr result (λ original. original ≡ self) }
     {
         let Original { stood } = self;
         match stood {

@@ -90,11 +90,7 @@ fn is_found(writes: &[Write], noted: &Noted, key: &Key) -> bool
 /// # Errors
 ///
 /// Want of memory.
-pub(crate) fn was_written(
-    writes: &[Write],
-    noted: &mut Noted,
-    key: &Key,
-) -> Result<bool, NoMemory>
+pub(crate) fn was_written(writes: &[Write], noted: &mut Noted, key: &Key) -> Result<bool, NoMemory>
     ensures { IfOk result (λ was. OnTrue was (has (keys_written writes.now) key.now ≡ true)) }
 {
     if writes.len() <= FEW {

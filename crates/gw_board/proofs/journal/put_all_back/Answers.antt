@@ -41,4 +41,5 @@ loop-original-preserved c =
           ∙ sym (undone-append front (last ∷ []) m)
           ∙ ap (λ (l : List Original). undone l m) (sym split)
           ∙ c.loop-original.invariant.back;
+      capacity = c.pop.ensures.capacity ∙ c.loop-original.invariant.capacity;
     }

@@ -1,4 +1,4 @@
-use Rattle.std.proofs.Common.{◌≡◌, ◌+◌, ℕ, suc, List, ◌∷◌, ◌++◌, [], map, take, length, Some, sym, ap, subst, ◌∙◌, add-one, arith}
+use Rattle.std.proofs.Common.{◌≡◌, ◌+◌, ℕ, suc, false, List, ◌∷◌, ◌++◌, [], map, take, length, Some, refl, sym, ap, subst, ◌∙◌, add-one, arith}
 use Rattle.std.specs.List.{list_any}
 use Rattle.std.specs.Prelude.{slice_get, slice_set, ◌&&◌}
 use Rattle.gw_reserve.specs.Owned.{AreFreeSlots}
@@ -18,7 +18,7 @@ use Rattle.gw_board.specs.Results.{is_open, NothingIsOpen}
 use Rattle.gw_board.specs.Seats.{place_of, original_of_part}
 use Rattle.gw_board.proofs.CarriedAlone.{with_alone, took_back, took_ready, led_back, well_here, unused_here, alone_fewer, alone_none, alone_closed, alone_same, alone_kept, alone_way}
 use Rattle.gw_board.proofs.KeptIn.{all_ready, begun_kept, none_out}
-use Rattle.gw_board.proofs.OnTheWay.{begun_way, gives_the_fold}
+use Rattle.gw_board.proofs.OnTheWay.{asked-pending, begun_way, gives_the_fold}
 use Rattle.gw_board.proofs.SeatFacts.{seat_inside, one_more_original, unclosed-pending, length-places, length-asked}
 use Rattle.gw_board.proofs.board.Board.carry_alone.Goals as goal
 use Rattle.gw_board.proofs.board.Board.carry_alone.Goals.{In-Ok-push, After-all_pending}
@@ -54,8 +54,8 @@ carry_in_place-requires-clause-here c =
 pub carry_in_place-requires-clause-ready : goal.carry_in_place-requires-clause-ready
 carry_in_place-requires-clause-ready c =
     let b : Seen = value_of c.self.inside in
-    subst (AreReady (list_of c.last_alone.result.keys)) (sym c.replace-tables.ensures.value)
-    (took_ready b.originals (map original_of_part c.last_alone.new.originals.items) (original_of_part c.last_alone.result) c.last_alone.ensures.last c.self.inside.tables c.self.invariant.kept.ready).1
+    subst (AreReady (list_of c.last_alone-earlier.result.keys)) (sym c.replace-tables.ensures.value)
+    (took_ready b.originals (map original_of_part c.last_alone-earlier.new.originals.items) (original_of_part c.last_alone-earlier.result) c.last_alone-earlier.ensures.last c.self.inside.tables c.self.invariant.kept.ready).1
 
 -- ---- after want of memory
 
@@ -65,10 +65,10 @@ put_all_back-requires-clause-here c = c.in-Err.ensures.err.here
 pub put_all_back-requires-clause-ready : goal.put_all_back-requires-clause-ready
 put_all_back-requires-clause-ready c =
     let b : Seen = value_of c.self.inside in
-    let after : List Original = map original_of_part c.last_alone.new.originals.items in
-    let was : AreAsBegun c.self.inside.tables c.last_alone.result c.in-Err.tables = subst (λ (s : Stored). AreAsBegun s c.last_alone.result c.in-Err.tables) c.replace-tables.ensures.value c.in-Err.ensures.err in
+    let after : List Original = map original_of_part c.last_alone-earlier.new.originals.items in
+    let was : AreAsBegun c.self.inside.tables c.last_alone-earlier.result c.in-Err.tables = subst (λ (s : Stored). AreAsBegun s c.last_alone-earlier.result c.in-Err.tables) c.replace-tables.ensures.value c.in-Err.ensures.err in
     all_ready after c.self.inside.tables c.in-Err.tables was.kept
-    (took_ready b.originals after (original_of_part c.last_alone.result) c.last_alone.ensures.last c.self.inside.tables c.self.invariant.kept.ready).0
+    (took_ready b.originals after (original_of_part c.last_alone-earlier.result) c.last_alone-earlier.ensures.last c.self.inside.tables c.self.invariant.kept.ready).0
 
 module _ (c : After-all_pending) where
   abbrev before : Seen
@@ -80,14 +80,14 @@ module _ (c : After-all_pending) where
   abbrev left : Seen
   left = record { manner = before.manner; begun = before.begun; maps = maps_of back; places = map place_of c.all_pending.new.seats.items; originals = map original_of_part c.put_all_back.new.originals.items }
 
-  was_begun : AreAsBegun c.self.inside.tables c.last_alone.result c.in-Err.tables
-  was_begun = subst (λ (s : Stored). AreAsBegun s c.last_alone.result c.in-Err.tables) c.replace-tables.ensures.value c.in-Err.ensures.err
+  was_begun : AreAsBegun c.self.inside.tables c.last_alone-earlier.result c.in-Err.tables
+  was_begun = subst (λ (s : Stored). AreAsBegun s c.last_alone-earlier.result c.in-Err.tables) c.replace-tables.ensures.value c.in-Err.ensures.err
 
   maps_begun : maps_of back ≡ before.begun
   maps_begun =
       c.put_all_back.ensures.maps
-      ∙ ap (undone (map original_of_part c.last_alone.new.originals.items)) was_begun.maps
-      ∙ took_back before.originals (map original_of_part c.last_alone.new.originals.items) (original_of_part c.last_alone.result) c.last_alone.ensures.last before.maps
+      ∙ ap (undone (map original_of_part c.last_alone-earlier.new.originals.items)) was_begun.maps
+      ∙ took_back before.originals (map original_of_part c.last_alone-earlier.new.originals.items) (original_of_part c.last_alone-earlier.result) c.last_alone-earlier.ensures.last before.maps
       ∙ led_back before c.self.invariant.on_the_way (none_here before c.args.self.now c.self.view_is c.requires.«open») c.args.place c.in-Some.task
       (pends_here before c.args.self.now c.args.place c.in-Some.task c.self.view_is c.in-Some.ensures)
 
@@ -106,7 +106,7 @@ invariant_of-self c =
     let room = c.self.invariant.room.all in
     let replies = c.self.invariant.room.replies in
     let len = c.all_pending.ensures.len in
-    let taken = c.last_alone.ensures.capacity in
+    let taken = c.last_alone-earlier.ensures.capacity in
     let space = c.put_all_back.ensures.capacity in
     let o = c.put_all_back.new.originals.ok.0 in
     let s = c.self.inside.seats.ok.0 in
@@ -115,6 +115,24 @@ invariant_of-self c =
       kept = subst (IsKeptIn (back c)) (sym (is_begun c)) (begun_kept (before c).manner (asked_of (before c).places) (before c).begun (back c) c.put_all_back.ensures.here);
       room = record { originals = omega arith; all = omega arith; replies = omega arith; no_replies = c.self.invariant.room.no_replies };
     }
+
+none_pending : (asked : List Asked) → list_any (λ p. is_open p.standing) (map pending asked) ≡ false
+none_pending [] = refl
+none_pending (a ∷ more) = none_pending more
+
+pub returns-in-Err-clause-none : goal.returns-in-Err-clause-none
+returns-in-Err-clause-none c = subst (λ (x : Seen). NothingIsOpen (core_of x)) (sym (is_begun c)) (none_pending (asked_of (before c).places))
+
+pub returns-in-Err-clause-same : goal.returns-in-Err-clause-same
+returns-in-Err-clause-same c =
+    let same : IsSameBurst (before c) (left c) = record { manner = refl; begun = refl; asked = ap asked_of c.all_pending.ensures.places ∙ asked-pending (asked_of (before c).places) } in
+    subst (λ (x : Seen). IsSameBurst x (left c)) c.self.view_is same
+
+pub returns-in-Err-clause-outcome : goal.returns-in-Err-clause-outcome
+returns-in-Err-clause-outcome c = gives_the_fold (left c) (subst IsOnTheWay (sym (is_begun c)) (begun_again c))
+
+pub returns-in-Err-clause-err : goal.returns-in-Err-clause-err
+returns-in-Err-clause-err c = is_begun c ∙ ap (λ (x : Seen). begun_board x.manner (asked_of x.places) x.begun) c.self.view_is
 
 -- ---- with its result
 
@@ -129,8 +147,8 @@ unreachable-requires-in_default-push c =
     let fewer = alone_fewer b c.self.invariant.on_the_way (none_here b c.args.self.now c.self.view_is c.requires.«open») c.args.place c.in-Some.task
     (pends_here b c.args.self.now c.args.place c.in-Some.task c.self.view_is c.in-Some.ensures) in
     let room = c.self.invariant.room.originals in
-    let taken = c.last_alone.ensures.len in
-    let space = c.last_alone.ensures.capacity in
+    let taken = c.last_alone-earlier.ensures.len in
+    let space = c.last_alone-earlier.ensures.capacity in
     let full = c.in_default-push.ensures.full in
     omega arith
 
@@ -163,11 +181,11 @@ module _ (c : In-Ok-push) where
   originals = c.in-Ok.left.originals
 
   abbrev earlier : Parted
-  earlier = c.last_alone.result
+  earlier = c.last_alone-earlier.result
 
   -- the journal before them
   abbrev front : List Original
-  front = map original_of_part c.last_alone.new.originals.items
+  front = map original_of_part c.last_alone-earlier.new.originals.items
 
   abbrev last : Original
   last = original_of_part originals
@@ -182,7 +200,7 @@ module _ (c : In-Ok-push) where
   originals_are : map original_of_part c.push.new.self.items ≡ (with_alone b i a front last).originals
   originals_are =
       ap (map original_of_part) c.in-Ok-push.ensures.items
-      ∙ one_more_original c.last_alone.new.originals.items c.of_writes.result
+      ∙ one_more_original c.last_alone-earlier.new.originals.items c.of_writes.result
       ∙ ap (λ (p : Parted). front ++ original_of_part p ∷ []) c.of_writes.ensures
 
   abbrev new : Seen
@@ -199,7 +217,7 @@ module _ (c : In-Ok-push) where
   leads = ap (overlaid last.keys last.part) (sym was.maps) ∙ was.back
 
   led : undone front begun_at_maps ≡ b.begun
-  led = took_back b.originals front (original_of_part earlier) c.last_alone.ensures.last b.maps ∙ led_back b way none i a pends
+  led = took_back b.originals front (original_of_part earlier) c.last_alone-earlier.ensures.last b.maps ∙ led_back b way none i a pends
 
   new_way : IsOnTheWay new
   new_way = subst IsOnTheWay (sym is_new) (alone_way b way none i a pends first front last begun_at_maps leads led)
@@ -207,7 +225,7 @@ module _ (c : In-Ok-push) where
   new_kept : IsKeptIn tables new
   new_kept = subst (IsKeptIn tables) (sym is_new)
       (alone_kept b way none i a pends front last c.self.inside.tables tables
-      (took_ready b.originals front (original_of_part earlier) c.last_alone.ensures.last c.self.inside.tables c.self.invariant.kept.ready).0 was.here was.kept was.ready)
+      (took_ready b.originals front (original_of_part earlier) c.last_alone-earlier.ensures.last c.self.inside.tables c.self.invariant.kept.ready).0 was.here was.kept was.ready)
 
   fewer : suc (unclosed new.places) ≡ unclosed b.places
   fewer = ap (λ (l : List Place). suc (unclosed l)) places_are ∙ alone_fewer b way none i a pends
@@ -218,8 +236,8 @@ invariant_of-self-2 c =
     let room = c.self.invariant.room.originals in
     let all = c.self.invariant.room.all in
     let replies = c.self.invariant.room.replies in
-    let taken = c.last_alone.ensures.len in
-    let given = c.last_alone.ensures.capacity in
+    let taken = c.last_alone-earlier.ensures.len in
+    let given = c.last_alone-earlier.ensures.capacity in
     let len = c.set_stage.ensures.len in
     let more = c.in-Ok-push.ensures.len in
     let space = c.in-Ok-push.ensures.capacity in
