@@ -1,0 +1,10 @@
+use Rattle.std.proofs.Common.{ℕ, ◌+◌, ◌-◌, ap, ◌∙◌, sym, true, is_some, arith, subst}
+use Rattle.gw_table.specs.Stored.{maps_of}
+use Rattle.gw_table.specs.Maps.{number, ctx}
+use Rattle.gw_reserve.proofs.Skipped.{numbers_passed}
+use Rattle.gw_reserve.proofs.numbers.skip_taken.Goals as goal
+
+pub returns-clause-same : goal.returns-clause-same
+returns-clause-same c =
+    numbers_passed (maps_of c.args.tables.now) c.args.order c.requires.start c.args.rank c.stretch.result.from (c.next_number.result - (c.stretch.result.from + 1)) (omega arith) (λ k h. c.stretch.ensures.rising k (omega arith))
+    (λ k h. ?)
