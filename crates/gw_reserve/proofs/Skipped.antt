@@ -25,9 +25,9 @@ there (Some x) h = refl
 module _ (m : Maps) (o : Order) (start : o.start ≤ o.limit) (rank from n : ℕ) (inside : rank + n ≤ o.limit) (rising : (k : ℕ) → k < n → get_or (whole_order o) (rank + k) 0 ≡ from + k) where
   pub numbers_passed : ((k : ℕ) → k < n → is_some (ctx m (number (from + k + 1))) ≡ true) → numbers_from m o (rank + n) ≡ numbers_from m o rank
   numbers_passed taken = all_passed (λ k. is_none (ctx m k)) (numbers_in_order o) (number 0) rank n (omega (arith, length-numbers_in_order o start)) (λ k s.
-    let at : get_or (numbers_in_order o) (rank + k) (number 0) ≡ number_of_index (from + k) =
-    get_or-map number_of_index (whole_order o) (rank + k) 0 (number 0) (omega (arith, length-whole_order o start)) ∙ ap number_of_index (rising k s) in
-    ap (λ (x : CtxNum). is_none (ctx m x)) at ∙ there (ctx m (number_of_index (from + k))) (taken k s))
+      let at : get_or (numbers_in_order o) (rank + k) (number 0) ≡ number_of_index (from + k) =
+      get_or-map number_of_index (whole_order o) (rank + k) 0 (number 0) (omega (arith, length-whole_order o start)) ∙ ap number_of_index (rising k s) in
+      ap (λ (x : CtxNum). is_none (ctx m x)) at ∙ there (ctx m (number_of_index (from + k))) (taken k s))
 
   pub slots_passed : ((k : ℕ) → k < n → is_some (term m (slot_name (from + k))) ≡ true) → slots_from m o (rank + n) ≡ slots_from m o rank
   slots_passed taken = all_passed (λ s. is_none (term m (slot_name s))) (whole_order o) 0 rank n (omega (arith, length-whole_order o start))

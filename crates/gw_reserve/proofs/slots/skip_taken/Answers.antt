@@ -5,5 +5,5 @@ use Rattle.gw_reserve.proofs.slots.skip_taken.Goals as goal
 
 pub returns-clause-same : goal.returns-clause-same
 returns-clause-same c =
-    slots_passed (maps_of c.args.tables.now) c.args.order c.requires.start c.args.rank c.stretch.result.from (c.next_slot.result - c.stretch.result.from) (omega arith) (λ k h. c.stretch.ensures.rising k (omega arith))
-    (λ k h. c.next_slot.ensures.passed (c.stretch.result.from + k) (omega arith) (omega arith))
+    slots_passed (maps_of c.args.tables.now) c.args.order c.requires.start c.args.rank c.stretch-stretch.result.from (c.next_slot.result - c.stretch-stretch.result.from) (omega arith) (λ k h. c.stretch-stretch.ensures.rising k (omega arith))
+    (λ k h. c.next_slot.ensures.passed (c.stretch-stretch.result.from + k) (omega arith) (omega arith))

@@ -1,4 +1,4 @@
-use Rattle.std.proofs.Common.{◌∙◌, arith}
+use Rattle.std.proofs.Common.{◌+◌, ◌∙◌, arith}
 use Rattle.gw_reserve.proofs.Cyclic.{cyclic_low, cyclic_high}
 use Rattle.gw_reserve.proofs.order.Order.stretch.Goals as goal
 
