@@ -42,7 +42,7 @@ pub fn slot_name(slot: u16) -> TermName
 }
 
 /// The slots are those below this number.
-const SLOTS: u16 = 4096;
+pub(crate) const SLOTS: u16 = 4096;
 
 /// The number of a slot that the text writes in digits, leading zeros or not.
 fn number_in(text: &[u8]) -> Option<u16>

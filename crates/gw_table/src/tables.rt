@@ -6,6 +6,7 @@ ghost use Rattle.gw_table.specs.Maps.{term, ctx, put_term, names, numbers, new_m
 ghost use Rattle.gw_table.specs.Stored.{maps_of, nothing_stored, NoneIsOut};
 
 use crate::place::{Place, entry_at};
+use crate::reserved::SLOTS;
 use gw_base::{Config, CtxNum, Held, NoMemory, TermName};
 use gw_ctx::Context;
 use gw_marks::Marks;
@@ -16,9 +17,6 @@ use std::marker::Model;
 
 /// The numbers below this one can be marked: all numbers of contexts.
 const NUMBERS: u32 = 65536;
-
-/// The slots below this one can be marked: all slots.
-const SLOTS: u32 = 4096;
 
 /// Terminations by name, and contexts by number, each by its handle in a place. A look-up takes log n steps. Numbers and slots of
 /// which an entry stands are marked, by a bit for each, for the search for free ones.
@@ -77,7 +75,7 @@ impl Tables {
             terms: BTreeMap::new(alloc),
             contexts: BTreeMap::new(alloc),
             numbers: Marks::with_room(alloc, NUMBERS)?,
-            slots: Marks::with_room(alloc, SLOTS)?,
+            slots: Marks::with_room(alloc, u32::from(SLOTS))?,
         })
     }
 
