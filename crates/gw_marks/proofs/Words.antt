@@ -1,5 +1,5 @@
 -- Bits of words.
-use Rattle.std.proofs.Common.{◌≡◌, ◌≢◌, ℕ, ◌+◌, ◌-◌, ◌*◌, ◌/◌, ◌%◌, ◌^◌, ◌<◌, ◌≤◌, min, List, get_or, length, set, replicate, true, false, nat_eq, max, ⊎_elim, inl, inr, refl, subst, sym, ap, ◌∙◌, arith, w64}
+use Rattle.std.proofs.Common.{◌≡◌, ◌≢◌, ℕ, ◌+◌, ◌-◌, ◌*◌, ◌/◌, ◌%◌, ◌^◌, ◌<◌, ◌≤◌, min, List, get_or, length, set, replicate, true, false, nat_eq, ⊎_elim, inl, inr, refl, subst, sym, ap, ◌∙◌, arith, w64}
 use Rattle.std.proofs.Math.Nat.{div-le_self}
 use Rattle.std.proofs.Math.Pow.{shr_lt}
 use Rattle.std.proofs.lemmas.Bool.{cases_lt, cases_eq}

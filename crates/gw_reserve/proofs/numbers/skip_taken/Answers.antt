@@ -1,4 +1,4 @@
-use Rattle.std.proofs.Common.{◌≡◌, ℕ, ◌+◌, ◌-◌, ap, ◌∙◌, sym, true, is_some, arith, subst}
+use Rattle.std.proofs.Common.{◌≡◌, ℕ, ◌+◌, ◌-◌, true, is_some, arith, subst}
 use Rattle.gw_table.specs.Stored.{maps_of}
 use Rattle.gw_table.specs.Maps.{number, ctx}
 use Rattle.gw_reserve.proofs.Skipped.{numbers_passed}

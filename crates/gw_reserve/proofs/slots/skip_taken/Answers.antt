@@ -1,4 +1,4 @@
-use Rattle.std.proofs.Common.{ℕ, ◌+◌, ◌-◌, arith}
+use Rattle.std.proofs.Common.{◌+◌, ◌-◌, arith}
 use Rattle.gw_table.specs.Stored.{maps_of}
 use Rattle.gw_reserve.proofs.Skipped.{slots_passed}
 use Rattle.gw_reserve.proofs.slots.skip_taken.Goals as goal

@@ -1,4 +1,4 @@
-use Rattle.std.proofs.Common.{◌≡◌, refl, ℕ, ◌/◌, ◌+◌, ◌-◌, ◌%◌, ◌*◌, ◌<◌, List, length, get_or, min, false, subst, sym, ap, ◌∙◌, arith}
+use Rattle.std.proofs.Common.{◌≡◌, refl, ℕ, ◌/◌, ◌+◌, ◌-◌, ◌%◌, ◌*◌, List, length, get_or, min, sym, ap, ◌∙◌, arith}
 use Rattle.gw_marks.specs.Marked.{is_marked}
 use Rattle.gw_marks.proofs.Words.{first_before, first_found, next_before, next_found}
 use Rattle.gw_marks.proofs.marks.Marks.first_unmarked.Goals as goal

@@ -1,4 +1,4 @@
-use Rattle.std.proofs.Common.{◌≡◌, ℕ, get_or, ap, ◌∙◌}
+use Rattle.std.proofs.Common.{get_or, ap}
 use Rattle.gw_marks.proofs.Words.{blank}
 use Rattle.gw_marks.proofs.marks.Marks.new.Goals as goal
 

@@ -1,4 +1,4 @@
-use Rattle.std.proofs.Common.{arith, ap, sym, ◌∙◌}
+use Rattle.std.proofs.Common.{sym, ◌∙◌}
 use Rattle.gw_marks.proofs.Words.{blank_zeros, has_room}
 use Rattle.gw_marks.proofs.marks.Marks.with_room.Goals as goal
 
