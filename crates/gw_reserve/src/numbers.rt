@@ -24,7 +24,26 @@ fn number_at(order: Order, rank: u32) -> CtxNum
     CtxNum(order.at(rank) + 1)
 }
 
-/// The next free number. The work is a look-up for each number that is passed by.
+/// The first rank, from one on, of which the number may be free, or the end: the numbers of those passed by are taken. The work is
+/// a step for each 64 of them.
+fn skip_taken(tables: &Tables, order: Order, rank: u32) -> u32
+    requires start { order.start ≤ order.limit }
+    requires limit { order.limit ≤ 65535 }
+    requires rank { rank ≤ order.limit }
+    ensures behind { rank ≤ result }
+    ensures within { result ≤ order.limit }
+    ensures same { numbers_from (maps_of tables.now) order result ≡ numbers_from (maps_of tables.now) order rank }
+{
+    if rank == order.limit {
+        return rank;
+    }
+    let stretch = order.stretch(rank);
+    let first = stretch.from + 1;
+    rank + (tables.next_number(first, stretch.to + 1) - first)
+}
+
+/// The next free number. The work is a step for each 64 numbers that are passed by, and a look-up for each of them of which the
+/// context is not marked.
 fn take_number(tables: &Tables, order: Order, search: &mut Search) -> Option<CtxNum>
     requires search { IsSearch 65535 order search.old }
     ensures value { result ≡ slice_get (numbers_from (maps_of tables.now) order search.old.next) 0 }
@@ -33,13 +52,15 @@ fn take_number(tables: &Tables, order: Order, search: &mut Search) -> Option<Ctx
     ensures none { result ≡ None → search.new.next ≡ order.limit }
     ensures search { IsSearch 65535 order search.new }
 {
-    for rank in search.next..order.limit {
+    let mut rank = skip_taken(tables, order, search.next);
+    while rank < order.limit {
         let number = number_at(order, rank);
         if tables.find_ctx(number).is_none() {
             search.next = rank + 1;
             search.cursor = number.0;
             return Some(number);
         }
+        rank = skip_taken(tables, order, rank + 1);
     }
     search.next = order.limit;
     None

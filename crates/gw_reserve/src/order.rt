@@ -1,6 +1,6 @@
 //! The cyclic order in which free identifiers are looked for.
 
-ghost use Rattle.std.specs.Prelude.{◌≡◌, ℕ, ◌<◌, ◌≤◌, slice_index};
+ghost use Rattle.std.specs.Prelude.{◌≡◌, ℕ, ◌+◌, ◌-◌, ◌<◌, ◌≤◌, slice_index};
 ghost use Rattle.gw_reserve.specs.Searches.{whole_order};
 
 /// So many indices, from a start on and round.
@@ -8,6 +8,15 @@ ghost use Rattle.gw_reserve.specs.Searches.{whole_order};
 pub(crate) struct Order {
     pub(crate) start: u32,
     pub(crate) limit: u32,
+}
+
+/// Indices of an order that rise by one.
+#[derive(Clone, Copy)]
+pub(crate) struct Stretch {
+    /// The first of them.
+    pub(crate) from: u32,
+    /// The one behind the last.
+    pub(crate) to: u32,
 }
 
 /// How far the search for free identifiers of one kind has come.
@@ -32,6 +41,29 @@ impl Order {
             self.start + rank
         } else {
             rank - behind
+        }
+    }
+
+    /// The indices from a rank on, as far as they rise by one: up to the last index, or to the one before the start.
+    pub(crate) fn stretch(self, rank: u32) -> Stretch
+        requires start { self.start ≤ self.limit }
+        requires rank { rank < self.limit }
+        ensures some { result.from < result.to }
+        ensures limit { result.to ≤ self.limit }
+        ensures ranks { rank + (result.to - result.from) ≤ self.limit }
+        ensures rising { (k : ℕ) → k < result.to - result.from → slice_index (whole_order self) (rank + k) ≡ result.from + k }
+    {
+        let behind = self.limit - self.start;
+        if rank < behind {
+            Stretch {
+                from: self.start + rank,
+                to: self.limit,
+            }
+        } else {
+            Stretch {
+                from: rank - behind,
+                to: self.start,
+            }
         }
     }
 }

@@ -126,8 +126,8 @@ impl Reservation {
     }
 
     /// What the burst's next request owns, in the tables as they are at the burst's start. Over a whole burst each number and
-    /// each slot is looked at once, from the cursor to the last one owned, or round to the cursor where they run out, and so is
-    /// each command.
+    /// each slot is passed by once, from the cursor to the last one owned, or round to the cursor where they run out, 64 at a time
+    /// where they are taken; each command is looked at once.
     ///
     /// # Errors
     ///

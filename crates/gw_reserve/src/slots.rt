@@ -1,6 +1,6 @@
 //! Free slots, one after another.
 
-ghost use Rattle.std.specs.Prelude.{◌≡◌, ℕ, ◌++◌, if◌then◌else◌, None, OnOk, slice_get, take, drop, option_to_list};
+ghost use Rattle.std.specs.Prelude.{◌≡◌, ℕ, ◌≤◌, ◌++◌, if◌then◌else◌, None, OnOk, slice_get, take, drop, option_to_list};
 ghost use Rattle.gw_reserve.specs.Owned.{is_adding};
 ghost use Rattle.gw_reserve.specs.Owners.{adding, taken_by, behind_last};
 ghost use Rattle.gw_reserve.specs.Searches.{slots_from, IsSearch};
@@ -11,7 +11,25 @@ use gw_base::{Items, NoMemory};
 use gw_msg::Command;
 use gw_table::{Tables, owns_slot, slot_name};
 
-/// The next free slot. The work is a look-up for each slot that is passed by.
+/// The first rank, from one on, of which the slot may be free, or the end: the slots of those passed by are taken. The work is a
+/// step for each 64 of them.
+fn skip_taken(tables: &Tables, order: Order, rank: u32) -> u32
+    requires start { order.start ≤ order.limit }
+    requires limit { order.limit ≤ 4096 }
+    requires rank { rank ≤ order.limit }
+    ensures behind { rank ≤ result }
+    ensures within { result ≤ order.limit }
+    ensures same { slots_from (maps_of tables.now) order result ≡ slots_from (maps_of tables.now) order rank }
+{
+    if rank == order.limit {
+        return rank;
+    }
+    let stretch = order.stretch(rank);
+    rank + (tables.next_slot(stretch.from, stretch.to) - stretch.from)
+}
+
+/// The next free slot. The work is a step for each 64 slots that are passed by, and a look-up for each of them of which the
+/// termination is not marked.
 fn take_slot(tables: &Tables, order: Order, search: &mut Search) -> Option<u16>
     requires search { IsSearch 4096 order search.old }
     ensures value { result ≡ slice_get (slots_from (maps_of tables.now) order search.old.next) 0 }
@@ -20,13 +38,15 @@ fn take_slot(tables: &Tables, order: Order, search: &mut Search) -> Option<u16>
     ensures none { result ≡ None → search.new.next ≡ order.limit }
     ensures search { IsSearch 4096 order search.new }
 {
-    for rank in search.next..order.limit {
+    let mut rank = skip_taken(tables, order, search.next);
+    while rank < order.limit {
         let slot = order.at(rank) as u16;
         if tables.find_term(&slot_name(slot)).is_none() {
             search.next = rank + 1;
             search.cursor = u32::from(slot) + 1;
             return Some(slot);
         }
+        rank = skip_taken(tables, order, rank + 1);
     }
     search.next = order.limit;
     None

@@ -21,5 +21,6 @@ pub mod Provisioning
 pub mod Shown
 pub mod Searched
 pub mod SlotNames
+pub mod Standing
 pub mod Swept
 pub mod Undone

@@ -184,7 +184,7 @@ swept {R = R} total es fs sorted is q =
     ∙ filter_shown (lookup (is_at (R q)) es)
     ∙ ap (λ o. if_shown o) (sym (seen total es q))
 
-shown_same : {A : Type 0} (o : Option (Place A)) → shown (if_shown o) ≡ shown o
+pub shown_same : {A : Type 0} (o : Option (Place A)) → shown (if_shown o) ≡ shown o
 shown_same None = refl
 shown_same (Some Empty) = refl
 shown_same (Some (Here a)) = refl

@@ -7,6 +7,7 @@ pub mod Grounds
 pub mod KeyLists
 pub mod Locality
 pub mod Maps
+pub mod Marking
 pub mod Members
 pub mod Originals
 pub mod Parts

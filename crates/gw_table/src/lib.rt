@@ -11,6 +11,7 @@ mod key_list;
 mod key_order;
 mod keys;
 mod laws;
+mod marked;
 mod moves;
 mod noted;
 mod originals;

@@ -12,6 +12,7 @@ ghost use Rattle.gw_table.specs.Stored.{maps_of, is_ready, put_term_place, put_c
 
 use crate::cell::Cell;
 use crate::keys::Keys;
+use crate::marked::{note_number, note_slot};
 use crate::part::Part;
 use crate::place::Place;
 use crate::tables::Tables;
@@ -31,6 +32,7 @@ impl Tables {
         ensures before { Some result ≡ finite.get self.old.terms name.now }
         ensures after { self.new ≡ put_term_place self.old name.now new }
     {
+        note_slot(&mut self.slots, name, new.is_here());
         match self.terms.get_mut(name) {
             Some(place) => mem::replace(place, new),
             None => unreachable!(),
@@ -47,6 +49,7 @@ impl Tables {
         ensures before { Some result ≡ finite.get self.old.contexts number.0 }
         ensures after { self.new ≡ put_ctx_place self.old number new }
     {
+        note_number(&mut self.numbers, number, new.is_here());
         match self.contexts.get_mut(&number.0) {
             Some(place) => mem::replace(place, new),
             None => unreachable!(),

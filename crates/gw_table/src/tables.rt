@@ -6,17 +6,26 @@ ghost use Rattle.gw_table.specs.Maps.{term, ctx, put_term, names, numbers, new_m
 ghost use Rattle.gw_table.specs.Stored.{maps_of, nothing_stored, NoneIsOut};
 
 use crate::place::{Place, entry_at};
+use crate::reserved::SLOTS;
 use gw_base::{Config, CtxNum, Held, NoMemory, TermName};
 use gw_ctx::Context;
+use gw_marks::Marks;
 use gw_term::Termination;
 use std::alloc::Global;
 use std::collections::BTreeMap;
 use std::marker::Model;
 
-/// Terminations by name, and contexts by number, each by its handle in a place. A look-up takes log n steps.
+/// The numbers below this one can be marked: all numbers of contexts.
+const NUMBERS: u32 = 65536;
+
+/// Terminations by name, and contexts by number, each by its handle in a place. A look-up takes log n steps. Numbers and slots of
+/// which an entry stands are marked, by a bit for each, for the search for free ones.
 pub struct Tables {
     pub(crate) terms: BTreeMap<TermName, Place<Held<Termination>>>,
     pub(crate) contexts: BTreeMap<u32, Place<Held<Context>>>,
+    // Of what is marked an entry stands. One that is not marked may stand too.
+    pub(crate) numbers: Marks,
+    pub(crate) slots: Marks,
 }
 
 // By hand, so that a function that lets tables go does so by one call. A derived one would stand in it field by field.
@@ -25,30 +34,49 @@ impl Drop for Tables {
         let Tables {
             terms: _,
             contexts: _,
+            numbers: _,
+            slots: _,
         } = self;
     }
 }
 
 impl Model for Tables {
     ghost use Rattle.std.specs.FinMap as finite;
-    ghost use Rattle.gw_table.specs.Stored.{Stored, coded_stored};
+    ghost use Rattle.gw_table.specs.Marking.{AreMarked};
+    ghost use Rattle.gw_table.specs.Stored.{Stored, coded_stored, stored, maps_of};
 
     ghost Value = { Stored };
 
     ghost coded = { coded_stored };
 
     ghost view = { λ a. record { terms = finite.from_entries a.terms.entries; contexts = finite.from_entries a.contexts.entries } };
+
+    ghost invariant = { λ a. AreMarked a.numbers a.slots (maps_of (stored a.terms.entries a.contexts.entries)) };
 }
 
 impl Tables {
-    /// Tables without places, which take no memory.
+    /// Tables without places, which take no memory. Nothing that comes to stand in them is marked.
     pub fn new(alloc: Global) -> Self
         ensures { result ≡ nothing_stored }
     {
         Tables {
             terms: BTreeMap::new(alloc),
             contexts: BTreeMap::new(alloc),
+            numbers: Marks::new(alloc),
+            slots: Marks::new(alloc),
         }
+    }
+
+    /// Tables without places, in which what comes to stand is marked.
+    fn marking(alloc: Global) -> Result<Tables, NoMemory>
+        ensures { IfOk result (λ tables. tables ≡ nothing_stored) }
+    {
+        Ok(Tables {
+            terms: BTreeMap::new(alloc),
+            contexts: BTreeMap::new(alloc),
+            numbers: Marks::with_room(alloc, NUMBERS)?,
+            slots: Marks::with_room(alloc, u32::from(SLOTS))?,
+        })
     }
 
     /// A termination in the null context under the name.
@@ -62,7 +90,7 @@ impl Tables {
     }
 
     /// The configured terminations, all in the null context, and no contexts. A name that is given
-    /// twice is there once. The work is n log n in the names.
+    /// twice is there once. The work is n log n in the names. It has room for the mark of each number and of each slot, 8,704 bytes.
     ///
     /// # Errors
     ///
@@ -71,7 +99,7 @@ impl Tables {
         ensures maps { IfOk result (λ tables. maps_of tables ≡ new_maps config.now.terms) }
         ensures out { IfOk result NoneIsOut }
     {
-        let mut tables = Tables::new(alloc);
+        let mut tables = Tables::marking(alloc)?;
         for name in config.terms.as_slice() {
             tables.provide(alloc, *name)?;
         }
@@ -89,6 +117,8 @@ impl Tables {
         Ok(Tables {
             terms: self.terms.clone()?,
             contexts: self.contexts.clone()?,
+            numbers: self.numbers.copy()?,
+            slots: self.slots.copy()?,
         })
     }
 

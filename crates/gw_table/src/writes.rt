@@ -6,6 +6,7 @@ ghost use Rattle.gw_base.specs.declared.key.Key.TheVariants.{Term, Ctx};
 ghost use Rattle.gw_table.specs.Maps.{term};
 ghost use Rattle.gw_table.specs.Stored.{maps_of, is_ready, put_term_place, put_ctx_place, with_service, drop_term_place, drop_ctx_place};
 
+use crate::marked::{note_number, note_slot};
 use crate::place::{Place, serve};
 use crate::tables::Tables;
 use gw_base::{CtxNum, Held, NoMemory, Service, TermName};
@@ -52,7 +53,10 @@ impl Tables {
         ensures ok { OnOk result (self.new ≡ put_term_place self.old name place) }
         ensures err { OnErr result (self.new ≡ self.old) }
     {
-        Ok(self.terms.insert(name, place)?)
+        let stands = place.is_here();
+        let before = self.terms.insert(name, place)?;
+        note_slot(&mut self.slots, &name, stands);
+        Ok(before)
     }
 
     /// Sets the place of a context, and answers the one that was there. A refused growth changes nothing.
@@ -65,7 +69,10 @@ impl Tables {
         ensures ok { OnOk result (self.new ≡ put_ctx_place self.old number place) }
         ensures err { OnErr result (self.new ≡ self.old) }
     {
-        Ok(self.contexts.insert(number.0, place)?)
+        let stands = place.is_here();
+        let before = self.contexts.insert(number.0, place)?;
+        note_number(&mut self.numbers, number, stands);
+        Ok(before)
     }
 
     /// The termination of a name has another service state, if there is one, as a copy. Answers the one that stood there. After want of
@@ -91,6 +98,7 @@ impl Tables {
         ensures place { result ≡ finite.get self.old.terms name.now }
         ensures left { self.new ≡ drop_term_place self.old name.now }
     {
+        note_slot(&mut self.slots, name, false);
         self.terms.remove(name)
     }
 
@@ -99,6 +107,7 @@ impl Tables {
         ensures place { result ≡ finite.get self.old.contexts number.0 }
         ensures left { self.new ≡ drop_ctx_place self.old number }
     {
+        note_number(&mut self.numbers, number, false);
         self.contexts.remove(&number.0)
     }
 }

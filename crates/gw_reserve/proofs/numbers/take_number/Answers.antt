@@ -1,4 +1,4 @@
-use Rattle.std.proofs.Common.{◌≡◌, ◌<◌, ◌≤◌, true, false, length, refl, ap, arith}
+use Rattle.std.proofs.Common.{◌≡◌, ◌<◌, ◌≤◌, true, false, length, refl, ap, ◌∙◌, arith}
 use Rattle.std.specs.Prelude.{is_none}
 use Rattle.gw_base.specs.declared.ids.CtxNum.{CtxNum}
 use Rattle.gw_table.specs.Stored.{maps_of}
@@ -21,7 +21,8 @@ loop-rank-preserved c =
     let some : is_none (ctx (maps_of c.args.tables.now) c.number_at-number.result) ≡ false = seen_none c.find_ctx.result (ctx (maps_of c.args.tables.now) c.number_at-number.result) true c.find_ctx.ensures c.if-is_none.ensures in
     let here : c.loop-rank.rank < length (numbers_in_order c.args.order) = omega (arith, length-numbers_in_order c.args.order c.requires.search.start) in
     record {
-      same = passed (λ (k : CtxNum). is_none (ctx (maps_of c.args.tables.now) k)) (numbers_in_order c.args.order) (numbers_from (maps_of c.args.tables.now) c.args.order c.args.search.now.next) c.loop-rank.rank c.number_at-number.result (number 0) here c.number_at-number.ensures.value (some) c.loop-rank.invariant.same;
+      within = c.skip_taken-rank-in-loop-rank.ensures.within;
+      same = c.skip_taken-rank-in-loop-rank.ensures.same ∙ passed (λ (k : CtxNum). is_none (ctx (maps_of c.args.tables.now) k)) (numbers_in_order c.args.order) (numbers_from (maps_of c.args.tables.now) c.args.order c.args.search.now.next) c.loop-rank.rank c.number_at-number.result (number 0) here c.number_at-number.ensures.value (some) c.loop-rank.invariant.same;
       search = c.loop-rank.invariant.search;
     }
 

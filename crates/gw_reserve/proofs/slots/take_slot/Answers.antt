@@ -21,7 +21,8 @@ loop-rank-preserved c =
     let some : is_none (term (maps_of c.args.tables.now) c.slot_name.result) ≡ false = seen_none c.find_term.result (term (maps_of c.args.tables.now) c.slot_name.result) true c.find_term.ensures c.if-is_none.ensures in
     let here : c.loop-rank.rank < length (whole_order c.args.order) = omega (arith, length-whole_order c.args.order c.requires.search.start) in
     record {
-      same = passed (λ (s : ℕ). is_none (term (maps_of c.args.tables.now) (slot_name s))) (whole_order c.args.order) (slots_from (maps_of c.args.tables.now) c.args.order c.args.search.now.next) c.loop-rank.rank c.at-slot.result (0) here c.at-slot.ensures.value (ap (λ (n : List ℕ). is_none (term (maps_of c.args.tables.now) n)) (sym c.slot_name.ensures) ∙ some) c.loop-rank.invariant.same;
+      within = c.skip_taken-rank-in-loop-rank.ensures.within;
+      same = c.skip_taken-rank-in-loop-rank.ensures.same ∙ passed (λ (s : ℕ). is_none (term (maps_of c.args.tables.now) (slot_name s))) (whole_order c.args.order) (slots_from (maps_of c.args.tables.now) c.args.order c.args.search.now.next) c.loop-rank.rank c.at-slot.result (0) here c.at-slot.ensures.value (ap (λ (n : List ℕ). is_none (term (maps_of c.args.tables.now) n)) (sym c.slot_name.ensures) ∙ some) c.loop-rank.invariant.same;
       search = c.loop-rank.invariant.search;
     }
 

@@ -1,6 +1,8 @@
 use Rattle.std.proofs.Common.{ap, ◌∙◌}
 use Rattle.gw_table.specs.Stored.{Stored, drop_ctx_place}
 use Rattle.gw_table.proofs.Exchanged.{ctx_dropped, ctx_seen}
+use Rattle.gw_table.specs.Stored.{stored}
+use Rattle.gw_table.proofs.Standing.{marked-drop_ctx_place}
 use Rattle.gw_table.proofs.tables.Tables.drop_ctx.Goals as goal
 
 pub returns-clause-place : goal.returns-clause-place
@@ -10,3 +12,8 @@ pub returns-clause-left : goal.returns-clause-left
 returns-clause-left c =
     ctx_dropped c.self.inside.terms.entries c.self.inside.contexts.entries c.remove.new.self.entries c.args.number c.remove.ensures.updates.0
     ∙ ap (λ (s : Stored). drop_ctx_place s c.args.number) c.self.view_is
+
+pub invariant_of-self : goal.invariant_of-self
+invariant_of-self c =
+    marked-drop_ctx_place c.self.inside.numbers c.self.inside.slots c.note_number.new.numbers (stored c.self.inside.terms.entries c.self.inside.contexts.entries) (stored c.self.inside.terms.entries c.remove.new.self.entries) c.self.invariant
+    c.args.number c.note_number.ensures (ctx_dropped c.self.inside.terms.entries c.self.inside.contexts.entries c.remove.new.self.entries c.args.number c.remove.ensures.updates.0)

@@ -1,6 +1,8 @@
 use Rattle.std.proofs.Common.{ap, ◌∙◌}
 use Rattle.gw_table.specs.Stored.{Stored, drop_term_place}
 use Rattle.gw_table.proofs.Exchanged.{term_dropped, term_seen}
+use Rattle.gw_table.specs.Stored.{stored}
+use Rattle.gw_table.proofs.Standing.{marked-drop_term_place}
 use Rattle.gw_table.proofs.tables.Tables.drop_term.Goals as goal
 
 pub returns-clause-place : goal.returns-clause-place
@@ -10,3 +12,8 @@ pub returns-clause-left : goal.returns-clause-left
 returns-clause-left c =
     term_dropped c.self.inside.terms.entries c.remove.new.self.entries c.self.inside.contexts.entries c.args.name.now c.remove.ensures.updates.0
     ∙ ap (λ (s : Stored). drop_term_place s c.args.name.now) c.self.view_is
+
+pub invariant_of-self : goal.invariant_of-self
+invariant_of-self c =
+    marked-drop_term_place c.self.inside.numbers c.self.inside.slots c.note_slot.new.slots (stored c.self.inside.terms.entries c.self.inside.contexts.entries) (stored c.remove.new.self.entries c.self.inside.contexts.entries) c.self.invariant
+    c.args.name.now c.note_slot.ensures (term_dropped c.self.inside.terms.entries c.remove.new.self.entries c.self.inside.contexts.entries c.args.name.now c.remove.ensures.updates.0)

@@ -4,6 +4,8 @@ use Rattle.gw_ctx.specs.Contexts.{ContextRecord}
 use Rattle.gw_table.specs.declared.place.Place.{Place}
 use Rattle.gw_table.specs.Stored.{Stored, put_ctx_place}
 use Rattle.gw_table.proofs.Exchanged.{ctx_written, ctx_seen, not_found}
+use Rattle.gw_table.specs.Stored.{stored}
+use Rattle.gw_table.proofs.Standing.{marked-put_ctx_place}
 use Rattle.gw_table.proofs.tables.Tables.exchange_ctx.Goals as goal
 
 pub unreachable-requires : goal.unreachable-requires
@@ -22,3 +24,13 @@ returns-clause-after c =
     ctx_written c.self.inside.terms.entries c.self.inside.contexts.entries (c.get_mut.follows.lender w).entries c.args.number w
     ((c.get_mut.follows.holds w).3 (ap (λ o. is_some o) (sym c.get_mut.ensures.value) ∙ ap (λ o. is_some (option_copied_mut o)) c.in-Some.is)).0
     ∙ ap (λ (s : Stored). put_ctx_place s c.args.number w) c.self.view_is ∙ ap (λ (p : Place ContextRecord). put_ctx_place c.args.self.now c.args.number p) c.replace.ensures.after
+
+pub invariant_of-self : goal.invariant_of-self
+invariant_of-self c =
+    let now : Stored = stored c.self.inside.terms.entries c.self.inside.contexts.entries in
+    let w : Place ContextRecord = c.replace.new.dest in
+    marked-put_ctx_place c.self.inside.numbers c.self.inside.slots c.note_number.new.numbers now (stored c.self.inside.terms.entries (c.get_mut.follows.lender w).entries) c.self.invariant
+    c.args.number c.args.new c.is_here.result c.note_number.ensures c.is_here.ensures
+    (ctx_written c.self.inside.terms.entries c.self.inside.contexts.entries (c.get_mut.follows.lender w).entries c.args.number w
+    ((c.get_mut.follows.holds w).3 (ap (λ o. is_some o) (sym c.get_mut.ensures.value) ∙ ap (λ o. is_some (option_copied_mut o)) c.in-Some.is)).0
+    ∙ ap (λ (p : Place ContextRecord). put_ctx_place now c.args.number p) c.replace.ensures.after)

@@ -4,6 +4,8 @@ use Rattle.gw_term.specs.declared.record.Termination.{Termination}
 use Rattle.gw_table.specs.declared.place.Place.{Place}
 use Rattle.gw_table.specs.Stored.{Stored, put_term_place}
 use Rattle.gw_table.proofs.Exchanged.{term_written, term_seen, not_found}
+use Rattle.gw_table.specs.Stored.{stored}
+use Rattle.gw_table.proofs.Standing.{marked-put_term_place}
 use Rattle.gw_table.proofs.tables.Tables.exchange_term.Goals as goal
 
 pub unreachable-requires : goal.unreachable-requires
@@ -22,3 +24,13 @@ returns-clause-after c =
     term_written c.self.inside.terms.entries (c.get_mut.follows.lender w).entries c.self.inside.contexts.entries c.args.name.now w
     ((c.get_mut.follows.holds w).3 (ap (λ o. is_some o) (sym c.get_mut.ensures.value) ∙ ap (λ o. is_some (option_copied_mut o)) c.in-Some.is)).0
     ∙ ap (λ (s : Stored). put_term_place s c.args.name.now w) c.self.view_is ∙ ap (λ (p : Place Termination). put_term_place c.args.self.now c.args.name.now p) c.replace.ensures.after
+
+pub invariant_of-self : goal.invariant_of-self
+invariant_of-self c =
+    let now : Stored = stored c.self.inside.terms.entries c.self.inside.contexts.entries in
+    let w : Place Termination = c.replace.new.dest in
+    marked-put_term_place c.self.inside.numbers c.self.inside.slots c.note_slot.new.slots now (stored (c.get_mut.follows.lender w).entries c.self.inside.contexts.entries) c.self.invariant
+    c.args.name.now c.args.new c.is_here.result c.note_slot.ensures c.is_here.ensures
+    (term_written c.self.inside.terms.entries (c.get_mut.follows.lender w).entries c.self.inside.contexts.entries c.args.name.now w
+    ((c.get_mut.follows.holds w).3 (ap (λ o. is_some o) (sym c.get_mut.ensures.value) ∙ ap (λ o. is_some (option_copied_mut o)) c.in-Some.is)).0
+    ∙ ap (λ (p : Place Termination). put_term_place now c.args.name.now p) c.replace.ensures.after)

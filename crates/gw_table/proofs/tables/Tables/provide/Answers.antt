@@ -5,6 +5,9 @@ use Rattle.gw_table.specs.declared.place.Place.TheVariants.{Here}
 use Rattle.gw_table.specs.Stored.{Stored, stored, maps_of, put_term_place, NoneIsOut}
 use Rattle.gw_table.proofs.Exchanged.{term_written}
 use Rattle.gw_table.proofs.Places.{maps-put_term_place, in-put_term}
+use Rattle.gw_table.proofs.Standing.{marked_still, marked-put_still}
+use Rattle.std.proofs.Common.{Some}
+use Rattle.gw_table.specs.Maps.{put_term}
 use Rattle.gw_table.proofs.tables.Tables.provide.Goals as goal
 
 provided : (c : goal.Joined-branch-3) → stored c.insert.new.self.entries c.self.inside.contexts.entries ≡ put_term_place c.args.self.now c.args.name (Here provisioned)
@@ -18,3 +21,10 @@ returns-clause-maps c = ap (λ s. maps_of s) (provided c) ∙ maps-put_term_plac
 
 pub returns-clause-out : goal.returns-clause-out
 returns-clause-out c h = subst (λ (s : Stored). NoneIsOut s) (sym (provided c)) (in-put_term c.args.self.now c.args.name (Here provisioned) refl h)
+
+pub invariant_of-self-2 : goal.invariant_of-self-2
+invariant_of-self-2 c =
+    let now : Stored = stored c.self.inside.terms.entries c.self.inside.contexts.entries in
+    let new = term_written c.self.inside.terms.entries c.insert.new.self.entries c.self.inside.contexts.entries c.args.name (Here c.in_ok-new.new) c.in_ok-insert.ensures.updates.0 in
+    marked_still c.self.inside.numbers c.self.inside.slots (put_term (maps_of now) c.args.name (Some c.in_ok-new.new)) (maps_of (stored c.insert.new.self.entries c.self.inside.contexts.entries)) (ap (λ s. maps_of s) new ∙ maps-put_term_place now c.args.name (Here c.in_ok-new.new))
+    (marked-put_still c.self.inside.numbers c.self.inside.slots (maps_of now) c.args.name (Some c.in_ok-new.new) (λ _. refl) c.self.invariant)

@@ -8,8 +8,8 @@ use Rattle.gw_table.proofs.tables.Tables.provision.Goals as goal
 
 pub loop-name-init : goal.loop-name-init
 loop-name-init c = record {
-  holds = subst (λ (m : Maps). Holds [] m) (sym (ap (λ s. maps_of s) c.new-tables.ensures ∙ maps_of_nothing)) holds_nothing;
-  out = subst (λ (s : Stored). NoneIsOut s) (sym c.new-tables.ensures) nothing_out;
+  holds = subst (λ (m : Maps). Holds [] m) (sym (ap (λ s. maps_of s) c.in_ok-tables.ensures ∙ maps_of_nothing)) holds_nothing;
+  out = subst (λ (s : Stored). NoneIsOut s) (sym c.in_ok-tables.ensures) nothing_out;
 }
 
 pub loop-name-preserved : goal.loop-name-preserved

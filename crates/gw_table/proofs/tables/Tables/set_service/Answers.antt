@@ -9,6 +9,13 @@ use Rattle.gw_table.specs.Maps.{term}
 use Rattle.gw_table.specs.Stored.{Stored, stored, shown, maps_of, put_term_place, with_service}
 use Rattle.gw_table.proofs.Exchanged.{term_written, term_seen}
 use Rattle.gw_table.proofs.Places.{term-maps_of, same_term_place, served_here}
+use Rattle.std.proofs.Common.{ℕ, List, refl}
+use Rattle.gw_base.specs.declared.command_words.Service.{Service}
+use Rattle.gw_table.specs.declared.place.Place.TheVariants.{Empty, Here, Out}
+use Rattle.gw_table.specs.Maps.{put_term}
+use Rattle.gw_table.specs.Stored.{served}
+use Rattle.gw_table.proofs.Places.{maps-put_term_place}
+use Rattle.gw_table.proofs.Standing.{marked_still, marked-put_still}
 use Rattle.gw_table.proofs.tables.Tables.set_service.Goals as goal
 
 pub returns-in_default-clause-before : goal.returns-in_default-clause-before
@@ -55,3 +62,24 @@ returns-clause-after c =
 pub returns-clause-err : goal.returns-clause-err
 returns-clause-err c =
     on_err c.serve.result (λ e. written c ∙ ap (λ p. put_term_place c.args.self.now c.args.name.now p) e ∙ same_term_place c.args.self.now c.args.name.now c.in-Some.place.now (sym (was c))) c.serve.ensures.err
+
+stands_still : (state : Service) (p : Place Termination) → is_some (shown (Some p)) ≡ is_some (shown (Some (served state p)))
+stands_still state Empty = refl
+stands_still state (Here r) = refl
+stands_still state Out = refl
+
+stays : {T E : Type 0} (r : Result T E) (state : Service) (p new : Place Termination) → OnOk r (new ≡ served state p) → OnErr r (new ≡ p) → is_some (shown (Some p)) ≡ is_some (shown (Some new))
+stays (Ok x) state p new a b = stands_still state p ∙ ap (λ (q : Place Termination). is_some (shown (Some q))) (sym a)
+stays (Err e) state p new a b = ap (λ (q : Place Termination). is_some (shown (Some q))) (sym b)
+
+pub invariant_of-self-2 : goal.invariant_of-self-2
+invariant_of-self-2 c =
+    let before : Stored = stored c.self.inside.terms.entries c.self.inside.contexts.entries in
+    let after : Stored = stored (c.get_mut.follows.lender (new c)).entries c.self.inside.contexts.entries in
+    let name : List ℕ = c.args.name.now in
+    marked_still c.self.inside.numbers c.self.inside.slots (put_term (maps_of before) name (shown (Some (new c)))) (maps_of after)
+    (ap (λ s. maps_of s) (written c ∙ ap (λ (s : Stored). put_term_place s name (new c)) (sym c.self.view_is)) ∙ maps-put_term_place before name (new c))
+    (marked-put_still c.self.inside.numbers c.self.inside.slots (maps_of before) name (shown (Some (new c)))
+    (λ h. sym (stays c.serve.result c.args.service c.in-Some.place.now (new c) c.serve.ensures.after c.serve.ensures.err)
+    ∙ ap (λ o. is_some (shown o)) (was c ∙ ap (λ (s : Stored). finite.get s.terms name) (sym c.self.view_is)) ∙ sym (ap (λ o. is_some o) (term-maps_of before name)) ∙ h)
+    c.self.invariant)

@@ -1,9 +1,11 @@
-use Rattle.std.proofs.Common.{Some, is_some, ap, ◌∙◌, rules}
+use Rattle.std.proofs.Common.{Some, refl, is_some, ap, ◌∙◌, rules}
 use Rattle.std.proofs.lemmas.Map.Entries.{filter_from_retain_pairs}
 use Rattle.std.specs.Cmp.{nat_cmp_total}
 use Rattle.std.specs.FinMap as finite
-use Rattle.gw_table.specs.Stored.{Stored, shown, if_shown}
-use Rattle.gw_table.proofs.Prepared.{swept}
+use Rattle.gw_table.specs.Stored.{Stored, stored, shown, if_shown, maps_of}
+use Rattle.gw_table.proofs.Prepared.{swept, shown_same}
+use Rattle.gw_table.proofs.Places.{shown_alike}
+use Rattle.gw_table.proofs.Standing.{marked_still}
 use Rattle.gw_table.proofs.tables.Tables.sweep_contexts.Goals as goal
 
 pub returns-clause-contexts : goal.returns-clause-contexts
@@ -11,3 +13,11 @@ returns-clause-contexts c q =
     swept nat_cmp_total c.self.inside.contexts.entries c.retain.new.self.entries c.retain.ensures.was_ordered
     (filter_from_retain_pairs _ (λ _. Unit {0}) (λ e. is_some (shown (Some e.1))) (λ g k v b w h i t. search rules) _ _ _ tt c.retain.ensures.filtered) q
     ∙ ap (λ (s : Stored). if_shown (finite.get s.contexts q)) c.self.view_is
+
+pub invariant_of-self : goal.invariant_of-self
+invariant_of-self c =
+    let now : Stored = stored c.self.inside.terms.entries c.self.inside.contexts.entries in
+    let after : Stored = stored c.self.inside.terms.entries c.retain.new.self.entries in
+    let left = swept nat_cmp_total c.self.inside.contexts.entries c.retain.new.self.entries c.retain.ensures.was_ordered
+    (filter_from_retain_pairs _ (λ _. Unit {0}) (λ e. is_some (shown (Some e.1))) (λ g k v b w h i t. search rules) _ _ _ tt c.retain.ensures.filtered) in
+    marked_still c.self.inside.numbers c.self.inside.slots (maps_of now) (maps_of after) (shown_alike after now (λ t. refl) (λ n. ap (λ o. shown o) (left n.0) ∙ shown_same (finite.get now.contexts n.0))) c.self.invariant
