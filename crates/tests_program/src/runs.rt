@@ -68,7 +68,13 @@ impl Run {
 
     /// It ended with status 1, this line on standard error and nothing on standard output.
     pub(crate) fn fails(self, line: &[u8]) -> Result<(), Fail> {
-        is_so(self.status == 1 && self.out.is_empty(), "a fault")?;
+        self.fails_behind(b"", line)
+    }
+
+    /// It ended with status 1, this on standard output and this line on standard error.
+    pub(crate) fn fails_behind(self, said: &[u8], line: &[u8]) -> Result<(), Fail> {
+        is_so(self.status == 1, "a fault")?;
+        is_text(self.out.as_slice(), said)?;
         is_text(self.err.as_slice(), line)
     }
 }

@@ -1,12 +1,15 @@
 //! Serving over the loopback. What is to wait when the gateway first looks is sent from within the line `listening`, which it writes
 //! once it is bound: so each burst is what a test says, without a thread.
 
+use crate::networks::OneSocket;
 use crate::places::{file_of, free_address};
 use crate::runs::{CONFIGURATION, Run};
 use gw_program::{Stream, program};
 use std::alloc::Global;
+use std::fs::File;
 use std::io::{self, Write};
 use std::net::{IpAddr, Ipv4Addr, Ipv6Addr, Net, SocketAddr, UdpSocket};
+use std::os::fd::OwnedFd;
 use std::rt::Files;
 use std::sync::Wait;
 use std::test::Fail;
@@ -293,4 +296,39 @@ fn an_address_that_cannot_be_bound(rt: HostRuntime) -> Result<(), Fail> {
         Run::of(&rt, &["serve", file.as_str(), "--listen", listen]).fails(NOT_BOUND)?;
     }
     Ok(fs::remove_file(&rt, file.as_str())?)
+}
+
+/// The program serves two bursts from a socket, and ends with a fault: this was said, and this is its line.
+fn fails_at<R: Files + Net + Wait + Threads + Sync + AllocGlobal>(
+    rt: &R,
+    socket: &UdpSocket,
+    said: &[u8],
+    line: &[u8],
+) -> Result<(), Fail> {
+    let file = file_of(rt, CONFIGURATION)?;
+    let words = ["serve", file.as_str(), "--bursts", "2"];
+    Run::of(&OneSocket { rt, socket }, &words).fails_behind(said, line)?;
+    Ok(fs::remove_file(rt, file.as_str())?)
+}
+
+// The system refuses to wait for a file.
+#[test]
+fn a_socket_that_cannot_be_waited_for(rt: HostRuntime) -> Result<(), Fail> {
+    let socket = UdpSocket::from(OwnedFd::from(File::open(&rt, "/dev/null")?));
+    fails_at(&rt, &socket, b"", b"h248gw: serve poll\n")
+}
+
+// A socket with one peer is told when that has gone, at the receipt behind what was sent to it. The peer has another address of the
+// loopback, at the client's port, so that nobody takes it meanwhile.
+#[test]
+fn a_datagram_that_cannot_be_received(rt: HostRuntime) -> Result<(), Fail> {
+    let (server, client) = (client(&rt, IPV4)?, client(&rt, IPV4)?);
+    let near = IpAddr::V4(Ipv4Addr::new(127, 0, 0, 2));
+    let peer = rt.bind_udp(SocketAddr::from((near, client.local_addr()?.port())))?;
+    client.send_to(ASKED, server.local_addr()?)?;
+    peer.send_to(OTHER, server.local_addr()?)?;
+    server.connect(peer.local_addr()?)?;
+    drop(peer);
+    fails_at(&rt, &server, SERVING, b"h248gw: serve receive\n")?;
+    has_answers(&client, 1, ANSWERED)
 }
