@@ -1,5 +1,6 @@
 //! Runs of the program: words, files and standard input, and below them the status and what each stream got.
 
+use crate::repeats::repeated;
 use crate::streams::{Input, Output};
 use cases_text::{CaseFault, Page, as_text, decoded, number_of, split_word};
 use gw_program::{Stream, program, unreadable_words};
@@ -148,6 +149,10 @@ pub fn answer<R: Files + Net + Wait + Threads + AllocGlobal + Sync>(
     match call {
         "file" => return write_file(rt, asked, out),
         "input" => programs.input = decoded(out.alloc(), asked)?,
+        "input-more" => {
+            let more = repeated(out.alloc(), asked)?;
+            programs.input.extend_from_slice(more.whole()?)?;
+        }
         "run" => return run(rt, input, asked, WELL, out),
         "run-unread" => return run(rt, input, asked, failing, out),
         "run-mute" => return run(rt, input, asked, mute, out),
