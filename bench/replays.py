@@ -9,6 +9,8 @@ fill, and a Subtract of both.
 `--rates` measures 20,000 of them in bursts of 1, 16 and 256 datagrams, with 4 and with 400 terminations, and 200,000.
 `--tables` measures one transaction as the tables grow, the copy that each burst makes of them apart.
 `--bursts` measures new transactions and repeats in bursts of 64 and of 1,024, with 4,096 kept replies.
+`--samples` measures transactions of every kind of a call (two Adds, a Modify and a Subtract, each with what it is sent with) among 1,000
+terminations and 4,096 kept replies, in bursts of 1, 16 and 256.
 `--waves` measures bursts of 1,024 transactions that stand in one another's way, or do not, with one worker and with three; it fails
 where the dearest costs more than ten times the mean.
 `--records` measures what carrying out costs where the copy of the tables is left out, and the memory of bare terminations; it
@@ -133,6 +135,32 @@ def repeats(folder):
             print(f"| {count:,} {name} | {work / count:,.0f} |")
 
 
+MODIFY = b"Transaction=%d{Context=%d{Modify=T/%d{Media{Stream=1{LocalControl{Mode=SendReceive},Remote{\nv=0\nc=IN IP4 192.0.2.7\nm=audio 4000 RTP/AVP 0\n}}},Signals{cg/rt}}}}"
+
+
+def calls(count):
+    """Calls that are made, changed and ended, one after another: so many transactions."""
+    bodies = []
+    for call in range(count // 3):
+        context, term = call % 65_535 + 1, call % 1_000 + 1
+        bodies.append(ADDS % (3 * call + 1, term))
+        bodies.append(MODIFY % (3 * call + 2, context, term))
+        bodies.append(SUBTRACT % (3 * call + 3, context))
+    return bodies
+
+
+def samples(folder):
+    conf = config(folder, 1_000, keep=4_096)
+    first, more = 4_200, 1_536
+    bodies = calls(first + more)
+    before = bursts(bodies[:first], 256)
+    base = instructions(conf, before)
+    length = sum(len(HEAD) + len(body) for body in bodies[first:]) / more
+    print(f"| 1,000 terminations, 4,096 replies kept: bursts of | instructions for one of {length:.0f} bytes |\n|---|---|")
+    for size in (1, 16, 256):
+        print(f"| {size} | {(instructions(conf, before + bursts(bodies[first:], size)) - base) / more:,.0f} |")
+
+
 # Bursts of 1,024 transactions: what each asks, by its number from 0, over contexts of two that were made before.
 WAVES = {
     "on one context": (1, lambda n: b"Context=1{AuditValue=T/1{Audit{}}}"),
@@ -201,7 +229,7 @@ def records(folder):
     lines = [
         ("a typical transaction, 4 terminations, bursts of 16", typical_work, 24_000),
         ("two Adds with Media and a Local to fill, beyond reading", two_adds(folder), 22_000),
-        ("AuditValue=* under - with Media, a termination", of_all(folder, 200, MEDIA, AUDIT_ALL), 4_200),
+        ("AuditValue=* under - with Media, a termination", of_all(folder, 200, MEDIA, AUDIT_ALL), 2_500),
         ("ServiceChange of ROOT, a termination", of_all(folder, 200, None, RESTART), 1_300),
         ("bytes for 65,535 bare terminations", memory(folder, 65_535) - memory(folder, 1), 30_000_000),
     ]
@@ -213,8 +241,8 @@ def records(folder):
 
 def main():
     with tempfile.TemporaryDirectory() as folder:
-        chosen = sys.argv[1:] or ["--rates", "--tables", "--bursts", "--waves", "--records"]
-        for word, measure in (("--rates", rates), ("--tables", tables), ("--bursts", repeats)):
+        chosen = sys.argv[1:] or ["--rates", "--tables", "--bursts", "--samples", "--waves", "--records"]
+        for word, measure in (("--rates", rates), ("--tables", tables), ("--bursts", repeats), ("--samples", samples)):
             if word in chosen:
                 measure(folder)
                 print()

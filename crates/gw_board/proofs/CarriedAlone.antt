@@ -1,5 +1,5 @@
 -- A place is carried out alone: nothing is open, and every place before it is closed. It comes to what opening it and closing it with its
--- result comes to, with an original that has the changed keys alone.
+-- result comes to, with an original that has the keys alone that were changed since the last place that was a job's.
 use Rattle.std.proofs.Common.{◌≡◌, ℕ, zero, suc, Bool, true, false, cond, not, List, [], ◌∷◌, ◌++◌, take, drop, Option, None, Some, refl, sym, ap, subst, ◌∙◌}
 use Rattle.std.specs.Prelude.{◌||◌, ◌&&◌, slice_get, slice_set}
 use Rattle.std.specs.List.{list_any}
@@ -15,12 +15,12 @@ use Rattle.gw_table.specs.Stored.{Stored, names_entry, AreReady, KeepReady, None
 use Rattle.gw_table.specs.WellFormed.{AreWellFormed}
 use Rattle.gw_table.proofs.Lookups.{same_maps}
 use Rattle.gw_table.proofs.PartLookups.{term-restricted, ctx-restricted, term-overlaid, ctx-overlaid}
-use Rattle.gw_board.specs.Alone.{is_unclosed_at}
+use Rattle.gw_board.specs.Alone.{is_unclosed_at, TakesLast, Off, Fresh}
 use Rattle.gw_board.specs.BoardView.{IsOnTheWay, IsKeptIn}
 use Rattle.gw_board.specs.Boards.{Seen, Handed, core_of, asked_of, with_open, with_result, is_closed, is_pending_at, AllClosed, unclosed}
 use Rattle.gw_board.specs.Carried.{Asked, keys_of, done, carried}
 use Rattle.gw_board.specs.Core.{Standing, Pending, Opened, Closed, Place, Job, pending, open_with, closed_with, meets_at, meets_any, MayOpen}
-use Rattle.gw_board.specs.Fitting.{out, Stands, Beside, Stand}
+use Rattle.gw_board.specs.Fitting.{Each, out, Stands, Beside, Stand}
 use Rattle.gw_board.specs.Journal.{Original, undone}
 use Rattle.gw_board.specs.OpenJobs.{IsSameBurst}
 use Rattle.gw_board.specs.Results.{is_open, carried_on, NothingIsOpen}
@@ -29,8 +29,8 @@ use Rattle.gw_board.specs.Waves.{is_pending}
 use Rattle.gw_board.proofs.Comes.{out_of_none}
 use Rattle.gw_board.proofs.Drawing.{set_here}
 use Rattle.gw_board.proofs.KeptIn.{all_ready}
-use Rattle.gw_board.proofs.OnTheWay.{asked-set, set_twice, open_way, result_way}
-use Rattle.gw_board.proofs.Orders.{behind_in, each_joined}
+use Rattle.gw_board.proofs.OnTheWay.{asked-set, set_twice, begun_still, open_way, result_way}
+use Rattle.gw_board.proofs.Orders.{behind_in, each_joined, each_front, each_behind}
 use Rattle.gw_board.proofs.Outs.{cut_none, laid_on}
 use Rattle.gw_board.proofs.Requests.{keeps}
 use Rattle.gw_board.proofs.SeatFacts.{unclosed-less}
@@ -96,13 +96,26 @@ laid_same k p m = laid_on k [] k p m (λ q. or_nothing (has k q)) (λ q h. refl)
 
 -- ---- the place
 
--- the reply stands there, and the original with these keys is the journal's last
-abbrev pub with_alone : Seen → ℕ → Asked → List Key → Seen
-with_alone b i a keys = record b {
+-- the reply stands there, and this original is the journal's last, behind these
+abbrev pub with_alone : Seen → ℕ → Asked → List Original → Original → Seen
+with_alone b i a front last = record b {
   maps = (done b.manner a b.maps).maps;
   places = slice_set b.places i (closed_with a (done b.manner a b.maps).answer);
-  originals = b.originals ++ record { keys = keys; part = restricted keys b.maps } ∷ [];
+  originals = front ++ last ∷ [];
 }
+
+-- ---- the original that is gone on with
+
+pub took_back : (before after : List Original) (last : Original) → TakesLast before after last → (m : Maps) → undone after (overlaid last.keys last.part m) ≡ undone before m
+took_back before after last (Off e) m = sym (undone-append after (last ∷ []) m) ∙ ap (λ (l : List Original). undone l m) (sym e)
+took_back before after last (Fresh e f) m = ap (λ (keys : List Key). undone after (overlaid keys last.part m)) f ∙ ap (λ (l : List Original). undone l m) e
+
+pub took_ready : (before after : List Original) (last : Original) → TakesLast before after last → (s : Stored) → Each (λ o. AreReady o.keys s) before → Each (λ o. AreReady o.keys s) after × AreReady last.keys s
+took_ready before after last (Off e) s h =
+    let both = subst (λ (l : List Original). Each (λ o. AreReady o.keys s) l) e h in
+    (each_front (λ o. AreReady o.keys s) after (last ∷ []) both, (each_behind (λ o. AreReady o.keys s) after (last ∷ []) both).0)
+took_ready before after last (Fresh e f) s h =
+    (subst (λ (l : List Original). Each (λ o. AreReady o.keys s) l) (sym e) h, subst (λ (keys : List Key). AreReady keys s) (sym f) (λ k g. absurd cc))
 
 module _ (b : Seen) (w : IsOnTheWay b) (none : NothingIsOpen (core_of b)) (i : ℕ) (a : Asked) (pends : slice_get b.places i ≡ Some (pending a)) where
   whole_is : b.maps ≡ w.fits.whole
@@ -128,14 +141,18 @@ module _ (b : Seen) (w : IsOnTheWay b) (none : NothingIsOpen (core_of b)) (i : �
   pub alone_fewer : suc (unclosed (slice_set b.places i closed)) ≡ unclosed b.places
   alone_fewer = unclosed-less b.places i (pending a) closed pends refl refl
 
-  pub alone_same : (keys : List Key) → IsSameBurst b (with_alone b i a keys)
-  alone_same keys = record { manner = refl; begun = refl; asked = asked-set b.places i (pending a) closed pends refl }
+  pub alone_same : (front : List Original) (last : Original) → IsSameBurst b (with_alone b i a front last)
+  alone_same front last = record { manner = refl; begun = refl; asked = asked-set b.places i (pending a) closed pends refl }
 
-  pub alone_kept : (keys : List Key) (s t : Stored) → IsKeptIn s b → NoneIsOut t → KeepReady s t → AreReady keys t → IsKeptIn t (with_alone b i a keys)
-  alone_kept keys s t kept here ready new = record {
+  pub alone_kept : (front : List Original) (last : Original) (s t : Stored) → Each (λ o. AreReady o.keys s) front → NoneIsOut t → KeepReady s t → AreReady last.keys t → IsKeptIn t (with_alone b i a front last)
+  alone_kept front last s t kept here ready new = record {
     out = λ k. here k ∙ ap (λ x. x && names_entry k) (sym (out_of_none (slice_set b.places i closed) alone_none k));
-    ready = each_joined (λ x. AreReady x.keys t) b.originals (record { keys = keys; part = restricted keys b.maps } ∷ []) (all_ready b.originals s t ready kept.ready) (new, tt);
+    ready = each_joined (λ x. AreReady x.keys t) front (last ∷ []) (all_ready front s t ready kept) (new, tt);
   }
+
+  -- the journal leads from the maps as they are to those of the start
+  pub led_back : undone b.originals b.maps ≡ b.begun
+  led_back = ap (undone b.originals) whole_is ∙ w.back
 
   module _ (first : AllClosed (take i b.places)) where
     pub alone_closed : AllClosed (take (suc i) (slice_set b.places i closed))
@@ -177,20 +194,20 @@ module _ (b : Seen) (w : IsOnTheWay b) (none : NothingIsOpen (core_of b)) (i : �
     whole_after : way.fits.whole ≡ o.maps
     whole_after = sym (cut_none (out ended.places) way.fits.whole (out_of_none ended.places none_ended)) ∙ sym way.fits.maps ∙ same_outcome
 
-    -- whichever keys changed: what stood there leads back
-    pub alone_way : (changed : List Key) → overlaid changed (restricted changed b.maps) o.maps ≡ b.maps → IsOnTheWay (with_alone b i a changed)
-    alone_way changed is =
-        let c : Seen = with_alone b i a changed in
-        let last : Original = record { keys = changed; part = restricted changed b.maps } in
+    -- whichever keys changed: the last original leads to maps that those before it lead on from
+    pub alone_way : (front : List Original) (last : Original) (m : Maps) → overlaid last.keys last.part o.maps ≡ m → undone front m ≡ b.begun → IsOnTheWay (with_alone b i a front last)
+    alone_way front last m is led =
+        let c : Seen = with_alone b i a front last in
         record {
+          begun = begun_still b w i a c refl refl (asked-set b.places i (pending a) closed pends refl);
           fits = made_of b.manner (core_of c) way.fits.whole ended.places way.fits.well (sym same_places) (sym same_outcome ∙ way.fits.maps) way.fits.stand;
           outcome =
               ap (λ (l : List Place). carried_on b.manner l way.fits.whole) (sym same_places)
               ∙ way.outcome
               ∙ ap (λ (l : List Place). carried b.manner (asked_of l) b.begun) same_places;
           back =
-              undone-append b.originals (last ∷ []) way.fits.whole
-              ∙ ap (λ (n : Maps). undone b.originals (overlaid changed (restricted changed b.maps) n)) whole_after
-              ∙ ap (undone b.originals) (is ∙ whole_is)
-              ∙ w.back;
+              undone-append front (last ∷ []) way.fits.whole
+              ∙ ap (λ (n : Maps). undone front (overlaid last.keys last.part n)) whole_after
+              ∙ ap (undone front) is
+              ∙ led;
         }

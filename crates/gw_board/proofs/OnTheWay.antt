@@ -13,7 +13,7 @@ use Rattle.gw_table.proofs.PartLookups.{sound_whole}
 use Rattle.gw_tx.specs.Footprints.{footprint_of, Covers}
 use Rattle.gw_foot.proofs.OutAndBack.{part_unused}
 use Rattle.gw_foot.proofs.WithOthers.{part_covers}
-use Rattle.gw_board.specs.BoardView.{IsOnTheWay}
+use Rattle.gw_board.specs.BoardView.{IsBegun, IsOnTheWay}
 use Rattle.gw_board.specs.Boards.{Seen, Handed, HasOpen, core_of, asked_of, begun_board, GivesTheFold, job_of, with_open, with_result, unchanged}
 use Rattle.gw_board.specs.Carried.{Asked, done, carried}
 use Rattle.gw_board.specs.Core.{Place, Job, Core, pending, open_with, closed_with, MayOpen, after_open, drawn, after_draw, after_close, after_return}
@@ -34,7 +34,7 @@ asked-set [] i p new e f = absurd cc
 asked-set (q ∷ qs) zero p new e f = let same : q ≡ p = cc in ap (λ (a : Asked). a ∷ asked_of qs) (f ∙ ap (λ (x : Place). x.asked) (sym same))
 asked-set (q ∷ qs) (suc i) p new e f = ap (λ (l : List Asked). q.asked ∷ l) (asked-set qs i p new e f)
 
-asked-pending : (asked : List Asked) → asked_of (map pending asked) ≡ asked
+pub asked-pending : (asked : List Asked) → asked_of (map pending asked) ≡ asked
 asked-pending [] = refl
 asked-pending (a ∷ more) = ap (λ (l : List Asked). a ∷ l) (asked-pending more)
 
@@ -47,6 +47,7 @@ set_twice (z ∷ zs) (suc i) x y = ap (λ l. z ∷ l) (set_twice zs i x y)
 
 pub begun_way : (manner : Manner) (asked : List Asked) (m : Maps) → AreWellFormed manner.rules.members m → AreUnused m [] (slots_of asked) → IsOnTheWay (begun_board manner asked m)
 begun_way manner asked m w u = record {
+  begun = record { well = w; unused = subst (λ (l : List Asked). AreUnused m [] (slots_of l)) (sym (asked-pending asked)) u };
   fits = kept_start manner 0 asked m w u;
   outcome = carried_start manner asked m ∙ ap (λ (l : List Asked). carried manner l m) (sym (asked-pending asked));
   back = refl;
@@ -66,15 +67,24 @@ module _ (b : Seen) (w : IsOnTheWay b) (i : ℕ) (a : Asked) where
   still : (places : List Place) → asked_of places ≡ asked_of b.places → carried manner (asked_of b.places) b.begun ≡ carried manner (asked_of places) b.begun
   still places e = ap (λ (l : List Asked). carried manner l b.begun) (sym e)
 
+  -- what the board was given is as fit for them
+  pub begun_still : (c : Seen) → c.manner ≡ b.manner → c.begun ≡ b.begun → asked_of c.places ≡ asked_of b.places → IsBegun c
+  begun_still c m n e = record {
+    well = subst (λ (r : Manner). AreWellFormed r.rules.members c.begun) (sym m) (subst (λ (x : Maps). AreWellFormed b.manner.rules.members x) (sym n) w.begun.well);
+    unused = subst (λ (l : List Asked). AreUnused c.begun [] (slots_of l)) (sym e) (subst (λ (x : Maps). AreUnused x [] (slots_of (asked_of b.places))) (sym n) w.begun.unused);
+  }
+
   -- ---- a place is opened
 
   pub open_way : (keys : List Key) → MayOpen s i a keys → IsOnTheWay (with_open b i a keys)
   open_way keys may =
       let t : Core = after_open s i a keys in
       let l : Leaves manner s t w.fits [] = open_leaves manner s w.fits i a keys may in
+      let asked : asked_of t.places ≡ asked_of b.places = asked-set b.places i (pending a) (open_with a (record { keys = keys; part = restricted keys b.maps; result = None })) may.pends refl in
       record {
+        begun = begun_still (with_open b i a keys) refl refl asked;
         fits = record { whole = l.kept.whole; well = l.kept.well; maps = l.kept.maps; stand = l.kept.stand };
-        outcome = l.same ∙ w.outcome ∙ still t.places (asked-set b.places i (pending a) (open_with a (record { keys = keys; part = restricted keys b.maps; result = None })) may.pends refl);
+        outcome = l.same ∙ w.outcome ∙ still t.places asked;
         back = ap (undone b.originals) l.back ∙ w.back;
       }
 
@@ -99,9 +109,11 @@ module _ (b : Seen) (w : IsOnTheWay b) (i : ℕ) (a : Asked) where
     return_way =
         let t : Core = after_return s i a j in
         let l : Leaves manner s t w.fits [] = return_leaves manner s w.fits i a j e in
+        let asked : asked_of t.places ≡ asked_of b.places = asked-set b.places i (open_with a j) (pending a) e refl in
         record {
+          begun = begun_still (record b { maps = t.maps; places = t.places }) refl refl asked;
           fits = record { whole = l.kept.whole; well = l.kept.well; maps = l.kept.maps; stand = l.kept.stand };
-          outcome = l.same ∙ w.outcome ∙ still t.places (asked-set b.places i (open_with a j) (pending a) e refl);
+          outcome = l.same ∙ w.outcome ∙ still t.places asked;
           back = ap (undone b.originals) l.back ∙ w.back;
         }
 
@@ -123,12 +135,14 @@ module _ (b : Seen) (w : IsOnTheWay b) (i : ℕ) (a : Asked) where
         let s2 : Core = after_close s1 i a (drawn manner a j) o in
         let l2 : Leaves manner s1 s2 l1.kept (record { keys = j.keys; part = j.part } ∷ []) = close_leaves manner s1 l1.kept i a (drawn manner a j) e1 o refl in
         let same : c.places ≡ s2.places = sym (set_twice b.places i (open_with a (drawn manner a j)) (closed_with a o.answer)) in
+        let asked : asked_of c.places ≡ asked_of b.places = asked-set b.places i (open_with a j) (closed_with a o.answer) e refl in
         record {
+          begun = begun_still c refl refl asked;
           fits = made_of manner (core_of c) l2.kept.whole s2.places l2.kept.well same l2.kept.maps l2.kept.stand;
           outcome =
               ap (λ (l : List Place). carried_on manner l l2.kept.whole) same
               ∙ l2.same ∙ l1.same ∙ w.outcome
-              ∙ still c.places (asked-set b.places i (open_with a j) (closed_with a o.answer) e refl);
+              ∙ still c.places asked;
           back = undone-append b.originals (record { keys = j.keys; part = j.part } ∷ []) l2.kept.whole ∙ ap (undone b.originals) (l2.back ∙ l1.back) ∙ w.back;
         }
 

@@ -6,7 +6,7 @@ use Rattle.gw_base.proofs.Booleans.{neither}
 use Rattle.gw_board.specs.Texts.{Text}
 use Rattle.gw_table.specs.Parts.{Parted}
 use Rattle.gw_board.proofs.Alike.{take-map, get-take, below-take}
-use Rattle.gw_board.specs.Boards.{is_closed, AllClosed, unclosed}
+use Rattle.gw_board.specs.Boards.{asked_of, is_closed, AllClosed, unclosed}
 use Rattle.gw_board.specs.Carried.{Asked}
 use Rattle.gw_board.specs.Core.{Standing, Closed, Place, pending}
 use Rattle.gw_board.specs.Journal.{Original}
@@ -131,3 +131,34 @@ told_all (r ∷ rs) = ap (λ (l : List Standing). Closed r ∷ l) (told_all rs)
 pub nil_of : {X : Type 0} (xs : List X) → length xs ≡ 0 → xs ≡ []
 nil_of [] e = refl
 nil_of (x ∷ xs) e = absurd (omega arith)
+
+-- ---- places that are pending again, from the first on
+
+abbrev pub front_pending : ℕ → List Place → List Place
+front_pending zero places = places
+front_pending (suc n) [] = []
+front_pending (suc n) (p ∷ ps) = pending p.asked ∷ front_pending n ps
+
+-- the next one too
+pub next_pending : (places : List Place) (n : ℕ) (p : Place) → slice_get (front_pending n places) n ≡ Some p → slice_set (front_pending n places) n (pending p.asked) ≡ front_pending (suc n) places
+next_pending [] zero p e = refl
+next_pending [] (suc n) p e = refl
+next_pending (q ∷ qs) zero p e = let same : q ≡ p = cc in ap (λ (x : Place). pending x.asked ∷ qs) (sym same)
+next_pending (q ∷ qs) (suc n) p e = ap (λ (l : List Place). pending q.asked ∷ l) (next_pending qs n p e)
+
+-- or all
+pub all_are_pending : (places : List Place) (n : ℕ) → length places ≤ n → front_pending n places ≡ map pending (asked_of places)
+all_are_pending [] zero h = refl
+all_are_pending [] (suc n) h = refl
+all_are_pending (p ∷ ps) zero h = absurd (omega arith)
+all_are_pending (p ∷ ps) (suc n) h = ap (λ (l : List Place). pending p.asked ∷ l) (all_are_pending ps n (omega arith))
+
+-- there is a place
+pub place_there : (places : List Place) (n : ℕ) → n < length places → (p : Place) × (slice_get places n ≡ Some p)
+place_there [] n h = absurd (omega arith)
+place_there (p ∷ ps) zero h = (p, refl)
+place_there (p ∷ ps) (suc n) h = place_there ps n (omega arith)
+
+pub length-asked : (places : List Place) → length (asked_of places) ≡ length places
+length-asked [] = refl
+length-asked (p ∷ ps) = let h : length (asked_of ps) ≡ length ps = length-asked ps in omega (arith, h)

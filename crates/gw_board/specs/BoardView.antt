@@ -3,12 +3,14 @@ use Rattle.std.specs.Prelude.{◌≡◌, ◌+◌, ◌≤◌, ◌&&◌, [], map, 
 use Rattle.gw_base.specs.declared.key.Key.{Key}
 use Rattle.gw_base.specs.Keys.{has}
 use Rattle.gw_table.specs.Stored.{Stored, maps_of, is_out, names_entry, AreReady}
+use Rattle.gw_table.specs.Unused.{AreUnused}
+use Rattle.gw_table.specs.WellFormed.{AreWellFormed}
 use Rattle.gw_board.specs.declared.board.Board.TheInside.{Inside}
 use Rattle.gw_board.specs.Boards.{Seen, core_of, asked_of, unclosed}
 use Rattle.gw_board.specs.Carried.{carried}
 use Rattle.gw_board.specs.Fitting.{Each, out, FitsTogether}
 use Rattle.gw_board.specs.Journal.{undone}
-use Rattle.gw_board.specs.Results.{carried_on}
+use Rattle.gw_board.specs.Results.{carried_on, slots_of}
 use Rattle.gw_board.specs.Seats.{place_of, original_of_part}
 
 abbrev pub value_of : Inside → Seen
@@ -20,9 +22,15 @@ value_of a = record {
   originals = map original_of_part a.originals.items;
 }
 
+-- the maps that it was given are well-formed, and what the requests own is unused in them
+pub record IsBegun (b : Seen) : Type 0 where
+  pub well : AreWellFormed b.manner.rules.members b.begun
+  pub unused : AreUnused b.begun [] (slots_of (asked_of b.places))
+
 -- There are whole maps from which what is out is missing; carrying out on them what is not closed comes to what the requests come to
 -- on the maps that the board was given; and the originals, laid over them, give those maps.
 pub record IsOnTheWay (b : Seen) : Type 0 where
+  pub begun : IsBegun b
   pub fits : FitsTogether b.manner (core_of b)
   pub outcome : carried_on b.manner b.places fits.whole ≡ carried b.manner (asked_of b.places) b.begun
   pub back : undone b.originals fits.whole ≡ b.begun
@@ -32,9 +40,10 @@ pub record IsKeptIn (tables : Stored) (b : Seen) : Type 0 where
   pub out : (k : Key) → is_out tables k ≡ (has (out b.places) k && names_entry k)
   pub ready : Each (λ o. AreReady o.keys tables) b.originals
 
--- there is room for an original of each place that is not closed, and for a reply of each place
+-- there is room for an original of each place that is not closed, and were it of each place, and for a reply of each place
 pub record HasRoom (a : Inside) : Type 0 where
   pub originals : vec_len a.originals + unclosed (map place_of a.seats.items) ≤ vec_capacity a.originals
+  pub all : vec_len a.seats ≤ vec_capacity a.originals
   pub replies : vec_len a.seats ≤ vec_capacity a.replies
   pub no_replies : a.replies.items ≡ []
 

@@ -2,10 +2,11 @@
 
 ghost use Rattle.std.specs.Prelude.{◌≡◌, ◌+◌, true, take, IfErr, IfOk, IfSome, OnErr, OnOk, slice_get};
 ghost use Rattle.gw_reserve.specs.Owned.{AreFreeSlots};
-ghost use Rattle.gw_table.specs.Stored.{maps_of, NoneIsOut};
+ghost use Rattle.gw_table.specs.Parts.{list_of};
+ghost use Rattle.gw_table.specs.Stored.{maps_of, AreReady, NoneIsOut};
 ghost use Rattle.gw_table.specs.WellFormed.{AreWellFormed};
-ghost use Rattle.gw_board.specs.Alone.{FindsFirst, WasCarried, AreAsBefore};
-ghost use Rattle.gw_board.specs.Boards.{core_of, is_closed, is_pending_at, AllClosed, GivesTheFold, unclosed};
+ghost use Rattle.gw_board.specs.Alone.{FindsFirst, WasCarried, AreAsBegun};
+ghost use Rattle.gw_board.specs.Boards.{asked_of, begun_board, core_of, is_closed, is_pending_at, AllClosed, GivesTheFold, unclosed};
 ghost use Rattle.gw_board.specs.OpenJobs.{IsSameBurst};
 ghost use Rattle.gw_board.specs.Results.{NothingIsOpen};
 ghost use Rattle.gw_board.specs.Seats.{standing_of};
@@ -13,9 +14,10 @@ ghost use Rattle.gw_board.specs.Seats.{standing_of};
 use crate::asked::Asked;
 use crate::board::Board;
 use crate::job::carry_on;
+use crate::journal::{last_alone, put_all_back};
 use crate::manner::Manner;
 use crate::original::Original;
-use crate::seat::{Seat, Stage, set_stage};
+use crate::seat::{Seat, Stage, all_pending, set_stage};
 use gw_base::{Items, NoMemory};
 use gw_foot::is_for_all;
 use gw_table::{Draft, Originals, Tables};
@@ -30,25 +32,28 @@ struct Left {
     text: Items<u8>,
 }
 
-/// Carries a request out, alone, on the tables where they lie: the tables then, what stood there before, and the text of the reply.
-/// The caller knows that the tables are well-formed, that nothing is out, and that the slots that the request owns are unused.
+/// Carries a request out, alone, on the tables where they lie, with the originals of earlier changes: the tables then, what stood there
+/// before all these changes, and the text of the reply. The caller knows that the tables are well-formed, that nothing is out, that each
+/// key of the originals has a place, and that the slots that the request owns are unused.
 ///
 /// # Errors
 ///
-/// Want of memory. The tables come back as they were.
+/// Want of memory. The tables come back as they were before all these changes.
 fn carry_in_place(
     alloc: Global,
     manner: &Manner,
     tables: Tables,
+    earlier: Originals,
     asked: &Asked<'_, '_>,
 ) -> Result<Left, Tables>
     requires whole { AreWellFormed manner.now.rules.members (maps_of tables) }
     requires here { NoneIsOut tables }
+    requires ready { AreReady (list_of earlier.keys) tables }
     requires unused { AreFreeSlots (maps_of tables) asked.now.owned.slots }
-    ensures ok { IfOk result (λ left. WasCarried manner.now asked.now tables left.tables left.originals left.text) }
-    ensures err { IfErr result (AreAsBefore tables) }
+    ensures ok { IfOk result (λ left. WasCarried manner.now asked.now tables earlier left.tables left.originals left.text) }
+    ensures err { IfErr result (AreAsBegun tables earlier) }
 {
-    let mut draft = Draft::of_tables(alloc, tables);
+    let mut draft = Draft::of_tables(tables, earlier);
     let Ok(text) = carry_on(alloc, manner, asked, &mut draft) else {
         return Err(draft.undone());
     };
@@ -93,12 +98,13 @@ impl Board<'_, '_, '_> {
 
     /// Carries out the first place that is not closed, on the tables where they lie, and closes it with its reply: what opening the
     /// place, carrying its job out and closing it with the result come to. No footprint is told, and no entry is taken out: what stood
-    /// where the commands write goes to the journal. So the work is that of the commands. The caller knows that nothing is open, that all
-    /// earlier places are closed, and that this one is pending.
+    /// where the commands write goes to the journal, once for each key of the places that are carried out so one after another. So the
+    /// work is that of the commands. The caller knows that nothing is open, that all earlier places are closed, and that this one is
+    /// pending.
     ///
     /// # Errors
     ///
-    /// Want of memory. The board is as it was.
+    /// Want of memory. The board is as it was when it was made: every place is pending.
     pub fn carry_alone(&mut self, alloc: Global, place: usize) -> Result<(), NoMemory>
         requires open { NothingIsOpen (core_of self.old) }
         requires first { AllClosed (take place self.old.places) }
@@ -108,16 +114,19 @@ impl Board<'_, '_, '_> {
         ensures left { OnOk result (unclosed self.new.places + 1 ≡ unclosed self.old.places) }
         ensures same { IsSameBurst self.old self.new }
         ensures outcome { GivesTheFold self.new }
-        ensures err { OnErr result (self.new ≡ self.old) }
+        ensures err { OnErr result (self.new ≡ begun_board self.old.manner (asked_of self.old.places) self.old.begun) }
     {
         let Some(task) = self.pending_task(place) else {
             unreachable!()
         };
         let tables = mem::replace(&mut self.tables, Tables::new(alloc));
-        let left = match carry_in_place(alloc, &self.manner, tables, task.get()) {
+        let earlier = last_alone(alloc, &mut self.originals);
+        let left = match carry_in_place(alloc, &self.manner, tables, earlier, task.get()) {
             Ok(left) => left,
             Err(tables) => {
                 self.tables = tables;
+                put_all_back(&mut self.tables, &mut self.originals);
+                all_pending(&mut self.seats);
                 return Err(NoMemory);
             }
         };

@@ -9,6 +9,7 @@ ghost use Rattle.gw_board.specs.Results.{NothingIsOpen};
 
 use crate::board::Board;
 use crate::job::{Done, Job};
+use crate::journal::put_all_back;
 use crate::original::Original;
 use crate::seat::{Seat, Stage, set_stage};
 use gw_base::Items;
@@ -95,9 +96,7 @@ impl<'b, 'h, 'a> Board<'b, 'h, 'a> {
             replies: _,
             start: _,
         } = self;
-        while let Some(original) = originals.pop() {
-            original.put_back(&mut tables);
-        }
+        put_all_back(&mut tables, &mut originals);
         tables.sweep();
         tables
     }

@@ -7,6 +7,7 @@ mod board;
 mod close;
 mod fault;
 mod job;
+mod journal;
 mod laws;
 mod manner;
 mod named;

@@ -1,6 +1,6 @@
 //! What stood in the tables before a place was closed with its result.
 
-ghost use Rattle.std.specs.Prelude.{◌≡◌};
+ghost use Rattle.std.specs.Prelude.{◌≡◌, IfOk, IfErr};
 ghost use Rattle.gw_table.specs.Parts.{list_of, overlaid};
 ghost use Rattle.gw_table.specs.Stored.{maps_of, AreReady, AreIn, AreAsReady, AreAsOut, NoneIsOut};
 
@@ -49,6 +49,18 @@ impl Original {
     {
         Original {
             stood: Stood::OfWrites(originals),
+        }
+    }
+
+    /// What writes found, where the place was carried out alone; else it comes back.
+    pub(crate) fn into_writes(self) -> Result<Originals, Original>
+        ensures ok { IfOk result (λ originals. originals ≡ self) }
+        ensures err { IfErr result (λ original. original ≡ self) }
+    {
+        let Original { stood } = self;
+        match stood {
+            Stood::OfWrites(originals) => Ok(originals),
+            Stood::OfJob(part) => Err(Original::of_job(part)),
         }
     }
 

@@ -2,6 +2,7 @@
 
 ghost use Rattle.std.specs.Prelude.{◌≡◌, ◌<◌, IfOk, length, map, Some, slice_get, slice_set, vec_len};
 ghost use Rattle.gw_board.specs.Core.{Place as PlaceOf, pending};
+ghost use Rattle.gw_board.specs.Boards.{asked_of};
 ghost use Rattle.gw_board.specs.Seats.{standing_of, place_of};
 
 use crate::asked::Asked;
@@ -85,4 +86,14 @@ pub(crate) fn set_stage(seats: &mut Vec<Seat<'_, '_, '_>>, place: usize, stage: 
 {
     let seat = &mut seats[place];
     seat.stage = stage;
+}
+
+/// Every place is pending from now on.
+pub(crate) fn all_pending(seats: &mut Vec<Seat<'_, '_, '_>>)
+    ensures places { map place_of seats.new.items ≡ map pending (asked_of (map place_of seats.old.items)) }
+    ensures len { vec_len seats.new ≡ vec_len seats.old }
+{
+    for place in 0..seats.len() {
+        set_stage(seats, place, Stage::Pending);
+    }
 }

@@ -11,18 +11,17 @@ use Rattle.gw_ctx.specs.Contexts.{ContextRecord}
 use Rattle.gw_table.specs.declared.originals.Write.{Write}
 use Rattle.gw_table.specs.declared.originals.Write.TheVariants.{OfTerm, OfCtx}
 use Rattle.gw_table.specs.declared.place.Place.{Place}
-use Rattle.gw_table.specs.Maps.{term, ctx}
-use Rattle.gw_table.specs.Originals.{keys_written, undone, IsInPlace}
-use Rattle.gw_table.specs.Stored.{Stored, shown, has_left, maps_of, is_ready, put_term_place, put_ctx_place, NoneIsOut, AreReady, KeepReady}
+use Rattle.gw_table.specs.Maps.{Maps, term, ctx, put_term, put_ctx, no_maps}
+use Rattle.gw_table.specs.Originals.{keys_written, undone, begun_at, before_all, IsInPlace}
+use Rattle.gw_table.specs.Parts.{Parted, list_of, overlaid}
+use Rattle.gw_table.specs.Stored.{Stored, shown, placed, has_left, maps_of, is_ready, put_term_place, put_ctx_place, NoneIsOut, AreReady, KeepReady}
 use Rattle.gw_table.proofs.Moved.{has-pushed}
-use Rattle.gw_table.proofs.Places.{got_term, got_ctx, maps-put_term_place, maps-put_ctx_place, in-put_term, in-put_ctx}
-use Rattle.gw_table.proofs.Undone.{keys_more, undone_term, undone_ctx, undone_term_again, undone_ctx_again}
+use Rattle.gw_base.proofs.NamesInLists.{or_left, or_right}
+use Rattle.gw_table.proofs.Places.{got_term, got_ctx, maps-put_term_place, maps-put_ctx_place, shown_placed, in-put_term, in-put_ctx}
+use Rattle.gw_table.proofs.Undone.{undone_laid, keys_more, undone_term, undone_ctx, undone_term_again, undone_ctx_again}
 
 pub same_in_place : (start old now : Stored) (ws vs : List Write) → now ≡ old → vs ≡ ws → IsInPlace start old ws → IsInPlace start now vs
 same_in_place start old now ws vs e f i = subst (λ (s : Stored). IsInPlace start s vs) (sym e) (subst (λ (l : List Write). IsInPlace start old l) (sym f) i)
-
-pub begun_in_place : (start : Stored) → NoneIsOut start → IsInPlace start start []
-begun_in_place start here = record { here = here; back = refl; places = λ k h. absurd cc; kept = λ k h. h }
 
 -- ---- a place that is written is there, and so is each that was
 
@@ -54,6 +53,17 @@ made-put_ctx s n p (Term q) h = absurd cc
 made-put_ctx s n p (Ctx q) h = ap (λ o. is_some o) (got_ctx s n p q) ∙ at_it (nat_eq q.0 n.0) p (finite.get s.contexts q.0) h
 made-put_ctx s n p Whole h = absurd cc
 
+-- another key has a place only where it had one
+other_term : (s : Stored) (t : List ℕ) (p : Place Termination) (k : Key) → same_key k (Term t) ≡ false → is_ready (put_term_place s t p) k ≡ true → is_ready s k ≡ true
+other_term s t p (Term q) e h = ap (λ b. is_some (cond b (Some p) (finite.get s.terms q))) (sym e) ∙ ap (λ o. is_some o) (sym (got_term s t p q)) ∙ h
+other_term s t p (Ctx n) e h = h
+other_term s t p Whole e h = refl
+
+other_ctx : (s : Stored) (n : CtxNum) (p : Place ContextRecord) (k : Key) → same_key k (Ctx n) ≡ false → is_ready (put_ctx_place s n p) k ≡ true → is_ready s k ≡ true
+other_ctx s n p (Term q) e h = h
+other_ctx s n p (Ctx q) e h = ap (λ b. is_some (cond b (Some p) (finite.get s.contexts q.0))) (sym e) ∙ ap (λ o. is_some o) (sym (got_ctx s n p q)) ∙ h
+other_ctx s n p Whole e h = refl
+
 one_more : (keys : List Key) (k : Key) (old new : Stored) → KeepReady old new → ((q : Key) → same_key q k ≡ true → is_ready new q ≡ true) → AreReady keys old → AreReady (keys ++ k ∷ []) new
 one_more keys k old new kept made ready q h = by (has keys q) (same_key q k) refl refl (sym (has-pushed keys k q) ∙ h)
   where
@@ -61,6 +71,52 @@ one_more keys k old new kept made ready q h = by (has keys q) (same_key q k) ref
     by true b e f g = kept q (ready q e)
     by false true e f g = made q f
     by false false e f g = absurd cc
+
+-- ---- where changes began
+
+maps-begun : (keys : List Key) (part : Maps) (s : Stored) → maps_of (begun_at keys part s) ≡ overlaid keys part (maps_of s)
+maps-begun [] part s = refl
+maps-begun (Term t ∷ keys) part s =
+    maps-put_term_place (begun_at keys part s) t (placed (term part t)) ∙ ap (put_term (maps_of (begun_at keys part s)) t) (shown_placed (term part t))
+    ∙ ap (λ (m : Maps). put_term m t (term part t)) (maps-begun keys part s)
+maps-begun (Ctx n ∷ keys) part s =
+    maps-put_ctx_place (begun_at keys part s) n (placed (ctx part n)) ∙ ap (put_ctx (maps_of (begun_at keys part s)) n) (shown_placed (ctx part n))
+    ∙ ap (λ (m : Maps). put_ctx m n (ctx part n)) (maps-begun keys part s)
+maps-begun (Whole ∷ keys) part s = maps-begun keys part s
+
+this_or_other : (same : Bool) (P : Type 0) → (same ≡ true → P) → (same ≡ false → P) → P
+this_or_other true P f g = f refl
+this_or_other false P f g = g refl
+
+-- no key but these has got a place
+no_other : (keys : List Key) (part : Maps) (s : Stored) → AreReady keys s → KeepReady (begun_at keys part s) s
+no_other [] part s ready k h = h
+no_other (Term t ∷ keys) part s ready k h = this_or_other (same_key k (Term t)) (is_ready s k ≡ true)
+    (λ e. ready k (or_left (same_key k (Term t)) (has keys k) e))
+    (λ e. no_other keys part s (λ q g. ready q (or_right (same_key q (Term t)) (has keys q) g)) k (other_term (begun_at keys part s) t (placed (term part t)) k e h))
+no_other (Ctx n ∷ keys) part s ready k h = this_or_other (same_key k (Ctx n)) (is_ready s k ≡ true)
+    (λ e. ready k (or_left (same_key k (Ctx n)) (has keys k) e))
+    (λ e. no_other keys part s (λ q g. ready q (or_right (same_key q (Ctx n)) (has keys q) g)) k (other_ctx (begun_at keys part s) n (placed (ctx part n)) k e h))
+no_other (Whole ∷ keys) part s ready k h = no_other keys part s (λ q g. ready q (or_right (same_key q Whole) (has keys q) g)) k h
+
+-- what was prepared before is so
+pub begun_ready : (keys : List Key) (part : Maps) (s : Stored) → KeepReady s (begun_at keys part s)
+begun_ready [] part s k h = h
+begun_ready (Term t ∷ keys) part s k h = keep-put_term (begun_at keys part s) t (placed (term part t)) k (begun_ready keys part s k h)
+begun_ready (Ctx n ∷ keys) part s k h = keep-put_ctx (begun_at keys part s) n (placed (ctx part n)) k (begun_ready keys part s k h)
+begun_ready (Whole ∷ keys) part s k h = begun_ready keys part s k h
+
+pub maps_before_all : (originals : Parted) (s : Stored) → maps_of (before_all originals s) ≡ overlaid (list_of originals.keys) originals.maps (maps_of s)
+maps_before_all originals s = maps-begun (list_of originals.keys) originals.maps s
+
+-- earlier changes are gone on with
+pub gone_on : (s : Stored) (ws : List Write) → NoneIsOut s → AreReady (keys_written ws) s → IsInPlace (begun_at (keys_written ws) (undone ws no_maps) s) s ws
+gone_on s ws here ready = record {
+  here = here;
+  back = undone_laid ws (maps_of s) ∙ sym (maps-begun (keys_written ws) (undone ws no_maps) s);
+  places = ready;
+  kept = no_other (keys_written ws) (undone ws no_maps) s ready;
+}
 
 -- ---- one more write
 

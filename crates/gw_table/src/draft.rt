@@ -6,6 +6,7 @@ ghost use Rattle.gw_base.specs.NameLists.{is_in};
 ghost use Rattle.gw_ctx.specs.Contexts.{joined};
 ghost use Rattle.gw_table.specs.Maps.{term, ctx, put_term, put_ctx, names, numbers, members_of, context_of};
 ghost use Rattle.gw_table.specs.Members.{put_service, with_member, without_member};
+ghost use Rattle.gw_table.specs.Originals.{before_all};
 ghost use Rattle.gw_table.specs.Parts.{Over, Only, list_of, start_of, holds, restricted, overlaid};
 ghost use Rattle.gw_table.specs.Stored.{maps_of, NoneIsOut, AreReady, KeepReady};
 
@@ -68,13 +69,15 @@ fn joined(context: &mut Context, name: TermName, limit: usize) -> Result<(), NoM
 }
 
 impl<'t> Draft<'t> {
-    /// Whole tables without changes. The caller knows that nothing is out. It takes no memory.
-    pub fn of_tables(alloc: Global, tables: Tables) -> Draft<'t>
-        requires { NoneIsOut tables }
-        ensures { result ≡ record { keys = Over tables; maps = maps_of tables } }
+    /// Whole tables, with the originals of earlier changes, or of none. The caller knows that nothing is out, and that each key of the
+    /// originals has a place. It takes no memory.
+    pub fn of_tables(tables: Tables, originals: Originals) -> Draft<'t>
+        requires here { NoneIsOut tables }
+        requires ready { AreReady (list_of originals.keys) tables }
+        ensures { result ≡ record { keys = Over (before_all originals tables); maps = maps_of tables } }
     {
         Draft {
-            ground: Ground::OfTables(InPlace::new(alloc, tables)),
+            ground: Ground::OfTables(InPlace::new(tables, originals)),
         }
     }
 
@@ -275,8 +278,8 @@ impl<'t> Draft<'t> {
         }
     }
 
-    /// A draft of whole tables as the tables that it left, with what stood there before: these, laid over them, give the tables of the
-    /// start. It takes no memory.
+    /// A draft of whole tables as the tables that it left, with what stood there before: these, laid over them, give the tables in which
+    /// the changes began, earlier ones that were gone on with among them. It takes no memory.
     pub fn into_tables(self) -> (Tables, Originals)
         requires { self.keys ≡ Over (start_of self.keys) }
         ensures maps { maps_of result.0 ≡ self.entry.maps }
@@ -298,7 +301,7 @@ impl<'t> Draft<'t> {
         }
     }
 
-    /// A draft of whole tables as the tables of the start, whatever was written. It takes no memory.
+    /// A draft of whole tables as the tables in which the changes began, whatever was written since. It takes no memory.
     pub fn undone(self) -> Tables
         requires { self.keys ≡ Over (start_of self.keys) }
         ensures maps { maps_of result ≡ maps_of (start_of self.entry.keys) }

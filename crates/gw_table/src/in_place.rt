@@ -3,10 +3,11 @@
 ghost use Rattle.std.specs.Prelude.{◌≡◌, None, IfOk, OnOk, option_copied};
 ghost use Rattle.gw_table.specs.Maps.{term, ctx, put_term, put_ctx, names, numbers};
 ghost use Rattle.gw_table.specs.Members.{put_service};
+ghost use Rattle.gw_table.specs.Originals.{before_all};
 ghost use Rattle.gw_table.specs.Parts.{Over, Only, list_of, start_of, restricted, overlaid};
 ghost use Rattle.gw_table.specs.Stored.{maps_of, NoneIsOut, AreReady, KeepReady};
 
-use crate::noted::was_written;
+use crate::noted::{Noted, was_written};
 use crate::originals::{Originals, Write};
 use crate::place::{Place, entry_in};
 use crate::tables::Tables;
@@ -19,14 +20,14 @@ use std::snapshot::Snapshot;
 
 /// Tables that are changed in place: the first write of each key is noted with what stood there, so that there is a way back, which
 /// takes no memory. A look-up is one in the tables, and a write takes one. Beside what is written only the originals are held, one for
-/// each key, however often it is written.
+/// each key, however often it is written; those of earlier changes are gone on with, and then the way back leads to where they began.
 pub(crate) struct InPlace {
     pub(crate) tables: Tables,
     writes: Vec<Write>,
-    // The writes in the order of their keys, where there are many, for the search among them.
-    order: Vec<usize>,
+    noted: Noted,
     vacated: Vec<Key>,
-    start: Snapshot<Tables>,
+    before: Snapshot<Tables>,
+    earlier: Snapshot<Originals>,
 }
 
 // By hand, so that a function that lets it go does so by one call. A derived one would stand in it field by field.
@@ -35,15 +36,16 @@ impl Drop for InPlace {
         let InPlace {
             tables: _,
             writes: _,
-            order: _,
+            noted: _,
             vacated: _,
-            start: _,
+            before: _,
+            earlier: _,
         } = self;
     }
 }
 
 impl Model for InPlace {
-    ghost use Rattle.gw_table.specs.Originals.{IsInPlace};
+    ghost use Rattle.gw_table.specs.Originals.{before_all, IsInPlace};
     ghost use Rattle.gw_table.specs.Parts.{Parted, Over, coded_part};
     ghost use Rattle.gw_table.specs.Stored.{maps_of};
 
@@ -51,9 +53,9 @@ impl Model for InPlace {
 
     ghost coded = { coded_part };
 
-    ghost view = { λ a. record { keys = Over a.start.value; maps = maps_of a.tables } };
+    ghost view = { λ a. record { keys = Over (before_all a.earlier.value a.before.value); maps = maps_of a.tables } };
 
-    ghost invariant = { λ a. IsInPlace a.start.value a.tables a.writes.items };
+    ghost invariant = { λ a. IsInPlace (before_all a.earlier.value a.before.value) a.tables a.writes.items };
 }
 
 /// Notes a key that is left without an entry.
@@ -65,18 +67,26 @@ fn note_vacated(vacated: &mut Vec<Key>, key: Key, is_vacated: bool) -> Result<()
 }
 
 impl InPlace {
-    /// Tables without changes.
-    pub(crate) fn new(alloc: Global, tables: Tables) -> InPlace
-        requires { NoneIsOut tables }
-        ensures { result ≡ record { keys = Over tables; maps = maps_of tables } }
+    /// Tables, with the originals of earlier changes.
+    pub(crate) fn new(tables: Tables, originals: Originals) -> InPlace
+        requires here { NoneIsOut tables }
+        requires ready { AreReady (list_of originals.keys) tables }
+        ensures { result ≡ record { keys = Over (before_all originals tables); maps = maps_of tables } }
     {
-        let start = Snapshot::of(&tables);
+        let before = Snapshot::of(&tables);
+        let earlier = Snapshot::of(&originals);
+        let Originals {
+            writes,
+            noted,
+            vacated,
+        } = originals;
         InPlace {
             tables,
-            writes: Vec::new(alloc),
-            order: Vec::new(alloc),
-            vacated: Vec::new(alloc),
-            start,
+            writes,
+            noted,
+            vacated,
+            before,
+            earlier,
         }
     }
 
@@ -106,7 +116,7 @@ impl InPlace {
     {
         let key = Key::Term(name);
         note_vacated(&mut self.vacated, key, entry.is_none())?;
-        let is_noted = was_written(&self.writes, &mut self.order, &key)?;
+        let is_noted = was_written(&self.writes, &mut self.noted, &key)?;
         if is_noted {
             drop(self.tables.exchange_term(&name, Place::of(entry)));
             return Ok(());
@@ -130,7 +140,7 @@ impl InPlace {
     {
         let key = Key::Ctx(number);
         note_vacated(&mut self.vacated, key, entry.is_none())?;
-        let is_noted = was_written(&self.writes, &mut self.order, &key)?;
+        let is_noted = was_written(&self.writes, &mut self.noted, &key)?;
         if is_noted {
             drop(self.tables.exchange_ctx(number, Place::of(entry)));
             return Ok(());
@@ -154,7 +164,7 @@ impl InPlace {
         ensures maps { OnOk result (self.new.maps ≡ put_ctx self.old.maps number None) }
         ensures keys { self.new.keys ≡ self.old.keys }
     {
-        let is_noted = was_written(&self.writes, &mut self.order, &Key::Ctx(number))?;
+        let is_noted = was_written(&self.writes, &mut self.noted, &Key::Ctx(number))?;
         if is_noted {
             return Ok(self.tables.exchange_ctx(number, Place::Empty).into_entry());
         }
@@ -180,7 +190,7 @@ impl InPlace {
         ensures maps { OnOk result (self.new.maps ≡ put_service service name.now self.old.maps (term self.old.maps name.now)) }
         ensures keys { self.new.keys ≡ self.old.keys }
     {
-        let is_noted = was_written(&self.writes, &mut self.order, &Key::Term(*name))?;
+        let is_noted = was_written(&self.writes, &mut self.noted, &Key::Term(*name))?;
         self.writes.reserve(1)?;
         let Some(before) = self.tables.set_service(alloc, name, service)? else {
             return Ok(());
@@ -221,11 +231,19 @@ impl InPlace {
         let InPlace {
             tables,
             writes,
-            order: _,
+            noted,
             vacated,
-            start: _,
+            before: _,
+            earlier: _,
         } = self;
-        (tables, Originals { writes, vacated })
+        (
+            tables,
+            Originals {
+                writes,
+                noted,
+                vacated,
+            },
+        )
     }
 
     /// The tables as they were at the start. It takes no memory.
@@ -237,9 +255,10 @@ impl InPlace {
         let InPlace {
             mut tables,
             writes,
-            order: _,
+            noted: _,
             vacated: _,
-            start: _,
+            before: _,
+            earlier: _,
         } = self;
         tables.take_all_back(writes);
         tables

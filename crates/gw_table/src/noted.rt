@@ -1,52 +1,64 @@
 //! Which keys were written before: a search among the writes.
 
-ghost use Rattle.std.specs.Prelude.{◌≡◌, ◌≤◌, true, length, vec_len, IfOk};
+ghost use Rattle.std.specs.Prelude.{◌≡◌, true, IfOk};
 ghost use Rattle.std.specs.Bool.{OnTrue};
 ghost use Rattle.std.specs.List.{list_any};
 ghost use Rattle.gw_base.specs.Keys.{same_key, has};
 ghost use Rattle.gw_table.specs.Originals.{key_written, keys_written};
 
 use crate::originals::Write;
-use gw_base::{Key, NoMemory};
-use std::cmp::Ordering;
+use gw_base::{Key, NoMemory, TermName};
+use std::alloc::Global;
+use std::collections::BTreeMap;
 
-/// How many writes are looked through one by one, as those of most transactions are. More are searched, in the order of their keys.
-const FEW: usize = 8;
+/// How many writes are looked through one by one, as those of most bursts are. More are searched by their keys.
+const FEW: usize = 32;
 
-fn compare_at(writes: &[Write], at: usize, key: &Key) -> Ordering {
-    match writes.get(at) {
-        Some(write) => write.compare(key),
-        None => Ordering::Greater,
-    }
+/// Where writes stand in their list, by their keys. It is a guide alone: what it says is looked at in the list.
+#[derive(Drop)]
+pub(crate) struct Noted {
+    terms: BTreeMap<TermName, usize>,
+    contexts: BTreeMap<u32, usize>,
+    // How many of the writes are in it: those from the first on.
+    count: usize,
 }
 
-/// Where a key stands in the order of keys, or would stand. One that comes behind all others, as names in order do, is compared with
-/// the last one alone.
-fn place_of(writes: &[Write], order: &[usize], key: &Key) -> usize
-    ensures { result ≤ length order.now }
-{
-    match order.last() {
-        Some(last) if compare_at(writes, *last, key).is_lt() => order.len(),
-        _ => order.partition_point(|at| compare_at(writes, *at, key).is_lt()),
+impl Noted {
+    /// Without writes. It takes no memory.
+    pub(crate) fn new(alloc: Global) -> Noted {
+        Noted {
+            terms: BTreeMap::new(alloc),
+            contexts: BTreeMap::new(alloc),
+            count: 0,
+        }
     }
-}
 
-/// Puts a write in its place in the order of keys.
-fn put_in_place(writes: &[Write], order: &mut Vec<usize>, at: usize) -> Result<(), NoMemory> {
-    let Some(write) = writes.get(at) else {
-        return Ok(());
-    };
-    let place = place_of(writes, order, &write.key());
-    order.insert(place, at)?;
-    Ok(())
-}
-
-/// Puts the writes that came since in their places in the order of keys.
-fn catch_up(writes: &[Write], order: &mut Vec<usize>) -> Result<(), NoMemory> {
-    for at in order.len()..writes.len() {
-        put_in_place(writes, order, at)?;
+    /// Where the write of a key is to be looked for.
+    fn place_of(&self, key: &Key) -> Option<usize> {
+        match key {
+            Key::Term(name) => self.terms.get(name).copied(),
+            Key::Ctx(number) => self.contexts.get(&number.0).copied(),
+            Key::Whole => None,
+        }
     }
-    Ok(())
+
+    /// Takes a write in.
+    fn take_in(&mut self, write: &Write, at: usize) -> Result<(), NoMemory> {
+        match write {
+            Write::OfTerm(name, _) => self.terms.insert(*name, at)?,
+            Write::OfCtx(number, _) => self.contexts.insert(number.0, at)?,
+        };
+        Ok(())
+    }
+
+    /// Takes in the writes that came since.
+    fn catch_up(&mut self, writes: &[Write]) -> Result<(), NoMemory> {
+        for (at, write) in writes.iter().enumerate().skip(self.count) {
+            self.take_in(write, at)?;
+        }
+        self.count = writes.len();
+        Ok(())
+    }
 }
 
 /// Whether a key is among those that were written.
@@ -63,32 +75,27 @@ fn is_at(writes: &[Write], at: usize, key: &Key) -> bool
     at < writes.len() && writes[at].is_of(key)
 }
 
-/// Whether a key is found by its place in the order of keys.
-fn is_found(writes: &[Write], order: &[usize], key: &Key) -> bool
+/// Whether a key is found where it is to be looked for.
+fn is_found(writes: &[Write], noted: &Noted, key: &Key) -> bool
     ensures { OnTrue result (has (keys_written writes.now) key.now ≡ true) }
 {
-    match order.get(place_of(writes, order, key)) {
-        Some(at) => is_at(writes, *at, key),
+    match noted.place_of(key) {
+        Some(at) => is_at(writes, at, key),
         None => false,
     }
 }
 
-/// Whether a key was written before. The order of keys is that of earlier such questions: where there are more than a few writes, a
-/// question takes log w steps in the w writes.
+/// Whether a key was written before. Where there are more than a few writes, a question takes one look-up among them.
 ///
 /// # Errors
 ///
 /// Want of memory.
-pub(crate) fn was_written(
-    writes: &[Write],
-    order: &mut Vec<usize>,
-    key: &Key,
-) -> Result<bool, NoMemory>
+pub(crate) fn was_written(writes: &[Write], noted: &mut Noted, key: &Key) -> Result<bool, NoMemory>
     ensures { IfOk result (λ was. OnTrue was (has (keys_written writes.now) key.now ≡ true)) }
 {
     if writes.len() <= FEW {
         return Ok(is_among(writes, key));
     }
-    catch_up(writes, order)?;
-    Ok(is_found(writes, order, key))
+    noted.catch_up(writes)?;
+    Ok(is_found(writes, noted, key))
 }

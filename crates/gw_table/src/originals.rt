@@ -1,18 +1,19 @@
 //! What stood at keys of tables before they were written, and the way back.
 
-ghost use Rattle.std.specs.Prelude.{◌≡◌, true, false};
+ghost use Rattle.std.specs.Prelude.{◌≡◌, true, false, []};
 ghost use Rattle.gw_base.specs.Keys.{same_key};
-ghost use Rattle.gw_table.specs.KeyLists.{key_cmp};
+ghost use Rattle.gw_table.specs.Maps.{no_maps};
 ghost use Rattle.gw_table.specs.Originals.{key_written, keys_written, without_write, undone};
-ghost use Rattle.gw_table.specs.Parts.{list_of, overlaid};
+ghost use Rattle.gw_table.specs.Parts.{Only, list_of, overlaid};
 ghost use Rattle.gw_table.specs.Stored.{maps_of, is_ready, is_out, AreReady, AreIn, AreAsReady, AreAsOut, NoneIsOut};
 
+use crate::noted::Noted;
 use crate::place::Place;
 use crate::tables::Tables;
 use gw_base::{CtxNum, Held, Key, TermName};
 use gw_ctx::Context;
 use gw_term::Termination;
-use std::cmp::Ordering;
+use std::alloc::Global;
 use std::marker::Model;
 
 /// What stood at a key before a write of it.
@@ -45,19 +46,6 @@ impl Write {
             _ => false,
         }
     }
-
-    /// Whether the key that was written comes before another one, or after it.
-    pub(crate) fn compare(&self, key: &Key) -> Ordering
-        ensures { result ≡ key_cmp (key_written self.now) key.now }
-    {
-        match (self, key) {
-            (Write::OfTerm(own, _), Key::Term(name)) => own.cmp(name),
-            (Write::OfTerm(_, _), _) => Ordering::Less,
-            (Write::OfCtx(_, _), Key::Term(_)) => Ordering::Greater,
-            (Write::OfCtx(own, _), Key::Ctx(number)) => own.0.cmp(&number.0),
-            (Write::OfCtx(_, _), Key::Whole) => Ordering::Less,
-        }
-    }
 }
 
 /// What stood at keys of tables before they were written, in the order of the writes: a key for each, and of each key what its first
@@ -65,6 +53,7 @@ impl Write {
 #[derive(Drop)]
 pub struct Originals {
     pub(crate) writes: Vec<Write>,
+    pub(crate) noted: Noted,
     // Keys that were left without an entry, whose places may be given up.
     pub(crate) vacated: Vec<Key>,
 }
@@ -79,6 +68,19 @@ impl Model for Originals {
     ghost coded = { coded_part };
 
     ghost view = { λ a. record { keys = Only (keys_written a.writes.items); maps = undone a.writes.items no_maps } };
+}
+
+impl Originals {
+    /// Those of no change. They take no memory.
+    pub fn new(alloc: Global) -> Originals
+        ensures { result ≡ record { keys = Only []; maps = no_maps } }
+    {
+        Originals {
+            writes: Vec::new(alloc),
+            noted: Noted::new(alloc),
+            vacated: Vec::new(alloc),
+        }
+    }
 }
 
 impl Tables {
@@ -119,7 +121,11 @@ impl Tables {
         ensures out { AreAsOut self.old self.new }
         ensures ready { AreAsReady self.old self.new }
     {
-        let Originals { writes, vacated: _ } = originals;
+        let Originals {
+            writes,
+            noted: _,
+            vacated: _,
+        } = originals;
         self.take_all_back(writes);
     }
 

@@ -1,27 +1,27 @@
-use Rattle.std.proofs.Common.{◌≡◌, ◌+◌, ℕ, suc, List, ◌∷◌, ◌++◌, [], map, take, Some, sym, ap, subst, ◌∙◌, add-one, arith}
+use Rattle.std.proofs.Common.{◌≡◌, ◌+◌, ℕ, suc, false, List, ◌∷◌, ◌++◌, [], map, take, length, Some, refl, sym, ap, subst, ◌∙◌, add-one, arith}
 use Rattle.std.specs.List.{list_any}
 use Rattle.std.specs.Prelude.{slice_get, slice_set, ◌&&◌}
-use Rattle.gw_base.specs.declared.key.Key.{Key}
 use Rattle.gw_reserve.specs.Owned.{AreFreeSlots}
 use Rattle.gw_table.specs.Maps.{Maps}
-use Rattle.gw_table.specs.Parts.{Parted, list_of, restricted, overlaid}
-use Rattle.gw_table.specs.Stored.{Stored, maps_of, names_entry, NoneIsOut}
+use Rattle.gw_table.specs.Parts.{Parted, list_of, overlaid}
+use Rattle.gw_table.specs.Stored.{Stored, maps_of, AreReady, NoneIsOut}
 use Rattle.gw_table.specs.WellFormed.{AreWellFormed}
-use Rattle.gw_board.specs.Alone.{WasCarried, AreAsBefore}
+use Rattle.gw_board.specs.Alone.{WasCarried, AreAsBegun, TakesLast}
 use Rattle.gw_board.specs.BoardView.{value_of, IsOnTheWay, IsKeptIn}
-use Rattle.gw_board.specs.Boards.{Seen, core_of, AllClosed, GivesTheFold, unclosed}
+use Rattle.gw_board.specs.Boards.{Seen, asked_of, begun_board, core_of, AllClosed, GivesTheFold, unclosed}
 use Rattle.gw_board.specs.Carried.{Asked, done}
 use Rattle.gw_board.specs.Core.{Place, Closed, pending}
+use Rattle.gw_board.specs.Fitting.{Each}
+use Rattle.gw_board.specs.Journal.{Original, undone}
 use Rattle.gw_board.specs.OpenJobs.{IsSameBurst}
 use Rattle.gw_board.specs.Results.{is_open, NothingIsOpen}
 use Rattle.gw_board.specs.Seats.{place_of, original_of_part}
-use Rattle.gw_board.proofs.CarriedAlone.{with_alone, well_here, unused_here, alone_fewer, alone_none, alone_closed, alone_same, alone_kept, alone_way}
-use Rattle.gw_board.proofs.Comes.{out_of_none}
-use Rattle.gw_board.proofs.KeptIn.{all_ready, none_out}
-use Rattle.gw_board.proofs.OnTheWay.{gives_the_fold}
-use Rattle.gw_board.proofs.SeatFacts.{seat_inside, one_more_original}
+use Rattle.gw_board.proofs.CarriedAlone.{with_alone, took_back, took_ready, led_back, well_here, unused_here, alone_fewer, alone_none, alone_closed, alone_same, alone_kept, alone_way}
+use Rattle.gw_board.proofs.KeptIn.{all_ready, begun_kept, none_out}
+use Rattle.gw_board.proofs.OnTheWay.{asked-pending, begun_way, gives_the_fold}
+use Rattle.gw_board.proofs.SeatFacts.{seat_inside, one_more_original, unclosed-pending, length-places, length-asked}
 use Rattle.gw_board.proofs.board.Board.carry_alone.Goals as goal
-use Rattle.gw_board.proofs.board.Board.carry_alone.Goals.{In-Ok-push}
+use Rattle.gw_board.proofs.board.Board.carry_alone.Goals.{In-Ok-push, After-all_pending}
 
 -- what the caller knows of the board holds of it as its fields are
 none_here : (b now : Seen) → b ≡ now → NothingIsOpen (core_of now) → NothingIsOpen (core_of b)
@@ -29,13 +29,6 @@ none_here b now e h = subst (λ (x : Seen). NothingIsOpen (core_of x)) (sym e) h
 
 pends_here : (b now : Seen) (i : ℕ) (a : Asked) → b ≡ now → slice_get now.places i ≡ Some (pending a) → slice_get b.places i ≡ Some (pending a)
 pends_here b now i a e h = ap (λ (x : Seen). slice_get x.places i) e ∙ h
-
--- the board with other places made, which are none of its value
-abbrev with_maps : Seen → Maps → Seen
-with_maps b m = record { manner = b.manner; begun = b.begun; maps = m; places = b.places; originals = b.originals }
-
-prepared_way : (b : Seen) (m : Maps) → m ≡ b.maps → IsOnTheWay b → IsOnTheWay (with_maps b m)
-prepared_way b m e w = subst (λ (n : Maps). IsOnTheWay (with_maps b n)) (sym e) w
 
 pub carry_in_place-requires-clause-whole : goal.carry_in_place-requires-clause-whole
 carry_in_place-requires-clause-whole c =
@@ -58,29 +51,88 @@ carry_in_place-requires-clause-here c =
     subst NoneIsOut (sym c.replace-tables.ensures.value)
     (none_out b c.self.inside.tables c.self.invariant.kept (none_here b c.args.self.now c.self.view_is c.requires.«open»))
 
+pub carry_in_place-requires-clause-ready : goal.carry_in_place-requires-clause-ready
+carry_in_place-requires-clause-ready c =
+    let b : Seen = value_of c.self.inside in
+    subst (AreReady (list_of c.last_alone-earlier.result.keys)) (sym c.replace-tables.ensures.value)
+    (took_ready b.originals (map original_of_part c.last_alone-earlier.new.originals.items) (original_of_part c.last_alone-earlier.result) c.last_alone-earlier.ensures.last c.self.inside.tables c.self.invariant.kept.ready).1
+
 -- ---- after want of memory
+
+pub put_all_back-requires-clause-here : goal.put_all_back-requires-clause-here
+put_all_back-requires-clause-here c = c.in-Err.ensures.err.here
+
+pub put_all_back-requires-clause-ready : goal.put_all_back-requires-clause-ready
+put_all_back-requires-clause-ready c =
+    let b : Seen = value_of c.self.inside in
+    let after : List Original = map original_of_part c.last_alone-earlier.new.originals.items in
+    let was : AreAsBegun c.self.inside.tables c.last_alone-earlier.result c.in-Err.tables = subst (λ (s : Stored). AreAsBegun s c.last_alone-earlier.result c.in-Err.tables) c.replace-tables.ensures.value c.in-Err.ensures.err in
+    all_ready after c.self.inside.tables c.in-Err.tables was.kept
+    (took_ready b.originals after (original_of_part c.last_alone-earlier.result) c.last_alone-earlier.ensures.last c.self.inside.tables c.self.invariant.kept.ready).0
+
+module _ (c : After-all_pending) where
+  abbrev before : Seen
+  before = value_of c.self.inside
+
+  abbrev back : Stored
+  back = c.put_all_back.new.tables
+
+  abbrev left : Seen
+  left = record { manner = before.manner; begun = before.begun; maps = maps_of back; places = map place_of c.all_pending.new.seats.items; originals = map original_of_part c.put_all_back.new.originals.items }
+
+  was_begun : AreAsBegun c.self.inside.tables c.last_alone-earlier.result c.in-Err.tables
+  was_begun = subst (λ (s : Stored). AreAsBegun s c.last_alone-earlier.result c.in-Err.tables) c.replace-tables.ensures.value c.in-Err.ensures.err
+
+  maps_begun : maps_of back ≡ before.begun
+  maps_begun =
+      c.put_all_back.ensures.maps
+      ∙ ap (undone (map original_of_part c.last_alone-earlier.new.originals.items)) was_begun.maps
+      ∙ took_back before.originals (map original_of_part c.last_alone-earlier.new.originals.items) (original_of_part c.last_alone-earlier.result) c.last_alone-earlier.ensures.last before.maps
+      ∙ led_back before c.self.invariant.on_the_way (none_here before c.args.self.now c.self.view_is c.requires.«open») c.args.place c.in-Some.task
+      (pends_here before c.args.self.now c.args.place c.in-Some.task c.self.view_is c.in-Some.ensures)
+
+  is_begun : left ≡ begun_board before.manner (asked_of before.places) before.begun
+  is_begun = λ j. record { manner = before.manner; begun = before.begun; maps = maps_begun j; places = c.all_pending.ensures.places j; originals = map original_of_part (c.put_all_back.ensures.none j) }
+
+  begun_again : IsOnTheWay (begun_board before.manner (asked_of before.places) before.begun)
+  begun_again = begun_way before.manner (asked_of before.places) before.begun c.self.invariant.on_the_way.begun.well c.self.invariant.on_the_way.begun.unused
 
 pub invariant_of-self : goal.invariant_of-self
 invariant_of-self c =
-    let b : Seen = value_of c.self.inside in
-    let before : c.replace-tables.result ≡ c.self.inside.tables = c.replace-tables.ensures.value in
-    let back : AreAsBefore c.self.inside.tables c.in-Err.tables = subst (λ (s : Stored). AreAsBefore s c.in-Err.tables) before c.in-Err.ensures.err in
-    let none : NothingIsOpen (core_of b) = none_here b c.args.self.now c.self.view_is c.requires.«open» in
-    let room = c.self.invariant.room in
+    let all : unclosed (map place_of c.all_pending.new.seats.items) ≡ length (asked_of (before c).places) = ap unclosed c.all_pending.ensures.places ∙ unclosed-pending (asked_of (before c).places) in
+    let asked : length (asked_of (before c).places) ≡ length (before c).places = length-asked (before c).places in
+    let places : length (before c).places ≡ length c.self.inside.seats.items = length-places c.self.inside.seats.items in
+    let none : length c.put_all_back.new.originals.items ≡ 0 = ap length c.put_all_back.ensures.none in
+    let room = c.self.invariant.room.all in
+    let replies = c.self.invariant.room.replies in
+    let len = c.all_pending.ensures.len in
+    let taken = c.last_alone-earlier.ensures.capacity in
+    let space = c.put_all_back.ensures.capacity in
+    let o = c.put_all_back.new.originals.ok.0 in
+    let s = c.self.inside.seats.ok.0 in
     record {
-      on_the_way = prepared_way b (maps_of c.in-Err.tables) back.maps c.self.invariant.on_the_way;
-      kept = record {
-        out = λ k. back.here k ∙ ap (λ x. x && names_entry k) (sym (out_of_none b.places none k));
-        ready = all_ready b.originals c.self.inside.tables c.in-Err.tables back.kept c.self.invariant.kept.ready;
-      };
-      room = record { originals = room.originals; replies = room.replies; no_replies = room.no_replies };
+      on_the_way = subst IsOnTheWay (sym (is_begun c)) (begun_again c);
+      kept = subst (IsKeptIn (back c)) (sym (is_begun c)) (begun_kept (before c).manner (asked_of (before c).places) (before c).begun (back c) c.put_all_back.ensures.here);
+      room = record { originals = omega arith; all = omega arith; replies = omega arith; no_replies = c.self.invariant.room.no_replies };
     }
 
+none_pending : (asked : List Asked) → list_any (λ p. is_open p.standing) (map pending asked) ≡ false
+none_pending [] = refl
+none_pending (a ∷ more) = none_pending more
+
+pub returns-in-Err-clause-none : goal.returns-in-Err-clause-none
+returns-in-Err-clause-none c = subst (λ (x : Seen). NothingIsOpen (core_of x)) (sym (is_begun c)) (none_pending (asked_of (before c).places))
+
+pub returns-in-Err-clause-same : goal.returns-in-Err-clause-same
+returns-in-Err-clause-same c =
+    let same : IsSameBurst (before c) (left c) = record { manner = refl; begun = refl; asked = ap asked_of c.all_pending.ensures.places ∙ asked-pending (asked_of (before c).places) } in
+    subst (λ (x : Seen). IsSameBurst x (left c)) c.self.view_is same
+
 pub returns-in-Err-clause-outcome : goal.returns-in-Err-clause-outcome
-returns-in-Err-clause-outcome c =
-    let b : Seen = value_of c.self.inside in
-    let back : AreAsBefore c.self.inside.tables c.in-Err.tables = subst (λ (s : Stored). AreAsBefore s c.in-Err.tables) c.replace-tables.ensures.value c.in-Err.ensures.err in
-    gives_the_fold (with_maps b (maps_of c.in-Err.tables)) (prepared_way b (maps_of c.in-Err.tables) back.maps c.self.invariant.on_the_way)
+returns-in-Err-clause-outcome c = gives_the_fold (left c) (subst IsOnTheWay (sym (is_begun c)) (begun_again c))
+
+pub returns-in-Err-clause-err : goal.returns-in-Err-clause-err
+returns-in-Err-clause-err c = is_begun c ∙ ap (λ (x : Seen). begun_board x.manner (asked_of x.places) x.begun) c.self.view_is
 
 -- ---- with its result
 
@@ -95,6 +147,8 @@ unreachable-requires-in_default-push c =
     let fewer = alone_fewer b c.self.invariant.on_the_way (none_here b c.args.self.now c.self.view_is c.requires.«open») c.args.place c.in-Some.task
     (pends_here b c.args.self.now c.args.place c.in-Some.task c.self.view_is c.in-Some.ensures) in
     let room = c.self.invariant.room.originals in
+    let taken = c.last_alone-earlier.ensures.len in
+    let space = c.last_alone-earlier.ensures.capacity in
     let full = c.in_default-push.ensures.full in
     omega arith
 
@@ -126,39 +180,52 @@ module _ (c : In-Ok-push) where
   abbrev originals : Parted
   originals = c.in-Ok.left.originals
 
-  -- the keys that changed
-  abbrev changed : List Key
-  changed = list_of originals.keys
+  abbrev earlier : Parted
+  earlier = c.last_alone-earlier.result
 
-  was : WasCarried b.manner a c.self.inside.tables tables originals c.in-Ok.left.text
-  was = subst (λ (x : Asked). WasCarried b.manner x c.self.inside.tables tables originals c.in-Ok.left.text) c.get.ensures
-      (subst (λ (s : Stored). WasCarried b.manner c.get.result.now s tables originals c.in-Ok.left.text) c.replace-tables.ensures.value c.in-Ok.ensures.ok)
+  -- the journal before them
+  abbrev front : List Original
+  front = map original_of_part c.last_alone-earlier.new.originals.items
 
-  places_are : map place_of c.set_stage.new.seats.items ≡ (with_alone b i a changed).places
+  abbrev last : Original
+  last = original_of_part originals
+
+  was : WasCarried b.manner a c.self.inside.tables earlier tables originals c.in-Ok.left.text
+  was = subst (λ (x : Asked). WasCarried b.manner x c.self.inside.tables earlier tables originals c.in-Ok.left.text) c.get.ensures
+      (subst (λ (s : Stored). WasCarried b.manner c.get.result.now s earlier tables originals c.in-Ok.left.text) c.replace-tables.ensures.value c.in-Ok.ensures.ok)
+
+  places_are : map place_of c.set_stage.new.seats.items ≡ (with_alone b i a front last).places
   places_are = c.set_stage.ensures.places (pending a) pends ∙ (λ j. slice_set b.places i (record { asked = a; standing = Closed (was.reply j) }))
 
-  originals_are : map original_of_part c.push.new.self.items ≡ (with_alone b i a changed).originals
+  originals_are : map original_of_part c.push.new.self.items ≡ (with_alone b i a front last).originals
   originals_are =
       ap (map original_of_part) c.in-Ok-push.ensures.items
-      ∙ one_more_original c.self.inside.originals.items c.of_writes.result
-      ∙ ap (λ (p : Parted). b.originals ++ original_of_part p ∷ []) c.of_writes.ensures
-      ∙ ap (λ (m : Maps). b.originals ++ record { keys = changed; part = m } ∷ []) was.part
+      ∙ one_more_original c.last_alone-earlier.new.originals.items c.of_writes.result
+      ∙ ap (λ (p : Parted). front ++ original_of_part p ∷ []) c.of_writes.ensures
 
   abbrev new : Seen
   new = record { manner = b.manner; begun = b.begun; maps = maps_of tables; places = map place_of c.set_stage.new.seats.items; originals = map original_of_part c.push.new.self.items }
 
-  is_new : new ≡ with_alone b i a changed
+  is_new : new ≡ with_alone b i a front last
   is_new = λ j. record { manner = b.manner; begun = b.begun; maps = was.maps j; places = places_are j; originals = originals_are j }
 
-  back : overlaid changed (restricted changed b.maps) (done b.manner a b.maps).maps ≡ b.maps
-  back = (λ j. overlaid changed (sym was.part j) (sym was.maps j)) ∙ was.back
+  -- where the run of places began
+  abbrev begun_at_maps : Maps
+  begun_at_maps = overlaid (list_of earlier.keys) earlier.maps b.maps
+
+  leads : overlaid last.keys last.part (done b.manner a b.maps).maps ≡ begun_at_maps
+  leads = ap (overlaid last.keys last.part) (sym was.maps) ∙ was.back
+
+  led : undone front begun_at_maps ≡ b.begun
+  led = took_back b.originals front (original_of_part earlier) c.last_alone-earlier.ensures.last b.maps ∙ led_back b way none i a pends
 
   new_way : IsOnTheWay new
-  new_way = subst IsOnTheWay (sym is_new) (alone_way b way none i a pends first changed back)
+  new_way = subst IsOnTheWay (sym is_new) (alone_way b way none i a pends first front last begun_at_maps leads led)
 
   new_kept : IsKeptIn tables new
   new_kept = subst (IsKeptIn tables) (sym is_new)
-      (alone_kept b way none i a pends changed c.self.inside.tables tables c.self.invariant.kept was.here was.kept was.ready)
+      (alone_kept b way none i a pends front last c.self.inside.tables tables
+      (took_ready b.originals front (original_of_part earlier) c.last_alone-earlier.ensures.last c.self.inside.tables c.self.invariant.kept.ready).0 was.here was.kept was.ready)
 
   fewer : suc (unclosed new.places) ≡ unclosed b.places
   fewer = ap (λ (l : List Place). suc (unclosed l)) places_are ∙ alone_fewer b way none i a pends
@@ -167,14 +234,17 @@ pub invariant_of-self-2 : goal.invariant_of-self-2
 invariant_of-self-2 c =
     let fewer : suc (unclosed (map place_of c.set_stage.new.seats.items)) ≡ unclosed (map place_of c.self.inside.seats.items) = fewer c in
     let room = c.self.invariant.room.originals in
+    let all = c.self.invariant.room.all in
     let replies = c.self.invariant.room.replies in
+    let taken = c.last_alone-earlier.ensures.len in
+    let given = c.last_alone-earlier.ensures.capacity in
     let len = c.set_stage.ensures.len in
     let more = c.in-Ok-push.ensures.len in
     let space = c.in-Ok-push.ensures.capacity in
     record {
       on_the_way = new_way c;
       kept = new_kept c;
-      room = record { originals = omega arith; replies = omega arith; no_replies = c.self.invariant.room.no_replies };
+      room = record { originals = omega arith; all = omega arith; replies = omega arith; no_replies = c.self.invariant.room.no_replies };
     }
 
 pub returns-clause-none : goal.returns-clause-none
@@ -193,7 +263,7 @@ returns-clause-left c =
 pub returns-clause-same : goal.returns-clause-same
 returns-clause-same c =
     subst (λ (x : Seen). IsSameBurst x (new c)) c.self.view_is
-    (subst (λ (y : Seen). IsSameBurst (b c) y) (sym (is_new c)) (alone_same (b c) (way c) (none c) (i c) (a c) (pends c) (changed c)))
+    (subst (λ (y : Seen). IsSameBurst (b c) y) (sym (is_new c)) (alone_same (b c) (way c) (none c) (i c) (a c) (pends c) (front c) (last c)))
 
 pub returns-clause-outcome : goal.returns-clause-outcome
 returns-clause-outcome c = gives_the_fold (new c) (new_way c)

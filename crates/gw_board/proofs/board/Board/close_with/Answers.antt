@@ -77,6 +77,7 @@ invariant_of-self c =
     let fewer : suc (unclosed (map place_of c.set_stage.new.seats.items)) ≡ unclosed (map place_of c.self.inside.seats.items) = ap (λ (l : List Place). suc (unclosed l)) (places_are c) ∙ fewer_unclosed (b c) (h c) (o c) in
     let room = c.self.invariant.room.originals in
     let replies = c.self.invariant.room.replies in
+    let all = c.self.invariant.room.all in
     let len = c.set_stage.ensures.len in
     let more = c.in-Ok.ensures.len in
     let space = c.in-Ok.ensures.capacity in
@@ -85,7 +86,7 @@ invariant_of-self c =
       on_the_way = subst IsOnTheWay (sym (is_new c)) (result_way (b c) (h c) c.self.invariant.on_the_way (o c));
       kept = subst (IsKeptIn c.put_back.new.self) (sym (is_new c))
           (result_kept_in (b c) c.self.invariant.on_the_way (h c) (o c) c.self.inside.tables c.self.invariant.kept c.put_back.new.self back (λ k i. c.put_back.ensures.ready k ∙ i));
-      room = record { originals = omega arith; replies = omega arith; no_replies = c.self.invariant.room.no_replies };
+      room = record { originals = omega arith; all = omega arith; replies = omega arith; no_replies = c.self.invariant.room.no_replies };
     }
 
 pub returns-clause-board : goal.returns-clause-board

@@ -86,6 +86,7 @@ invariant_of-self-2 c =
     ap unclosed (places_are c) ∙ unclosed-stays (b c).places c.args.place (pending c.args.task) (open_with c.args.task _) (may c).pends refl refl in
     let room = c.self.invariant.room.originals in
     let replies = c.self.invariant.room.replies in
+    let all = c.self.invariant.room.all in
     let len = c.set_stage.ensures.len in
     record {
       on_the_way = subst IsOnTheWay (sym (is_new c)) (open_way (b c) c.self.invariant.on_the_way c.args.place c.args.task c.args.keys (may c));
@@ -93,7 +94,7 @@ invariant_of-self-2 c =
           (open_kept (b c) c.args.place c.args.task c.args.keys c.self.inside.tables c.take_out-part.new.self c.self.invariant.kept (may c).pends
           (λ k. c.take_out-part.ensures.out k ∙ ap (λ o. o || (has c.args.keys k && names_entry k)) (c.in_ok-reserve_slots.ensures.out k))
           (λ k h. c.take_out-part.ensures.ready k ∙ c.in_ok-reserve_slots.ensures.kept k h));
-      room = record { originals = omega arith; replies = omega arith; no_replies = c.self.invariant.room.no_replies };
+      room = record { originals = omega arith; all = omega arith; replies = omega arith; no_replies = c.self.invariant.room.no_replies };
     }
 
 pub returns-clause-job : goal.returns-clause-job

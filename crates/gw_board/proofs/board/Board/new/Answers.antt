@@ -32,7 +32,7 @@ invariant_of-result c =
     record {
       on_the_way = subst IsOnTheWay (sym (is_begun c)) (way c);
       kept = subst (IsKeptIn c.args.tables) (sym (is_begun c)) (begun_kept c.args.manner c.args.asked.now (maps_of c.args.tables) c.args.tables c.requires.here);
-      room = record { originals = omega arith; replies = omega arith; no_replies = c.in-Ok-with_capacity-2.ensures.items };
+      room = record { originals = omega arith; all = omega arith; replies = omega arith; no_replies = c.in-Ok-with_capacity-2.ensures.items };
     }
 
 pub returns-clause-outcome : goal.returns-clause-outcome

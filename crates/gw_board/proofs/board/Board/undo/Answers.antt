@@ -1,55 +1,25 @@
-use Rattle.std.proofs.Common.{◌≡◌, List, [], ◌∷◌, ◌++◌, map, sym, ap, subst, ◌∙◌}
-use Rattle.gw_table.specs.Maps.{Maps}
-use Rattle.gw_table.specs.Parts.{Parted}
-use Rattle.gw_table.specs.Stored.{maps_of, AreReady}
+use Rattle.std.proofs.Common.{◌≡◌, ap, sym, subst, ◌∙◌}
+use Rattle.gw_table.specs.Stored.{maps_of}
 use Rattle.gw_board.specs.BoardView.{value_of}
 use Rattle.gw_board.specs.Boards.{Seen, core_of}
-use Rattle.gw_board.specs.Fitting.{Each, out}
-use Rattle.gw_board.specs.Journal.{Original, undone}
+use Rattle.gw_board.specs.Fitting.{out}
+use Rattle.gw_board.specs.Journal.{undone}
 use Rattle.gw_board.specs.Results.{NothingIsOpen}
-use Rattle.gw_board.specs.Seats.{original_of_part}
 use Rattle.gw_board.proofs.Comes.{out_of_none}
-use Rattle.gw_board.proofs.KeptIn.{all_ready, none_out}
-use Rattle.gw_board.proofs.Orders.{each_front, each_behind}
+use Rattle.gw_board.proofs.KeptIn.{none_out}
 use Rattle.gw_board.proofs.Outs.{cut_none}
-use Rattle.gw_board.proofs.SeatFacts.{one_more_original}
-use Rattle.gw_board.proofs.Steps.{undone-append}
 use Rattle.gw_board.proofs.board.Board.undo.Goals as goal
 
-pub loop-original-init : goal.loop-original-init
-loop-original-init c =
+pub put_all_back-requires-clause-here : goal.put_all_back-requires-clause-here
+put_all_back-requires-clause-here c =
+    none_out (value_of c.self.inside) c.self.inside.tables c.self.invariant.kept (subst (λ (x : Seen). NothingIsOpen (core_of x)) (sym c.self.view_is) c.requires)
+
+pub put_all_back-requires-clause-ready : goal.put_all_back-requires-clause-ready
+put_all_back-requires-clause-ready c = c.self.invariant.kept.ready
+
+pub returns-clause-maps : goal.returns-clause-maps
+returns-clause-maps c =
     let b : Seen = value_of c.self.inside in
     let none : NothingIsOpen (core_of b) = subst (λ (x : Seen). NothingIsOpen (core_of x)) (sym c.self.view_is) c.requires in
     let way = c.self.invariant.on_the_way in
-    record {
-      here = none_out b c.self.inside.tables c.self.invariant.kept none;
-      ready = c.self.invariant.kept.ready;
-      back = ap (undone b.originals) (way.fits.maps ∙ cut_none (out b.places) way.fits.whole (out_of_none b.places none)) ∙ way.back ∙ ap (λ (x : Seen). x.begun) c.self.view_is;
-    }
-
--- the last of them, and those before it
-last_of : (l parts : List Parted) (p : Parted) → l ≡ parts ++ p ∷ [] → map original_of_part l ≡ map original_of_part parts ++ original_of_part p ∷ []
-last_of l parts p e = ap (map original_of_part) e ∙ one_more_original parts p
-
-pub put_back-requires-clause-ready : goal.put_back-requires-clause-ready
-put_back-requires-clause-ready c =
-    let front : List Original = map original_of_part c.pop.new.self.items in
-    (each_behind (λ o. AreReady o.keys c.loop-original.tables) front (original_of_part c.in-Some.original ∷ [])
-    (subst (λ (l : List Original). Each (λ o. AreReady o.keys c.loop-original.tables) l) (last_of c.loop-original.originals.items c.pop.new.self.items c.in-Some.original c.in-Some.ensures.items) c.loop-original.invariant.ready)).0
-
-pub loop-original-preserved : goal.loop-original-preserved
-loop-original-preserved c =
-    let front : List Original = map original_of_part c.pop.new.self.items in
-    let last : Original = original_of_part c.in-Some.original in
-    let m : Maps = maps_of c.loop-original.tables in
-    let split : map original_of_part c.loop-original.originals.items ≡ front ++ last ∷ [] = last_of c.loop-original.originals.items c.pop.new.self.items c.in-Some.original c.in-Some.ensures.items in
-    record {
-      here = λ k. c.put_back.ensures.out k ∙ c.loop-original.invariant.here k;
-      ready = all_ready front c.loop-original.tables c.put_back.new.tables (λ k i. c.put_back.ensures.ready k ∙ i)
-          (each_front (λ o. AreReady o.keys c.loop-original.tables) front (last ∷ []) (subst (λ (l : List Original). Each (λ o. AreReady o.keys c.loop-original.tables) l) split c.loop-original.invariant.ready));
-      back =
-          ap (undone front) c.put_back.ensures.maps
-          ∙ sym (undone-append front (last ∷ []) m)
-          ∙ ap (λ (l : List Original). undone l m) (sym split)
-          ∙ c.loop-original.invariant.back;
-    }
+    c.sweep.ensures.maps ∙ c.put_all_back.ensures.maps ∙ ap (undone b.originals) (way.fits.maps ∙ cut_none (out b.places) way.fits.whole (out_of_none b.places none)) ∙ way.back ∙ ap (λ (x : Seen). x.begun) c.self.view_is

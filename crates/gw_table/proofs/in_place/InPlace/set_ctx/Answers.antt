@@ -4,7 +4,7 @@ use Rattle.gw_base.specs.declared.key.Key.TheVariants.{Ctx}
 use Rattle.gw_table.specs.declared.originals.Write.{Write}
 use Rattle.gw_table.specs.declared.originals.Write.TheVariants.{OfCtx}
 use Rattle.gw_table.specs.Maps.{put_ctx}
-use Rattle.gw_table.specs.Originals.{keys_written}
+use Rattle.gw_table.specs.Originals.{keys_written, before_all}
 use Rattle.gw_table.specs.Parts.{Parted}
 use Rattle.gw_table.specs.Stored.{Stored, shown, placed, maps_of, put_ctx_place}
 use Rattle.gw_table.proofs.InPlace.{same_in_place, wrote_ctx, wrote_ctx_again}
@@ -17,9 +17,9 @@ use Rattle.gw_table.proofs.in_place.InPlace.set_ctx.Goals as goal
 pub invariant_of-self-then-is_noted : goal.invariant_of-self-then-is_noted
 invariant_of-self-then-is_noted c =
     let there : has (keys_written c.self.inside.writes.items) (Ctx c.args.number) ≡ true = told c.deref.result.now c.self.inside.writes.items (Ctx c.args.number) c.in_ok-is_noted.is_noted c.deref.ensures.value c.in_ok-is_noted.ensures c.if-is_noted.true in
-    same_in_place c.self.inside.start.value (put_ctx_place c.self.inside.tables c.args.number (placed c.args.entry)) c.exchange_ctx.new.self c.self.inside.writes.items c.self.inside.writes.items
+    same_in_place (before_all c.self.inside.earlier.value c.self.inside.before.value) (put_ctx_place c.self.inside.tables c.args.number (placed c.args.entry)) c.exchange_ctx.new.self c.self.inside.writes.items c.self.inside.writes.items
     (c.exchange_ctx.ensures.after ∙ ap (λ p. put_ctx_place c.self.inside.tables c.args.number p) c.of.ensures) refl
-    (wrote_ctx_again c.self.inside.start.value c.self.inside.tables c.self.inside.writes.items c.self.invariant c.args.number (placed c.args.entry) (placed_here c.args.entry) there)
+    (wrote_ctx_again (before_all c.self.inside.earlier.value c.self.inside.before.value) c.self.inside.tables c.self.inside.writes.items c.self.invariant c.args.number (placed c.args.entry) (placed_here c.args.entry) there)
 
 pub returns-then-is_noted-clause-maps : goal.returns-then-is_noted-clause-maps
 returns-then-is_noted-clause-maps c =
@@ -31,9 +31,9 @@ returns-then-is_noted-clause-maps c =
 pub invariant_of-self-2 : goal.invariant_of-self-2
 invariant_of-self-2 c =
     let old : Stored = c.self.inside.tables in
-    same_in_place c.self.inside.start.value (put_ctx_place old c.args.number (placed c.args.entry)) c.put_ctx.new.self (c.self.inside.writes.items ++ OfCtx c.args.number c.entry_in-before.result ∷ []) c.push.new.self.items
+    same_in_place (before_all c.self.inside.earlier.value c.self.inside.before.value) (put_ctx_place old c.args.number (placed c.args.entry)) c.put_ctx.new.self (c.self.inside.writes.items ++ OfCtx c.args.number c.entry_in-before.result ∷ []) c.push.new.self.items
     (c.in_ok-put_ctx.ensures.ok ∙ ap (λ p. put_ctx_place old c.args.number p) c.of-2.ensures) (c.in-Ok.ensures.items ∙ ap (λ (l : List Write). l ++ OfCtx c.args.number c.entry_in-before.result ∷ []) c.in_ok-reserve.ensures.items)
-    (wrote_ctx c.self.inside.start.value old c.self.inside.writes.items c.self.invariant c.args.number (placed c.args.entry) c.entry_in-before.result (placed_here c.args.entry)
+    (wrote_ctx (before_all c.self.inside.earlier.value c.self.inside.before.value) old c.self.inside.writes.items c.self.invariant c.args.number (placed c.args.entry) c.entry_in-before.result (placed_here c.args.entry)
     (c.entry_in-before.ensures ∙ ap (λ o. shown o) c.in_ok-put_ctx.ensures.before ∙ sym (ctx-maps_of old c.args.number)))
 
 pub returns-clause-maps : goal.returns-clause-maps

@@ -7,6 +7,7 @@ use Rattle.gw_table.specs.declared.originals.Write.TheVariants.{OfTerm}
 use Rattle.gw_table.specs.declared.place.Place.TheVariants.{Here}
 use Rattle.gw_table.specs.Maps.{term}
 use Rattle.gw_table.specs.Members.{put_service}
+use Rattle.gw_table.specs.Originals.{before_all}
 use Rattle.gw_table.specs.Parts.{Parted}
 use Rattle.gw_table.specs.Stored.{Stored, maps_of, put_term_place, with_service}
 use Rattle.gw_table.proofs.InPlace.{same_in_place, wrote_term, wrote_term_again}
@@ -22,8 +23,8 @@ invariant_of-self-then-is_noted c =
     let old : Stored = c.self.inside.tables in
     let now : c.set_service.new.self ≡ put_term_place old c.args.name.now (Here (serviced c.in-Some.before c.args.service)) =
     c.in_ok-before.ensures.after ∙ ap (λ (o : Option Termination). with_service c.args.service c.args.name.now old o) c.in-Some.is in
-    same_in_place c.self.inside.start.value (put_term_place old c.args.name.now (Here (serviced c.in-Some.before c.args.service))) c.set_service.new.self c.self.inside.writes.items c.reserve.new.self.items now c.in_ok-reserve.ensures.items
-    (wrote_term_again c.self.inside.start.value old c.self.inside.writes.items c.self.invariant c.args.name.now (Here (serviced c.in-Some.before c.args.service)) refl
+    same_in_place (before_all c.self.inside.earlier.value c.self.inside.before.value) (put_term_place old c.args.name.now (Here (serviced c.in-Some.before c.args.service))) c.set_service.new.self c.self.inside.writes.items c.reserve.new.self.items now c.in_ok-reserve.ensures.items
+    (wrote_term_again (before_all c.self.inside.earlier.value c.self.inside.before.value) old c.self.inside.writes.items c.self.invariant c.args.name.now (Here (serviced c.in-Some.before c.args.service)) refl
     (told c.deref.result.now c.self.inside.writes.items (Term c.args.name.now) c.in_ok-is_noted.is_noted c.deref.ensures.value c.in_ok-is_noted.ensures c.if-is_noted.true))
 
 pub returns-then-is_noted-clause-maps : goal.returns-then-is_noted-clause-maps
@@ -48,9 +49,9 @@ module _ (c : In-Ok) where
 
 pub invariant_of-self-2 : goal.invariant_of-self-2
 invariant_of-self-2 c =
-    same_in_place c.self.inside.start.value (put_term_place (old c) c.args.name.now (Here (serviced c.in-Some.before c.args.service))) c.set_service.new.self (c.self.inside.writes.items ++ OfTerm c.args.name.now (Some c.in-Some.before) ∷ []) c.push.new.self.items
+    same_in_place (before_all c.self.inside.earlier.value c.self.inside.before.value) (put_term_place (old c) c.args.name.now (Here (serviced c.in-Some.before c.args.service))) c.set_service.new.self (c.self.inside.writes.items ++ OfTerm c.args.name.now (Some c.in-Some.before) ∷ []) c.push.new.self.items
     (now c) (c.in-Ok.ensures.items ∙ ap (λ (l : List Write). l ++ OfTerm c.args.name.now (Some c.in-Some.before) ∷ []) c.in_ok-reserve.ensures.items)
-    (wrote_term c.self.inside.start.value (old c) c.self.inside.writes.items c.self.invariant c.args.name.now (Here (serviced c.in-Some.before c.args.service)) (Some c.in-Some.before) refl (was c))
+    (wrote_term (before_all c.self.inside.earlier.value c.self.inside.before.value) (old c) c.self.inside.writes.items c.self.invariant c.args.name.now (Here (serviced c.in-Some.before c.args.service)) (Some c.in-Some.before) refl (was c))
 
 pub returns-clause-maps : goal.returns-clause-maps
 returns-clause-maps c =

@@ -3,6 +3,7 @@ use Rattle.gw_base.specs.declared.key.Key.TheVariants.{Term}
 use Rattle.gw_table.specs.declared.originals.Write.{Write}
 use Rattle.gw_table.specs.declared.originals.Write.TheVariants.{OfTerm}
 use Rattle.gw_table.specs.Maps.{term, put_term}
+use Rattle.gw_table.specs.Originals.{before_all}
 use Rattle.gw_table.specs.Parts.{Parted}
 use Rattle.gw_table.specs.Stored.{Stored, shown, placed, maps_of, put_term_place}
 use Rattle.gw_table.proofs.InPlace.{same_in_place, wrote_term, wrote_term_again}
@@ -15,9 +16,9 @@ use Rattle.gw_table.proofs.in_place.InPlace.set_term.Goals.{In-Ok}
 
 pub invariant_of-self-then-is_noted : goal.invariant_of-self-then-is_noted
 invariant_of-self-then-is_noted c =
-    same_in_place c.self.inside.start.value (put_term_place c.self.inside.tables c.args.name (placed c.args.entry)) c.exchange_term.new.self c.self.inside.writes.items c.self.inside.writes.items
+    same_in_place (before_all c.self.inside.earlier.value c.self.inside.before.value) (put_term_place c.self.inside.tables c.args.name (placed c.args.entry)) c.exchange_term.new.self c.self.inside.writes.items c.self.inside.writes.items
     (c.exchange_term.ensures.after ∙ ap (λ p. put_term_place c.self.inside.tables c.args.name p) c.of.ensures) refl
-    (wrote_term_again c.self.inside.start.value c.self.inside.tables c.self.inside.writes.items c.self.invariant c.args.name (placed c.args.entry) (placed_here c.args.entry)
+    (wrote_term_again (before_all c.self.inside.earlier.value c.self.inside.before.value) c.self.inside.tables c.self.inside.writes.items c.self.invariant c.args.name (placed c.args.entry) (placed_here c.args.entry)
     (told c.deref.result.now c.self.inside.writes.items (Term c.args.name) c.in_ok-is_noted.is_noted c.deref.ensures.value c.in_ok-is_noted.ensures c.if-is_noted.true))
 
 pub returns-then-is_noted-clause-maps : goal.returns-then-is_noted-clause-maps
@@ -39,9 +40,9 @@ module _ (c : In-Ok) where
 
 pub invariant_of-self-2 : goal.invariant_of-self-2
 invariant_of-self-2 c =
-    same_in_place c.self.inside.start.value (put_term_place (old c) c.args.name (placed c.args.entry)) c.put_term.new.self (c.self.inside.writes.items ++ OfTerm c.args.name c.entry_in-before.result ∷ []) c.push.new.self.items
+    same_in_place (before_all c.self.inside.earlier.value c.self.inside.before.value) (put_term_place (old c) c.args.name (placed c.args.entry)) c.put_term.new.self (c.self.inside.writes.items ++ OfTerm c.args.name c.entry_in-before.result ∷ []) c.push.new.self.items
     (now c) (c.in-Ok.ensures.items ∙ ap (λ (l : List Write). l ++ OfTerm c.args.name c.entry_in-before.result ∷ []) c.in_ok-reserve.ensures.items)
-    (wrote_term c.self.inside.start.value (old c) c.self.inside.writes.items c.self.invariant c.args.name (placed c.args.entry) c.entry_in-before.result (placed_here c.args.entry) (was c))
+    (wrote_term (before_all c.self.inside.earlier.value c.self.inside.before.value) (old c) c.self.inside.writes.items c.self.invariant c.args.name (placed c.args.entry) c.entry_in-before.result (placed_here c.args.entry) (was c))
 
 pub returns-clause-maps : goal.returns-clause-maps
 returns-clause-maps c =

@@ -1,0 +1,40 @@
+use Rattle.std.proofs.Common.{◌≡◌, ℕ, ◌<◌, List, map, length, sym, ap, ◌∙◌, add-one, arith}
+use Rattle.std.specs.Prelude.{slice_get, slice_set}
+use Rattle.gw_board.specs.Core.{Place, pending}
+use Rattle.gw_board.specs.Seats.{place_of}
+use Rattle.gw_board.proofs.SeatFacts.{front_pending, next_pending, all_are_pending, place_there, length-places}
+use Rattle.gw_board.proofs.seat.all_pending.Goals as goal
+
+pub loop-place-preserved : goal.loop-place-preserved
+loop-place-preserved c =
+    let i : ℕ = c.loop-place.place in
+    let now : List Place = map place_of c.loop-place.seats.items in
+    let start : List Place = map place_of c.args.seats.now.items in
+    let inside : i < length now =
+    let count : length now ≡ length c.loop-place.seats.items = length-places c.loop-place.seats.items in
+    let below = c.loop-place-test.true in
+    let end = c.len-place-end.ensures in
+    let same = c.loop-place.invariant.len in
+    let own = c.loop-place.seats.ok.0 in
+    omega arith in
+    let there = place_there now i inside in
+    let are : now ≡ front_pending i start = c.loop-place.invariant.places in
+    record {
+      places =
+          c.set_stage.ensures.places there.0 there.1
+          ∙ ap (λ (l : List Place). slice_set l i (pending there.0.asked)) are
+          ∙ next_pending start i there.0 (ap (λ (l : List Place). slice_get l i) (sym are) ∙ there.1)
+          ∙ ap (λ (n : ℕ). front_pending n start) (sym (add-one i));
+      len = c.set_stage.ensures.len ∙ c.loop-place.invariant.len;
+    }
+
+pub returns-clause-places : goal.returns-clause-places
+returns-clause-places c =
+    let start : List Place = map place_of c.args.seats.now.items in
+    c.loop-place.invariant.places
+    ∙ all_are_pending start c.loop-place.place
+    (let count : length start ≡ length c.args.seats.now.items = length-places c.args.seats.now.items in
+    let past = c.loop-place-test.false in
+    let end = c.len-place-end.ensures in
+    let own = c.args.seats.now.ok.0 in
+    omega arith)
