@@ -1,20 +1,28 @@
 -- Tables that are changed in place, with one more write.
-use Rattle.std.proofs.Common.{nat_eq, ◌≡◌, ℕ, Bool, true, false, cond, List, [], ◌∷◌, ◌++◌, bytes_eq, Option, Some, is_some, refl, sym, ap, subst, ◌∙◌}
+use Rattle.std.proofs.Common.{nat_eq, ◌≡◌, ℕ, Bool, true, false, cond, List, [], ◌∷◌, ◌++◌, bytes_eq, Option, None, Some, is_some, refl, sym, ap, subst, ◌∙◌}
 use Rattle.std.specs.Prelude.{◌||◌}
 use Rattle.std.specs.FinMap as finite
+use Rattle.gw_base.specs.declared.command_words.Service.{Service}
 use Rattle.gw_base.specs.declared.ids.CtxNum.{CtxNum}
 use Rattle.gw_base.specs.declared.key.Key.{Key}
 use Rattle.gw_base.specs.declared.key.Key.TheVariants.{Term, Ctx, Whole}
 use Rattle.gw_base.specs.Keys.{same_key, has}
 use Rattle.gw_term.specs.declared.record.Termination.{Termination}
+use Rattle.gw_term.specs.Record.{serviced}
 use Rattle.gw_ctx.specs.Contexts.{ContextRecord}
 use Rattle.gw_table.specs.declared.originals.Write.{Write}
 use Rattle.gw_table.specs.declared.originals.Write.TheVariants.{OfTerm, OfCtx}
 use Rattle.gw_table.specs.declared.place.Place.{Place}
+use Rattle.gw_table.specs.declared.place.Place.TheVariants.{Empty, Here}
+use Rattle.gw_table.specs.declared.site.Found.{Found}
+use Rattle.gw_table.specs.declared.site.Found.TheVariants.{Noted, Original}
+use Rattle.gw_table.specs.Found.{IsFound, original_of}
 use Rattle.gw_table.specs.Maps.{Maps, term, ctx, put_term, put_ctx, no_maps}
+use Rattle.gw_table.specs.Members.{put_service}
 use Rattle.gw_table.specs.Originals.{keys_written, undone, begun_at, before_all, IsInPlace}
 use Rattle.gw_table.specs.Parts.{Parted, list_of, overlaid}
-use Rattle.gw_table.specs.Stored.{Stored, shown, placed, has_left, maps_of, is_ready, put_term_place, put_ctx_place, NoneIsOut, AreReady, KeepReady}
+use Rattle.gw_table.specs.Stored.{Stored, shown, placed, has_left, maps_of, is_ready, put_term_place, put_ctx_place, with_service, without_ctx, NoneIsOut, AreReady, KeepReady}
+use Rattle.gw_table.proofs.Leaving.{put_ctx-same}
 use Rattle.gw_table.proofs.Moved.{has-pushed}
 use Rattle.gw_base.proofs.NamesInLists.{or_left, or_right}
 use Rattle.gw_table.proofs.Places.{got_term, got_ctx, maps-put_term_place, maps-put_ctx_place, shown_placed, in-put_term, in-put_ctx}
@@ -153,3 +161,43 @@ module _ (start now : Stored) (ws : List Write) (i : IsInPlace start now ws) whe
     places = λ k e. keep-put_ctx now n p k (i.places k e);
     kept = λ k e. keep-put_ctx now n p k (i.kept k e);
   }
+
+  -- where there was nothing to note
+  pub served_again : (t : List ℕ) (state : Service) (found : Found Termination) → IsFound (keys_written ws) (Term t) (term (maps_of now) t) found → None ≡ original_of found → IsInPlace start (with_service state t now (term (maps_of now) t)) ws
+  served_again t state found f none = by (term (maps_of now) t) found f none
+    where
+      by : (o : Option Termination) (x : Found Termination) → IsFound (keys_written ws) (Term t) o x → None ≡ original_of x → IsInPlace start (with_service state t now o) ws
+      by None x g e = i
+      by (Some r) Noted g e = wrote_term_again t (Here (serviced r state)) refl g
+      by (Some r) (Original o) g e = absurd (let clash : None ≡ Some r = e ∙ g in cc)
+
+  pub taken_again : (n : CtxNum) (found : Found ContextRecord) → IsFound (keys_written ws) (Ctx n) (ctx (maps_of now) n) found → None ≡ original_of found → IsInPlace start (without_ctx n now (ctx (maps_of now) n)) ws
+  taken_again n found f none = by (ctx (maps_of now) n) found f none
+    where
+      by : (o : Option ContextRecord) (x : Found ContextRecord) → IsFound (keys_written ws) (Ctx n) o x → None ≡ original_of x → IsInPlace start (without_ctx n now o) ws
+      by None x g e = i
+      by (Some r) Noted g e = wrote_ctx_again n Empty refl g
+      by (Some r) (Original o) g e = absurd (let clash : None ≡ Some r = e ∙ g in cc)
+
+-- ---- what was found
+
+pub found_at : {A : Type 0} (keys : List Key) (k : Key) (was : Option A) (found : Found A) (a : A) → IsFound keys k was found → Some a ≡ original_of found → Some a ≡ was
+found_at keys k was Noted a f e = absurd cc
+found_at keys k was (Original o) a f e = e ∙ f
+
+pub maps-with_service : (state : Service) (t : List ℕ) (s : Stored) (o : Option Termination) → maps_of (with_service state t s o) ≡ put_service state t (maps_of s) o
+maps-with_service state t s None = refl
+maps-with_service state t s (Some r) = maps-put_term_place s t (Here (serviced r state))
+
+pub maps-without_ctx : (n : CtxNum) (s : Stored) (o : Option ContextRecord) → o ≡ ctx (maps_of s) n → maps_of (without_ctx n s o) ≡ put_ctx (maps_of s) n None
+maps-without_ctx n s None e = sym (put_ctx-same (maps_of s) n None e)
+maps-without_ctx n s (Some r) e = maps-put_ctx_place s n Empty
+
+pub noted_before : {A : Type 0} (ws vs : List Write) (k : Key) (was : Option A) (found : Found A) → vs ≡ ws → found ≡ Noted → IsFound (keys_written vs) k was found → has (keys_written ws) k ≡ true
+noted_before ws vs k was found e n f = ap (λ (l : List Write). has (keys_written l) k) (sym e) ∙ subst (λ x. IsFound (keys_written vs) k was x) n f
+
+pub stood_there : {A : Type 0} (keys : List Key) (k : Key) (was : Option A) (found : Found A) (before : Option A) → found ≡ Original before → IsFound keys k was found → before ≡ was
+stood_there keys k was found before e f = subst (λ x. IsFound keys k was x) e f
+
+pub found_among : {A : Type 0} (ws vs : List Write) (k : Key) (was : Option A) (found : Found A) → vs ≡ ws → IsFound (keys_written vs) k was found → IsFound (keys_written ws) k was found
+found_among ws vs k was found e f = subst (λ (l : List Write). IsFound (keys_written l) k was found) e f

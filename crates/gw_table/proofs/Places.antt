@@ -1,9 +1,9 @@
 -- Look-ups in the maps that stored tables are seen as, and what one place changes.
-use Rattle.std.proofs.Common.{nat_eq, ◌≡◌, ℕ, Bool, true, false, cond, List, bytes_eq, Option, None, Some, is_some, refl, sym, ap, ◌∙◌}
+use Rattle.std.proofs.Common.{nat_eq, eqb-true, ◌≡◌, ℕ, Bool, true, false, cond, List, bytes_eq, Option, None, Some, is_some, refl, sym, ap, ◌∙◌}
 use Rattle.std.specs.Cmp.{nat_cmp_total}
 use Rattle.std.specs.Cmp.Lexicographic.{nat_list_cmp_total}
 use Rattle.std.specs.FinMap as finite
-use Rattle.std.specs.FinMap.{FinMap, get-insert, get-empty, same_map}
+use Rattle.std.specs.FinMap.{FinMap, get-insert, get-empty, same_map, nat_cmp-IsAntisymmetric}
 use Rattle.std.specs.Ordering.{nat_cmp}
 use Rattle.gw_base.specs.declared.command_words.Service.{Service}
 use Rattle.gw_base.specs.declared.ids.CtxNum.{CtxNum}
@@ -16,7 +16,7 @@ use Rattle.gw_ctx.specs.Contexts.{ContextRecord}
 use Rattle.gw_table.specs.declared.place.Place.{Place}
 use Rattle.gw_table.specs.declared.place.Place.TheVariants.{Empty, Here, Out}
 use Rattle.gw_table.specs.Maps.{term, ctx, put_term, put_ctx, no_maps}
-use Rattle.gw_table.specs.Stored.{Stored, shown, has_left, placed, served, maps_of, is_ready, is_out, put_term_place, put_ctx_place, with_service, nothing_stored, NoneIsOut, AreAsOut}
+use Rattle.gw_table.specs.Stored.{Stored, shown, has_left, placed, served, emptied, without_ctx, maps_of, is_ready, is_out, put_term_place, put_ctx_place, with_service, nothing_stored, NoneIsOut, AreAsOut}
 use Rattle.gw_table.proofs.Lookups.{term-put_term, ctx-put_term, term-put_ctx, ctx-put_ctx, same_maps}
 use Rattle.gw_table.proofs.Shown.{got_shown, shown-cond}
 
@@ -78,6 +78,21 @@ pub served_here : (s : Stored) (t : List ℕ) (state : Service) (p : Place Termi
 served_here s t state Empty e = same_term_place s t Empty e
 served_here s t state (Here r) e = refl
 served_here s t state Out e = same_term_place s t Out e
+
+pub same_ctx_place : (s : Stored) (n : CtxNum) (p : Place ContextRecord) → finite.get s.contexts n.0 ≡ Some p → put_ctx_place s n p ≡ s
+same_ctx_place s n p e =
+    ap (λ (f : FinMap nat_cmp (Place ContextRecord)). record { terms = s.terms; contexts = f })
+    (same_map nat_cmp_total nat_cmp-IsAntisymmetric (finite.insert s.contexts n.0 p) s.contexts
+    (λ q. get-insert nat_cmp_total s.contexts n.0 p q ∙ ap (λ b. cond b (Some p) (finite.get s.contexts q)) (number_test q n.0) ∙ at q (nat_eq q n.0) refl))
+  where
+    at : (q : ℕ) (b : Bool) → nat_eq q n.0 ≡ b → cond b (Some p) (finite.get s.contexts q) ≡ finite.get s.contexts q
+    at q true h = sym e ∙ ap (finite.get s.contexts) (sym (eqb-true q n.0 h))
+    at q false h = refl
+
+pub emptied_here : (s : Stored) (n : CtxNum) (p : Place ContextRecord) → finite.get s.contexts n.0 ≡ Some p → put_ctx_place s n (emptied p) ≡ without_ctx n s (shown (Some p))
+emptied_here s n Empty e = same_ctx_place s n Empty e
+emptied_here s n (Here r) e = refl
+emptied_here s n Out e = same_ctx_place s n Out e
 
 -- a place of an entry, or of none
 pub shown_placed : {A : Type 0} (o : Option A) → shown (Some (placed o)) ≡ o

@@ -108,18 +108,9 @@ any_mapped : (p : Key → Bool) (ws : List Write) → list_any (λ w. p (key_wri
 any_mapped p [] = refl
 any_mapped p (w ∷ ws) = ap (λ b. p (key_written w) || b) (any_mapped p ws)
 
-pub among_them : (ws : List Write) (k : Key) (b : Bool) → b ≡ list_any (λ w. same_key k (key_written w)) ws → OnTrue b (has (keys_written ws) k ≡ true)
-among_them ws k true e = sym (any_mapped (same_key k) ws) ∙ sym e
-among_them ws k false e = tt
-
 pub one_of_them : (ws : List Write) (i : ℕ) (w : Write) (k : Key) (b : Bool) → i < length ws → w ≡ get_or ws i w → b ≡ same_key k (key_written w) → OnTrue b (has (keys_written ws) k ≡ true)
 one_of_them ws i w k true h is e = sym (any_mapped (same_key k) ws) ∙ list_any_at (λ x. same_key k (key_written x)) ws i w h (ap (λ (x : Write). same_key k (key_written x)) (sym is) ∙ sym e)
 one_of_them ws i w k false h is e = tt
-
--- what was told holds of the same writes
-pub told : (seen ws : List Write) (k : Key) (b : Bool) → seen ≡ ws → OnTrue b (has (keys_written seen) k ≡ true) → b ≡ true → has (keys_written ws) k ≡ true
-told seen ws k true is t e = ap (λ (l : List Write). has (keys_written l) k) (sym is) ∙ t
-told seen ws k false is t e = absurd cc
 
 either_way : (a b c : Bool) → (a || b) ≡ true → (b ≡ true → c ≡ true) → (a || c) ≡ true
 either_way true b c h f = refl

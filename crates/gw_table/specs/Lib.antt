@@ -2,6 +2,7 @@ pub mod Accesses
 pub mod Cells
 pub mod Drafts
 pub mod Folds
+pub mod Found
 pub mod Free
 pub mod Grounds
 pub mod KeyLists

@@ -180,6 +180,17 @@ served state Empty = Empty
 served state (Here r) = Here (serviced r state)
 served state Out = Out
 
+-- what stands there was taken out
+abbrev pub emptied : {A : Type 0} → Place A → Place A
+emptied Empty = Empty
+emptied (Here a) = Empty
+emptied Out = Out
+
+-- the context with a number, which is this one, was taken out
+abbrev pub without_ctx : CtxNum → Stored → Option ContextRecord → Stored
+without_ctx n s None = s
+without_ctx n s (Some c) = put_ctx_place s n Empty
+
 -- the termination of a name, which is this one, has another service state
 abbrev pub with_service : Service → List ℕ → Stored → Option Termination → Stored
 with_service state t s None = s

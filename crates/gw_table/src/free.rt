@@ -10,16 +10,17 @@ use crate::draft::{Draft, Ground};
 use crate::in_place::InPlace;
 use crate::over_part::OverPart;
 use crate::place::Place;
+use crate::site::Site;
 use crate::tables::Tables;
 use gw_base::{Held, Key, NoMemory, TermName};
 use gw_term::Termination;
 use std::alloc::Global;
 
 /// Whether a termination of the null context stands in a place.
-fn is_free_at(place: &Place<Held<Termination>>) -> bool
-    ensures { result ≡ is_free_at place.now }
+fn is_free_at(site: &Site<Held<Termination>>) -> bool
+    ensures { result ≡ is_free_at site.now }
 {
-    match place {
+    match site.place() {
         Place::Here(termination) => termination.get().place().is_none(),
         Place::Empty | Place::Out => false,
     }
@@ -38,8 +39,8 @@ impl Tables {
         ensures { IfOk result (λ list. list.items ≡ filter (is_free (maps_of self.now)) (names (maps_of self.now))) }
     {
         let mut names = Vec::with_capacity(alloc, self.terms.len())?;
-        for (name, place) in &self.terms {
-            if is_free_at(place) {
+        for (name, site) in &self.terms {
+            if is_free_at(site) {
                 names.push(*name)?;
             }
         }
@@ -50,8 +51,8 @@ impl Tables {
     fn has_free_under(&self, prefix: &[u8]) -> bool
         ensures { result ≡ list_any (λ t. is_free (maps_of self.now) t && starts_with nat_eq t prefix.now) (names (maps_of self.now)) }
     {
-        for (name, place) in &self.terms {
-            if is_free_at(place) && begins_with(name, prefix) {
+        for (name, site) in &self.terms {
+            if is_free_at(site) && begins_with(name, prefix) {
                 return true;
             }
         }

@@ -7,9 +7,9 @@ ghost use Rattle.gw_table.specs.Originals.{before_all};
 ghost use Rattle.gw_table.specs.Parts.{Over, Only, list_of, start_of, restricted, overlaid};
 ghost use Rattle.gw_table.specs.Stored.{maps_of, NoneIsOut, AreReady, KeepReady};
 
-use crate::noted::{Noted, was_written};
 use crate::originals::{Originals, Write};
-use crate::place::{Place, entry_in};
+use crate::place::Place;
+use crate::site::Found;
 use crate::tables::Tables;
 use gw_base::{CtxNum, Held, Key, NoMemory, Service, TermName};
 use gw_ctx::Context;
@@ -24,7 +24,6 @@ use std::snapshot::Snapshot;
 pub(crate) struct InPlace {
     pub(crate) tables: Tables,
     writes: Vec<Write>,
-    noted: Noted,
     vacated: Vec<Key>,
     before: Snapshot<Tables>,
     earlier: Snapshot<Originals>,
@@ -36,7 +35,6 @@ impl Drop for InPlace {
         let InPlace {
             tables: _,
             writes: _,
-            noted: _,
             vacated: _,
             before: _,
             earlier: _,
@@ -75,15 +73,10 @@ impl InPlace {
     {
         let before = Snapshot::of(&tables);
         let earlier = Snapshot::of(&originals);
-        let Originals {
-            writes,
-            noted,
-            vacated,
-        } = originals;
+        let Originals { writes, vacated } = originals;
         InPlace {
             tables,
             writes,
-            noted,
             vacated,
             before,
             earlier,
@@ -114,15 +107,14 @@ impl InPlace {
         ensures maps { OnOk result (self.new.maps ≡ put_term self.old.maps name entry) }
         ensures keys { self.new.keys ≡ self.old.keys }
     {
-        let key = Key::Term(name);
-        note_vacated(&mut self.vacated, key, entry.is_none())?;
-        let is_noted = was_written(&self.writes, &mut self.noted, &key)?;
-        if is_noted {
-            drop(self.tables.exchange_term(&name, Place::of(entry)));
-            return Ok(());
-        }
+        note_vacated(&mut self.vacated, Key::Term(name), entry.is_none())?;
         self.writes.reserve(1)?;
-        let before = entry_in(self.tables.put_term(name, Place::of(entry))?);
+        let found = self
+            .tables
+            .write_term(name, Place::of(entry), &self.writes)?;
+        let Found::Original(before) = found else {
+            return Ok(());
+        };
         let Ok(()) = self.writes.push(Write::OfTerm(name, before)) else {
             unreachable!()
         };
@@ -138,15 +130,14 @@ impl InPlace {
         ensures maps { OnOk result (self.new.maps ≡ put_ctx self.old.maps number entry) }
         ensures keys { self.new.keys ≡ self.old.keys }
     {
-        let key = Key::Ctx(number);
-        note_vacated(&mut self.vacated, key, entry.is_none())?;
-        let is_noted = was_written(&self.writes, &mut self.noted, &key)?;
-        if is_noted {
-            drop(self.tables.exchange_ctx(number, Place::of(entry)));
-            return Ok(());
-        }
+        note_vacated(&mut self.vacated, Key::Ctx(number), entry.is_none())?;
         self.writes.reserve(1)?;
-        let before = entry_in(self.tables.put_ctx(number, Place::of(entry))?);
+        let found = self
+            .tables
+            .write_ctx(number, Place::of(entry), &self.writes)?;
+        let Found::Original(before) = found else {
+            return Ok(());
+        };
         let Ok(()) = self.writes.push(Write::OfCtx(number, before)) else {
             unreachable!()
         };
@@ -164,23 +155,19 @@ impl InPlace {
         ensures maps { OnOk result (self.new.maps ≡ put_ctx self.old.maps number None) }
         ensures keys { self.new.keys ≡ self.old.keys }
     {
-        let is_noted = was_written(&self.writes, &mut self.noted, &Key::Ctx(number))?;
-        if is_noted {
-            return Ok(self.tables.exchange_ctx(number, Place::Empty).into_entry());
-        }
-        let Some(context) = self.tables.find_ctx(number) else {
-            return Ok(None);
-        };
-        let copy = Held::new(alloc, context.copy()?)?;
         self.writes.reserve(1)?;
-        let before = entry_in(self.tables.put_ctx(number, Place::Empty)?);
-        let Ok(()) = self.writes.push(Write::OfCtx(number, before)) else {
+        let (context, found) = self.tables.take_ctx(alloc, number, &self.writes)?;
+        let Some(before) = found.into_original() else {
+            return Ok(context);
+        };
+        let Ok(()) = self.writes.push(Write::OfCtx(number, Some(before))) else {
             unreachable!()
         };
-        Ok(Some(copy))
+        Ok(context)
     }
 
-    /// The termination of a name has another service state, if there is one. It is copied, since the original is kept.
+    /// The termination of a name has another service state, if there is one: in its place where it was written before, and else as a
+    /// copy, since the original is kept.
     pub(crate) fn set_service(
         &mut self,
         alloc: Global,
@@ -190,14 +177,11 @@ impl InPlace {
         ensures maps { OnOk result (self.new.maps ≡ put_service service name.now self.old.maps (term self.old.maps name.now)) }
         ensures keys { self.new.keys ≡ self.old.keys }
     {
-        let is_noted = was_written(&self.writes, &mut self.noted, &Key::Term(*name))?;
         self.writes.reserve(1)?;
-        let Some(before) = self.tables.set_service(alloc, name, service)? else {
+        let found = self.tables.set_service(alloc, name, service, &self.writes)?;
+        let Some(before) = found.into_original() else {
             return Ok(());
         };
-        if is_noted {
-            return Ok(());
-        }
         let Ok(()) = self.writes.push(Write::OfTerm(*name, Some(before))) else {
             unreachable!()
         };
@@ -231,19 +215,11 @@ impl InPlace {
         let InPlace {
             tables,
             writes,
-            noted,
             vacated,
             before: _,
             earlier: _,
         } = self;
-        (
-            tables,
-            Originals {
-                writes,
-                noted,
-                vacated,
-            },
-        )
+        (tables, Originals { writes, vacated })
     }
 
     /// The tables as they were at the start. It takes no memory.
@@ -255,7 +231,6 @@ impl InPlace {
         let InPlace {
             mut tables,
             writes,
-            noted: _,
             vacated: _,
             before: _,
             earlier: _,

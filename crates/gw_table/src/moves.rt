@@ -34,7 +34,7 @@ impl Tables {
     {
         note_slot(&mut self.slots, name, new.is_here());
         match self.terms.get_mut(name) {
-            Some(place) => mem::replace(place, new),
+            Some(site) => site.put(new),
             None => unreachable!(),
         }
     }
@@ -51,7 +51,7 @@ impl Tables {
     {
         note_number(&mut self.numbers, number, new.is_here());
         match self.contexts.get_mut(&number.0) {
-            Some(place) => mem::replace(place, new),
+            Some(site) => site.put(new),
             None => unreachable!(),
         }
     }

@@ -7,7 +7,6 @@ ghost use Rattle.gw_table.specs.Originals.{key_written, keys_written, without_wr
 ghost use Rattle.gw_table.specs.Parts.{Only, list_of, overlaid};
 ghost use Rattle.gw_table.specs.Stored.{maps_of, is_ready, is_out, AreReady, AreIn, AreAsReady, AreAsOut, NoneIsOut};
 
-use crate::noted::Noted;
 use crate::place::Place;
 use crate::tables::Tables;
 use gw_base::{CtxNum, Held, Key, TermName};
@@ -53,7 +52,6 @@ impl Write {
 #[derive(Drop)]
 pub struct Originals {
     pub(crate) writes: Vec<Write>,
-    pub(crate) noted: Noted,
     // Keys that were left without an entry, whose places may be given up.
     pub(crate) vacated: Vec<Key>,
 }
@@ -77,7 +75,6 @@ impl Originals {
     {
         Originals {
             writes: Vec::new(alloc),
-            noted: Noted::new(alloc),
             vacated: Vec::new(alloc),
         }
     }
@@ -121,11 +118,7 @@ impl Tables {
         ensures out { AreAsOut self.old self.new }
         ensures ready { AreAsReady self.old self.new }
     {
-        let Originals {
-            writes,
-            noted: _,
-            vacated: _,
-        } = originals;
+        let Originals { writes, vacated: _ } = originals;
         self.take_all_back(writes);
     }
 

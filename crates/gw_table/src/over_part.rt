@@ -89,7 +89,7 @@ impl<'t> OverPart<'t> {
         ensures maps { OnOk result (self.new.maps ≡ put_term self.old.maps name entry) }
         ensures keys { self.new.keys ≡ self.old.keys }
     {
-        drop(self.changed.put_term(name, Place::of(entry))?);
+        self.changed.put_term(name, Place::of(entry))?;
         Ok(())
     }
 
@@ -103,7 +103,7 @@ impl<'t> OverPart<'t> {
         ensures maps { OnOk result (self.new.maps ≡ put_ctx self.old.maps number entry) }
         ensures keys { self.new.keys ≡ self.old.keys }
     {
-        drop(self.changed.put_ctx(number, Place::of(entry))?);
+        self.changed.put_ctx(number, Place::of(entry))?;
         Ok(())
     }
 
@@ -122,7 +122,7 @@ impl<'t> OverPart<'t> {
             return Ok(self.changed.exchange_term(name, Place::Empty).into_entry());
         }
         let copy = self.part.copied_term(alloc, name)?;
-        drop(self.changed.put_term(*name, Place::Empty)?);
+        self.changed.put_term(*name, Place::Empty)?;
         Ok(copy)
     }
 
@@ -141,7 +141,7 @@ impl<'t> OverPart<'t> {
             return Ok(self.changed.exchange_ctx(number, Place::Empty).into_entry());
         }
         let copy = self.part.copied_ctx(alloc, number)?;
-        drop(self.changed.put_ctx(number, Place::Empty)?);
+        self.changed.put_ctx(number, Place::Empty)?;
         Ok(copy)
     }
 

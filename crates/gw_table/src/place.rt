@@ -1,7 +1,7 @@
 //! What stands at a prepared key.
 
 ghost use Rattle.std.specs.Prelude.{◌≡◌, Some, is_some, IfOk, OnOk, OnErr, option_copied};
-ghost use Rattle.gw_table.specs.Stored.{shown, placed, served, is_vacant};
+ghost use Rattle.gw_table.specs.Stored.{shown, placed, served, emptied, is_vacant};
 
 use gw_base::{Held, NoMemory, Service};
 use gw_ctx::Context;
@@ -47,6 +47,17 @@ impl<T> Place<T> {
             Place::Empty | Place::Out => None,
         }
     }
+
+    /// Takes the entry that stands here out, if there is one.
+    pub(crate) fn take(&mut self) -> Option<T>
+        ensures before { result ≡ shown (Some self.old) }
+        ensures after { self.new ≡ emptied self.old }
+    {
+        match self {
+            Place::Here(_) => mem::replace(self, Place::Empty).into_entry(),
+            Place::Empty | Place::Out => None,
+        }
+    }
 }
 
 /// The entry that stands in a place, if there is such a place.
@@ -56,16 +67,6 @@ pub(crate) fn entry_at<T>(place: Option<&Place<Held<T>>>) -> Option<&T>
     match place {
         Some(Place::Here(entry)) => Some(entry.get()),
         _ => None,
-    }
-}
-
-/// The entry that stood in a place, if there was such a place.
-pub(crate) fn entry_in<T>(place: Option<Place<T>>) -> Option<T>
-    ensures { result ≡ shown place }
-{
-    match place {
-        Some(place) => place.into_entry(),
-        None => None,
     }
 }
 
@@ -86,6 +87,28 @@ pub(crate) fn serve(
     copy.set_service(service);
     let new = Held::new(alloc, copy)?;
     Ok(Some(mem::replace(entry, new)))
+}
+
+/// The termination that stands in a place has another service state, if there is one. It is changed in its place.
+pub(crate) fn set_in_place(place: &mut Place<Held<Termination>>, service: Service)
+    ensures { place.new ≡ served service place.old }
+{
+    if let Place::Here(entry) = place {
+        entry.get_mut().set_service(service);
+    }
+}
+
+/// A copy of the context that stands in a place, if there is one.
+pub(crate) fn copied(
+    place: &Place<Held<Context>>,
+    alloc: Global,
+) -> Result<Option<Held<Context>>, NoMemory>
+    ensures { IfOk result (λ copy. copy ≡ shown (Some place.now)) }
+{
+    match place {
+        Place::Here(context) => Ok(Some(Held::new(alloc, context.get().copy()?)?)),
+        Place::Empty | Place::Out => Ok(None),
+    }
 }
 
 /// Whether there is a place, and nothing that stands in it or went out of it.

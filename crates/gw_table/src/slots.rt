@@ -6,6 +6,7 @@ ghost use Rattle.gw_base.specs.declared.key.Key.TheVariants.{Term, Ctx};
 ghost use Rattle.gw_table.specs.Stored.{maps_of, is_out, if_shown, ArePrepared, AreAsOut, AreIn, AreReady, KeepReady, NoOtherReady, NoneIsOut, AreSwept, AreSweptAt, WereSwept};
 
 use crate::place::{Place, is_vacant};
+use crate::site::{Site, place_at};
 use crate::tables::Tables;
 use gw_base::{CtxNum, Key, NoMemory, TermName};
 
@@ -16,7 +17,7 @@ impl Tables {
         ensures err { OnErr result (self.new ≡ self.old) }
     {
         if !self.terms.contains_key(&name) {
-            self.terms.insert(name, Place::Empty)?;
+            self.terms.insert(name, Site::of(Place::Empty))?;
         }
         Ok(())
     }
@@ -27,7 +28,7 @@ impl Tables {
         ensures err { OnErr result (self.new ≡ self.old) }
     {
         if !self.contexts.contains_key(&number.0) {
-            self.contexts.insert(number.0, Place::Empty)?;
+            self.contexts.insert(number.0, Site::of(Place::Empty))?;
         }
         Ok(())
     }
@@ -67,7 +68,7 @@ impl Tables {
         requires { is_out self.old (Term name.now) ≡ false }
         ensures { WereSwept (Term name.now ∷ []) self.old self.new }
     {
-        if is_vacant(self.terms.get(name)) {
+        if is_vacant(place_at(self.terms.get(name))) {
             self.terms.remove(name);
         }
     }
@@ -77,7 +78,7 @@ impl Tables {
         requires { is_out self.old (Ctx number) ≡ false }
         ensures { WereSwept (Ctx number ∷ []) self.old self.new }
     {
-        if is_vacant(self.contexts.get(&number.0)) {
+        if is_vacant(place_at(self.contexts.get(&number.0))) {
             self.contexts.remove(&number.0);
         }
     }
@@ -112,7 +113,7 @@ impl Tables {
         ensures terms { (t : List ℕ) → finite.get self.new.terms t ≡ if_shown (finite.get self.old.terms t) }
         ensures contexts { self.new.contexts ≡ self.old.contexts }
     {
-        self.terms.retain(|_, place| place.is_here());
+        self.terms.retain(|_, site| site.is_here());
     }
 
     /// Ends the preparation of numbers without a context.
@@ -120,7 +121,7 @@ impl Tables {
         ensures terms { self.new.terms ≡ self.old.terms }
         ensures contexts { (n : ℕ) → finite.get self.new.contexts n ≡ if_shown (finite.get self.old.contexts n) }
     {
-        self.contexts.retain(|_, place| place.is_here());
+        self.contexts.retain(|_, site| site.is_here());
     }
 
     /// Ends the preparation of keys without an entry. The caller knows that no key is out. The work is one pass over all places.

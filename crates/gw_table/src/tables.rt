@@ -7,6 +7,7 @@ ghost use Rattle.gw_table.specs.Stored.{maps_of, nothing_stored, NoneIsOut};
 
 use crate::place::{Place, entry_at};
 use crate::reserved::SLOTS;
+use crate::site::{Site, place_at};
 use gw_base::{Config, CtxNum, Held, NoMemory, TermName};
 use gw_ctx::Context;
 use gw_marks::Marks;
@@ -21,8 +22,8 @@ const NUMBERS: u32 = 65536;
 /// Terminations by name, and contexts by number, each by its handle in a place. A look-up takes log n steps. Numbers and slots of
 /// which an entry stands are marked, by a bit for each, for the search for free ones.
 pub struct Tables {
-    pub(crate) terms: BTreeMap<TermName, Place<Held<Termination>>>,
-    pub(crate) contexts: BTreeMap<u32, Place<Held<Context>>>,
+    pub(crate) terms: BTreeMap<TermName, Site<Held<Termination>>>,
+    pub(crate) contexts: BTreeMap<u32, Site<Held<Context>>>,
     // Of what is marked an entry stands. One that is not marked may stand too.
     pub(crate) numbers: Marks,
     pub(crate) slots: Marks,
@@ -85,7 +86,7 @@ impl Tables {
         ensures out { OnOk result (NoneIsOut self.old → NoneIsOut self.new) }
     {
         let new = Held::new(alloc, Termination::provisioned(alloc))?;
-        self.terms.insert(name, Place::Here(new))?;
+        self.terms.insert(name, Site::of(Place::Here(new)))?;
         Ok(())
     }
 
@@ -126,14 +127,14 @@ impl Tables {
     pub fn find_term(&self, name: &TermName) -> Option<&Termination>
         ensures { option_copied result ≡ term (maps_of self.now) name.now }
     {
-        entry_at(self.terms.get(name))
+        entry_at(place_at(self.terms.get(name)))
     }
 
     /// The context with a number. One that is out is not found.
     pub fn find_ctx(&self, number: CtxNum) -> Option<&Context>
         ensures { option_copied result ≡ ctx (maps_of self.now) number }
     {
-        entry_at(self.contexts.get(&number.0))
+        entry_at(place_at(self.contexts.get(&number.0)))
     }
 
     /// The names of all terminations, in the order of their bytes.
@@ -145,8 +146,8 @@ impl Tables {
         ensures { IfOk result (λ list. list.items ≡ names (maps_of self.now)) }
     {
         let mut names = Vec::with_capacity(alloc, self.terms.len())?;
-        for (name, place) in &self.terms {
-            if place.is_here() {
+        for (name, site) in &self.terms {
+            if site.is_here() {
                 names.push(*name)?;
             }
         }
@@ -162,8 +163,8 @@ impl Tables {
         ensures { IfOk result (λ list. list.items ≡ numbers (maps_of self.now)) }
     {
         let mut numbers = Vec::with_capacity(alloc, self.contexts.len())?;
-        for (number, place) in &self.contexts {
-            if place.is_here() {
+        for (number, site) in &self.contexts {
+            if site.is_here() {
                 numbers.push(CtxNum(*number))?;
             }
         }

@@ -3,13 +3,17 @@
 ghost use Rattle.std.specs.Prelude.{◌≡◌, IfOk, OnOk, OnErr, option_copied};
 ghost use Rattle.std.specs.FinMap as finite;
 ghost use Rattle.gw_base.specs.declared.key.Key.TheVariants.{Term, Ctx};
-ghost use Rattle.gw_table.specs.Maps.{term};
-ghost use Rattle.gw_table.specs.Stored.{maps_of, is_ready, put_term_place, put_ctx_place, with_service, drop_term_place, drop_ctx_place};
+ghost use Rattle.gw_table.specs.Found.{IsFound};
+ghost use Rattle.gw_table.specs.Maps.{term, ctx};
+ghost use Rattle.gw_table.specs.Originals.{keys_written};
+ghost use Rattle.gw_table.specs.Stored.{maps_of, is_ready, put_term_place, put_ctx_place, with_service, without_ctx, drop_term_place, drop_ctx_place};
 
 use crate::marked::{note_number, note_slot};
-use crate::place::{Place, serve};
+use crate::originals::Write;
+use crate::place::Place;
+use crate::site::{Found, Site, place_at, place_in};
 use crate::tables::Tables;
-use gw_base::{CtxNum, Held, NoMemory, Service, TermName};
+use gw_base::{CtxNum, Held, Key, NoMemory, Service, TermName};
 use gw_ctx::Context;
 use gw_term::Termination;
 use std::alloc::Global;
@@ -33,64 +37,131 @@ impl Tables {
     pub(crate) fn term_place(&self, name: &TermName) -> Option<&Place<Held<Termination>>>
         ensures { option_copied result ≡ finite.get self.now.terms name.now }
     {
-        self.terms.get(name)
+        place_at(self.terms.get(name))
     }
 
     /// The place of a context.
     pub(crate) fn ctx_place(&self, number: CtxNum) -> Option<&Place<Held<Context>>>
         ensures { option_copied result ≡ finite.get self.now.contexts number.0 }
     {
-        self.contexts.get(&number.0)
+        place_at(self.contexts.get(&number.0))
     }
 
-    /// Sets the place of a termination, and answers the one that was there. A refused growth changes nothing.
+    /// Sets the place of a termination. A refused growth changes nothing.
     pub(crate) fn put_term(
         &mut self,
         name: TermName,
         place: Place<Held<Termination>>,
-    ) -> Result<Option<Place<Held<Termination>>>, NoMemory>
-        ensures before { IfOk result (λ before. before ≡ finite.get self.old.terms name) }
+    ) -> Result<(), NoMemory>
         ensures ok { OnOk result (self.new ≡ put_term_place self.old name place) }
         ensures err { OnErr result (self.new ≡ self.old) }
     {
         let stands = place.is_here();
-        let before = self.terms.insert(name, place)?;
+        self.terms.insert(name, Site::of(place))?;
         note_slot(&mut self.slots, &name, stands);
-        Ok(before)
+        Ok(())
     }
 
-    /// Sets the place of a context, and answers the one that was there. A refused growth changes nothing.
+    /// Sets the place of a context. A refused growth changes nothing.
     pub(crate) fn put_ctx(
         &mut self,
         number: CtxNum,
         place: Place<Held<Context>>,
-    ) -> Result<Option<Place<Held<Context>>>, NoMemory>
-        ensures before { IfOk result (λ before. before ≡ finite.get self.old.contexts number.0) }
+    ) -> Result<(), NoMemory>
         ensures ok { OnOk result (self.new ≡ put_ctx_place self.old number place) }
         ensures err { OnErr result (self.new ≡ self.old) }
     {
         let stands = place.is_here();
-        let before = self.contexts.insert(number.0, place)?;
+        self.contexts.insert(number.0, Site::of(place))?;
         note_number(&mut self.numbers, number, stands);
-        Ok(before)
+        Ok(())
     }
 
-    /// The termination of a name has another service state, if there is one, as a copy. Answers the one that stood there. After want of
-    /// memory nothing has changed.
+    /// Sets the place of a termination, by one look-up where it has one, and answers what was found there: that the name is noted in
+    /// the list of writes, or what the caller notes next. A refused growth changes nothing.
+    pub(crate) fn write_term(
+        &mut self,
+        name: TermName,
+        place: Place<Held<Termination>>,
+        writes: &[Write],
+    ) -> Result<Found<Held<Termination>>, NoMemory>
+        ensures found { IfOk result (λ found. IsFound (keys_written writes.now) (Term name) (term (maps_of self.old) name) found) }
+        ensures ok { OnOk result (self.new ≡ put_term_place self.old name place) }
+        ensures err { OnErr result (self.new ≡ self.old) }
+    {
+        let stands = place.is_here();
+        if let Some(site) = self.terms.get_mut(&name) {
+            let found = site.write(place, writes, &Key::Term(name));
+            note_slot(&mut self.slots, &name, stands);
+            return Ok(found);
+        }
+        self.terms.insert(name, Site::noted_in(writes, place))?;
+        note_slot(&mut self.slots, &name, stands);
+        Ok(Found::Original(None))
+    }
+
+    /// Sets the place of a context, as `write_term` does.
+    pub(crate) fn write_ctx(
+        &mut self,
+        number: CtxNum,
+        place: Place<Held<Context>>,
+        writes: &[Write],
+    ) -> Result<Found<Held<Context>>, NoMemory>
+        ensures found { IfOk result (λ found. IsFound (keys_written writes.now) (Ctx number) (ctx (maps_of self.old) number) found) }
+        ensures ok { OnOk result (self.new ≡ put_ctx_place self.old number place) }
+        ensures err { OnErr result (self.new ≡ self.old) }
+    {
+        let stands = place.is_here();
+        if let Some(site) = self.contexts.get_mut(&number.0) {
+            let found = site.write(place, writes, &Key::Ctx(number));
+            note_number(&mut self.numbers, number, stands);
+            return Ok(found);
+        }
+        self.contexts
+            .insert(number.0, Site::noted_in(writes, place))?;
+        note_number(&mut self.numbers, number, stands);
+        Ok(Found::Original(None))
+    }
+
+    /// Takes the context with a number out, if there is one: the context itself where the number is noted in the list of writes, and
+    /// else a copy. Answers also what was found there, as `write_ctx` does. It is one look-up. After want of memory nothing has changed.
+    pub(crate) fn take_ctx(
+        &mut self,
+        alloc: Global,
+        number: CtxNum,
+        writes: &[Write],
+    ) -> Result<(Option<Held<Context>>, Found<Held<Context>>), NoMemory>
+        ensures context { IfOk result (λ taken. taken.0 ≡ ctx (maps_of self.old) number) }
+        ensures found { IfOk result (λ taken. IsFound (keys_written writes.now) (Ctx number) (ctx (maps_of self.old) number) taken.1) }
+        ensures after { OnOk result (self.new ≡ without_ctx number self.old (ctx (maps_of self.old) number)) }
+        ensures err { OnErr result (self.new ≡ self.old) }
+    {
+        let Some(site) = self.contexts.get_mut(&number.0) else {
+            return Ok((None, Found::Original(None)));
+        };
+        let taken = site.take(alloc, writes, &Key::Ctx(number))?;
+        note_number(&mut self.numbers, number, false);
+        Ok(taken)
+    }
+
+    /// The termination of a name has another service state, if there is one: in its place where the name is noted in the list of
+    /// writes, and else as a copy. Answers what was found there, as `write_term` does. It is one look-up. After want of memory nothing
+    /// has changed.
     pub(crate) fn set_service(
         &mut self,
         alloc: Global,
         name: &TermName,
         service: Service,
-    ) -> Result<Option<Held<Termination>>, NoMemory>
-        ensures before { IfOk result (λ before. before ≡ term (maps_of self.old) name.now) }
-        ensures after { IfOk result (λ before. self.new ≡ with_service service name.now self.old before) }
+        writes: &[Write],
+    ) -> Result<Found<Held<Termination>>, NoMemory>
+        ensures found { IfOk result (λ found. IsFound (keys_written writes.now) (Term name.now) (term (maps_of self.old) name.now) found) }
+        ensures after { OnOk result (self.new ≡ with_service service name.now self.old (term (maps_of self.old) name.now)) }
         ensures err { OnErr result (self.new ≡ self.old) }
     {
-        let Some(place) = self.terms.get_mut(name) else {
-            return Ok(None);
+        let Some(site) = self.terms.get_mut(name) else {
+            return Ok(Found::Original(None));
         };
-        serve(place, alloc, service)
+        site.serve(alloc, service, writes, &Key::Term(*name))
     }
 
     /// Gives up the place of a termination, and answers what stood there.
@@ -99,7 +170,7 @@ impl Tables {
         ensures left { self.new ≡ drop_term_place self.old name.now }
     {
         note_slot(&mut self.slots, name, false);
-        self.terms.remove(name)
+        place_in(self.terms.remove(name))
     }
 
     /// Gives up the place of a context, and answers what stood there.
@@ -108,6 +179,6 @@ impl Tables {
         ensures left { self.new ≡ drop_ctx_place self.old number }
     {
         note_number(&mut self.numbers, number, false);
-        self.contexts.remove(&number.0)
+        place_in(self.contexts.remove(&number.0))
     }
 }

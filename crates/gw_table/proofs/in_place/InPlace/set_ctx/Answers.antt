@@ -1,29 +1,29 @@
-use Rattle.std.proofs.Common.{◌≡◌, true, List, ◌∷◌, [], ◌++◌, refl, ap, sym, ◌∙◌}
-use Rattle.gw_base.specs.Keys.{has}
+use Rattle.std.proofs.Common.{List, ◌∷◌, [], ◌++◌, ap, ◌∙◌}
 use Rattle.gw_base.specs.declared.key.Key.TheVariants.{Ctx}
 use Rattle.gw_table.specs.declared.originals.Write.{Write}
 use Rattle.gw_table.specs.declared.originals.Write.TheVariants.{OfCtx}
-use Rattle.gw_table.specs.Maps.{put_ctx}
+use Rattle.gw_table.specs.Maps.{ctx, put_ctx}
 use Rattle.gw_table.specs.Originals.{keys_written, before_all}
 use Rattle.gw_table.specs.Parts.{Parted}
-use Rattle.gw_table.specs.Stored.{Stored, shown, placed, maps_of, put_ctx_place}
-use Rattle.gw_table.proofs.InPlace.{same_in_place, wrote_ctx, wrote_ctx_again}
-use Rattle.gw_table.proofs.Places.{ctx-maps_of, maps-put_ctx_place, shown_placed, placed_here}
-use Rattle.gw_table.proofs.Undone.{told}
+use Rattle.gw_table.specs.Stored.{Stored, placed, maps_of, put_ctx_place}
+use Rattle.gw_table.proofs.InPlace.{same_in_place, wrote_ctx, wrote_ctx_again, noted_before, stood_there}
+use Rattle.gw_table.proofs.Places.{maps-put_ctx_place, shown_placed, placed_here}
 use Rattle.gw_table.proofs.in_place.InPlace.set_ctx.Goals as goal
 
--- ---- where it was written lately
+-- ---- where it was written before
 
-pub invariant_of-self-then-is_noted : goal.invariant_of-self-then-is_noted
-invariant_of-self-then-is_noted c =
-    let there : has (keys_written c.self.inside.writes.items) (Ctx c.args.number) ≡ true = told c.deref.result.now c.self.inside.writes.items (Ctx c.args.number) c.in_ok-is_noted.is_noted c.deref.ensures.value c.in_ok-is_noted.ensures c.if-is_noted.true in
-    same_in_place (before_all c.self.inside.earlier.value c.self.inside.before.value) (put_ctx_place c.self.inside.tables c.args.number (placed c.args.entry)) c.exchange_ctx.new.self c.self.inside.writes.items c.self.inside.writes.items
-    (c.exchange_ctx.ensures.after ∙ ap (λ p. put_ctx_place c.self.inside.tables c.args.number p) c.of.ensures) refl
-    (wrote_ctx_again (before_all c.self.inside.earlier.value c.self.inside.before.value) c.self.inside.tables c.self.inside.writes.items c.self.invariant c.args.number (placed c.args.entry) (placed_here c.args.entry) there)
+pub invariant_of-self-in_default : goal.invariant_of-self-in_default
+invariant_of-self-in_default c =
+    let old : Stored = c.self.inside.tables in
+    let start : Stored = before_all c.self.inside.earlier.value c.self.inside.before.value in
+    same_in_place start (put_ctx_place old c.args.number (placed c.args.entry)) c.write_ctx.new.self c.self.inside.writes.items c.reserve.new.self.items
+    (c.in_ok-found.ensures.ok ∙ ap (λ p. put_ctx_place old c.args.number p) c.of.ensures) c.in_ok-reserve.ensures.items
+    (wrote_ctx_again start old c.self.inside.writes.items c.self.invariant c.args.number (placed c.args.entry) (placed_here c.args.entry)
+    (noted_before c.self.inside.writes.items c.deref.result.now (Ctx c.args.number) (ctx (maps_of old) c.args.number) c.in_ok-found.found (c.deref.ensures.value ∙ c.in_ok-reserve.ensures.items) c.in_default.is c.in_ok-found.ensures.found))
 
-pub returns-then-is_noted-clause-maps : goal.returns-then-is_noted-clause-maps
-returns-then-is_noted-clause-maps c =
-    ap (λ s. maps_of s) (c.exchange_ctx.ensures.after ∙ ap (λ p. put_ctx_place c.self.inside.tables c.args.number p) c.of.ensures) ∙ maps-put_ctx_place c.self.inside.tables c.args.number (placed c.args.entry)
+pub returns-in_default-clause-maps : goal.returns-in_default-clause-maps
+returns-in_default-clause-maps c =
+    ap (λ s. maps_of s) (c.in_ok-found.ensures.ok ∙ ap (λ p. put_ctx_place c.self.inside.tables c.args.number p) c.of.ensures) ∙ maps-put_ctx_place c.self.inside.tables c.args.number (placed c.args.entry)
     ∙ ap (put_ctx (maps_of c.self.inside.tables) c.args.number) (shown_placed c.args.entry) ∙ ap (λ (p : Parted). put_ctx p.maps c.args.number c.args.entry) c.self.view_is
 
 -- ---- where it was not
@@ -31,12 +31,14 @@ returns-then-is_noted-clause-maps c =
 pub invariant_of-self-2 : goal.invariant_of-self-2
 invariant_of-self-2 c =
     let old : Stored = c.self.inside.tables in
-    same_in_place (before_all c.self.inside.earlier.value c.self.inside.before.value) (put_ctx_place old c.args.number (placed c.args.entry)) c.put_ctx.new.self (c.self.inside.writes.items ++ OfCtx c.args.number c.entry_in-before.result ∷ []) c.push.new.self.items
-    (c.in_ok-put_ctx.ensures.ok ∙ ap (λ p. put_ctx_place old c.args.number p) c.of-2.ensures) (c.in-Ok.ensures.items ∙ ap (λ (l : List Write). l ++ OfCtx c.args.number c.entry_in-before.result ∷ []) c.in_ok-reserve.ensures.items)
-    (wrote_ctx (before_all c.self.inside.earlier.value c.self.inside.before.value) old c.self.inside.writes.items c.self.invariant c.args.number (placed c.args.entry) c.entry_in-before.result (placed_here c.args.entry)
-    (c.entry_in-before.ensures ∙ ap (λ o. shown o) c.in_ok-put_ctx.ensures.before ∙ sym (ctx-maps_of old c.args.number)))
+    let start : Stored = before_all c.self.inside.earlier.value c.self.inside.before.value in
+    same_in_place start (put_ctx_place old c.args.number (placed c.args.entry)) c.write_ctx.new.self (c.self.inside.writes.items ++ OfCtx c.args.number c.in-Original.before ∷ []) c.push.new.self.items
+    (c.in_ok-found.ensures.ok ∙ ap (λ p. put_ctx_place old c.args.number p) c.of.ensures)
+    (c.in-Ok.ensures.items ∙ ap (λ (l : List Write). l ++ OfCtx c.args.number c.in-Original.before ∷ []) c.in_ok-reserve.ensures.items)
+    (wrote_ctx start old c.self.inside.writes.items c.self.invariant c.args.number (placed c.args.entry) c.in-Original.before (placed_here c.args.entry)
+    (stood_there (keys_written c.deref.result.now) (Ctx c.args.number) (ctx (maps_of old) c.args.number) c.in_ok-found.found c.in-Original.before c.in-Original.is c.in_ok-found.ensures.found))
 
 pub returns-clause-maps : goal.returns-clause-maps
 returns-clause-maps c =
-    ap (λ s. maps_of s) (c.in_ok-put_ctx.ensures.ok ∙ ap (λ p. put_ctx_place c.self.inside.tables c.args.number p) c.of-2.ensures) ∙ maps-put_ctx_place c.self.inside.tables c.args.number (placed c.args.entry)
+    ap (λ s. maps_of s) (c.in_ok-found.ensures.ok ∙ ap (λ p. put_ctx_place c.self.inside.tables c.args.number p) c.of.ensures) ∙ maps-put_ctx_place c.self.inside.tables c.args.number (placed c.args.entry)
     ∙ ap (put_ctx (maps_of c.self.inside.tables) c.args.number) (shown_placed c.args.entry) ∙ ap (λ (p : Parted). put_ctx p.maps c.args.number c.args.entry) c.self.view_is

@@ -6,7 +6,7 @@ use Rattle.gw_table.proofs.Standing.{marked-drop_ctx_place}
 use Rattle.gw_table.proofs.tables.Tables.drop_ctx.Goals as goal
 
 pub returns-clause-place : goal.returns-clause-place
-returns-clause-place c = c.remove.ensures.value ∙ ctx_seen c.self.inside.terms.entries c.self.inside.contexts.entries c.args.self.now c.args.number c.self.view_is
+returns-clause-place c = c.place_in.ensures ∙ c.remove.ensures.value ∙ ctx_seen c.self.inside.terms.entries c.self.inside.contexts.entries c.args.self.now c.args.number c.self.view_is
 
 pub returns-clause-left : goal.returns-clause-left
 returns-clause-left c =

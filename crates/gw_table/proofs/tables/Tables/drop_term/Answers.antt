@@ -6,7 +6,7 @@ use Rattle.gw_table.proofs.Standing.{marked-drop_term_place}
 use Rattle.gw_table.proofs.tables.Tables.drop_term.Goals as goal
 
 pub returns-clause-place : goal.returns-clause-place
-returns-clause-place c = c.remove.ensures.value ∙ term_seen c.self.inside.terms.entries c.self.inside.contexts.entries c.args.self.now c.args.name.now c.self.view_is
+returns-clause-place c = c.place_in.ensures ∙ c.remove.ensures.value ∙ term_seen c.self.inside.terms.entries c.self.inside.contexts.entries c.args.self.now c.args.name.now c.self.view_is
 
 pub returns-clause-left : goal.returns-clause-left
 returns-clause-left c =

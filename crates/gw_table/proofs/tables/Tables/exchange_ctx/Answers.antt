@@ -14,23 +14,23 @@ unreachable-requires c =
 
 pub returns-clause-before : goal.returns-clause-before
 returns-clause-before c =
-    let none : Option (Place ContextRecord) = Some c.replace.result in
-    ap (λ (p : Place ContextRecord). Some p) c.replace.ensures.value ∙ ap (λ o. option_copied_mut o) (sym c.in-Some.is) ∙ c.get_mut.ensures.value
+    let none : Option (Place ContextRecord) = Some c.put.result in
+    ap (λ (p : Place ContextRecord). Some p) c.put.ensures.before ∙ ap (λ o. option_copied_mut o) (sym c.in-Some.is) ∙ c.get_mut.ensures.value
     ∙ ctx_seen c.self.inside.terms.entries c.self.inside.contexts.entries c.args.self.now c.args.number c.self.view_is
 
 pub returns-clause-after : goal.returns-clause-after
 returns-clause-after c =
-    let w : Place ContextRecord = c.replace.new.dest in
+    let w : Place ContextRecord = c.put.new.self in
     ctx_written c.self.inside.terms.entries c.self.inside.contexts.entries (c.get_mut.follows.lender w).entries c.args.number w
     ((c.get_mut.follows.holds w).3 (ap (λ o. is_some o) (sym c.get_mut.ensures.value) ∙ ap (λ o. is_some (option_copied_mut o)) c.in-Some.is)).0
-    ∙ ap (λ (s : Stored). put_ctx_place s c.args.number w) c.self.view_is ∙ ap (λ (p : Place ContextRecord). put_ctx_place c.args.self.now c.args.number p) c.replace.ensures.after
+    ∙ ap (λ (s : Stored). put_ctx_place s c.args.number w) c.self.view_is ∙ ap (λ (p : Place ContextRecord). put_ctx_place c.args.self.now c.args.number p) c.put.ensures.after
 
 pub invariant_of-self : goal.invariant_of-self
 invariant_of-self c =
     let now : Stored = stored c.self.inside.terms.entries c.self.inside.contexts.entries in
-    let w : Place ContextRecord = c.replace.new.dest in
+    let w : Place ContextRecord = c.put.new.self in
     marked-put_ctx_place c.self.inside.numbers c.self.inside.slots c.note_number.new.numbers now (stored c.self.inside.terms.entries (c.get_mut.follows.lender w).entries) c.self.invariant
     c.args.number c.args.new c.is_here.result c.note_number.ensures c.is_here.ensures
     (ctx_written c.self.inside.terms.entries c.self.inside.contexts.entries (c.get_mut.follows.lender w).entries c.args.number w
     ((c.get_mut.follows.holds w).3 (ap (λ o. is_some o) (sym c.get_mut.ensures.value) ∙ ap (λ o. is_some (option_copied_mut o)) c.in-Some.is)).0
-    ∙ ap (λ (p : Place ContextRecord). put_ctx_place now c.args.number p) c.replace.ensures.after)
+    ∙ ap (λ (p : Place ContextRecord). put_ctx_place now c.args.number p) c.put.ensures.after)

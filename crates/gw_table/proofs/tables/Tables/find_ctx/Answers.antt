@@ -8,5 +8,5 @@ use Rattle.gw_table.proofs.tables.Tables.find_ctx.Goals as goal
 
 pub returns : goal.returns
 returns c =
-    c.entry_at.ensures ∙ ap (λ o. shown o) (c.get.ensures.value ∙ sym (seen nat_cmp_total c.self.inside.contexts.entries c.args.number.0))
+    c.entry_at.ensures ∙ ap (λ o. shown o) (c.place_at.ensures ∙ c.get.ensures.value ∙ sym (seen nat_cmp_total c.self.inside.contexts.entries c.args.number.0))
     ∙ ap (λ (s : Stored). shown (finite.get s.contexts c.args.number.0)) c.self.view_is ∙ sym (ctx-maps_of c.args.self.now c.args.number)

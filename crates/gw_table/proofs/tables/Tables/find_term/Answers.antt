@@ -8,5 +8,5 @@ use Rattle.gw_table.proofs.tables.Tables.find_term.Goals as goal
 
 pub returns : goal.returns
 returns c =
-    c.entry_at.ensures ∙ ap (λ o. shown o) (c.get.ensures.value ∙ sym (seen nat_list_cmp_total c.self.inside.terms.entries c.args.name.now))
+    c.entry_at.ensures ∙ ap (λ o. shown o) (c.place_at.ensures ∙ c.get.ensures.value ∙ sym (seen nat_list_cmp_total c.self.inside.terms.entries c.args.name.now))
     ∙ ap (λ (s : Stored). shown (finite.get s.terms c.args.name.now)) c.self.view_is ∙ sym (term-maps_of c.args.self.now c.args.name.now)

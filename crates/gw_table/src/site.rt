@@ -1,0 +1,232 @@
+//! A place in the maps of tables, with a guide to where its key was noted.
+
+ghost use Rattle.std.specs.Prelude.{◌≡◌, true, Some, is_some, IfOk, OnOk, OnErr, option_copied};
+ghost use Rattle.std.specs.Bool.{OnTrue};
+ghost use Rattle.gw_base.specs.Keys.{has};
+ghost use Rattle.gw_table.specs.Found.{IsFound, original_of};
+ghost use Rattle.gw_table.specs.Originals.{keys_written};
+ghost use Rattle.gw_table.specs.Stored.{shown, served, emptied};
+
+use crate::originals::Write;
+use crate::place::{Place, copied, serve, set_in_place};
+use gw_base::{Held, Key, NoMemory, Service};
+use gw_ctx::Context;
+use gw_term::Termination;
+use std::alloc::{AllocError, Global};
+use std::marker::Model;
+use std::mem;
+
+/// What a write found at its key.
+#[derive(Drop)]
+pub(crate) enum Found<T> {
+    /// The key is noted already.
+    Noted,
+    /// What stood there, or none, which is to be noted.
+    Original(Option<T>),
+}
+
+impl<T> Found<T> {
+    /// The entry that is to be noted.
+    pub(crate) fn into_original(self) -> Option<T>
+        ensures { result ≡ original_of self }
+    {
+        match self {
+            Found::Original(entry) => entry,
+            Found::Noted => None,
+        }
+    }
+}
+
+/// What stands at a prepared key, and where the key was noted last in a list of writes. That is a guide alone: what it says is looked
+/// at in the list, so that one of an earlier list does no harm.
+#[derive(Drop)]
+pub(crate) struct Site<T> {
+    place: Place<T>,
+    noted: u32,
+}
+
+impl<T> Model for Site<T> {
+    ghost use Rattle.gw_table.specs.declared.place.Place.{Place};
+
+    ghost Value = { Place T };
+
+    ghost view = { λ a. a.place };
+}
+
+/// Where the next write of a list will stand. A list that is longer than any index notes nothing.
+fn next_of(writes: &[Write]) -> u32 {
+    u32::try_from(writes.len()).unwrap_or(u32::MAX)
+}
+
+/// Whether this write is one of a key.
+fn is_at(writes: &[Write], at: usize, key: &Key) -> bool
+    ensures { OnTrue result (has (keys_written writes.now) key.now ≡ true) }
+{
+    at < writes.len() && writes[at].is_of(key)
+}
+
+impl<T> Site<T> {
+    /// A place whose key is not noted.
+    pub(crate) fn of(place: Place<T>) -> Site<T>
+        ensures { result ≡ place }
+    {
+        Site {
+            place,
+            noted: u32::MAX,
+        }
+    }
+
+    /// A place whose key is noted next in a list of writes.
+    pub(crate) fn noted_in(writes: &[Write], place: Place<T>) -> Site<T>
+        ensures { result ≡ place }
+    {
+        Site {
+            place,
+            noted: next_of(writes),
+        }
+    }
+
+    /// The place.
+    pub(crate) fn place(&self) -> &Place<T>
+        ensures { result.now ≡ self.now }
+    {
+        &self.place
+    }
+
+    /// The place.
+    pub(crate) fn into_place(self) -> Place<T>
+        ensures { result ≡ self }
+    {
+        self.place
+    }
+
+    /// Whether an entry stands here.
+    pub(crate) fn is_here(&self) -> bool
+        ensures { result ≡ is_some (shown (Some self.now)) }
+    {
+        self.place.is_here()
+    }
+
+    /// Puts something else here, and answers what stood here.
+    pub(crate) fn put(&mut self, new: Place<T>) -> Place<T>
+        ensures before { result ≡ self.old }
+        ensures after { self.new ≡ new }
+    {
+        mem::replace(&mut self.place, new)
+    }
+
+    /// Whether its key is noted in a list of writes.
+    fn is_noted(&self, writes: &[Write], key: &Key) -> bool
+        ensures { OnTrue result (has (keys_written writes.now) key.now ≡ true) }
+    {
+        is_at(writes, self.noted as usize, key)
+    }
+}
+
+impl<T: Drop> Site<T> {
+    /// Puts something else here. What stood here is let go where the key is noted, and else it is to be noted next.
+    pub(crate) fn write(&mut self, new: Place<T>, writes: &[Write], key: &Key) -> Found<T>
+        ensures found { IsFound (keys_written writes.now) key.now (shown (Some self.old)) result }
+        ensures after { self.new ≡ new }
+    {
+        if self.is_noted(writes, key) {
+            self.place = new;
+            return Found::Noted;
+        }
+        self.noted = next_of(writes);
+        Found::Original(self.put(new).into_entry())
+    }
+}
+
+impl Site<Held<Termination>> {
+    /// The termination that stands here has another service state, if there is one. It is changed in its place where the key is noted,
+    /// and else it is copied, and the original is to be noted next. After want of memory nothing has changed.
+    pub(crate) fn serve(
+        &mut self,
+        alloc: Global,
+        service: Service,
+        writes: &[Write],
+        key: &Key,
+    ) -> Result<Found<Held<Termination>>, NoMemory>
+        ensures found { IfOk result (λ found. IsFound (keys_written writes.now) key.now (shown (Some self.old)) found) }
+        ensures after { OnOk result (self.new ≡ served service self.old) }
+        ensures err { OnErr result (self.new ≡ self.old) }
+    {
+        if self.is_noted(writes, key) {
+            set_in_place(&mut self.place, service);
+            return Ok(Found::Noted);
+        }
+        let before = serve(&mut self.place, alloc, service)?;
+        self.noted = next_of(writes);
+        Ok(Found::Original(before))
+    }
+}
+
+impl Site<Held<Context>> {
+    /// Takes the context that stands here out: the context itself where the key is noted, and else a copy, and the original is to be
+    /// noted next. After want of memory nothing has changed.
+    pub(crate) fn take(
+        &mut self,
+        alloc: Global,
+        writes: &[Write],
+        key: &Key,
+    ) -> Result<(Option<Held<Context>>, Found<Held<Context>>), NoMemory>
+        ensures context { IfOk result (λ taken. taken.0 ≡ shown (Some self.old)) }
+        ensures found { IfOk result (λ taken. IsFound (keys_written writes.now) key.now (shown (Some self.old)) taken.1) }
+        ensures after { OnOk result (self.new ≡ emptied self.old) }
+        ensures err { OnErr result (self.new ≡ self.old) }
+    {
+        if self.is_noted(writes, key) {
+            return Ok((self.place.take(), Found::Noted));
+        }
+        let copy = copied(&self.place, alloc)?;
+        self.noted = next_of(writes);
+        Ok((copy, Found::Original(self.place.take())))
+    }
+}
+
+/// The place, if there is one.
+pub(crate) fn place_at<T>(site: Option<&Site<T>>) -> Option<&Place<T>>
+    ensures { option_copied result ≡ option_copied site.entry }
+{
+    match site {
+        Some(site) => Some(site.place()),
+        None => None,
+    }
+}
+
+/// The place, if there was one.
+pub(crate) fn place_in<T>(site: Option<Site<T>>) -> Option<Place<T>>
+    ensures { result ≡ site }
+{
+    match site {
+        Some(site) => Some(site.into_place()),
+        None => None,
+    }
+}
+
+impl Clone for Site<Held<Termination>> {
+    ghost use Rattle.std.specs.Prelude.{◌≡◌};
+
+    ghost is_clone = { λ a b. b ≡ a };
+
+    fn clone(&self) -> Result<Self, AllocError> {
+        Ok(Site {
+            place: self.place.clone()?,
+            noted: self.noted,
+        })
+    }
+}
+
+impl Clone for Site<Held<Context>> {
+    ghost use Rattle.std.specs.Prelude.{◌≡◌};
+
+    ghost is_clone = { λ a b. b ≡ a };
+
+    fn clone(&self) -> Result<Self, AllocError> {
+        Ok(Site {
+            place: self.place.clone()?,
+            noted: self.noted,
+        })
+    }
+}
