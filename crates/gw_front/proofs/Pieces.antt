@@ -1,5 +1,5 @@
 -- Records of a burst, one behind the other, and what is wrong with one.
-use Rattle.std.proofs.Common.{◌≡◌, inl, inr, ℕ, ◌<◌, ◌≤◌, List, [], ◌∷◌, ◌++◌, length, Option, Some, None, IfSome, codes, refl, ap, sym, subst, ◌∙◌, arith, append_assoc, length-append}
+use Rattle.std.proofs.Common.{◌≡◌, ◌⊎◌, inl, inr, ℕ, ◌<◌, ◌≤◌, List, [], ◌∷◌, ◌++◌, length, Option, Some, None, IfSome, codes, refl, ap, sym, subst, ◌∙◌, arith, append_assoc, length-append}
 use Rattle.std.specs.Io.KnownBytes.{Consumes, IsAtEnd}
 use Rattle.std.proofs.KnownBytes.{Consumes-nil, Consumes-trans}
 use Rattle.std.proofs.lemmas.List.{append-nil}
@@ -8,77 +8,23 @@ use Rattle.gw_front.specs.declared.header.Header.{Header}
 use Rattle.gw_front.specs.declared.header.Header.TheVariants as header
 use Rattle.gw_front.specs.declared.replay_fault.ReplayFault.{ReplayFault}
 use Rattle.gw_front.specs.declared.replay_fault.ReplayFault.TheVariants.{BadHeader, Truncated, TooLong, Read, Write, NoMemory}
-use Rattle.gw_front.specs.Headers.{SaysHeader}
-use Rattle.gw_front.specs.Records.{IsRecordHeader, IsHeaderLine, IsRecord, AreRecords, AreOfBurst, IsBurst, IsLastBurst, longest_datagram, most_datagrams}
-use Rattle.gw_front.specs.RecordFaults.{HasNoLineFeed, IsTaken, HasFault, IsFirstFault, longest_line}
-use Rattle.gw_front.specs.Inputs.{IsBadDatagram, IsFaultAt, TakesFrom, Ends}
+use Rattle.gw_front.specs.Headers.{SaysHeader, SaysLine}
+use Rattle.gw_front.specs.Records.{IsHeaderLine, IsRecord, AreRecords, AreOfBurst, IsBurst, IsLastBurst, longest_datagram, most_datagrams}
+use Rattle.gw_front.specs.RecordFaults.{HasNoLineFeed, IsLongLine, IsTaken, IsTooMuch, HasFault, IsFirstFault, longest_line}
+use Rattle.gw_front.specs.Inputs.{IsBadLine, IsBadHeader, IsBadDatagram, IsFaultAt, TakesFrom, Ends}
 
 -- ---- one record
 
--- a header and the line feed behind it
-pub header_line : (line : List ℕ) (peer len : ℕ) → IsRecordHeader peer len line → IsHeaderLine peer len (line ++ 10 ∷ [])
-header_line line peer len h = record { front = line; back = 10 ∷ []; split = refl; first = h; second = refl }
-
-taken_header : (line : List ℕ) (n peer size : ℕ) → IsRecordHeader peer size line → size ≤ longest_datagram → n < most_datagrams → IsTaken n peer size (line ++ 10 ∷ [])
-taken_header line n peer size h short room = record { form = header_line line peer size h; short = short; room = room }
-
--- a datagram that is not whole
-pub bad_datagram : (old mid : Option (List ℕ)) (line : List ℕ) (n peer size : ℕ) (fault : ReplayFault) → Consumes old mid (line ++ 10 ∷ []) → IsRecordHeader peer size line → size ≤ longest_datagram → n < most_datagrams
-    → IsBadDatagram size mid fault → IsFaultAt (λ f. HasFault f n) old fault
-bad_datagram None mid line n peer size BadHeader p h short room bad = tt
-bad_datagram (Some x) None line n peer size BadHeader p h short room bad = absurd p
-bad_datagram (Some x) (Some y) line n peer size BadHeader p h short room bad = inr (inr (record {
-  peer = peer;
-  header = line ++ 10 ∷ [];
-  bytes = bad.bytes;
-  byte = bad.byte;
-  after = bad.after;
-  split = p ∙ ap (λ (l : List ℕ). (line ++ 10 ∷ []) ++ l) bad.split ∙ sym (append_assoc (line ++ 10 ∷ []) bad.bytes (bad.byte ∷ bad.after));
-  taken = subst (λ (k : ℕ). IsTaken n peer k (line ++ 10 ∷ [])) (sym bad.all) (taken_header line n peer size h short room);
-  other = bad.other;
-}))
-bad_datagram None mid line n peer size Truncated p h short room bad = tt
-bad_datagram (Some x) None line n peer size Truncated p h short room bad = absurd p
-bad_datagram (Some x) (Some y) line n peer size Truncated p h short room bad = inr (record {
-  peer = peer;
-  len = size;
-  header = line ++ 10 ∷ [];
-  bytes = y;
-  split = p;
-  taken = taken_header line n peer size h short room;
-  cut = bad;
-})
-bad_datagram old mid line n peer size TooLong p h short room bad = absurd bad
-bad_datagram old mid line n peer size Read p h short room bad = tt
-bad_datagram old mid line n peer size NoMemory p h short room bad = tt
-bad_datagram old mid line n peer size Write p h short room bad = absurd bad
-
--- a whole record
-pub whole_record : (old mid new : Option (List ℕ)) (line : List ℕ) (peer size : ℕ) (d : Datagram) → Consumes old mid (line ++ 10 ∷ []) → IsRecordHeader peer size line → size ≤ longest_datagram
-    → d.peer ≡ peer → length d.bytes ≡ size → Consumes mid new (d.bytes ++ 10 ∷ []) → TakesFrom (IsRecord d) old new
-whole_record old mid new line peer size d p h short is all q =
-    let header : IsHeaderLine d.peer (length d.bytes) (line ++ 10 ∷ []) =
-    subst (λ (k : ℕ). IsHeaderLine k (length d.bytes) (line ++ 10 ∷ [])) (sym is) (subst (λ (k : ℕ). IsHeaderLine peer k (line ++ 10 ∷ [])) (sym all) (header_line line peer size h)) in (
-      (line ++ 10 ∷ []) ++ (d.bytes ++ 10 ∷ []),
-      record {
-        short = omega (arith, all);
-        form = record {
-          front = line ++ 10 ∷ [];
-          back = d.bytes ++ 10 ∷ [];
-          split = refl;
-          first = header;
-          second = record { front = d.bytes; back = 10 ∷ []; split = refl; first = refl; second = refl };
-        };
-      },
-      Consumes-trans old mid new (line ++ 10 ∷ []) (d.bytes ++ 10 ∷ []) p q,
-    )
+-- a line that was taken, and what it says
+pub said : (old new : Option (List ℕ)) (line : List ℕ) (h : Header) → Consumes old new (line ++ 10 ∷ []) → SaysHeader h line → TakesFrom (SaysLine h) old new
+said old new line h p says = (line ++ 10 ∷ [], record { front = line; back = 10 ∷ []; split = refl; first = says; second = refl }, p)
 
 -- a line that says nothing
-pub other_line : (old mid : Option (List ℕ)) (line : List ℕ) (n : ℕ) → Consumes old mid (line ++ 10 ∷ []) → HasNoLineFeed line → length line ≤ longest_line → ((h : Header) → ¬ SaysHeader h line)
-    → IsFaultAt (λ f. HasFault f n) old BadHeader
-other_line None mid line n p plain short none = tt
-other_line (Some x) None line n p plain short none = absurd p
-other_line (Some x) (Some y) line n p plain short none = inl (record {
+pub other_line : (old mid : Option (List ℕ)) (line : List ℕ) → Consumes old mid (line ++ 10 ∷ []) → HasNoLineFeed line → length line ≤ longest_line → ((h : Header) → ¬ SaysHeader h line)
+    → IsBadHeader old BadHeader
+other_line None mid line p plain short none = tt
+other_line (Some x) None line p plain short none = absurd p
+other_line (Some x) (Some y) line p plain short none = inl (record {
   line = line;
   after = y;
   split = p ∙ append_assoc line (10 ∷ []) y;
@@ -87,6 +33,87 @@ other_line (Some x) (Some y) line n p plain short none = inl (record {
   no_end = none header.Stop;
   no_header = λ peer len. none (header.Datagram peer len);
 })
+
+long_line : (old : Option (List ℕ)) → IfSome old IsLongLine → IsBadHeader old BadHeader
+long_line None h = tt
+long_line (Some x) h = inr h
+
+-- no line, or one that is too long
+pub bad_line : (fault : ReplayFault) (old : Option (List ℕ)) → IsBadLine old fault → IsBadHeader old fault
+bad_line BadHeader old h = long_line old h
+bad_line Truncated old h = h
+bad_line TooLong old h = absurd h
+bad_line Read old h = tt
+bad_line NoMemory old h = absurd h
+bad_line Write old h = absurd h
+
+other_header : (n : ℕ) (old : Option (List ℕ)) → IsBadHeader old BadHeader → IfSome old (HasFault BadHeader n)
+other_header n None h = tt
+other_header n (Some x) (inl h) = inl h
+other_header n (Some x) (inr h) = inr (inl h)
+
+cut_header : (n : ℕ) (old : Option (List ℕ)) → IsBadHeader old Truncated → IfSome old (HasFault Truncated n)
+cut_header n None h = tt
+cut_header n (Some x) h = inl h
+
+-- where a record is to begin
+pub bad_header : (n : ℕ) (fault : ReplayFault) (old : Option (List ℕ)) → IsBadHeader old fault → IsFaultAt (λ f. HasFault f n) old fault
+bad_header n BadHeader old h = other_header n old h
+bad_header n Truncated old h = cut_header n old h
+bad_header n TooLong old h = absurd h
+bad_header n Read old h = tt
+bad_header n NoMemory old h = absurd h
+bad_header n Write old h = absurd h
+
+-- a datagram that is too long, or that its burst has no room for
+pub too_much : (old mid : Option (List ℕ)) (n peer size : ℕ) → TakesFrom (IsHeaderLine peer size) old mid → (longest_datagram < size) ⊎ (n ≡ most_datagrams) → IfSome old (IsTooMuch n)
+too_much None mid n peer size t much = tt
+too_much (Some x) None n peer size t much = absurd t.2
+too_much (Some x) (Some y) n peer size t much = record { peer = peer; len = size; header = t.0; after = y; split = t.2; form = t.1; much = much }
+
+-- a datagram that is not whole
+pub bad_datagram : (old mid : Option (List ℕ)) (n peer size : ℕ) (fault : ReplayFault) → TakesFrom (IsHeaderLine peer size) old mid → size ≤ longest_datagram → n < most_datagrams
+    → IsBadDatagram size mid fault → IsFaultAt (λ f. HasFault f n) old fault
+bad_datagram None mid n peer size BadHeader t short room bad = tt
+bad_datagram (Some x) None n peer size BadHeader t short room bad = absurd t.2
+bad_datagram (Some x) (Some y) n peer size BadHeader t short room bad = inr (inr (record {
+  peer = peer;
+  header = t.0;
+  bytes = bad.bytes;
+  byte = bad.byte;
+  after = bad.after;
+  split = t.2 ∙ ap (λ (l : List ℕ). t.0 ++ l) bad.split ∙ sym (append_assoc t.0 bad.bytes (bad.byte ∷ bad.after));
+  taken = subst (λ (k : ℕ). IsTaken n peer k t.0) (sym bad.all) (record { form = t.1; short = short; room = room });
+  other = bad.other;
+}))
+bad_datagram None mid n peer size Truncated t short room bad = tt
+bad_datagram (Some x) None n peer size Truncated t short room bad = absurd t.2
+bad_datagram (Some x) (Some y) n peer size Truncated t short room bad =
+    inr (record { peer = peer; len = size; header = t.0; bytes = y; split = t.2; taken = record { form = t.1; short = short; room = room }; cut = bad })
+bad_datagram old mid n peer size TooLong t short room bad = absurd bad
+bad_datagram old mid n peer size Read t short room bad = tt
+bad_datagram old mid n peer size NoMemory t short room bad = tt
+bad_datagram old mid n peer size Write t short room bad = absurd bad
+
+-- a whole record
+pub whole_record : (old mid new : Option (List ℕ)) (peer size : ℕ) (d : Datagram) → TakesFrom (IsHeaderLine peer size) old mid → size ≤ longest_datagram
+    → d.peer ≡ peer → length d.bytes ≡ size → Consumes mid new (d.bytes ++ 10 ∷ []) → TakesFrom (IsRecord d) old new
+whole_record old mid new peer size d t short is all q =
+    let header : IsHeaderLine d.peer (length d.bytes) t.0 =
+    subst (λ (k : ℕ). IsHeaderLine k (length d.bytes) t.0) (sym is) (subst (λ (k : ℕ). IsHeaderLine peer k t.0) (sym all) t.1) in (
+      t.0 ++ (d.bytes ++ 10 ∷ []),
+      record {
+        short = omega (arith, all);
+        form = record {
+          front = t.0;
+          back = d.bytes ++ 10 ∷ [];
+          split = refl;
+          first = header;
+          second = record { front = d.bytes; back = 10 ∷ []; split = refl; first = refl; second = refl };
+        };
+      },
+      Consumes-trans old mid new t.0 (d.bytes ++ 10 ∷ []) t.2 q,
+    )
 
 -- ---- a burst
 

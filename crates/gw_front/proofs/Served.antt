@@ -1,6 +1,6 @@
 -- How far serving has come.
-use Rattle.std.proofs.Common.{◌≡◌, ℕ, ◌+◌, ◌-◌, ◌≤◌, ◌<◌, List, [], ◌∷◌, ◌++◌, length, map, flat_map, refl, arith, rules, length-append, inl, inr, subst, sym, ap, ◌∙◌, append_assoc}
-use Rattle.std.specs.Prelude.{◌≢◌, Option, Some, None, Result, Ok, Err, IsErr, IsSome, IfSome, ⊤, false}
+use Rattle.std.proofs.Common.{◌≡◌, ℕ, ◌+◌, ◌-◌, ◌≤◌, ◌<◌, List, [], ◌∷◌, ◌++◌, length, flat_map, refl, arith, length-append, inl, inr, subst, sym, ap, ◌∙◌}
+use Rattle.std.specs.Prelude.{◌≢◌, Option, Some, None, Result, Ok, Err, IsErr, IfSome, ⊤, false}
 use Rattle.std.specs.declared.net.socket_addr.SocketAddr.{SocketAddr}
 use Rattle.gw_engine.specs.declared.datagram.Datagram.{Datagram}
 use Rattle.gw_engine.specs.Bursts.{AnswersBurst}
@@ -8,7 +8,7 @@ use Rattle.std.proofs.lemmas.Bool.{false≢true}
 use Rattle.std.proofs.lemmas.Grind.{flat_map-append}
 use Rattle.std.proofs.lemmas.List.{append-nil}
 use Rattle.gw_engine.specs.State.{GatewayValue}
-use Rattle.gw_front.specs.Events.{Letter, Event, came_all, sent_all, Happens}
+use Rattle.gw_front.specs.Events.{Letter, Event, sent_all, Happens}
 use Rattle.gw_front.specs.Inboxes.{Holds, Gathers}
 use Rattle.gw_front.specs.Serving.{Turn, IsTurn, IsAnswered, IsWithinLimits, GoesBy, Serves, taken, events_of, letters_to, senders_of}
 use Rattle.gw_front.specs.declared.inbox.Inbox.{Inbox}

@@ -1,6 +1,6 @@
 -- What reads and writes do to the bytes that a reader has left and a writer holds.
-use Rattle.std.proofs.Common.{◌≡◌, ℕ, ◌+◌, ◌-◌, ◌≤◌, List, ◌++◌, length, take, drop, Option, None, Some, ap, sym, subst, ◌∙◌, arith, append_assoc}
-use Rattle.std.specs.Io.KnownBytes.{Appends, Keeps, Consumes}
+use Rattle.std.proofs.Common.{◌≡◌, ◌==◌, ℕ, ◌+◌, ◌-◌, ◌≤◌, Bool, true, false, if◌then◌else◌, List, ◌++◌, length, take, drop, take-append-drop, Option, None, Some, ap, sym, subst, ◌∙◌, arith, append_assoc}
+use Rattle.std.specs.Io.KnownBytes.{Appends, Keeps, Consumes, prepend_known}
 use Rattle.std.proofs.Math.Seq.{take-add}
 use Rattle.std.proofs.lemmas.List.{length-drop, take_rest}
 
@@ -10,6 +10,18 @@ after_kept None b c bytes k p = tt
 after_kept (Some x) None c bytes k p = absurd k
 after_kept (Some x) (Some y) None bytes k p = absurd p
 after_kept (Some x) (Some y) (Some z) bytes k p = sym k ∙ p
+
+at_front : (none : Bool) (inner : Option (List ℕ)) (held : List ℕ) (n : ℕ)
+    → Consumes (if none then None else prepend_known held inner) (if none then None else prepend_known (drop n held) inner) (take n held)
+at_front true inner held n = tt
+at_front false None held n = tt
+at_front false (Some rest) held n =
+    ap (λ (l : List ℕ). l ++ rest) (sym (take-append-drop n held)) ∙ append_assoc (take n held) (drop n held) rest
+
+-- bytes that were read ahead are taken
+pub passed : (capacity same : ℕ) (inner kept : Option (List ℕ)) (held left : List ℕ) (n : ℕ) → same ≡ capacity → kept ≡ inner → left ≡ drop n held
+    → Consumes (if capacity == 0 then None else prepend_known held inner) (if same == 0 then None else prepend_known left kept) (take n held)
+passed capacity same inner kept held left n c k l = rw (c, k, l) (at_front (capacity == 0) inner held n)
 
 -- ---- writing
 

@@ -1,5 +1,5 @@
 -- What reading a part of a record tells (own).
-use Rattle.std.specs.Prelude.{◌≡◌, ◌≢◌, ◌∷◌, [], ◌++◌, ℕ, ◌<◌, ◌≤◌, List, length, codes, Option, Result, Ok, Err, IfSome}
+use Rattle.std.specs.Prelude.{◌≡◌, ◌≢◌, ◌∷◌, [], ◌++◌, ℕ, ◌<◌, ◌≤◌, ◌⊎◌, List, length, codes, Option, None, Some, Result, Ok, Err, IfSome}
 use Rattle.std.specs.Io.KnownBytes.{Consumes, IsAtEnd}
 use Rattle.gw_front.specs.declared.replay_fault.ReplayFault.{ReplayFault}
 use Rattle.gw_front.specs.declared.replay_fault.ReplayFault.TheVariants.{BadHeader, Truncated, TooLong, Read, Write, NoMemory}
@@ -7,9 +7,11 @@ use Rattle.gw_front.specs.declared.burst_reading.Piece.{Piece}
 use Rattle.gw_front.specs.declared.burst_reading.Piece.TheVariants as piece
 use Rattle.gw_front.specs.declared.burst_reading.Next.{Next}
 use Rattle.gw_front.specs.declared.burst_reading.Next.TheVariants as next
+use Rattle.gw_front.specs.declared.header.Header.{Header}
+use Rattle.gw_front.specs.Headers.{SaysLine}
 use Rattle.gw_front.specs.Records.{IsRecord, IsBurst, IsLastBurst, longest_datagram, most_datagrams}
 use Rattle.gw_text.specs.Lexical.{line_feed}
-use Rattle.gw_front.specs.RecordFaults.{IsLongLine, IsCutLine, HasFault, IsFirstFault}
+use Rattle.gw_front.specs.RecordFaults.{IsOtherLine, IsLongLine, IsCutLine, HasFault, IsFirstFault}
 
 -- the input has fewer bytes than were asked for, if it is told to be cut
 abbrev pub IsShorter : ℕ → Option (List ℕ) → ReplayFault → Type 0
@@ -28,6 +30,15 @@ IsBadLine input Read = Unit {0}
 IsBadLine input NoMemory = ⊥
 IsBadLine input TooLong = ⊥
 IsBadLine input Write = ⊥
+
+-- the input begins with no line of a header
+abbrev pub IsBadHeader : Option (List ℕ) → ReplayFault → Type 0
+IsBadHeader input BadHeader = IfSome input (λ text. IsOtherLine text ⊎ IsLongLine text)
+IsBadHeader input Truncated = IfSome input IsCutLine
+IsBadHeader input Read = Unit {0}
+IsBadHeader input NoMemory = ⊥
+IsBadHeader input TooLong = ⊥
+IsBadHeader input Write = ⊥
 
 -- so many bytes, and another byte than a line feed
 pub record IsUnended (count : ℕ) (text : List ℕ) : Type 0 where
@@ -63,6 +74,12 @@ TakesFrom Form old new = (text : List ℕ) × Form text × Consumes old new text
 -- nothing was taken, and nothing is left
 abbrev pub Ends : Option (List ℕ) → Option (List ℕ) → Type 0
 Ends old new = Consumes old new [] × IsAtEnd new
+
+-- the line of a header was taken
+abbrev pub IsHeaderRead : Option (List ℕ) → Option (List ℕ) → Result (Option Header) ReplayFault → Type 0
+IsHeaderRead old new (Ok (Some header)) = TakesFrom (SaysLine header) old new
+IsHeaderRead old new (Ok None) = Ends old new
+IsHeaderRead old new (Err fault) = IsBadHeader old fault
 
 -- a record was taken, n datagrams of its burst before it
 abbrev pub IsPiece : ℕ → Option (List ℕ) → Option (List ℕ) → Result Piece ReplayFault → Type 0

@@ -1,17 +1,18 @@
 //! Reading bursts of datagrams, each record of one after another.
 
 ghost use Rattle.std.specs.Prelude.{◌≡◌, ◌≤◌, ◌++◌, ◌∷◌, [], length, IfOk, IfErr};
+ghost use Rattle.std.specs.Io.Buffered.{reader_remaining};
 ghost use Rattle.std.specs.Io.KnownBytes.{Consumes};
 ghost use Rattle.gw_front.specs.Records.{most_datagrams};
 ghost use Rattle.gw_front.specs.Inputs.{IsBadDatagram, IsPiece, IsNext};
 
-use crate::header::{Header, header_of, read_line};
+use crate::header::{Header, read_header};
 use crate::reading::{read_byte, read_bytes};
 use crate::replay_fault::ReplayFault;
 use gw_base::Items;
 use gw_engine::Datagram;
 use std::alloc::Global;
-use std::io::Read;
+use std::io::{BufReader, Read};
 
 /// How many bytes a datagram may have: what fits a UDP datagram over IPv4.
 const LONGEST_DATAGRAM: u32 = 65_507;
@@ -44,14 +45,14 @@ pub(crate) enum Next {
 /// The bytes of a datagram and the line feed behind them.
 fn read_datagram<R: Read>(
     alloc: Global,
-    reader: &mut R,
+    reader: &mut BufReader<R>,
     peer: u32,
     size: usize,
 ) -> Result<Datagram, ReplayFault>
     ensures peer { IfOk result (λ d. d.peer ≡ peer) }
     ensures size { IfOk result (λ d. length d.bytes ≡ size) }
-    ensures bytes { IfOk result (λ d. Consumes (R.remaining reader.old) (R.remaining reader.new) (d.bytes ++ 10 ∷ [])) }
-    ensures fault { IfErr result (λ fault. IsBadDatagram size (R.remaining reader.old) fault) }
+    ensures bytes { IfOk result (λ d. Consumes (reader_remaining R.remaining reader.old) (reader_remaining R.remaining reader.new) (d.bytes ++ 10 ∷ [])) }
+    ensures fault { IfErr result (λ fault. IsBadDatagram size (reader_remaining R.remaining reader.old) fault) }
 {
     let bytes = read_bytes(alloc, reader, size)?;
     match read_byte(reader)? {
@@ -62,14 +63,15 @@ fn read_datagram<R: Read>(
 }
 
 /// The next record of a burst that has so many datagrams before it.
-fn next_piece<R: Read>(alloc: Global, reader: &mut R, before: usize) -> Result<Piece, ReplayFault>
+fn next_piece<R: Read>(
+    alloc: Global,
+    reader: &mut BufReader<R>,
+    before: usize,
+) -> Result<Piece, ReplayFault>
     requires { before ≤ most_datagrams }
-    ensures { IsPiece before (R.remaining reader.old) (R.remaining reader.new) result }
+    ensures { IsPiece before (reader_remaining R.remaining reader.old) (reader_remaining R.remaining reader.new) result }
 {
-    let Some(line) = read_line(reader)? else {
-        return Ok(Piece::End);
-    };
-    match header_of(line.as_slice()) {
+    match read_header(reader)? {
         Some(Header::Stop) => Ok(Piece::Stop),
         Some(Header::Datagram { peer, size }) => {
             if size > LONGEST_DATAGRAM || before == MOST_DATAGRAMS {
@@ -78,7 +80,7 @@ fn next_piece<R: Read>(alloc: Global, reader: &mut R, before: usize) -> Result<P
             let datagram = read_datagram(alloc, reader, peer, size as usize)?;
             Ok(Piece::Datagram(datagram))
         }
-        None => Err(ReplayFault::BadHeader),
+        None => Ok(Piece::End),
     }
 }
 
@@ -87,8 +89,11 @@ fn next_piece<R: Read>(alloc: Global, reader: &mut R, before: usize) -> Result<P
 /// # Errors
 ///
 /// `BadHeader`, `Truncated` and `TooLong` where the burst has that fault first; `Read` where a read failed; `NoMemory`.
-pub(crate) fn next_burst<R: Read>(alloc: Global, reader: &mut R) -> Result<Next, ReplayFault>
-    ensures { IsNext (R.remaining reader.old) (R.remaining reader.new) result }
+pub(crate) fn next_burst<R: Read>(
+    alloc: Global,
+    reader: &mut BufReader<R>,
+) -> Result<Next, ReplayFault>
+    ensures { IsNext (reader_remaining R.remaining reader.old) (reader_remaining R.remaining reader.new) result }
 {
     let mut burst = Items::new(alloc);
     loop {

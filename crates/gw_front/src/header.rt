@@ -1,19 +1,20 @@
 //! The lines of headers: what one says, and reading one.
 
-ghost use Rattle.std.specs.Prelude.{◌≡◌, ◌<◌, ◌≤◌, ◌==◌, ◌++◌, ◌∷◌, [], ℕ, List, false, length, MatchOption, IfOk, IfErr, IfSome, IfNone, codes};
+ghost use Rattle.std.specs.Prelude.{◌≡◌, ◌<◌, ◌≤◌, ◌==◌, ◌++◌, ◌∷◌, ◌+◌, [], ℕ, List, false, length, take, MatchOption, IfOk, IfErr, IfSome, IfNone, codes};
 ghost use Rattle.std.specs.List.{list_any};
-ghost use Rattle.std.specs.Io.KnownBytes.{Consumes, IsAtEnd};
+ghost use Rattle.std.specs.Io.Buffered.{reader_buffer, reader_remaining};
+ghost use Rattle.std.specs.Io.KnownBytes.{Consumes};
 ghost use Rattle.gw_front.specs.Records.{IsLength, IsRecordHeader};
 ghost use Rattle.gw_front.specs.RecordFaults.{HasNoLineFeed, longest_line};
 ghost use Rattle.gw_front.specs.Headers.{SaysHeader};
-ghost use Rattle.gw_front.specs.Inputs.{IsBadLine};
+ghost use Rattle.gw_front.specs.Inputs.{Ends, IsBadLine, IsHeaderRead};
 ghost use Rattle.gw_front.specs.declared.header.Header.{Header as Said};
 
-use crate::reading::read_byte;
+use crate::reading::{pass, read_byte};
 use crate::replay_fault::ReplayFault;
 use arrayvec::ArrayVec;
 use gw_config::{behind, number_of};
-use std::io::Read;
+use std::io::{BufReader, Read};
 
 /// How many bytes a line of a header may have, its line feed not counted, and one more.
 const LINE_ROOM: usize = 33;
@@ -75,20 +76,35 @@ pub(crate) fn header_of(line: &[u8]) -> Option<Header>
     Some(Header::Datagram { peer, size })
 }
 
-/// The next line of at most 32 bytes, without its line feed; none at the end of the input.
+/// The line that the bytes begin with, without its line feed, where that is among the first 33.
+fn line_in(held: &[u8]) -> Option<&[u8]>
+    ensures line { IfSome result (λ line. take (length line.now + 1) held.now ≡ line.now ++ 10 ∷ []) }
+    ensures plain { IfSome result (λ line. HasNoLineFeed line.now) }
+    ensures short { IfSome result (λ line. length line.now ≤ longest_line) }
+{
+    let front = &held[..held.len().min(LINE_ROOM)];
+    for (i, b) in front.iter().enumerate() {
+        if *b == b'\n' {
+            return Some(&front[..i]);
+        }
+    }
+    None
+}
+
+/// The next line of at most 32 bytes, without its line feed, byte by byte; none at the end of the input.
 ///
 /// # Errors
 ///
 /// `BadHeader` where the first 33 bytes have no line feed among them; `Truncated` where the input ends behind fewer, but one
 /// at least; `Read` where a read failed.
-pub(crate) fn read_line<R: Read>(
-    reader: &mut R,
+fn read_line<R: Read>(
+    reader: &mut BufReader<R>,
 ) -> Result<Option<ArrayVec<u8, LINE_ROOM>>, ReplayFault>
-    ensures line { IfOk result (λ read. IfSome read (λ line. Consumes (R.remaining reader.old) (R.remaining reader.new) (line.items ++ 10 ∷ []))) }
+    ensures line { IfOk result (λ read. IfSome read (λ line. Consumes (reader_remaining R.remaining reader.old) (reader_remaining R.remaining reader.new) (line.items ++ 10 ∷ []))) }
     ensures plain { IfOk result (λ read. IfSome read (λ line. HasNoLineFeed line.items)) }
     ensures short { IfOk result (λ read. IfSome read (λ line. length line.items ≤ longest_line)) }
-    ensures end { IfOk result (λ read. IfNone read (Consumes (R.remaining reader.old) (R.remaining reader.new) [] × IsAtEnd (R.remaining reader.new))) }
-    ensures fault { IfErr result (λ fault. IsBadLine (R.remaining reader.old) fault) }
+    ensures end { IfOk result (λ read. IfNone read (Ends (reader_remaining R.remaining reader.old) (reader_remaining R.remaining reader.new))) }
+    ensures fault { IfErr result (λ fault. IsBadLine (reader_remaining R.remaining reader.old) fault) }
 {
     let mut line = ArrayVec::new();
     while !line.is_full() {
@@ -100,4 +116,37 @@ pub(crate) fn read_line<R: Read>(
         }
     }
     Err(ReplayFault::BadHeader)
+}
+
+/// What the next line says, read byte by byte; none at the end of the input.
+fn read_apart<R: Read>(reader: &mut BufReader<R>) -> Result<Option<Header>, ReplayFault>
+    ensures { IsHeaderRead (reader_remaining R.remaining reader.old) (reader_remaining R.remaining reader.new) result }
+{
+    let Some(line) = read_line(reader)? else {
+        return Ok(None);
+    };
+    match header_of(line.as_slice()) {
+        Some(header) => Ok(Some(header)),
+        None => Err(ReplayFault::BadHeader),
+    }
+}
+
+/// What the next line says; none at the end of the input. A line that was read ahead whole is looked at where it lies.
+///
+/// # Errors
+///
+/// `BadHeader` where the first 33 bytes have no line feed among them, or the line is of no form; `Truncated` where the input ends
+/// behind fewer, but one at least; `Read` where a read failed.
+pub(crate) fn read_header<R: Read>(reader: &mut BufReader<R>) -> Result<Option<Header>, ReplayFault>
+    ensures { IsHeaderRead (reader_remaining R.remaining reader.old) (reader_remaining R.remaining reader.new) result }
+{
+    let Some(line) = line_in(reader.buffer()) else {
+        return read_apart(reader);
+    };
+    let (header, size) = (header_of(line), line.len());
+    pass(reader, size + 1);
+    match header {
+        Some(header) => Ok(Some(header)),
+        None => Err(ReplayFault::BadHeader),
+    }
 }

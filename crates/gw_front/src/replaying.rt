@@ -1,6 +1,7 @@
 //! Replays: bursts read from an input, carried out, and answered to an output.
 
 ghost use Rattle.std.specs.Prelude.{◌≡◌, ◌≤◌, [], OnOk};
+ghost use Rattle.std.specs.Io.Buffered.{reader_remaining};
 ghost use Rattle.gw_front.specs.Replaying.{IsBurstDone};
 ghost use Rattle.gw_front.specs.Replays.{IsReplay};
 
@@ -48,13 +49,13 @@ fn carry_out<T: Threads + Sync, G: Gate, W: Write>(
 fn replay_all<T: Threads + Sync, G: Gate, R: Read, W: Write>(
     crew: &Crew<'_, T, G>,
     alloc: Global,
-    input: &mut R,
+    input: &mut BufReader<R>,
     out: &mut W,
     held: &mut Vec<u8>,
     gateway: &mut Gateway,
 ) -> Result<Counts, ReplayFault>
     requires { held.old.items ≡ [] }
-    ensures { IsReplay (R.remaining input.old) (W.contents out.old) (W.contents out.new) gateway.old gateway.new result }
+    ensures { IsReplay (reader_remaining R.remaining input.old) (W.contents out.old) (W.contents out.new) gateway.old gateway.new result }
 {
     let mut counts = Counts::NONE;
     for _turn in 0..u64::MAX {

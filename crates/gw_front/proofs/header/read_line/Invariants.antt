@@ -1,4 +1,5 @@
 use Rattle.std.proofs.Common.{◌-◌, ◌≤◌, length}
+use Rattle.std.specs.Io.Buffered.{reader_remaining}
 use Rattle.std.specs.Io.KnownBytes.{Consumes}
 use Rattle.gw_front.specs.RecordFaults.{HasNoLineFeed}
 use Rattle.gw_front.proofs.header.read_line.Given as goal
@@ -7,7 +8,7 @@ use Rattle.gw_front.proofs.header.read_line.Given as goal
 abbrev pub invariant-loop-line : goal.invariant-loop-line
 invariant-loop-line g l = record {
   plain : HasNoLineFeed l.line.items;
-  taken : Consumes (g.R.Read.remaining l.initial.reader) (g.R.Read.remaining l.reader) l.line.items;
+  taken : Consumes (reader_remaining g.R.Read.remaining l.initial.reader) (reader_remaining g.R.Read.remaining l.reader) l.line.items;
   few : length l.line.items ≤ 33;
 }
 

@@ -1,25 +1,27 @@
 use Rattle.std.proofs.Common.{refl, subst, List, Ok, Err}
 use Rattle.std.proofs.lemmas.Result.{err_from_is_err_and}
 use Rattle.gw_engine.specs.declared.datagram.Datagram.{Datagram}
+use Rattle.std.specs.Io.Buffered.{reader_remaining}
 use Rattle.std.specs.Io.KnownBytes.{IsAtEnd}
 use Rattle.gw_front.specs.Records.{IsBurst, IsLastBurst}
-use Rattle.gw_front.specs.Inputs.{TakesFrom}
+use Rattle.gw_front.specs.RecordFaults.{IsFirstFault}
+use Rattle.gw_front.specs.Inputs.{TakesFrom, IsFaultAt}
 use Rattle.gw_front.specs.Replaying.{IsBurstDone}
-use Rattle.gw_front.proofs.Courses.{begun, stepped, failed, last_done}
+use Rattle.gw_front.proofs.Courses.{begun, stepped, stopped, failed, last_done}
 use Rattle.gw_front.proofs.replaying.replay_all.Goals as goal
 
 pub loop-turn-init : goal.loop-turn-init
 loop-turn-init g c = record {
-  so_far = begun (g.R.Read.remaining c.args.input.now) (g.W.Write.contents c.args.out.now) c.args.gateway.now _ refl;
+  so_far = begun (reader_remaining g.R.Read.remaining c.args.input.now) (g.W.Write.contents c.args.out.now) c.args.gateway.now _ refl;
   empty = c.requires;
 }
 
 pub returns-in_err-counts-in-Burst : goal.returns-in_err-counts-in-Burst
 returns-in_err-counts-in-Burst g c =
     let p = err_from_is_err_and c.from_residual-in_err-counts-in-Burst.result c.from_residual-in_err-counts-in-Burst.ensures.1 in
-    let input = g.R.Read.remaining c.args.input.now in
-    let now = g.R.Read.remaining c.loop-turn.input in
-    let later = g.R.Read.remaining c.next_burst.new.reader in
+    let input = reader_remaining g.R.Read.remaining c.args.input.now in
+    let now = reader_remaining g.R.Read.remaining c.loop-turn.input in
+    let later = reader_remaining g.R.Read.remaining c.next_burst.new.reader in
     let before = g.W.Write.contents c.args.out.now in
     let between = g.W.Write.contents c.loop-turn.out in
     let after = g.W.Write.contents c.carry_out.new.out in
@@ -32,9 +34,9 @@ returns-in_err-counts-in-Burst g c =
 
 pub returns-in-Last : goal.returns-in-Last
 returns-in-Last g c =
-    let input = g.R.Read.remaining c.args.input.now in
-    let now = g.R.Read.remaining c.loop-turn.input in
-    let later = g.R.Read.remaining c.next_burst.new.reader in
+    let input = reader_remaining g.R.Read.remaining c.args.input.now in
+    let now = reader_remaining g.R.Read.remaining c.loop-turn.input in
+    let later = reader_remaining g.R.Read.remaining c.next_burst.new.reader in
     let before = g.W.Write.contents c.args.out.now in
     let between = g.W.Write.contents c.loop-turn.out in
     let after = g.W.Write.contents c.carry_out-in-Last.new.out in
@@ -46,9 +48,9 @@ returns-in-Last g c =
 
 pub loop-turn-preserved : goal.loop-turn-preserved
 loop-turn-preserved g c =
-    let input = g.R.Read.remaining c.args.input.now in
-    let now = g.R.Read.remaining c.loop-turn.input in
-    let later = g.R.Read.remaining c.next_burst.new.reader in
+    let input = reader_remaining g.R.Read.remaining c.args.input.now in
+    let now = reader_remaining g.R.Read.remaining c.loop-turn.input in
+    let later = reader_remaining g.R.Read.remaining c.next_burst.new.reader in
     let before = g.W.Write.contents c.args.out.now in
     let between = g.W.Write.contents c.loop-turn.out in
     let after = g.W.Write.contents c.carry_out.new.out in
@@ -61,3 +63,14 @@ loop-turn-preserved g c =
       so_far = stepped input now later before between after c.args.gateway.now c.loop-turn.gateway c.carry_out.new.gateway c.loop-turn.counts more burst c.loop-turn.invariant.so_far taken done;
       empty = c.in_ok-counts-in-Burst.ensures.empty;
     }
+
+pub returns-in_err-burst : goal.returns-in_err-burst
+returns-in_err-burst g c =
+    let p = err_from_is_err_and c.from_residual.result c.from_residual.ensures.1 in
+    let input = reader_remaining g.R.Read.remaining c.args.input.now in
+    let now = reader_remaining g.R.Read.remaining c.loop-turn.input in
+    let before = g.W.Write.contents c.args.out.now in
+    let after = g.W.Write.contents c.loop-turn.out in
+    let fault = c.in_err-burst.field-0.0 in
+    let wrong : IsFaultAt IsFirstFault now fault = c.in_err-burst.ensures in
+    rw (p.1, p.2) (stopped input now before after c.args.gateway.now c.loop-turn.gateway c.loop-turn.counts fault c.loop-turn.invariant.so_far wrong)
