@@ -13,3 +13,8 @@ pub returns-in_ok-carry_alone-in-Some : goal.returns-in_ok-carry_alone-in-Some
 returns-in_ok-carry_alone-in-Some c =
     held_alone c.args.board.now c.carry_alone.new.self c.args.held.now c.requires (sym c.is_none_held.ensures ∙ c.if-not-is_none_held.false)
     c.in_ok-carry_alone-in-Some.ensures.none c.in_ok-carry_alone-in-Some.ensures.same
+
+pub returns-in_err-carry_alone-in-Some : goal.returns-in_err-carry_alone-in-Some
+returns-in_err-carry_alone-in-Some c =
+    held_alone c.args.board.now c.carry_alone.new.self c.args.held.now c.requires (sym c.is_none_held.ensures ∙ c.if-not-is_none_held.false)
+    c.in_err-carry_alone-in-Some.ensures.none c.in_err-carry_alone-in-Some.ensures.same
