@@ -298,16 +298,14 @@ fn an_address_that_cannot_be_bound(rt: HostRuntime) -> Result<(), Fail> {
     Ok(fs::remove_file(&rt, file.as_str())?)
 }
 
-/// The program serves two bursts from a socket, and ends with a fault: this was said, and this is its line.
+/// The program serves two bursts over the network of a runtime, and ends with a fault: this was said, and this is its line.
 fn fails_at<R: Files + Net + Wait + Threads + Sync + AllocGlobal>(
     rt: &R,
-    socket: &UdpSocket,
     said: &[u8],
     line: &[u8],
 ) -> Result<(), Fail> {
     let file = file_of(rt, CONFIGURATION)?;
-    let words = ["serve", file.as_str(), "--bursts", "2"];
-    Run::of(&OneSocket { rt, socket }, &words).fails_behind(said, line)?;
+    Run::of(rt, &["serve", file.as_str(), "--bursts", "2"]).fails_behind(said, line)?;
     Ok(fs::remove_file(rt, file.as_str())?)
 }
 
@@ -315,7 +313,11 @@ fn fails_at<R: Files + Net + Wait + Threads + Sync + AllocGlobal>(
 #[test]
 fn a_socket_that_cannot_be_waited_for(rt: HostRuntime) -> Result<(), Fail> {
     let socket = UdpSocket::from(OwnedFd::from(File::open(&rt, "/dev/null")?));
-    fails_at(&rt, &socket, b"", b"h248gw: serve poll\n")
+    let network = OneSocket {
+        rt: &rt,
+        socket: &socket,
+    };
+    fails_at(&network, b"", b"h248gw: serve poll\n")
 }
 
 // A socket with one peer is told when that has gone, at the receipt behind what was sent to it. The peer has another address of the
@@ -329,6 +331,10 @@ fn a_datagram_that_cannot_be_received(rt: HostRuntime) -> Result<(), Fail> {
     peer.send_to(OTHER, server.local_addr()?)?;
     server.connect(peer.local_addr()?)?;
     drop(peer);
-    fails_at(&rt, &server, SERVING, b"h248gw: serve receive\n")?;
+    let network = OneSocket {
+        rt: &rt,
+        socket: &server,
+    };
+    fails_at(&network, SERVING, b"h248gw: serve receive\n")?;
     has_answers(&client, 1, ANSWERED)
 }
