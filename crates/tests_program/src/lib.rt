@@ -1,6 +1,8 @@
-//! Tests of the program by its words, and of serving.
+//! Tests of the program by its words, of the lines of its faults, and of serving.
 #![tactic(auto)]
 
+#[cfg(test)]
+mod faults;
 #[cfg(test)]
 mod networks;
 #[cfg(test)]
