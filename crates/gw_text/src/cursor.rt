@@ -21,12 +21,13 @@ ghost use Rattle.gw_text.specs.Sign.{byte_at, sign_at, prefix_at};
 ghost use Rattle.gw_text.specs.Scans.{Takes, lwsp_at, sep_at, word_at, solid_at, number_within, uint32_at, uint32_digits, uint32_max};
 
 use crate::bracket::{bracket_len, run_len};
+use crate::class::is_solid;
 use crate::fault::ScanFault;
 use crate::group::group_len;
 use crate::lengths::{digits_len, solid_len, word_len};
 use crate::number::number_of;
 use crate::octets::{octets_ends, quoted_len, trimmed};
-use crate::space::space_len;
+use crate::space::{begins_solid, space_len};
 use std::marker::Model;
 
 /// A 32-bit number in a text.
@@ -341,8 +342,28 @@ impl<'a> Cursor<'a> {
         true
     }
 
-    #[tactic(auto, unfolding(crate::specs::Sign::sign_at, crate::specs::SpaceScan::skip))]
+    /// Takes the sign as `sign` does. Mostly there is no white space on either side of it, which is told by two bytes.
+    #[tactic(auto, unfolding(crate::specs::Sign::sign_at, crate::specs::SpaceScan::skip, crate::specs::SpaceScan::space_len))]
     fn take_sign(&mut self, b: u8) -> bool
+        ensures exact { MatchBool result (sign_at b self.old ≡ Some self.new) ((sign_at b self.old ≡ None) × (self.new ≡ self.old)) }
+        ensures shorter { OnTrue result (length self.new < length self.old) }
+    {
+        match self.rest {
+            [c, rest @ ..] if is_solid(*c) && begins_solid(rest) => {
+                if *c != b {
+                    return false;
+                }
+                self.rest = rest;
+                true
+            }
+            _ => self.take_spaced_sign(b),
+        }
+    }
+
+    // Kept out of the scans, since most signs have no white space beside them.
+    #[inline(never)]
+    #[tactic(auto, unfolding(crate::specs::Sign::sign_at, crate::specs::SpaceScan::skip))]
+    fn take_spaced_sign(&mut self, b: u8) -> bool
         ensures exact { MatchBool result (sign_at b self.old ≡ Some self.new) ((sign_at b self.old ≡ None) × (self.new ≡ self.old)) }
         ensures shorter { OnTrue result (length self.new < length self.old) }
     {

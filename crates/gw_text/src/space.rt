@@ -1,6 +1,7 @@
 //! White space: blanks and comments (RFC 3525, Annex B.2).
 
 ghost use Rattle.std.specs.Prelude.{◌≡◌, ◌≤◌, ◌<◌, length, IfSome};
+ghost use Rattle.std.specs.Bool.{OnTrue};
 ghost use Rattle.gw_text.specs.Lexical.{is_blank, is_comment_byte};
 ghost use Rattle.gw_text.specs.Runs.{run_len};
 ghost use Rattle.gw_text.specs.SpaceScan.{space_len, comment_len};
@@ -16,6 +17,17 @@ pub fn space_len(text: &[u8]) -> usize
     match text {
         [b, ..] if !is_solid(*b) => some_space_len(text),
         _ => 0,
+    }
+}
+
+/// Whether a byte comes next with which no white space begins.
+#[tactic(auto, unfolding(crate::specs::SpaceScan::space_len))]
+pub fn begins_solid(text: &[u8]) -> bool
+    ensures { OnTrue result (space_len text.now ≡ 0) }
+{
+    match text {
+        [b, ..] => is_solid(*b),
+        [] => false,
     }
 }
 
