@@ -1,6 +1,7 @@
 -- From one entry of the table of tokens to the next.
-use Rattle.std.proofs.Common.{◌≡◌, ℕ, ◌+◌, ◌<◌, true, false, List, length, get_or, drop, Option, Some, refl, sym, ◌∙◌, add-one, drop-cons}
-use Rattle.gw_text.specs.Tokens.{is_spelling, find_token}
+use Rattle.std.proofs.Common.{◌≡◌, ℕ, ◌+◌, ◌<◌, true, false, List, length, get_or, drop, Option, Some, refl, ap, sym, ◌∙◌, add-one, drop-cons}
+use Rattle.std.proofs.lemmas.Slice.Eq.{HasBytesAt, text_from_reads}
+use Rattle.gw_text.specs.Tokens.{is_spelling, find_token, token_of}
 use Rattle.gw_text.specs.TokenTable.{entries}
 use Rattle.gw_text.specs.declared.token.Token.{Token}
 use Rattle.gw_text.specs.declared.token.Spelling as code
@@ -14,3 +15,7 @@ pub not_here : (table : List code.Spelling) (i : ℕ) (s : code.Spelling) (word 
 not_here table i s word total h is so_far =
     let one : find_token word (entries (drop i table)) ≡ find_token word (entries (drop (i + 1) table)) = rw (add-one, drop-cons table i s, is) refl in
     sym one ∙ so_far
+
+-- a word of these bytes is the token that they are
+pub sent_as : (word text : List ℕ) (token : Option Token) → length word ≡ length text → HasBytesAt word 0 text → token_of text ≡ token → token_of word ≡ token
+sent_as word text token l reads is = ap token_of (text_from_reads word text l reads) ∙ is

@@ -1,6 +1,6 @@
 //! The words of the grammar, in their long and their short form (RFC 3525, Annex B.2).
 
-ghost use Rattle.std.specs.Prelude.{◌≡◌};
+ghost use Rattle.std.specs.Prelude.{◌≡◌, Some, IfSome};
 ghost use Rattle.gw_text.specs.Tokens.{table, is_same_word, is_spelling, find_token, token_of};
 ghost use Rattle.gw_text.specs.TokenTable.{entries, rows_in};
 
@@ -203,13 +203,72 @@ fn find(table: &[Spelling], word: &[u8]) -> Option<Token>
     None
 }
 
-/// The token that a word is, in its long or its short form, in any case. The word is laid beside nine tokens at most,
-/// those in its first letter.
-pub fn token_of(word: &[u8]) -> Option<Token>
+/// The token of a long form that is sent often, as the table has it: it is told by the word's length and its bytes.
+fn often_long(word: &[u8]) -> Option<Token>
+    ensures { IfSome result (λ token. token_of word.now ≡ Some token) }
+{
+    match word {
+        b"Add" => Some(Token::Add),
+        b"AuditValue" => Some(Token::AuditValue),
+        b"Context" => Some(Token::Context),
+        b"Events" => Some(Token::Events),
+        b"Local" => Some(Token::Local),
+        b"LocalControl" => Some(Token::LocalControl),
+        b"Media" => Some(Token::Media),
+        b"Mode" => Some(Token::Mode),
+        b"Modify" => Some(Token::Modify),
+        b"Remote" => Some(Token::Remote),
+        b"Signals" => Some(Token::Signals),
+        b"Stream" => Some(Token::Stream),
+        b"Subtract" => Some(Token::Subtract),
+        b"Transaction" => Some(Token::Transaction),
+        _ => None,
+    }
+}
+
+/// The token of a short form that is sent often, as the table has it.
+fn often_short(word: &[u8]) -> Option<Token>
+    ensures { IfSome result (λ token. token_of word.now ≡ Some token) }
+{
+    match word {
+        b"A" => Some(Token::Add),
+        b"AV" => Some(Token::AuditValue),
+        b"C" => Some(Token::Context),
+        b"E" => Some(Token::Events),
+        b"L" => Some(Token::Local),
+        b"O" => Some(Token::LocalControl),
+        b"M" => Some(Token::Media),
+        b"MO" => Some(Token::Mode),
+        b"MF" => Some(Token::Modify),
+        b"R" => Some(Token::Remote),
+        b"SG" => Some(Token::Signals),
+        b"ST" => Some(Token::Stream),
+        b"S" => Some(Token::Subtract),
+        b"T" => Some(Token::Transaction),
+        _ => None,
+    }
+}
+
+/// The token that a word is. It is laid beside nine tokens at most, those in its first letter.
+fn in_table(word: &[u8]) -> Option<Token>
     ensures { result ≡ token_of word.now }
 {
     let [first, ..] = word else {
         return None;
     };
     find(tokens_in(first.to_ascii_lowercase()), word)
+}
+
+/// The token that a word is, in its long or its short form, in any case. What is sent often, as the table has it, is told by its
+/// length and its bytes; any other word is laid beside nine tokens at most, those in its first letter.
+pub fn token_of(word: &[u8]) -> Option<Token>
+    ensures { result ≡ token_of word.now }
+{
+    if let Some(token) = often_long(word) {
+        return Some(token);
+    }
+    if let Some(token) = often_short(word) {
+        return Some(token);
+    }
+    in_table(word)
 }

@@ -1,7 +1,7 @@
 use Rattle.std.proofs.Common.{◌∙◌, ap, arith}
 use Rattle.gw_text.specs.Tokens.{find_token}
 use Rattle.gw_text.proofs.TokenLetters.{among, none_empty}
-use Rattle.gw_text.proofs.token.token_of.Goals as goal
+use Rattle.gw_text.proofs.token.in_table.Goals as goal
 
 pub returns-in_default : goal.returns-in_default
 returns-in_default c = none_empty c.args.word.now (omega (arith, c.in_default.len_below))
