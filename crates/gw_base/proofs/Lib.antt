@@ -1,5 +1,6 @@
 pub mod Booleans
 pub mod Enclosures
+pub mod Heads
 pub mod KeyTests
 pub mod NameForms
 pub mod NameTests

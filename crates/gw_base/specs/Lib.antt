@@ -2,6 +2,7 @@ pub mod Addresses
 pub mod Bytes
 pub mod Choose
 pub mod Codes
+pub mod Heads
 pub mod Keys
 pub mod Lang
 pub mod Lending

@@ -1,6 +1,7 @@
 //! Short texts kept inline, at the front of an array, with zeros behind them.
 
 ghost use Rattle.std.specs.Prelude.{◌≡◌, ◌≤◌, ◌<◌, ◌-◌, ◌++◌, length, replicate};
+ghost use Rattle.gw_base.specs.Heads.{head_of, head_len};
 
 use std::fmt;
 use std::fmt::Write;
@@ -49,6 +50,18 @@ impl<const N: usize> Inline<N> {
         Inline {
             len: text.len() as u8,
             cells: padded(text),
+        }
+    }
+
+    /// The first eight bytes as one number, the first byte worth most, and zeros behind a shorter text: of two texts whose numbers
+    /// differ, the one with the smaller comes first. Of texts that have no room for eight bytes it is 0.
+    pub(crate) fn head(&self) -> u64
+        ensures { result ≡ head_of (head_len N) self.now }
+    {
+        let cells: &[u8] = &self.cells;
+        match cells {
+            [a, b, c, d, e, f, g, h, ..] => u64::from_be_bytes([*a, *b, *c, *d, *e, *f, *g, *h]),
+            _ => 0,
         }
     }
 

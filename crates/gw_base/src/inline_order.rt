@@ -1,7 +1,8 @@
 //! Inline texts compare, and hash, by their bytes.
 
-ghost use Rattle.std.specs.Prelude.{Some, bytes_eq, refl};
+ghost use Rattle.std.specs.Prelude.{◌≡◌, ℕ, Some, bytes_eq, refl};
 ghost use Rattle.std.specs.Ordering.{nat_cmp};
+ghost use Rattle.gw_base.specs.Heads.{head_of};
 ghost use Rattle.std.specs.Cmp.{partial_equiv_from_equiv};
 ghost use Rattle.std.specs.Cmp.Rules.{hashing};
 ghost use Rattle.std.specs.Hash as fed;
@@ -36,6 +37,18 @@ impl<const N: usize> PartialOrd for Inline<N> {
     }
 }
 
+/// How two texts stand to one another, of which the first bytes are known as numbers. These mostly tell.
+fn compare(head: u64, text: &[u8], other_head: u64, other: &[u8]) -> Ordering
+    requires { (k : ℕ) × (head ≡ head_of k text.now) × (other_head ≡ head_of k other.now) }
+    ensures { result ≡ slice_cmp nat_cmp text.now other.now }
+{
+    match (text, other) {
+        _ if head < other_head => Ordering::Less,
+        _ if other_head < head => Ordering::Greater,
+        (text, other) => text.cmp(other),
+    }
+}
+
 impl<const N: usize> Ord for Inline<N> {
     ghost cmp = { slice_cmp nat_cmp };
 
@@ -46,7 +59,7 @@ impl<const N: usize> Ord for Inline<N> {
     ghost matches_eq = { texts_ties };
 
     fn cmp(&self, other: &Inline<N>) -> Ordering {
-        self.as_bytes().cmp(other.as_bytes())
+        compare(self.head(), self.as_bytes(), other.head(), other.as_bytes())
     }
 }
 
