@@ -130,7 +130,9 @@ pub fn fill_local(
 {
     let mut buffer = Buffer::new();
     let port = buffer.format(16384 + 8 * u32::from(slot) + 2 * u32::from(stream - 1));
-    let mut out = Vec::with_capacity(alloc, text.len())?;
+    // Mostly one address and one port are filled in.
+    let filled = media.as_bytes().len() + port.len();
+    let mut out = Vec::with_capacity(alloc, text.len().saturating_add(filled))?;
     let told = write_lines(text, media.as_bytes(), port.as_bytes(), &mut out)?;
     Ok((out, told))
 }

@@ -63,7 +63,7 @@ fn heard_of_lent<'a>(alloc: Global, datagram: &LentDatagram<'a>) -> Result<Heard
 fn in_turn<'a>(alloc: Global, burst: &'a [Datagram]) -> Result<Items<Heard<'a>>, NoMemory>
     ensures { IfOk result (AllZip IsHeard burst.now) }
 {
-    let mut heard = Items::new(alloc);
+    let mut heard = Items::from(Vec::with_capacity(alloc, burst.len())?);
     for datagram in burst {
         heard.push(heard_of(alloc, datagram)?)?;
     }

@@ -84,6 +84,9 @@ fn next_piece<R: Read>(
     }
 }
 
+/// So many datagrams have room in a burst before its list grows.
+const ROOM_AT_FIRST: usize = 16;
+
 /// The next burst. Nothing is read behind its line `.`, nor behind the end of the input.
 ///
 /// # Errors
@@ -95,7 +98,7 @@ pub(crate) fn next_burst<R: Read>(
 ) -> Result<Next, ReplayFault>
     ensures { IsNext (reader_remaining R.remaining reader.old) (reader_remaining R.remaining reader.new) result }
 {
-    let mut burst = Items::new(alloc);
+    let mut burst = Items::from(Vec::with_capacity(alloc, ROOM_AT_FIRST)?);
     loop {
         match next_piece(alloc, reader, burst.len())? {
             Piece::Datagram(datagram) => burst.push(datagram)?,
