@@ -1,6 +1,7 @@
 //! What an acknowledgement removes: the pairs that a range names stand together in the order, and each leaves a gap.
 
-ghost use Rattle.std.specs.Prelude.{◌≡◌, ◌≤◌, ◌<◌, ◌∷◌, [], ℕ, map, length, nat_le, nat_lt, not, vec_capacity, vec_len};
+ghost use Rattle.std.specs.Prelude.{◌≡◌, ◌≤◌, ◌<◌, ◌∷◌, [], ℕ, map, length, nat_le, nat_lt, not};
+ghost use Rattle.std.specs.VecDeque.{deque_capacity, deque_len};
 ghost use Rattle.std.specs.Ordering.{is_gt, is_lt};
 ghost use Rattle.circular_buffer.specs.Buffer.{buffer};
 ghost use Rattle.gw_kept.specs.declared.entry.RequestKey.{RequestKey as Key};
@@ -16,7 +17,7 @@ use gw_msg::AckRange;
 impl Order {
     /// From where on in the order no key comes before this one.
     fn start_of(&self, ring: &Ring, key: &RequestKey) -> usize
-        ensures bound { result ≤ vec_len self.now.numbers }
+        ensures bound { result ≤ deque_len self.now.numbers }
         ensures start { (order : IsOrder (keys_in ring.now.items) self.now.first self.now.numbers.items) → (at : ℕ) (d : Key) → at < length order.places → nat_le result at ≡ not (is_lt (key_cmp (key_there (keys_in ring.now.items) order.places at d) key.now)) }
     {
         match self.search(ring, key) {
@@ -26,7 +27,7 @@ impl Order {
 
     /// Up to where in the order no key comes behind this one.
     fn end_of(&self, ring: &Ring, key: &RequestKey) -> usize
-        ensures bound { result ≤ vec_len self.now.numbers }
+        ensures bound { result ≤ deque_len self.now.numbers }
         ensures end { (order : IsOrder (keys_in ring.now.items) self.now.first self.now.numbers.items) → (at : ℕ) (d : Key) → at < length order.places → nat_lt at result ≡ not (is_gt (key_cmp (key_there (keys_in ring.now.items) order.places at d) key.now)) }
     {
         match self.search(ring, key) {
@@ -37,7 +38,7 @@ impl Order {
 
     /// What a range names stands in the order from the one place to before the other.
     fn span(&self, ring: &Ring, mid: &Mid, range: &AckRange) -> (usize, usize)
-        ensures bound { (result.0 ≤ vec_len self.now.numbers) × (result.1 ≤ vec_len self.now.numbers) }
+        ensures bound { (result.0 ≤ deque_len self.now.numbers) × (result.1 ≤ deque_len self.now.numbers) }
         ensures span { (order : IsOrder (keys_in ring.now.items) self.now.first self.now.numbers.items) → IsSpan (keys_in ring.now.items) order.places mid.now range.now result }
     {
         let first = RequestKey {
@@ -56,7 +57,7 @@ impl Order {
         requires { IsOrder (keys_in ring.old.items) self.old.first self.old.numbers.items }
         ensures left { ring.new ≡ buffer (map (left_of mid.now (range.now ∷ [])) ring.old.items) ring.old.capacity }
         ensures order { IsOrder (keys_in ring.new.items) self.new.first self.new.numbers.items }
-        ensures room { vec_capacity self.new.numbers ≡ vec_capacity self.old.numbers }
+        ensures room { deque_capacity self.new.numbers ≡ deque_capacity self.old.numbers }
     {
         let (start, end) = self.span(ring, mid, range);
         let mut until = end;

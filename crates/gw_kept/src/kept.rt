@@ -57,7 +57,8 @@ impl Kept {
     }
 
     /// Keeps a pair, whose key no kept pair has: the caller knows that. A full list hands back its oldest pair. It takes no
-    /// memory. For k kept pairs it costs log k steps, and two moves of at most 2 k bytes.
+    /// memory. For k kept pairs it costs log k steps, or one where the key comes behind all others, and two moves of at most k bytes,
+    /// or none where keys come in their order and leave in it.
     pub fn push(&mut self, entry: Entry) -> Option<Entry>
         requires { bytes_for (key_of entry) self.old.pairs ≡ None }
         ensures pairs { self.new ≡ with_pair self.old entry }
@@ -68,7 +69,7 @@ impl Kept {
 
     /// Removes each pair of this sender whose number is in one of the ranges, both ends included; the others keep their order.
     /// A range whose first number is above its last has none. It takes no memory. For n ranges and k pairs it costs n log k
-    /// steps, for each pair that goes a move of at most 2 k bytes, and where any goes, one pass over the pairs. `change` makes that
+    /// steps, for each pair that goes a move of at most k bytes, and where any goes, one pass over the pairs. `change` makes that
     /// pass once for a burst.
     pub fn forget(&mut self, mid: &Mid, ranges: &[AckRange])
         ensures { self.new ≡ forgotten self.old mid.now ranges.now }

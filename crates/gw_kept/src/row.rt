@@ -35,7 +35,8 @@ impl Model for Row {
     ghost use Rattle.gw_kept.specs.Pairs.{IsBounded};
     ghost use Rattle.gw_kept.specs.Rows.{Gapped, coded_gapped, gapped, kept_in, keys_in, places_for};
     ghost use Rattle.gw_kept.specs.Order.{IsOrder};
-    ghost use Rattle.std.specs.Prelude.{◌≡◌, ◌≤◌, vec_capacity};
+    ghost use Rattle.std.specs.Prelude.{◌≡◌, ◌≤◌};
+    ghost use Rattle.std.specs.VecDeque.{deque_capacity};
 
     ghost Value = { Gapped };
 
@@ -43,7 +44,7 @@ impl Model for Row {
 
     ghost view = { λ a. gapped a.ring.items a.most };
 
-    ghost invariant = { λ a. IsBounded (kept_in (gapped a.ring.items a.most)) × IsOrder (keys_in a.ring.items) a.order.first a.order.numbers.items × (a.ring.capacity ≡ places_for a.most) × (a.ring.capacity ≤ vec_capacity a.order.numbers) };
+    ghost invariant = { λ a. IsBounded (kept_in (gapped a.ring.items a.most)) × IsOrder (keys_in a.ring.items) a.order.first a.order.numbers.items × (a.ring.capacity ≡ places_for a.most) × (a.ring.capacity ≤ deque_capacity a.order.numbers) };
 }
 
 impl Row {
@@ -106,8 +107,8 @@ impl Row {
     }
 
     /// Keeps a pair, whose key no kept pair has: the caller knows that. Where as many are there as are kept at most, the oldest is
-    /// handed back. It takes no memory. For k kept pairs it costs log k steps, and two moves of at most 2 k bytes; where no place
-    /// is free, the gaps are closed first, which is paid by the pairs that came since they were closed last.
+    /// handed back. It takes no memory. For k kept pairs it costs log k steps, or one where the key comes behind all others, and two
+    /// moves of at most k bytes, or none where keys come in their order and leave in it; where no place is free, the gaps are closed first, which is paid by the pairs that came since they were closed last.
     pub fn push(&mut self, entry: Entry) -> Option<Entry>
         requires { bytes_for (key_of entry) (present self.old.row) ≡ None }
         ensures pairs { kept_in self.new ≡ with_pair (kept_in self.old) entry }
@@ -154,7 +155,7 @@ impl Row {
     }
 
     /// Removes what an acknowledgement names, and leaves gaps. It takes no memory. For n ranges and k pairs it costs n log k steps,
-    /// and for each pair that goes a move of at most 2 k bytes.
+    /// and for each pair that goes a move of at most k bytes.
     pub fn forget(&mut self, mid: &Mid, ranges: &[AckRange])
         ensures { kept_in self.new ≡ forgotten (kept_in self.old) mid.now ranges.now }
     {

@@ -1,5 +1,5 @@
 use Rattle.std.proofs.Common.{◌≡◌, ◌≤◌, map, take}
-use Rattle.std.specs.Vec.{vec_capacity}
+use Rattle.std.specs.VecDeque.{deque_capacity}
 use Rattle.gw_kept.specs.Pairs.{IsBounded}
 use Rattle.gw_kept.specs.Rows.{kept_in, keys_in, left_of, places_for}
 use Rattle.gw_kept.specs.Order.{IsOrder}
@@ -11,6 +11,6 @@ invariant-loop-range l = record {
   order : IsOrder (keys_in l.self-inside.ring.items) l.self-inside.order.first l.self-inside.order.numbers.items;
   most : l.self-inside.most ≡ l.fn.self.most;
   capacity : l.self-inside.ring.capacity ≡ places_for l.self-inside.most;
-  room : l.self-inside.ring.capacity ≤ vec_capacity l.self-inside.order.numbers;
+  room : l.self-inside.ring.capacity ≤ deque_capacity l.self-inside.order.numbers;
   bounded : IsBounded (kept_in l.fn.self);
 }

@@ -1,5 +1,5 @@
 use Rattle.std.proofs.Common.{◌≡◌, ◌≤◌, ◌+◌, map, length, Some}
-use Rattle.std.specs.Vec.{vec_capacity}
+use Rattle.std.specs.VecDeque.{deque_capacity}
 use Rattle.gw_kept.specs.Rows.{present, keys_in, places_for, IsWhole}
 use Rattle.gw_kept.specs.Order.{IsOrder}
 use Rattle.gw_kept.proofs.row.Row.pop_oldest.Given as goal
@@ -11,6 +11,6 @@ invariant-loop-at l = record {
   order : IsOrder (keys_in l.self-inside.ring.items) l.self-inside.order.first l.self-inside.order.numbers.items;
   most : l.self-inside.most ≡ l.fn.self.most;
   capacity : l.self-inside.ring.capacity ≡ places_for l.self-inside.most;
-  room : l.self-inside.ring.capacity ≤ vec_capacity l.self-inside.order.numbers;
+  room : l.self-inside.ring.capacity ≤ deque_capacity l.self-inside.order.numbers;
   whole : IsWhole l.fn.self → l.self-inside.ring.items ≡ map (λ e. Some e) (present l.self-inside.ring.items);
 }
