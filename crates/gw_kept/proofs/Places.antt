@@ -74,7 +74,7 @@ then_test Less s = refl
 then_test Equal s = refl
 then_test Greater s = refl
 
-number_test : (a b : ℕ) → is_eq (nat_cmp a b) ≡ a == b
+pub number_test : (a b : ℕ) → is_eq (nat_cmp a b) ≡ a == b
 number_test a b =
     elim (cases_order a b) [
       | inl same ↦ ap is_eq (sym (nat_cmp_is a b Equal same)) ∙ sym (eq-eqb a b same)

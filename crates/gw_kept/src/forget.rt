@@ -6,8 +6,10 @@ ghost use Rattle.std.specs.Ordering.{is_gt, is_lt};
 ghost use Rattle.circular_buffer.specs.Buffer.{buffer};
 ghost use Rattle.gw_kept.specs.declared.entry.RequestKey.{RequestKey as Key};
 ghost use Rattle.gw_kept.specs.Rows.{keys_in, left_of};
+ghost use Rattle.gw_kept.specs.Arrival.{IsArrival};
 ghost use Rattle.gw_kept.specs.Order.{key_cmp, key_there, IsOrder, IsSpan};
 
+use crate::arrival::Arrival;
 use crate::entry::RequestKey;
 use crate::order::Order;
 use crate::ring::Ring;
@@ -53,17 +55,19 @@ impl Order {
     }
 
     /// Takes out each pair of this sender whose number is in the range, the last in the order first: so few numbers move.
-    pub fn forget(&mut self, ring: &mut Ring, mid: &Mid, range: &AckRange)
-        requires { IsOrder (keys_in ring.old.items) self.old.first self.old.numbers.items }
+    pub fn forget(&mut self, ring: &mut Ring, arrival: &mut Arrival, mid: &Mid, range: &AckRange)
+        requires order { IsOrder (keys_in ring.old.items) self.old.first self.old.numbers.items }
+        requires arrival { IsArrival (keys_in ring.old.items) arrival.old.first arrival.old.numbers.items }
         ensures left { ring.new ≡ buffer (map (left_of mid.now (range.now ∷ [])) ring.old.items) ring.old.capacity }
         ensures order { IsOrder (keys_in ring.new.items) self.new.first self.new.numbers.items }
-        ensures room { deque_capacity self.new.numbers ≡ deque_capacity self.old.numbers }
+        ensures arrival { IsArrival (keys_in ring.new.items) arrival.new.first arrival.new.numbers.items }
+        ensures room { (deque_capacity self.new.numbers ≡ deque_capacity self.old.numbers) × (deque_capacity arrival.new.numbers ≡ deque_capacity arrival.old.numbers) }
     {
         let (start, end) = self.span(ring, mid, range);
         let mut until = end;
         while start < until {
             until -= 1;
-            self.take_out(ring, until);
+            self.take_out(ring, arrival, until);
         }
     }
 }

@@ -1,21 +1,25 @@
 //! The kept pairs in the order of their keys: a key's pair is found without looking at the others.
 
-ghost use Rattle.std.specs.Prelude.{◌≡◌, ◌≤◌, ◌<◌, ◌∷◌, ◌++◌, [], Some, None, Err, IfOk, true, drop, length, map, slice_index, slice_index_or, slice_set};
+ghost use Rattle.std.specs.Prelude.{List, Option, ◌≡◌, ◌≤◌, ◌<◌, ◌∷◌, ◌++◌, [], Some, None, Err, IfOk, true, drop, length, map, slice_index, slice_index_or, slice_set};
 ghost use Rattle.std.specs.VecDeque.{deque_capacity, deque_len};
 ghost use Rattle.std.specs.List.{remove};
 ghost use Rattle.std.specs.List.Sorted.{IsSearchInRange};
 ghost use Rattle.circular_buffer.specs.Buffer.{buffer};
 ghost use Rattle.gw_kept.specs.Rows.{keys_in, key_in, most_places, present, IsFound};
-ghost use Rattle.gw_kept.specs.Order.{key_cmp, place_of, IsOrder, IsStand};
+ghost use Rattle.gw_kept.specs.Order.{key_cmp, place_of, IsOrder, IsStand, IsTaken};
+ghost use Rattle.gw_kept.specs.Arrival.{IsArrival};
+ghost use Rattle.gw_kept.specs.declared.entry.RequestKey.{RequestKey as Key};
 
+use crate::arrival::Arrival;
 use crate::entry::RequestKey;
 use crate::ring::{Ring, pair_at, places_left, take};
 use std::alloc::{AllocError, Global};
 use std::cmp::Ordering;
 use std::collections::VecDeque;
 
-/// The numbers of the kept pairs, in the order of their keys: in a ring, so that what goes in or out near either end moves few. The places of the ring are numbered as they come, gaps among them,
-/// and behind 65,535 comes 0: so what leaves the front changes no other number. Where gaps are closed, all are numbered anew.
+/// The numbers of the kept pairs, in the order of their keys: in a queue, so that what goes in or out near either end moves few. The
+/// places of the ring are numbered as they come, gaps among them, and behind 65,535 comes 0: so what leaves the front changes no
+/// other number. Where gaps are closed, all are numbered anew.
 #[derive(Drop)]
 pub struct Order {
     pub(crate) numbers: VecDeque<u16>,
@@ -159,15 +163,18 @@ impl Order {
     }
 
     /// Takes out the pair that stands here in the order, and lets it go: it leaves a gap.
-    pub fn take_out(&mut self, ring: &mut Ring, at: usize)
+    pub fn take_out(&mut self, ring: &mut Ring, arrival: &mut Arrival, at: usize)
         requires { at < deque_len self.old.numbers }
         ensures numbers { self.new.numbers.items ≡ remove self.old.numbers.items at }
         ensures first { self.new.first ≡ self.old.first }
         ensures gap { ring.new ≡ buffer (slice_set ring.old.items (place_of self.old.first (slice_index self.old.numbers.items at)) None) ring.old.capacity }
-        ensures room { deque_capacity self.new.numbers ≡ deque_capacity self.old.numbers }
+        ensures arrival { (keys : List (Option Key)) → IsArrival keys arrival.old.first arrival.old.numbers.items → IsTaken keys (place_of self.old.first (slice_index self.old.numbers.items at)) → IsArrival (slice_set keys (place_of self.old.first (slice_index self.old.numbers.items at)) None) arrival.new.first arrival.new.numbers.items }
+        ensures room { (deque_capacity self.new.numbers ≡ deque_capacity self.old.numbers) × (deque_capacity arrival.new.numbers ≡ deque_capacity arrival.old.numbers) }
     {
         if let Some(number) = self.numbers.remove(at) {
-            take(ring, self.place(number));
+            let place = self.place(number);
+            take(ring, place);
+            arrival.leave(place);
         }
     }
 
