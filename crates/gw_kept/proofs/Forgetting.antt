@@ -11,7 +11,7 @@ use Rattle.gw_kept.specs.declared.entry.RequestKey.{RequestKey}
 use Rattle.gw_kept.specs.Pairs.{key_of, kept_list}
 use Rattle.gw_kept.specs.Forgotten.{is_within, is_acknowledged, is_named, forgotten}
 use Rattle.gw_kept.specs.Rows.{Gapped, present, kept_in, keys_in, key_in, left_of}
-use Rattle.gw_kept.specs.Order.{place_of, key_there, IsSorted, IsOrder, IsSpan}
+use Rattle.gw_kept.specs.Order.{place_of, key_there, IsSorted, IsOrder, IsSpan, IsTaken}
 use Rattle.gw_kept.proofs.Filters.{few_left}
 use Rattle.gw_kept.proofs.Lists.{below_or_not}
 use Rattle.gw_kept.proofs.Orders.{numbers_are, place_at, others, order_gap, gap_places}
@@ -114,7 +114,7 @@ left_set mid ranges [] p h = refl
 left_set mid ranges (o ∷ os) zero h = ap (λ (m : Option Entry). m ∷ map (left_of mid ranges) os) (sym h)
 left_set mid ranges (o ∷ os) (suc p) h = ap (λ (r : List (Option Entry)). left_of mid ranges o ∷ r) (left_set mid ranges os p h)
 
-keys_set : (row : List (Option Entry)) (p : ℕ) → keys_in (set row p None) ≡ set (keys_in row) p None
+pub keys_set : (row : List (Option Entry)) (p : ℕ) → keys_in (set row p None) ≡ set (keys_in row) p None
 keys_set [] p = refl
 keys_set (o ∷ os) zero = refl
 keys_set (o ∷ os) (suc p) = ap (λ (r : List (Option RequestKey)). option_map key_of o ∷ r) (keys_set os p)
@@ -192,6 +192,14 @@ clear_more mid range before row next first numbers start i c le is =
       few = omega (arith, c.few, length-remove numbers i (omega (arith, c.few)));
       left = left_set mid (range ∷ []) row p (named_gone mid (range ∷ []) (get_or row p None) nobody named) ∙ c.left;
     })
+
+-- a pair stands where the next number leads
+pub clear_taken : (mid : List ℕ) (range : AckRange) (before row : List (Option Entry)) (first : ℕ) (numbers : List ℕ) (start i : ℕ) → IsClearing mid range before row first numbers start (i + 1) → IsTaken (keys_in row) (place_of first (get_or numbers i 0))
+clear_taken mid range before row first numbers start i c =
+    let o : IsOrder c.keys first numbers = c.order in
+    let l : i < length o.places = omega (arith, c.few, numbers_are c.keys first numbers o) in
+    subst (λ (ks : List (Option RequestKey)). IsTaken ks (place_of first (get_or numbers i 0))) (sym c.same)
+    (subst (IsTaken c.keys) (sym (place_at c.keys first numbers o i 0 l)) (o.sorted.within i 0 l))
 
 pub clear_all : (mid : List ℕ) (range : AckRange) (before row : List (Option Entry)) (first : ℕ) (numbers : List ℕ) (start until : ℕ) → IsClearing mid range before row first numbers start until → until ≤ start → row ≡ map (left_of mid (range ∷ [])) before
 clear_all mid range before row first numbers start until c le =

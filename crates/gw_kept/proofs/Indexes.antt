@@ -1,5 +1,5 @@
 -- What an index tells, and the index with one more pair.
-use Rattle.std.proofs.Common.{◌≡◌, ℕ, zero, suc, ◌+◌, ◌-◌, ◌<◌, ◌≤◌, ◌||◌, nat_le, nat_lt, not, Bool, true, false, cond, List, [], ◌∷◌, ◌++◌, length, take, drop, get_or, Option, Some, None, Result, Ok, Err, IfOk, refl, ap, sym, subst, ◌∙◌, length-append, length-drop, arith}
+use Rattle.std.proofs.Common.{◌≡◌, ℕ, zero, suc, ◌+◌, ◌-◌, ◌<◌, ◌≤◌, ◌||◌, nat_le, nat_lt, not, Bool, true, false, cond, List, [], ◌∷◌, ◌++◌, length, take, drop, get_or, Option, Some, None, refl, ap, sym, subst, ◌∙◌, length-append, length-drop, arith}
 use Rattle.std.proofs.lemmas.List.{take_more, drop-append-le, drop-drop}
 use Rattle.std.proofs.lemmas.Bool.Decides.{nat_tests}
 use Rattle.std.specs.BTreeMap.{get, is_at}
@@ -12,15 +12,16 @@ use Rattle.gw_kept.specs.declared.point.Point.{Point}
 use Rattle.gw_kept.specs.declared.point.Point.TheVariants as point
 use Rattle.gw_kept.specs.declared.point.Removal.{Removal}
 use Rattle.gw_kept.specs.declared.class.Class.{Class}
-use Rattle.gw_kept.specs.declared.class.Class.TheVariants.{New, Over, Nothing}
+use Rattle.gw_kept.specs.declared.class.Class.TheVariants.{New, Repeat, Over, Nothing}
+use Rattle.gw_kept.specs.declared.class.Source.{Source}
 use Rattle.gw_kept.specs.Pairs.{KeptList, key_of, is_same}
 use Rattle.gw_kept.specs.Rows.{Gapped, present, kept_in}
 use Rattle.gw_kept.specs.Forgotten.{is_named, forgotten}
-use Rattle.gw_kept.specs.Classes.{Standing, keys_of, or_here, last_place, has_pair, kept_place, class_of, class_at, behind, behind_request, with_key, without, most_new}
-use Rattle.gw_kept.specs.Index.{is_asked, seen, IsAsked, AreLeft, IsIndex}
-use Rattle.gw_kept.specs.Order.{key_cmp}
+use Rattle.gw_kept.specs.Classes.{Standing, keys_of, or_here, source_at, last_place, has_pair, kept_place, class_of, class_at, behind, behind_request, with_key, without, most_new}
+use Rattle.gw_kept.specs.Index.{is_asked, kept_at, seen, IsAsked, AreLeft, IsIndex}
+use Rattle.gw_kept.specs.Asked.{asked_cmp, asked_key}
 use Rattle.gw_kept.proofs.Filters.{filter_map_is}
-use Rattle.gw_kept.proofs.Places.{within, among_last, one_more, key_test, same_key, same_itself}
+use Rattle.gw_kept.proofs.Places.{within, among_last, one_more, asked_test, same_key, same_itself}
 
 -- ---- what is asked
 
@@ -109,12 +110,6 @@ kept_by_place asked index s key p h none at =
     ∙ some_within d p (last_place key (drop d s.pairs)) (nat_le d p) refl (among_last key d s.pairs ∙ ap (within d) at)
     ∙ ap (λ (l : List RequestKey). is_some (last_place key l)) (sym kept)
 
-pub place_kept : (s : Standing) (key : RequestKey) (p : ℕ) → Some p ≡ last_place key s.pairs → true ≡ has_pair key s.kept → Some p ≡ kept_place key s
-place_kept s key p at is = at ∙ ap (λ (t : Bool). cond t (last_place key s.pairs) None) is
-
-pub place_gone : (s : Standing) (key : RequestKey) → false ≡ has_pair key s.kept → None ≡ kept_place key s
-place_gone s key is = ap (λ (t : Bool). cond t (last_place key s.pairs) None) is
-
 -- ---- a place for each key that is asked
 
 abbrev pub Places : List Point → List RequestKey → (RequestKey → Option (Option ℕ)) → Type 0
@@ -135,11 +130,11 @@ put_at false asked old pairs key q is known h = h ∙ other_pair asked pairs key
 
 -- one more pair of a key that is asked
 pub put : (asked : List Point) (old new : RequestKey → Option (Option ℕ)) (pairs : List RequestKey) (key : RequestKey) (place : ℕ) → is_asked key asked ≡ true → place ≡ length pairs → Places asked pairs old
-    → ((q : RequestKey) → new q ≡ cond (is_at (key_cmp key) q) (Some (Some place)) (old q)) → Places asked (pairs ++ key ∷ []) new
+    → ((q : RequestKey) → new q ≡ cond (is_at (asked_cmp (asked_key key)) (asked_key q)) (Some (Some place)) (old q)) → Places asked (pairs ++ key ∷ []) new
 put asked old new pairs key place known size h u q =
     u q
-    ∙ ap (λ (n : ℕ). cond (is_at (key_cmp key) q) (Some (Some n)) (old q)) size
-    ∙ ap (λ (t : Bool). cond t (Some (Some (length pairs))) (old q)) (key_test key q)
+    ∙ ap (λ (n : ℕ). cond (is_at (asked_cmp (asked_key key)) (asked_key q)) (Some (Some n)) (old q)) size
+    ∙ ap (λ (t : Bool). cond t (Some (Some (length pairs))) (old q)) (asked_test key q)
     ∙ put_at (is_same key q) asked (old q) pairs key q refl known (h q)
 
 -- ---- the keys that are asked
@@ -153,11 +148,11 @@ put_key true t key q pairs is = ap (λ (k : RequestKey). Some (last_place k pair
 put_key false t key q pairs is = refl
 
 pub key_more : (old new : RequestKey → Option (Option ℕ)) (pairs : List RequestKey) (xs : List Point) (i : ℕ) (x : Point) (key : RequestKey) (place : Option ℕ) → i < length xs → x ≡ get_or xs i x → x ≡ point.Request key → place ≡ last_place key pairs
-    → ((q : RequestKey) → old q ≡ placed q pairs (is_asked q (take i xs))) → ((q : RequestKey) → new q ≡ cond (is_at (key_cmp key) q) (Some place) (old q)) → (q : RequestKey) → new q ≡ placed q pairs (is_asked q (take (i + 1) xs))
+    → ((q : RequestKey) → old q ≡ placed q pairs (is_asked q (take i xs))) → ((q : RequestKey) → new q ≡ cond (is_at (asked_cmp (asked_key key)) (asked_key q)) (Some place) (old q)) → (q : RequestKey) → new q ≡ placed q pairs (is_asked q (take (i + 1) xs))
 key_more old new pairs xs i x key place h is some there f u q =
     let last : take (i + 1) xs ≡ take i xs ++ point.Request key ∷ [] = take_more xs i x h ∙ ap (λ (y : Point). take i xs ++ y ∷ []) (sym is ∙ some) in
     u q
-    ∙ ap (λ (t : Bool). cond t (Some place) (old q)) (key_test key q)
+    ∙ ap (λ (t : Bool). cond t (Some place) (old q)) (asked_test key q)
     ∙ ap (λ (p : Option ℕ). cond (is_same key q) (Some p) (old q)) there
     ∙ ap (cond (is_same key q) (Some (last_place key pairs))) (f q)
     ∙ put_key (is_same key q) (is_asked q (take i xs)) key q pairs refl
@@ -169,6 +164,65 @@ pub no_key_more : (old : RequestKey → Option (Option ℕ)) (pairs : List Reque
 no_key_more old pairs xs i x h is none f q =
     let last : take (i + 1) xs ≡ take i xs ++ x ∷ [] = take_more xs i x h ∙ ap (λ (y : Point). take i xs ++ y ∷ []) (sym is) in
     f q ∙ ap (placed q pairs) (sym (asked_none q (take i xs) x none)) ∙ ap (λ (l : List Point). placed q pairs (is_asked q l)) (sym last)
+
+-- ---- what the index says of a key
+
+some_is : (o p : Option ℕ) → Some o ≡ Some p → o ≡ p
+some_is o p e = cc
+
+-- the place that is noted for a key
+pub noted_place : (asked : List Point) (index : Index) (s : Standing) (key : RequestKey) (place : Option ℕ) → IsIndex asked index s → is_asked key asked ≡ true → Some place ≡ get asked_cmp index.places (asked_key key) → place ≡ last_place key s.pairs
+noted_place asked index s key place h known at =
+    some_is place (last_place key s.pairs) (at ∙ h.places key ∙ ap (λ (t : Bool). cond t (Some (last_place key s.pairs)) None) known)
+
+none_either : (t : Bool) → ◌≡◌ {A = Option ℕ} None (cond t None None)
+none_either true = refl
+none_either false = refl
+
+told_by : (left : Option Gapped) (asked : List Point) (index : Index) (s : Standing) (key : RequestKey) (o : Option ℕ) → IsIndex asked index s → index.left ≡ left → last_place key s.pairs ≡ o
+    → kept_at o key (index.total - index.most) left ≡ cond (has_pair key s.kept) o None
+told_by left asked index s key None h is at = none_either (has_pair key s.kept)
+told_by None asked index s key (Some p) h is at = ap (λ (t : Bool). cond t (Some p) None) (kept_by_place asked index s key p h is at)
+told_by (Some g) asked index s key (Some p) h is at =
+    let left : AreLeft index.most (Some g) s = subst (λ (o : Option Gapped). AreLeft index.most o s) is h.left in
+    ap (λ (l : List RequestKey). cond (has_pair key l) (Some p) None) left.0
+
+-- it is the place of the key's pair where that is kept
+pub kept_told : (asked : List Point) (index : Index) (s : Standing) (key : RequestKey) (place : Option ℕ) → IsIndex asked index s → place ≡ last_place key s.pairs → kept_at place key (index.total - index.most) index.left ≡ kept_place key s
+kept_told asked index s key place h is =
+    told_by index.left asked index s key place h refl (sym is) ∙ ap (λ (o : Option ℕ). cond (has_pair key s.kept) o None) is
+
+-- a place that is written as it was
+same_at : (t : Bool) (old : Option (Option ℕ)) (place : Option ℕ) → (t ≡ true → Some place ≡ old) → cond t (Some place) old ≡ old
+same_at true old place f = f refl
+same_at false old place f = refl
+
+pub index_same : (asked : List Point) (index next : Index) (s : Standing) (key : RequestKey) (place : Option ℕ) → IsIndex asked index s → Some place ≡ get asked_cmp index.places (asked_key key)
+    → ((q : RequestKey) → get asked_cmp next.places (asked_key q) ≡ cond (is_at (asked_cmp (asked_key key)) (asked_key q)) (Some place) (get asked_cmp index.places (asked_key q)))
+    → next.most ≡ index.most → next.before ≡ index.before → next.total ≡ index.total → next.left ≡ index.left → IsIndex asked next s
+index_same asked index next s key place h at u most before total left = record {
+  places = λ q.
+      u q
+      ∙ ap (λ (t : Bool). cond t (Some place) (get asked_cmp index.places (asked_key q))) (asked_test key q)
+      ∙ same_at (is_same key q) (get asked_cmp index.places (asked_key q)) place (λ same. at ∙ ap (λ (k : RequestKey). get asked_cmp index.places (asked_key k)) (same_key key q same))
+      ∙ h.places q;
+  total = total ∙ h.total;
+  before = omega (arith, before, h.before);
+  few = omega (arith, before, h.few);
+  small = omega (arith, before, h.small);
+  left = subst (λ (o : Option Gapped). AreLeft next.most o s) (sym left) (subst (λ (m : ℕ). AreLeft m index.left s) (sym most) h.left);
+  among = h.among;
+}
+
+-- ---- a request of another class
+
+pub is_repeat : (before : ℕ) (pairs : List RequestKey) (place : ℕ) (from : Source) (kept o : Option ℕ) → from ≡ source_at before place → kept ≡ Some place → kept ≡ o → Repeat from ≡ class_of before pairs o
+is_repeat before pairs place from kept o is some same = ap (λ (f : Source). Repeat f) is ∙ ap (class_of before pairs) (sym some ∙ same)
+
+pub is_over : (before : ℕ) (pairs : List RequestKey) (o : Option ℕ) → o ≡ None → most_new ≤ length pairs - before → Over ≡ class_of before pairs o
+is_over before pairs o e more =
+    let t : nat_lt (length pairs - before) most_new ≡ false = grind (arith, nat_tests) in
+    sym (ap (class_of before pairs) e ∙ ap (λ (b : Bool). cond b New Over) t)
 
 -- ---- a new request
 
@@ -223,12 +277,12 @@ among_more most key q s h none =
     none_last q (length (s.kept ++ key ∷ []) - most) (s.kept ++ key ∷ []) (one_more q key s.kept ∙ with_none (is_same key q) (length s.kept) (last_place q s.kept) parts.0 (h parts.1))
 
 pub noted : (asked : List Point) (index next : Index) (s : Standing) (key : RequestKey) → IsIndex asked index s → is_asked key asked ≡ true
-    → ((q : RequestKey) → get key_cmp next.places q ≡ cond (is_at (key_cmp key) q) (Some (Some index.total)) (get key_cmp index.places q))
+    → ((q : RequestKey) → get asked_cmp next.places (asked_key q) ≡ cond (is_at (asked_cmp (asked_key key)) (asked_key q)) (Some (Some index.total)) (get asked_cmp index.places (asked_key q)))
     → next.before ≡ index.before → next.total ≡ index.total + 1 → length s.pairs - index.before < most_new → AreLeft next.most next.left (with_key index.most key s) → IsIndex asked next (with_key index.most key s)
 noted asked index next s key h known u same more less left =
     let size : length (s.pairs ++ key ∷ []) ≡ length s.pairs + 1 = omega (arith, length-append s.pairs (key ∷ [])) in
     record {
-      places = put asked (λ q. get key_cmp index.places q) (λ q. get key_cmp next.places q) s.pairs key index.total known h.total h.places u;
+      places = put asked (λ q. get asked_cmp index.places (asked_key q)) (λ q. get asked_cmp next.places (asked_key q)) s.pairs key index.total known h.total h.places u;
       total = more ∙ omega (arith, size, h.total);
       before = omega (arith, size, same, h.before);
       few = omega (arith, size, same, h.before, less);
@@ -276,13 +330,12 @@ acknowledged asked index next s r old new h some is same =
 
 -- ---- the class of an item
 
-pub request_told : {E : Type 0} (r : Result Class E) (most before : ℕ) (b : Bool) (asked : List Point) (new : Index) (s : Standing) (p : Point) (key : RequestKey) → p ≡ point.Request key
-    → IfOk r (λ class. (class ≡ class_of before s.pairs (kept_place key s)) × IsIndex asked new (behind_request most class key s))
-    → IfOk r (λ class. (class ≡ class_at before (seen b p) s) × IsIndex asked new (behind most before (seen b p) s))
-request_told (Ok c) most before b asked new s p key is h =
+pub request_told : (c : Class) (most before : ℕ) (b : Bool) (asked : List Point) (new : Index) (s : Standing) (p : Point) (key : RequestKey) → p ≡ point.Request key
+    → (c ≡ class_of before s.pairs (kept_place key s)) × IsIndex asked new (behind_request most c key s)
+    → (c ≡ class_at before (seen b p) s) × IsIndex asked new (behind most before (seen b p) s)
+request_told c most before b asked new s p key is h =
     subst (λ (q : Point). (c ≡ class_at before (seen b q) s) × IsIndex asked new (behind most before (seen b q) s)) (sym is)
     (h.0, subst (λ (d : Class). IsIndex asked new (behind_request most d key s)) h.0 h.1)
-request_told (Err e) most before b asked new s p key is h = tt
 
 ack_seen : (b : Bool) (most before : ℕ) (asked : List Point) (new : Index) (s : Standing) (r : Removal) → (b ≡ true → IsIndex asked new (without r s)) → (b ≡ false → IsIndex asked new s)
     → (Nothing ≡ class_at before (seen b (point.Ack r)) s) × IsIndex asked new (behind most before (seen b (point.Ack r)) s)

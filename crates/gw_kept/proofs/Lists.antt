@@ -1,9 +1,20 @@
 -- Lists of which each pair, or each item, is as asked: with one more item, and with other items in place of these.
-use Rattle.std.proofs.Common.{◌≡◌, ℕ, zero, suc, ◌+◌, ◌-◌, ◌<◌, ◌≤◌, List, [], ◌∷◌, ◌++◌, map, length, take, drop, get_or, refl, ap, sym, subst, ◌∙◌, add-one, arith, inl, inr}
+use Rattle.std.proofs.Common.{◌≡◌, ℕ, zero, suc, ◌+◌, ◌-◌, ◌<◌, ◌≤◌, List, [], ◌∷◌, ◌++◌, map, length, take, drop, get_or, true, is_some, Option, Some, None, Result, Ok, Err, refl, ap, sym, subst, ◌∙◌, add-one, arith, inl, inr}
+use Rattle.std.specs.Option.{OnSome}
+use Rattle.std.specs.Result.{OnErr, OnOk}
 use Rattle.std.specs.List.{All, AllPairs, Contains, insert, remove}
 use Rattle.std.proofs.lemmas.List.{get_or-map, length-map, take-append-drop, take-map, drop-map, map-append}
 use Rattle.std.proofs.lemmas.List.Edits.{get_or-insert_below, get_or-insert_at, get_or-insert_above, length-insert}
 use Rattle.std.proofs.lemmas.List.Elements.{All-append, All-cons, All-take, All-drop, Contains-append_cases, Contains-append_left, Contains-append_right}
+
+-- what holds of a call that succeeds
+pub of_some : {T P : Type 0} (o : Option T) → OnSome o P → is_some o ≡ true → P
+of_some (Some x) p h = p
+of_some None p h = absurd cc
+
+pub of_ok : {T E P Q : Type 0} (r : Result T E) → OnOk r P → OnErr r Q → (Q → ⊥) → P
+of_ok (Ok x) p q f = p
+of_ok (Err e) p q f = absurd (f q)
 
 pub below_or_not : (i j : ℕ) (P : Type 0) → (i < j → P) → (j ≤ i → P) → P
 below_or_not zero zero P f g = g (omega arith)

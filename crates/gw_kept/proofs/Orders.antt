@@ -103,6 +103,36 @@ searched keys first numbers key (Err i) o range parted =
       ),
     )
 
+-- ---- where a key comes behind the last one
+
+less_is : (r : Ordering) → is_lt r ≡ true → r ≡ Less
+less_is Less e = refl
+less_is Equal e = absurd cc
+less_is Greater e = absurd cc
+
+pub behind_all : (keys : List (Option RequestKey)) (first : ℕ) (numbers : List ℕ) (key : RequestKey) (i number : ℕ) → (o : IsOrder keys first numbers) → i + 1 ≡ length numbers → number ≡ get_or numbers i number
+    → is_lt (key_cmp (key_in keys (place_of first number) key) key) ≡ true → IsStand keys o.places key (Err (length numbers))
+behind_all keys first numbers key i number o last read less =
+    let size = numbers_are keys first numbers o in
+    let within : i < length o.places = omega (arith, size, last) in
+    let below : key_cmp (key_in keys (get_or o.places i 0) key) key ≡ Less =
+    sym (ap (λ (n : ℕ). key_cmp (key_in keys (place_of first n) key) key) read ∙ ap (λ (a : RequestKey). key_cmp a key) (key_at keys first numbers o key i number within))
+    ∙ less_is (key_cmp (key_in keys (place_of first number) key) key) less in (
+      omega (arith, size),
+      (
+        λ k d low high.
+            below_or_not k i (key_cmp (key_in keys (get_or o.places k d) key) key ≡ Less)
+            (λ l.
+            key_total.trans (key_in keys (get_or o.places k d) key) (key_in keys (get_or o.places i 0) key) key
+            (ap (λ (n : ℕ). key_cmp (key_in keys n key) (key_in keys (get_or o.places i 0) key)) (get_or_default o.places k d 0 (omega (arith, within))) ∙ o.sorted.rises k i 0 l within key)
+            below)
+            (λ l.
+            let same : k ≡ i = omega (arith, last, high) in
+            ap (λ (n : ℕ). key_cmp (key_in keys n key) key) (ap (λ (m : ℕ). get_or o.places m d) same ∙ get_or_default o.places i d 0 within) ∙ below),
+        λ k d low high. absurd (omega (arith, low, high, size)),
+      ),
+    )
+
 stand_is : (keys : List (Option RequestKey)) (places : List ℕ) (key : RequestKey) (i : ℕ) → IsSorted keys places → IsStand keys places key (Ok i) → get_or keys (get_or places i 0) None ≡ Some key
 stand_is keys places key i sorted stand = key_is keys (get_or places i 0) key (sorted.within i 0 stand.0) ∙ ap (λ (k : RequestKey). Some k) stand.1
 

@@ -1,6 +1,6 @@
 -- A row with gaps: what is there, and the key at a place.
 use Rattle.std.proofs.Common.{◌≡◌, ℕ, zero, suc, ◌+◌, ◌<◌, ◌≤◌, Bool, true, false, cond, List, [], ◌∷◌, ◌++◌, map, length, drop, set, get_or, is_some, Option, Some, None, refl, ap, sym, ◌∙◌, arith}
-use Rattle.std.proofs.lemmas.List.{length-map, map-append}
+use Rattle.std.proofs.lemmas.List.{length-map}
 use Rattle.std.specs.List.{slice_get}
 use Rattle.std.specs.Option.{option_map, unwrap_or}
 use Rattle.gw_kept.specs.declared.entry.Entry.{Entry}
@@ -10,7 +10,7 @@ use Rattle.gw_kept.specs.Classes.{last_place, has_pair}
 use Rattle.gw_kept.specs.Rows.{Gapped, gapped, present, kept_in, keys_in, key_in, IsFound}
 use Rattle.gw_kept.specs.Order.{IsTaken}
 use Rattle.gw_kept.proofs.Places.{same_key, same_itself}
-use Rattle.gw_kept.proofs.Found.{not_kept, no_place, place_is}
+use Rattle.gw_kept.proofs.Found.{not_kept, no_place}
 
 -- ---- what is there
 
@@ -62,22 +62,8 @@ module _ {X : Type 0} where
   present_front (None ∷ xs) x e = absurd cc
   present_front (Some y ∷ xs) x e = let same : y ≡ x = cc in ap (λ (z : X). z ∷ present xs) same
 
-  pub whole_behind : (xs : List (Option X)) → xs ≡ map (λ x. Some x) (present xs) → drop 1 xs ≡ map (λ x. Some x) (present (drop 1 xs))
-  whole_behind [] e = refl
-  whole_behind (Some x ∷ xs) e = ap (drop 1) e
-  whole_behind (None ∷ xs) e = absurd (omega (arith, ap length e, length-map (present xs) (λ x. Some x), few_present xs))
-
-  pub whole_more : (xs : List (Option X)) (x : X) → xs ≡ map (λ y. Some y) (present xs) → xs ++ Some x ∷ [] ≡ map (λ y. Some y) (present (xs ++ Some x ∷ []))
-  whole_more xs x e = ap (λ (ys : List (Option X)). ys ++ Some x ∷ []) e ∙ sym (ap (map (λ y. Some y)) (present_append xs (Some x ∷ [])) ∙ map-append (λ y. Some y) (present xs) (x ∷ []))
-
   pub whole_some : (xs : List X) → map (λ x. Some x) xs ≡ map (λ x. Some x) (present (map (λ x. Some x) xs))
   whole_some xs = ap (map (λ x. Some x)) (sym (present_some xs))
-
-  -- the place of a pair in a list without gaps
-  pub get_some : (xs : List X) (p : ℕ) → get_or (map (λ x. Some x) xs) p None ≡ slice_get xs p
-  get_some [] p = refl
-  get_some (x ∷ xs) zero = refl
-  get_some (x ∷ xs) (suc p) = get_some xs p
 
   -- a pair that is put back where it was
   pub set_back : (xs : List (Option X)) (p : ℕ) → xs ≡ set (set xs p None) p (get_or xs p None)
@@ -185,14 +171,6 @@ no_some None e = refl
 
 pub has_not : (key : RequestKey) (es : List Entry) → false ≡ has_pair key (map key_of es) → bytes_for key es ≡ None
 has_not key es e = not_kept key es (no_some (last_place key (map key_of es)) e)
-
--- its place, where there is no gap
-pub place_found : (o : Option ℕ) (key : RequestKey) (row : List (Option Entry)) (es : List Entry) → row ≡ map (λ e. Some e) es → AreDistinct es → IsFound (keys_in row) key o → o ≡ last_place key (map key_of es)
-place_found (Some p) key row es is distinct at =
-    sym (place_is key es p distinct
-    (sym (get_some (map key_of es) p) ∙ sym (ap (λ (ks : List (Option RequestKey)). get_or ks p None) (ap keys_in is ∙ keys_some es)) ∙ at))
-place_found None key row es is distinct none =
-    sym (no_place key es (ap (bytes_for key) (sym (present_some es) ∙ ap present (sym is)) ∙ nowhere_none key row none))
 
 -- ---- with the same keys, or fewer pairs
 

@@ -1,5 +1,5 @@
 -- The index by which a burst's classes are found (own): the place of the last pair of each key that is asked.
-use Rattle.std.specs.Prelude.{◌≡◌, ◌≤◌, ◌<◌, ◌+◌, ◌^◌, ◌||◌, Bool, true, false, if◌then◌else◌, ℕ, List, [], ◌∷◌, length, Option, Some, None}
+use Rattle.std.specs.Prelude.{nat_le, ◌≡◌, ◌≤◌, ◌<◌, ◌+◌, ◌^◌, ◌||◌, Bool, true, false, if◌then◌else◌, ℕ, List, [], ◌∷◌, length, Option, Some, None}
 use Rattle.std.specs.BTreeMap.{get}
 use Rattle.circular_buffer.specs.Buffer.{keep_last}
 use Rattle.gw_kept.specs.declared.entry.RequestKey.{RequestKey}
@@ -8,8 +8,8 @@ use Rattle.gw_kept.specs.declared.point.Point.TheVariants as point
 use Rattle.gw_kept.specs.declared.index.Index.{Index}
 use Rattle.gw_kept.specs.Pairs.{is_same}
 use Rattle.gw_kept.specs.Rows.{Gapped, kept_in}
-use Rattle.gw_kept.specs.Classes.{Standing, keys_of, last_place, most_new}
-use Rattle.gw_kept.specs.Order.{key_cmp}
+use Rattle.gw_kept.specs.Classes.{Standing, keys_of, last_place, has_pair, most_new}
+use Rattle.gw_kept.specs.Asked.{asked_cmp, asked_key}
 
 -- the key is one of those that are asked
 abbrev pub is_asked : RequestKey → List Point → Bool
@@ -43,9 +43,15 @@ abbrev pub AreLeft : (most : ℕ) → Option Gapped → Standing → Type 0
 AreLeft most None s = s.kept ≡ keep_last most s.pairs
 AreLeft most (Some g) s = (keys_of (kept_in g) ≡ s.kept) × (g.most ≡ most)
 
+-- the place of a key's last pair where it is kept: by what is left, or else where it is none before the oldest
+abbrev pub kept_at : Option ℕ → RequestKey → (oldest : ℕ) → Option Gapped → Option ℕ
+kept_at None key oldest left = None
+kept_at (Some place) key oldest None = if nat_le oldest place then Some place else None
+kept_at (Some place) key oldest (Some g) = if has_pair key (keys_of (kept_in g)) then Some place else None
+
 -- an index of what is asked, where a burst stands so; at most so many of the pairs are new
 pub record IsIndex (asked : List Point) (index : Index) (s : Standing) : Type 0 where
-  pub places : (q : RequestKey) → get key_cmp index.places q ≡ (if is_asked q asked then Some (last_place q s.pairs) else None)
+  pub places : (q : RequestKey) → get asked_cmp index.places (asked_key q) ≡ (if is_asked q asked then Some (last_place q s.pairs) else None)
   pub total : index.total ≡ length s.pairs
   pub before : index.before ≤ length s.pairs
   pub few : length s.pairs ≤ index.before + most_new

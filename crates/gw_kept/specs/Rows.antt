@@ -1,5 +1,4 @@
--- The kept pairs while a burst changes them (own, for private functions): in a row, oldest first, with a gap in the place of each that
--- was removed.
+-- The kept pairs in a row (own, for private functions): oldest first, with a gap in the place of each that was removed.
 use Rattle.std.specs.Prelude.{◌≡◌, ◌≢◌, ◌+◌, min, ℕ, if◌then◌else◌, List, [], ◌∷◌, map, slice_index_or, Option, Some, None, option_map, unwrap_or, refl}
 use Rattle.std.specs.Coded.{Coded, code_by, coded×, coded_list, coded_option, coded_ℕ}
 use Rattle.gw_msg.specs.declared.message.AckRange.{AckRange}

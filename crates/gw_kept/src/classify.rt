@@ -44,7 +44,7 @@ impl Kept {
         let mut index = Index::of(alloc, self, points, asks_behind(points))?;
         let mut classes = Items::new(alloc);
         for point in points {
-            let class = index.class(alloc, point)?;
+            let class = index.class(alloc, point);
             classes.push(class)?;
         }
         Ok(classes)

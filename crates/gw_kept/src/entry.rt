@@ -1,11 +1,7 @@
 //! A reply that is kept, and the key by which a repeat finds it.
 
 ghost use Rattle.std.specs.Prelude.{◌≡◌};
-ghost use Rattle.std.proofs.Common.{rules};
-ghost use Rattle.std.specs.Cmp.{partial_order_from_own_ties, partial_order_from_total};
-ghost use Rattle.std.specs.Cmp.Rules.{comparing};
-ghost use Rattle.std.specs.Ordering.{as_partial_cmp};
-ghost use Rattle.gw_kept.specs.Order.{key_cmp, key_total};
+ghost use Rattle.gw_kept.specs.Order.{key_cmp};
 ghost use Rattle.gw_kept.specs.Pairs.{key_of};
 
 use gw_base::{Items, Mid, TxId};
@@ -23,43 +19,13 @@ pub struct Entry {
     pub bytes: Items<u8>,
 }
 
-/// Who asked, and under which number: what a repeat is told by. Ordered by the sender first, so that what one sender asked
-/// stands together.
+/// Who asked, and under which number: what a repeat is told by.
 #[derive(Clone, Copy, PartialEq, Eq)]
 pub struct RequestKey {
     /// Who asked, byte for byte as sent.
     pub mid: Mid,
     /// The number of the transaction.
     pub id: u32,
-}
-
-// By hand: that the senders are the same, as they mostly are, is told at once.
-impl Ord for RequestKey {
-    ghost cmp = { key_cmp };
-
-    ghost total = { key_total };
-
-    ghost matches_partial_cmp = { Prim.search (comparing, rules) };
-
-    ghost matches_eq = { Prim.search (comparing, rules) };
-
-    fn cmp(&self, other: &RequestKey) -> Ordering {
-        if self.mid == other.mid {
-            self.id.cmp(&other.id)
-        } else {
-            self.mid.cmp(&other.mid).then(self.id.cmp(&other.id))
-        }
-    }
-}
-
-impl PartialOrd for RequestKey {
-    ghost partial_cmp = { as_partial_cmp key_cmp };
-
-    ghost laws = { partial_order_from_own_ties (partial_order_from_total key_total) (Prim.search (comparing, rules)) };
-
-    fn partial_cmp(&self, other: &RequestKey) -> Option<Ordering> {
-        Some(self.cmp(other))
-    }
 }
 
 impl RequestKey {

@@ -1,12 +1,15 @@
 //! What an acknowledgement removes: the pairs that a range names stand together in the order, and each leaves a gap.
 
-ghost use Rattle.std.specs.Prelude.{◌≡◌, ◌≤◌, ◌<◌, ◌∷◌, [], ℕ, map, length, nat_le, nat_lt, not, vec_capacity, vec_len};
+ghost use Rattle.std.specs.Prelude.{◌≡◌, ◌≤◌, ◌<◌, ◌∷◌, [], ℕ, map, length, nat_le, nat_lt, not};
+ghost use Rattle.std.specs.VecDeque.{deque_capacity, deque_len};
 ghost use Rattle.std.specs.Ordering.{is_gt, is_lt};
 ghost use Rattle.circular_buffer.specs.Buffer.{buffer};
 ghost use Rattle.gw_kept.specs.declared.entry.RequestKey.{RequestKey as Key};
 ghost use Rattle.gw_kept.specs.Rows.{keys_in, left_of};
+ghost use Rattle.gw_kept.specs.Arrival.{IsArrival};
 ghost use Rattle.gw_kept.specs.Order.{key_cmp, key_there, IsOrder, IsSpan};
 
+use crate::arrival::Arrival;
 use crate::entry::RequestKey;
 use crate::order::Order;
 use crate::ring::Ring;
@@ -16,7 +19,7 @@ use gw_msg::AckRange;
 impl Order {
     /// From where on in the order no key comes before this one.
     fn start_of(&self, ring: &Ring, key: &RequestKey) -> usize
-        ensures bound { result ≤ vec_len self.now.numbers }
+        ensures bound { result ≤ deque_len self.now.numbers }
         ensures start { (order : IsOrder (keys_in ring.now.items) self.now.first self.now.numbers.items) → (at : ℕ) (d : Key) → at < length order.places → nat_le result at ≡ not (is_lt (key_cmp (key_there (keys_in ring.now.items) order.places at d) key.now)) }
     {
         match self.search(ring, key) {
@@ -26,7 +29,7 @@ impl Order {
 
     /// Up to where in the order no key comes behind this one.
     fn end_of(&self, ring: &Ring, key: &RequestKey) -> usize
-        ensures bound { result ≤ vec_len self.now.numbers }
+        ensures bound { result ≤ deque_len self.now.numbers }
         ensures end { (order : IsOrder (keys_in ring.now.items) self.now.first self.now.numbers.items) → (at : ℕ) (d : Key) → at < length order.places → nat_lt at result ≡ not (is_gt (key_cmp (key_there (keys_in ring.now.items) order.places at d) key.now)) }
     {
         match self.search(ring, key) {
@@ -37,7 +40,7 @@ impl Order {
 
     /// What a range names stands in the order from the one place to before the other.
     fn span(&self, ring: &Ring, mid: &Mid, range: &AckRange) -> (usize, usize)
-        ensures bound { (result.0 ≤ vec_len self.now.numbers) × (result.1 ≤ vec_len self.now.numbers) }
+        ensures bound { (result.0 ≤ deque_len self.now.numbers) × (result.1 ≤ deque_len self.now.numbers) }
         ensures span { (order : IsOrder (keys_in ring.now.items) self.now.first self.now.numbers.items) → IsSpan (keys_in ring.now.items) order.places mid.now range.now result }
     {
         let first = RequestKey {
@@ -52,17 +55,19 @@ impl Order {
     }
 
     /// Takes out each pair of this sender whose number is in the range, the last in the order first: so few numbers move.
-    pub fn forget(&mut self, ring: &mut Ring, mid: &Mid, range: &AckRange)
-        requires { IsOrder (keys_in ring.old.items) self.old.first self.old.numbers.items }
+    pub fn forget(&mut self, ring: &mut Ring, arrival: &mut Arrival, mid: &Mid, range: &AckRange)
+        requires order { IsOrder (keys_in ring.old.items) self.old.first self.old.numbers.items }
+        requires arrival { IsArrival (keys_in ring.old.items) arrival.old.first arrival.old.numbers.items }
         ensures left { ring.new ≡ buffer (map (left_of mid.now (range.now ∷ [])) ring.old.items) ring.old.capacity }
         ensures order { IsOrder (keys_in ring.new.items) self.new.first self.new.numbers.items }
-        ensures room { vec_capacity self.new.numbers ≡ vec_capacity self.old.numbers }
+        ensures arrival { IsArrival (keys_in ring.new.items) arrival.new.first arrival.new.numbers.items }
+        ensures room { (deque_capacity self.new.numbers ≡ deque_capacity self.old.numbers) × (deque_capacity arrival.new.numbers ≡ deque_capacity arrival.old.numbers) }
     {
         let (start, end) = self.span(ring, mid, range);
         let mut until = end;
         while start < until {
             until -= 1;
-            self.take_out(ring, until);
+            self.take_out(ring, arrival, until);
         }
     }
 }

@@ -5,9 +5,10 @@ ghost use Rattle.std.specs.BTreeMap.{get};
 ghost use Rattle.gw_kept.specs.declared.entry.RequestKey.{RequestKey as Key};
 ghost use Rattle.gw_kept.specs.declared.point.Point.{Point as Item};
 ghost use Rattle.gw_kept.specs.Classes.{Standing, standing_of, keys_of, most_new, source_at, has_pair, last_place, kept_place, class_at, class_of, behind, behind_request, with_key, without};
-ghost use Rattle.gw_kept.specs.Index.{is_asked, seen, IsAsked, IsIndex};
-ghost use Rattle.gw_kept.specs.Order.{key_cmp};
+ghost use Rattle.gw_kept.specs.Index.{is_asked, kept_at, seen, IsAsked, IsIndex};
+ghost use Rattle.gw_kept.specs.Asked.{asked_cmp, asked_key};
 
+use crate::asked::AskedKey;
 use crate::class::{Class, Source};
 use crate::entry::RequestKey;
 use crate::kept::Kept;
@@ -23,7 +24,7 @@ const MOST_NEW: usize = 1024;
 /// before the burst.
 #[derive(Drop)]
 pub struct Index {
-    pub(crate) places: BTreeMap<RequestKey, Option<usize>>,
+    pub(crate) places: BTreeMap<AskedKey, Option<usize>>,
     /// How many pairs are kept at most.
     pub(crate) most: usize,
     /// How many there were before the burst.
@@ -39,16 +40,44 @@ fn asked_places(
     alloc: Global,
     kept: &Kept,
     points: &[Point<'_>],
-) -> Result<BTreeMap<RequestKey, Option<usize>>, AllocError>
-    ensures { IfOk result (λ places. (q : Key) → get key_cmp places q ≡ (if is_asked q points.now then Some (last_place q (keys_of kept.now)) else None)) }
+) -> Result<BTreeMap<AskedKey, Option<usize>>, AllocError>
+    ensures { IfOk result (λ places. (q : Key) → get asked_cmp places (asked_key q) ≡ (if is_asked q points.now then Some (last_place q (keys_of kept.now)) else None)) }
 {
     let mut places = BTreeMap::new(alloc);
     for point in points {
         if let Point::Request(key) = point {
-            places.insert(*key, kept.place(key))?;
+            places.insert(AskedKey { key: *key }, kept.place(key))?;
         }
     }
     Ok(places)
+}
+
+/// Where the pair of a place is, where so many were kept before the burst.
+fn source(before: usize, place: usize) -> Source
+    ensures { result ≡ source_at before place }
+{
+    if place < before {
+        Source::Kept(place)
+    } else {
+        Source::Place(place - before)
+    }
+}
+
+/// The place of a key's last pair, if that is kept: where acknowledgements have no say, if it is none before the oldest.
+fn kept_place(
+    place: Option<usize>,
+    key: &RequestKey,
+    oldest: usize,
+    left: &Option<Row>,
+) -> Option<usize>
+    ensures { result ≡ kept_at place key.now oldest left.now }
+{
+    let kept = match (place, left) {
+        (Some(_), Some(row)) => row.has(key),
+        (Some(place), None) => oldest <= place,
+        (None, _) => false,
+    };
+    if kept { place } else { None }
 }
 
 impl Index {
@@ -83,85 +112,30 @@ impl Index {
         })
     }
 
-    /// Where the pair is.
-    fn source(&self, place: usize) -> Source
-        ensures { result ≡ source_at self.now.before place }
-    {
-        if place < self.before {
-            Source::Kept(place)
-        } else {
-            Source::Place(place - self.before)
-        }
-    }
-
-    /// The place of the key's last pair, kept or not.
-    fn last_place(&self, key: &RequestKey) -> Option<usize>
-        ensures { (asked : List Item) (s : Standing) → IsIndex asked self.now s → is_asked key.now asked ≡ true → result ≡ last_place key.now s.pairs }
-    {
-        match self.places.get(key) {
-            Some(place) => *place,
-            None => None,
-        }
-    }
-
-    /// Whether a key's last pair, which has this place, is kept.
-    fn is_kept(&self, key: &RequestKey, place: usize) -> bool
-        ensures { (asked : List Item) (s : Standing) → IsIndex asked self.now s → last_place key.now s.pairs ≡ Some place → result ≡ has_pair key.now s.kept }
-    {
-        match &self.left {
-            Some(row) => row.has(key),
-            None => self.total.saturating_sub(self.most) <= place,
-        }
-    }
-
-    /// The place of the key's last pair, if that is kept.
-    fn kept_place(&self, key: &RequestKey) -> Option<usize>
-        ensures { (asked : List Item) (s : Standing) → IsIndex asked self.now s → is_asked key.now asked ≡ true → result ≡ kept_place key.now s }
-    {
-        match self.last_place(key) {
-            Some(place) if self.is_kept(key, place) => Some(place),
-            _ => None,
-        }
-    }
-
-    /// Notes that a key has a pair now, the last of all.
-    ///
-    /// # Errors
-    ///
-    /// `AllocError` where a growth was refused.
-    fn note(&mut self, alloc: Global, key: &RequestKey) -> Result<(), AllocError>
-        ensures exact { (asked : List Item) (s : Standing) → IsIndex asked self.old s → is_asked key.now asked ≡ true → kept_place key.now s ≡ None → length s.pairs - self.old.before < most_new → OnOk result (IsIndex asked self.new (with_key self.old.most key.now s)) }
+    /// The class of a request that is asked, which is noted if it is new: one look-up in the index.
+    fn request_class(&mut self, alloc: Global, key: &RequestKey) -> Class
+        ensures exact { (asked : List Item) (s : Standing) → IsIndex asked self.old s → is_asked key.now asked ≡ true → (result ≡ class_of self.old.before s.pairs (kept_place key.now s)) × IsIndex asked self.new (behind_request self.old.most result key.now s) }
         ensures most { self.new.most ≡ self.old.most }
         ensures before { self.new.before ≡ self.old.before }
         ensures left { is_some self.new.left ≡ is_some self.old.left }
     {
-        self.places.insert(*key, Some(self.total))?;
+        // Each request of the burst is asked, so that its key has a place here.
+        let Some(noted) = self.places.get_mut(&AskedKey { key: *key }) else {
+            return Class::Nothing;
+        };
+        let oldest = self.total.saturating_sub(self.most);
+        if let Some(place) = kept_place(*noted, key, oldest, &self.left) {
+            return Class::Repeat(source(self.before, place));
+        }
+        if self.total.saturating_sub(self.before) >= MOST_NEW {
+            return Class::Over;
+        }
+        *noted = Some(self.total);
         self.total = self.total.saturating_add(1);
         if let Some(row) = &mut self.left {
             row.push_key(alloc, key);
         }
-        Ok(())
-    }
-
-    /// The class of a request that is asked, which is noted if it is new.
-    ///
-    /// # Errors
-    ///
-    /// `AllocError` where a growth was refused.
-    fn request_class(&mut self, alloc: Global, key: &RequestKey) -> Result<Class, AllocError>
-        ensures exact { (asked : List Item) (s : Standing) → IsIndex asked self.old s → is_asked key.now asked ≡ true → IfOk result (λ class. (class ≡ class_of self.old.before s.pairs (kept_place key.now s)) × IsIndex asked self.new (behind_request self.old.most class key.now s)) }
-        ensures most { self.new.most ≡ self.old.most }
-        ensures before { self.new.before ≡ self.old.before }
-        ensures left { is_some self.new.left ≡ is_some self.old.left }
-    {
-        if let Some(place) = self.kept_place(key) {
-            return Ok(Class::Repeat(self.source(place)));
-        }
-        if self.total.saturating_sub(self.before) >= MOST_NEW {
-            return Ok(Class::Over);
-        }
-        self.note(alloc, key)?;
-        Ok(Class::New)
+        Class::New
     }
 
     /// Lets go what an acknowledgement names, where acknowledgements have a say.
@@ -178,12 +152,8 @@ impl Index {
     }
 
     /// The class of the next item, which changes what is kept behind it.
-    ///
-    /// # Errors
-    ///
-    /// `AllocError` where a growth was refused.
-    pub fn class(&mut self, alloc: Global, point: &Point<'_>) -> Result<Class, AllocError>
-        ensures exact { (asked : List Item) (s : Standing) → IsIndex asked self.old s → IsAsked point.now asked → IfOk result (λ class. (class ≡ class_at self.old.before (seen (is_some self.old.left) point.now) s) × IsIndex asked self.new (behind self.old.most self.old.before (seen (is_some self.old.left) point.now) s)) }
+    pub fn class(&mut self, alloc: Global, point: &Point<'_>) -> Class
+        ensures exact { (asked : List Item) (s : Standing) → IsIndex asked self.old s → IsAsked point.now asked → (result ≡ class_at self.old.before (seen (is_some self.old.left) point.now) s) × IsIndex asked self.new (behind self.old.most self.old.before (seen (is_some self.old.left) point.now) s) }
         ensures most { self.new.most ≡ self.old.most }
         ensures before { self.new.before ≡ self.old.before }
         ensures left { is_some self.new.left ≡ is_some self.old.left }
@@ -192,9 +162,9 @@ impl Index {
             Point::Request(key) => self.request_class(alloc, key),
             Point::Ack(removal) => {
                 self.acknowledge(removal);
-                Ok(Class::Nothing)
+                Class::Nothing
             }
-            Point::Nothing => Ok(Class::Nothing),
+            Point::Nothing => Class::Nothing,
         }
     }
 }

@@ -1,4 +1,4 @@
-//! The kept replies: the last so many, and between bursts no gap among them.
+//! The kept replies: the last so many.
 
 ghost use Rattle.std.specs.Prelude.{◌≡◌, ◌≤◌, None, length, IfOk, option_copied};
 ghost use Rattle.gw_kept.specs.Classes.{keys_of, last_place};
@@ -21,15 +21,13 @@ pub struct Kept {
 
 impl Model for Kept {
     ghost use Rattle.gw_kept.specs.Pairs.{KeptList, coded_kept};
-    ghost use Rattle.gw_kept.specs.Rows.{kept_in, IsWhole};
+    ghost use Rattle.gw_kept.specs.Rows.{kept_in};
 
     ghost Value = { KeptList };
 
     ghost coded = { coded_kept };
 
     ghost view = { λ a. kept_in a.row };
-
-    ghost invariant = { λ a. IsWhole a.row };
 }
 
 impl Kept {
@@ -57,7 +55,9 @@ impl Kept {
     }
 
     /// Keeps a pair, whose key no kept pair has: the caller knows that. A full list hands back its oldest pair. It takes no
-    /// memory. For k kept pairs it costs log k steps, and two moves of at most 2 k bytes.
+    /// memory. For k kept pairs it costs log k steps, or one where the key comes behind all others, and two moves of at most k bytes,
+    /// or none where keys come in their order and leave in it. Where acknowledgements have left gaps and no place is free, one pass over
+    /// the pairs comes first: once in as many pairs as were removed, those that are kept at most or 1,024.
     pub fn push(&mut self, entry: Entry) -> Option<Entry>
         requires { bytes_for (key_of entry) self.old.pairs ≡ None }
         ensures pairs { self.new ≡ with_pair self.old entry }
@@ -68,13 +68,11 @@ impl Kept {
 
     /// Removes each pair of this sender whose number is in one of the ranges, both ends included; the others keep their order.
     /// A range whose first number is above its last has none. It takes no memory. For n ranges and k pairs it costs n log k
-    /// steps, for each pair that goes a move of at most 2 k bytes, and where any goes, one pass over the pairs. `change` makes that
-    /// pass once for a burst.
+    /// steps, and for each pair that goes log k steps and two moves of at most k bytes: its place stays as a gap.
     pub fn forget(&mut self, mid: &Mid, ranges: &[AckRange])
         ensures { self.new ≡ forgotten self.old mid.now ranges.now }
     {
         self.row.forget(mid, ranges);
-        self.row.settle();
     }
 
     /// The reply that was sent to this sender under this number, if it is kept: log k steps for k pairs.
@@ -91,19 +89,19 @@ impl Kept {
         }
     }
 
-    /// The reply at a place, counted from the oldest pair, as a `Source` of `classify` tells it.
+    /// The reply at a place, counted from the oldest pair, as a `Source` of `classify` tells it: one look.
     pub fn reply_at(&self, place: usize) -> Option<&[u8]>
         ensures { option_copied result ≡ bytes_at place self.now.pairs }
     {
         self.row.reply_at(place)
     }
 
-    /// The place of a key's pair, counted from the oldest on.
+    /// The place of a key's pair, counted from the oldest on: twice log k steps for k pairs, or once where it has none.
     pub(crate) fn place(&self, key: &RequestKey) -> Option<usize>
         ensures place { result ≡ last_place key.now (keys_of self.now) }
         ensures distinct { AreDistinct self.now.pairs }
     {
-        self.row.find(key)
+        self.row.rank(key)
     }
 
     /// How many pairs are kept at most.

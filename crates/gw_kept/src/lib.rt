@@ -1,6 +1,8 @@
 //! Replies that are kept for repeats, what acknowledgements let go, and which requests of a burst are repeats.
 #![tactic(auto)]
 
+mod arrival;
+mod asked;
 mod change;
 mod class;
 mod classify;

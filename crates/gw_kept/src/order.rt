@@ -1,22 +1,28 @@
 //! The kept pairs in the order of their keys: a key's pair is found without looking at the others.
 
-ghost use Rattle.std.specs.Prelude.{◌≡◌, ◌≤◌, ◌<◌, ◌∷◌, ◌++◌, [], Some, None, IfOk, drop, length, map, slice_index, slice_set, vec_len, vec_capacity};
+ghost use Rattle.std.specs.Prelude.{List, Option, ◌≡◌, ◌≤◌, ◌<◌, ◌∷◌, ◌++◌, [], Some, None, Err, IfOk, true, drop, length, map, slice_index, slice_index_or, slice_set};
+ghost use Rattle.std.specs.VecDeque.{deque_capacity, deque_len};
 ghost use Rattle.std.specs.List.{remove};
 ghost use Rattle.std.specs.List.Sorted.{IsSearchInRange};
 ghost use Rattle.circular_buffer.specs.Buffer.{buffer};
 ghost use Rattle.gw_kept.specs.Rows.{keys_in, key_in, most_places, present, IsFound};
-ghost use Rattle.gw_kept.specs.Order.{key_cmp, place_of, IsOrder, IsStand};
+ghost use Rattle.gw_kept.specs.Order.{key_cmp, place_of, IsOrder, IsStand, IsTaken};
+ghost use Rattle.gw_kept.specs.Arrival.{IsArrival};
+ghost use Rattle.gw_kept.specs.declared.entry.RequestKey.{RequestKey as Key};
 
+use crate::arrival::Arrival;
 use crate::entry::RequestKey;
 use crate::ring::{Ring, pair_at, places_left, take};
 use std::alloc::{AllocError, Global};
 use std::cmp::Ordering;
+use std::collections::VecDeque;
 
-/// The numbers of the kept pairs, in the order of their keys. The places of the ring are numbered as they come, gaps among them,
-/// and behind 65,535 comes 0: so what leaves the front changes no other number. Where gaps are closed, all are numbered anew.
+/// The numbers of the kept pairs, in the order of their keys: in a queue, so that what goes in or out near either end moves few. The
+/// places of the ring are numbered as they come, gaps among them, and behind 65,535 comes 0: so what leaves the front changes no
+/// other number. Where gaps are closed, all are numbered anew.
 #[derive(Drop)]
 pub struct Order {
-    pub(crate) numbers: Vec<u16>,
+    pub(crate) numbers: VecDeque<u16>,
     /// The number of the foremost place.
     pub(crate) first: u16,
 }
@@ -29,10 +35,10 @@ impl Order {
     /// `AllocError` where its memory was refused.
     pub fn new(alloc: Global, most: usize) -> Result<Order, AllocError>
         ensures order { IfOk result (λ order. IsOrder [] order.first order.numbers.items) }
-        ensures room { IfOk result (λ order. most ≤ vec_capacity order.numbers) }
+        ensures room { IfOk result (λ order. most ≤ deque_capacity order.numbers) }
     {
         Ok(Order {
-            numbers: Vec::with_capacity(alloc, most)?,
+            numbers: VecDeque::with_capacity(alloc, most)?,
             first: 0,
         })
     }
@@ -45,11 +51,11 @@ impl Order {
     pub fn copy(&self, alloc: Global, most: usize) -> Result<Order, AllocError>
         ensures first { IfOk result (λ order. order.first ≡ self.now.first) }
         ensures numbers { IfOk result (λ order. order.numbers.items ≡ self.now.numbers.items) }
-        ensures room { IfOk result (λ order. most ≤ vec_capacity order.numbers) }
+        ensures room { IfOk result (λ order. most ≤ deque_capacity order.numbers) }
     {
-        let mut numbers = Vec::with_capacity(alloc, most)?;
-        for number in &self.numbers {
-            numbers.push(*number)?;
+        let mut numbers = VecDeque::with_capacity(alloc, most)?;
+        for at in 0..self.numbers.len() {
+            numbers.push_back(self.numbers[at])?;
         }
         Ok(Order {
             numbers,
@@ -74,13 +80,37 @@ impl Order {
         }
     }
 
-    /// Where a key stands in the order, or where it would stand: as many steps as the count of pairs has binary digits.
+    /// Whether a key comes behind all others.
+    fn is_behind(&self, ring: &Ring, key: &RequestKey) -> bool
+        ensures { (order : IsOrder (keys_in ring.now.items) self.now.first self.now.numbers.items) → result ≡ true → IsStand (keys_in ring.now.items) order.places key.now (Err (deque_len self.now.numbers)) }
+    {
+        match self.numbers.back() {
+            Some(number) => self.compare(ring, *number, key).is_lt(),
+            None => true,
+        }
+    }
+
+    /// Where a key stands in the order, or where it would stand: one step where it comes behind all others, as the next number of
+    /// a sender mostly does, and else as many more as the count of pairs has binary digits.
     pub fn search(&self, ring: &Ring, key: &RequestKey) -> Result<usize, usize>
-        ensures range { IsSearchInRange result (vec_len self.now.numbers) }
+        ensures range { IsSearchInRange result (deque_len self.now.numbers) }
         ensures stand { (order : IsOrder (keys_in ring.now.items) self.now.first self.now.numbers.items) → IsStand (keys_in ring.now.items) order.places key.now result }
     {
+        if self.is_behind(ring, key) {
+            return Err(self.numbers.len());
+        }
         self.numbers
             .binary_search_by(|number| self.compare(ring, *number, key))
+    }
+
+    /// Where the key of the pair in the foremost place stands: mostly in front, which is told by its number.
+    fn search_oldest(&self, ring: &Ring, key: &RequestKey) -> Result<usize, usize>
+        ensures { (order : IsOrder (keys_in ring.now.items) self.now.first self.now.numbers.items) → slice_index_or (keys_in ring.now.items) 0 None ≡ Some key.now → IsStand (keys_in ring.now.items) order.places key.now result }
+    {
+        match self.numbers.front() {
+            Some(number) if *number == self.first => Ok(0),
+            _ => self.search(ring, key),
+        }
     }
 
     /// The place of a key's pair, gaps counted.
@@ -99,9 +129,9 @@ impl Order {
         requires order { IsOrder (keys_in ring.now.items) self.old.first self.old.numbers.items }
         requires new { IsFound (keys_in ring.now.items) key.now None }
         requires few { length ring.now.items < most_places }
-        requires room { vec_len self.old.numbers < vec_capacity self.old.numbers }
+        requires room { deque_len self.old.numbers < deque_capacity self.old.numbers }
         ensures order { IsOrder (keys_in ring.now.items ++ Some key.now ∷ []) self.new.first self.new.numbers.items }
-        ensures room { vec_capacity self.old.numbers ≤ vec_capacity self.new.numbers }
+        ensures room { deque_capacity self.old.numbers ≤ deque_capacity self.new.numbers }
     {
         let number = self.first.wrapping_add(ring.len() as u16);
         if let Err(at) = self.search(ring, key) {
@@ -113,10 +143,10 @@ impl Order {
     fn leave_pair(&mut self, ring: &Ring)
         requires { IsOrder (keys_in ring.now.items) self.old.first self.old.numbers.items }
         ensures order { IsOrder (slice_set (keys_in ring.now.items) 0 None) self.new.first self.new.numbers.items }
-        ensures room { vec_capacity self.new.numbers ≡ vec_capacity self.old.numbers }
+        ensures room { deque_capacity self.new.numbers ≡ deque_capacity self.old.numbers }
     {
         if let Some(oldest) = pair_at(ring, 0) {
-            if let Ok(at) = self.search(ring, &oldest.key()) {
+            if let Ok(at) = self.search_oldest(ring, &oldest.key()) {
                 self.numbers.remove(at);
             }
         }
@@ -126,29 +156,33 @@ impl Order {
     pub fn leave_front(&mut self, ring: &Ring)
         requires { IsOrder (keys_in ring.now.items) self.old.first self.old.numbers.items }
         ensures order { IsOrder (drop 1 (keys_in ring.now.items)) self.new.first self.new.numbers.items }
-        ensures room { vec_capacity self.new.numbers ≡ vec_capacity self.old.numbers }
+        ensures room { deque_capacity self.new.numbers ≡ deque_capacity self.old.numbers }
     {
         self.leave_pair(ring);
         self.first = self.first.wrapping_add(1);
     }
 
     /// Takes out the pair that stands here in the order, and lets it go: it leaves a gap.
-    pub fn take_out(&mut self, ring: &mut Ring, at: usize)
-        requires { at < vec_len self.old.numbers }
+    pub fn take_out(&mut self, ring: &mut Ring, arrival: &mut Arrival, at: usize)
+        requires { at < deque_len self.old.numbers }
         ensures numbers { self.new.numbers.items ≡ remove self.old.numbers.items at }
         ensures first { self.new.first ≡ self.old.first }
         ensures gap { ring.new ≡ buffer (slice_set ring.old.items (place_of self.old.first (slice_index self.old.numbers.items at)) None) ring.old.capacity }
-        ensures room { vec_capacity self.new.numbers ≡ vec_capacity self.old.numbers }
+        ensures arrival { (keys : List (Option Key)) → IsArrival keys arrival.old.first arrival.old.numbers.items → IsTaken keys (place_of self.old.first (slice_index self.old.numbers.items at)) → IsArrival (slice_set keys (place_of self.old.first (slice_index self.old.numbers.items at)) None) arrival.new.first arrival.new.numbers.items }
+        ensures room { (deque_capacity self.new.numbers ≡ deque_capacity self.old.numbers) × (deque_capacity arrival.new.numbers ≡ deque_capacity arrival.old.numbers) }
     {
-        let number = self.numbers.remove(at);
-        take(ring, self.place(number));
+        if let Some(number) = self.numbers.remove(at) {
+            let place = self.place(number);
+            take(ring, place);
+            arrival.leave(place);
+        }
     }
 
     /// Numbers the pairs anew, as they stand when the gaps are closed.
     pub fn number_anew(&mut self, ring: &Ring)
         requires { IsOrder (keys_in ring.now.items) self.old.first self.old.numbers.items }
         ensures order { IsOrder (map (λ k. Some k) (present (keys_in ring.now.items))) self.new.first self.new.numbers.items }
-        ensures room { vec_capacity self.new.numbers ≡ vec_capacity self.old.numbers }
+        ensures room { deque_capacity self.new.numbers ≡ deque_capacity self.old.numbers }
     {
         let places = places_left(ring);
         for at in 0..self.numbers.len() {

@@ -1,13 +1,14 @@
-//! The kept pairs while a burst changes them: in a row, oldest first, with a gap in the place of each that was removed.
+//! The kept pairs in a row, oldest first, with a gap in the place of each that was removed.
 
 ghost use Rattle.std.specs.Prelude.{◌≡◌, ◌≤◌, ◌<◌, ◌-◌, ◌++◌, ◌∷◌, [], None, if◌then◌else◌, drop, length, nat_lt, slice_get, slice_index_or, IfOk, option_copied, option_map};
 ghost use Rattle.circular_buffer.specs.Buffer.{keep_last};
 ghost use Rattle.gw_kept.specs.Changes.{changes_of, kept_after, AreNew};
 ghost use Rattle.gw_kept.specs.Classes.{keys_of, last_place, has_pair};
 ghost use Rattle.gw_kept.specs.Forgotten.{forgotten};
-ghost use Rattle.gw_kept.specs.Pairs.{key_of, bytes_for, kept_list, with_pair, dropped_by, AreDistinct, IsBounded};
+ghost use Rattle.gw_kept.specs.Pairs.{key_of, bytes_at, bytes_for, kept_list, with_pair, dropped_by, AreDistinct, IsBounded};
 ghost use Rattle.gw_kept.specs.Rows.{gapped, present, kept_in, keys_in, places_for, bytes_there, IsFound, IsWhole};
 
+use crate::arrival::Arrival;
 use crate::change::Turn;
 use crate::entry::{Entry, RequestKey};
 use crate::order::Order;
@@ -18,8 +19,8 @@ use gw_msg::AckRange;
 use std::alloc::{AllocError, Global};
 use std::marker::Model;
 
-/// How many places there are at most beyond those of the pairs: as many as pairs may come in a burst, so that no gap need be closed
-/// before its end.
+/// How many places there are at most beyond those of the pairs: so many pairs are removed at least before gaps have to be closed,
+/// and these share the pass over the places.
 const MOST_BEYOND: usize = 1024;
 
 /// The kept pairs, with gaps where pairs were removed.
@@ -27,6 +28,7 @@ const MOST_BEYOND: usize = 1024;
 pub struct Row {
     ring: Ring,
     order: Order,
+    arrival: Arrival,
     /// How many pairs are kept at most.
     most: usize,
 }
@@ -35,7 +37,9 @@ impl Model for Row {
     ghost use Rattle.gw_kept.specs.Pairs.{IsBounded};
     ghost use Rattle.gw_kept.specs.Rows.{Gapped, coded_gapped, gapped, kept_in, keys_in, places_for};
     ghost use Rattle.gw_kept.specs.Order.{IsOrder};
-    ghost use Rattle.std.specs.Prelude.{◌≡◌, ◌≤◌, vec_capacity};
+    ghost use Rattle.gw_kept.specs.Arrival.{IsArrival};
+    ghost use Rattle.std.specs.Prelude.{◌≡◌, ◌≤◌};
+    ghost use Rattle.std.specs.VecDeque.{deque_capacity};
 
     ghost Value = { Gapped };
 
@@ -43,7 +47,7 @@ impl Model for Row {
 
     ghost view = { λ a. gapped a.ring.items a.most };
 
-    ghost invariant = { λ a. IsBounded (kept_in (gapped a.ring.items a.most)) × IsOrder (keys_in a.ring.items) a.order.first a.order.numbers.items × (a.ring.capacity ≡ places_for a.most) × (a.ring.capacity ≤ vec_capacity a.order.numbers) };
+    ghost invariant = { λ a. IsBounded (kept_in (gapped a.ring.items a.most)) × IsOrder (keys_in a.ring.items) a.order.first a.order.numbers.items × (a.ring.capacity ≡ places_for a.most) × (a.ring.capacity ≤ deque_capacity a.order.numbers) × IsArrival (keys_in a.ring.items) a.arrival.first a.arrival.numbers.items × (a.ring.capacity ≤ deque_capacity a.arrival.numbers) };
 }
 
 impl Row {
@@ -61,6 +65,7 @@ impl Row {
         Ok(Row {
             ring: HeapCircularBuffer::with_capacity(alloc, places)?,
             order: Order::new(alloc, places)?,
+            arrival: Arrival::new(alloc, places)?,
             most,
         })
     }
@@ -81,11 +86,33 @@ impl Row {
     }
 
     /// The reply at a place, gaps counted.
-    pub fn reply_at(&self, place: usize) -> Option<&[u8]>
+    fn reply_there(&self, place: usize) -> Option<&[u8]>
         ensures { option_copied result ≡ bytes_there place self.now.row }
     {
         match pair_at(&self.ring, place) {
             Some(entry) => Some(entry.bytes.as_slice()),
+            None => None,
+        }
+    }
+
+    /// The reply of the pair that has so many before it, gaps not counted: one look.
+    pub fn reply_at(&self, rank: usize) -> Option<&[u8]>
+        ensures { option_copied result ≡ bytes_at rank (present self.now.row) }
+    {
+        match self.arrival.nth(rank) {
+            Some(place) => self.reply_there(place),
+            None => None,
+        }
+    }
+
+    /// How many pairs are before a key's pair, gaps not counted, if it has one: twice log k steps for k pairs. Each pair has a key
+    /// of its own.
+    pub fn rank(&self, key: &RequestKey) -> Option<usize>
+        ensures rank { result ≡ last_place key.now (keys_of (kept_in self.now)) }
+        ensures distinct { AreDistinct (present self.now.row) }
+    {
+        match self.find(key) {
+            Some(place) => self.arrival.rank(place),
             None => None,
         }
     }
@@ -106,16 +133,17 @@ impl Row {
     }
 
     /// Keeps a pair, whose key no kept pair has: the caller knows that. Where as many are there as are kept at most, the oldest is
-    /// handed back. It takes no memory. For k kept pairs it costs log k steps, and two moves of at most 2 k bytes; where no place
-    /// is free, the gaps are closed first, which is paid by the pairs that came since they were closed last.
+    /// handed back. It takes no memory. For k kept pairs it costs log k steps, or one where the key comes behind all others, and two
+    /// moves of at most k bytes, or none where keys come in their order and leave in it. Where no place is free, the gaps are closed
+    /// first, which is shared by the pairs that were removed since they were closed last.
     pub fn push(&mut self, entry: Entry) -> Option<Entry>
         requires { bytes_for (key_of entry) (present self.old.row) ≡ None }
         ensures pairs { kept_in self.new ≡ with_pair (kept_in self.old) entry }
         ensures dropped { result ≡ dropped_by (kept_in self.old) entry }
-        ensures whole { IsWhole self.old → IsWhole self.new }
     {
         let dropped = self.make_room();
         self.order.insert(&self.ring, &entry.key());
+        self.arrival.push(self.ring.len());
         self.ring.push_back(Some(entry));
         dropped
     }
@@ -124,7 +152,6 @@ impl Row {
     fn make_room(&mut self) -> Option<Entry>
         ensures pairs { kept_in self.new ≡ kept_list (keep_last (self.old.most - 1) (present self.old.row)) self.old.most }
         ensures dropped { result ≡ (if nat_lt (length (present self.old.row)) self.old.most then None else slice_get (present self.old.row) 0) }
-        ensures whole { IsWhole self.old → IsWhole self.new }
         ensures room { length self.new.row < places_for self.new.most }
     {
         if self.len() >= self.most {
@@ -141,11 +168,11 @@ impl Row {
         ensures row { present self.new.row ≡ drop 1 (present self.old.row) }
         ensures most { self.new.most ≡ self.old.most }
         ensures oldest { result ≡ slice_get (present self.old.row) 0 }
-        ensures whole { IsWhole self.old → IsWhole self.new }
         ensures room { 0 < length (present self.old.row) → length self.new.row < places_for self.new.most }
     {
         for _at in 0..self.ring.len() {
             self.order.leave_front(&self.ring);
+            self.arrival.leave_front(&self.ring);
             if let Some(entry) = pop(&mut self.ring) {
                 return Some(entry);
             }
@@ -154,16 +181,17 @@ impl Row {
     }
 
     /// Removes what an acknowledgement names, and leaves gaps. It takes no memory. For n ranges and k pairs it costs n log k steps,
-    /// and for each pair that goes a move of at most 2 k bytes.
+    /// and for each pair that goes log k steps and two moves of at most k bytes.
     pub fn forget(&mut self, mid: &Mid, ranges: &[AckRange])
         ensures { kept_in self.new ≡ forgotten (kept_in self.old) mid.now ranges.now }
     {
         for range in ranges {
-            self.order.forget(&mut self.ring, mid, range);
+            self.order
+                .forget(&mut self.ring, &mut self.arrival, mid, range);
         }
     }
 
-    /// Makes the changes of a burst, one after another, as `Kept::change` does, and leaves gaps.
+    /// Makes the changes of a burst, one after another, as `Kept::change` does.
     pub fn change(&mut self, turns: &[Turn<'_>], entries: Vec<Entry>)
         requires { AreNew (kept_in self.old) (changes_of turns.now entries.items) }
         ensures changed { kept_in self.new ≡ kept_after (kept_in self.old) (changes_of turns.now entries.items) }
@@ -188,6 +216,7 @@ impl Row {
     {
         if self.len() < self.ring.len() {
             self.order.number_anew(&self.ring);
+            self.arrival.number_anew();
             close_gaps(&mut self.ring);
         }
     }
@@ -217,9 +246,11 @@ impl Row {
             ring.push_back(self.key_alone(alloc, at));
         }
         let order = self.order.copy(alloc, places)?;
+        let arrival = self.arrival.copy(alloc, places)?;
         Ok(Row {
             ring,
             order,
+            arrival,
             most: self.most,
         })
     }

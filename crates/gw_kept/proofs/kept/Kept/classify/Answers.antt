@@ -30,14 +30,14 @@ loop-point-preserved c =
     let i = c.loop-point.point-index in
     let x = c.point-item.result in
     let b = is_some c.in_ok-index.index.left in
-    let told = c.in_ok-class.ensures.exact points s inv.index (asked_here points i x c.loop-point-test.true c.point-item.is) in
+    let told = c.class-class.ensures.exact points s inv.index (asked_here points i x c.loop-point-test.true c.point-item.is) in
     record {
       standing = behind k.most (length k.pairs) (seen b x) s;
-      index = subst (λ (t : Standing). IsIndex points c.class.new.self t) (λ j. behind (inv.most j) (inv.before j) (seen (inv.left j) x) s) told.1;
-      most = c.in_ok-class.ensures.most ∙ inv.most;
-      before = c.in_ok-class.ensures.before ∙ inv.before;
-      left = c.in_ok-class.ensures.left ∙ inv.left;
+      index = subst (λ (t : Standing). IsIndex points c.class-class.new.self t) (λ j. behind (inv.most j) (inv.before j) (seen (inv.left j) x) s) told.1;
+      most = c.class-class.ensures.most ∙ inv.most;
+      before = c.class-class.ensures.before ∙ inv.before;
+      left = c.class-class.ensures.left ∙ inv.left;
       so_far = rw c.in_ok-push.ensures.ok
-          (goes_on k.most (length k.pairs) b points i x c.loop-point.classes c.in_ok-class.class s (classes_of k points) c.loop-point-test.true c.point-item.is inv.so_far
+          (goes_on k.most (length k.pairs) b points i x c.loop-point.classes c.class-class.result s (classes_of k points) c.loop-point-test.true c.point-item.is inv.so_far
           (told.0 ∙ (λ j. class_at (inv.before j) (seen (inv.left j) x) s)));
     }

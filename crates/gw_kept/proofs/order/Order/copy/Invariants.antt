@@ -1,9 +1,9 @@
 use Rattle.std.proofs.Common.{◌≡◌, ◌≤◌, take}
-use Rattle.std.specs.Vec.{vec_capacity}
+use Rattle.std.specs.VecDeque.{deque_capacity}
 use Rattle.gw_kept.proofs.order.Order.copy.Given as goal
 
-abbrev pub invariant-loop-number : goal.invariant-loop-number
-invariant-loop-number l = record {
-  so_far : l.numbers.items ≡ take l.number-index l.self.numbers.items;
-  room : l.most ≤ vec_capacity l.numbers;
+abbrev pub invariant-loop-at : goal.invariant-loop-at
+invariant-loop-at l = record {
+  so_far : l.numbers.items ≡ take l.at l.self.numbers.items;
+  room : l.most ≤ deque_capacity l.numbers;
 }

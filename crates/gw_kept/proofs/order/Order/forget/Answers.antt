@@ -1,7 +1,10 @@
-use Rattle.std.proofs.Common.{◌≡◌, ◌+◌, ◌-◌, ◌∷◌, ℕ, List, [], map, sym, ap, subst, ◌∙◌, arith}
+use Rattle.std.proofs.Common.{◌≡◌, ◌+◌, ◌-◌, ◌∷◌, ℕ, List, [], Option, map, get_or, sym, ap, subst, ◌∙◌, arith}
 use Rattle.circular_buffer.specs.Buffer.{buffer}
-use Rattle.gw_kept.specs.Rows.{left_of}
-use Rattle.gw_kept.proofs.Forgetting.{IsClearing, clear_more, clear_all}
+use Rattle.gw_kept.specs.declared.entry.RequestKey.{RequestKey}
+use Rattle.gw_kept.specs.Arrival.{IsArrival}
+use Rattle.gw_kept.specs.Order.{place_of}
+use Rattle.gw_kept.specs.Rows.{keys_in, left_of}
+use Rattle.gw_kept.proofs.Forgetting.{IsClearing, clear_more, clear_taken, clear_all, keys_set}
 use Rattle.gw_kept.proofs.order.Order.forget.Goals as goal
 
 pub loop-until-preserved : goal.loop-until-preserved
@@ -23,7 +26,11 @@ loop-until-preserved c =
           (subst (λ (ns : List ℕ). IsClearing mid range before c.take_out.new.ring.items now.first ns start i) (sym c.take_out.ensures.numbers)
           (clear_more mid range before row c.take_out.new.ring.items now.first now.numbers.items start i clearing (omega (arith, c.loop-until-test.true)) (ap (λ b. b.items) c.take_out.ensures.gap)));
       capacity = ap (λ b. b.capacity) c.take_out.ensures.gap ∙ inv.capacity;
-      room = c.take_out.ensures.room ∙ inv.room;
+      arrival =
+          subst (λ (ks : List (Option RequestKey)). IsArrival ks c.take_out.new.arrival.first c.take_out.new.arrival.numbers.items) (sym (ap (λ b. keys_in b.items) c.take_out.ensures.gap ∙ keys_set row (place_of now.first (get_or now.numbers.items i 0))))
+          (c.take_out.ensures.arrival (keys_in row) inv.arrival (clear_taken mid range before row now.first now.numbers.items start i clearing));
+      room = c.take_out.ensures.room.0 ∙ inv.room;
+      arrival_room = c.take_out.ensures.room.1 ∙ inv.arrival_room;
     }
 
 pub returns-clause-left : goal.returns-clause-left

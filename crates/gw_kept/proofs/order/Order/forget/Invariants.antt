@@ -1,5 +1,7 @@
 use Rattle.std.proofs.Common.{◌≡◌}
-use Rattle.std.specs.Vec.{vec_capacity}
+use Rattle.std.specs.VecDeque.{deque_capacity}
+use Rattle.gw_kept.specs.Arrival.{IsArrival}
+use Rattle.gw_kept.specs.Rows.{keys_in}
 use Rattle.gw_kept.proofs.Forgetting.{IsClearing}
 use Rattle.gw_kept.proofs.order.Order.forget.Given as goal
 
@@ -7,7 +9,9 @@ abbrev pub invariant-loop-until : goal.invariant-loop-until
 invariant-loop-until l = record {
   clearing : IsClearing l.mid l.range l.fn.ring.items l.ring.items l.self.first l.self.numbers.items l.start l.until;
   capacity : l.ring.capacity ≡ l.fn.ring.capacity;
-  room : vec_capacity l.self.numbers ≡ vec_capacity l.fn.self.numbers;
+  arrival : IsArrival (keys_in l.ring.items) l.arrival.first l.arrival.numbers.items;
+  room : deque_capacity l.self.numbers ≡ deque_capacity l.fn.self.numbers;
+  arrival_room : deque_capacity l.arrival.numbers ≡ deque_capacity l.fn.arrival.numbers;
 }
 
 abbrev pub decreases-loop-until : goal.decreases-loop-until

@@ -1,5 +1,5 @@
-use Rattle.std.proofs.Common.{ℕ, List, rules, length, subst}
-use Rattle.std.specs.List.Sorted.{IsSearchInRange, IsBinarySearchResult}
+use Rattle.std.proofs.Common.{ℕ, rules, subst}
+use Rattle.std.specs.List.Sorted.{IsSearchInRange}
 use Rattle.std.specs.declared.cmp.Ordering.{Ordering}
 use Rattle.std.proofs.lemmas.Fn.{always_returns_same}
 use Rattle.gw_kept.specs.Rows.{keys_in, key_in}
@@ -14,5 +14,5 @@ returns-clause-stand c =
     let self = c.args.self.now in
     let ord : ℕ → Ordering = λ n. key_cmp (key_in keys (place_of self.first n) c.args.key.now) c.args.key.now in
     searched keys self.first self.numbers.items c.args.key.now c.binary_search_by.result order
-    (subst (λ (ns : List ℕ). IsSearchInRange c.binary_search_by.result (length ns)) c.deref.ensures.value c.binary_search_by.ensures.bound)
-    (subst (λ (ns : List ℕ). IsBinarySearchResult ord ns c.binary_search_by.result) c.deref.ensures.value (c.binary_search_by.ensures.position ord (always_returns_same _ _ _ (λ a r f k. search rules))))
+    (subst (λ (n : ℕ). IsSearchInRange c.binary_search_by.result n) self.numbers.ok.0 c.binary_search_by.ensures.bound)
+    (c.binary_search_by.ensures.position ord (always_returns_same _ _ _ (λ a r f k. search rules)))

@@ -1,12 +1,13 @@
-use Rattle.std.proofs.Common.{◌≡◌, List, Option, Some, None, map, length, drop, get_or, sym, ap, subst, ◌∙◌, arith}
+use Rattle.std.proofs.Common.{◌≡◌, List, Option, None, length, drop, get_or, sym, ap, subst, ◌∙◌, arith}
 use Rattle.std.proofs.lemmas.List.{length-drop, drop-map}
 use Rattle.std.specs.Option.{option_map}
 use Rattle.gw_kept.specs.declared.entry.Entry.{Entry}
 use Rattle.gw_kept.specs.declared.entry.RequestKey.{RequestKey}
 use Rattle.gw_kept.specs.Pairs.{key_of}
 use Rattle.gw_kept.specs.Rows.{present, keys_in}
+use Rattle.gw_kept.specs.Arrival.{IsArrival}
 use Rattle.gw_kept.specs.Order.{IsOrder}
-use Rattle.gw_kept.proofs.Rows.{present_behind, whole_behind}
+use Rattle.gw_kept.proofs.Rows.{present_behind}
 use Rattle.gw_kept.proofs.row.Row.pop_oldest.Goals as goal
 
 pub loop-at-preserved : goal.loop-at-preserved
@@ -15,6 +16,7 @@ loop-at-preserved c =
     let row = si.ring.items in
     let inv = c.loop-at.invariant in
     let next = c.leave_front.new.self in
+    let arrival = c.leave_front-in-loop-at.new.self in
     let popped : c.pop.new.ring.items ≡ drop 1 row = ap (λ b. b.items) c.pop.ensures.items in
     let same : c.pop.new.ring.capacity ≡ si.ring.capacity = ap (λ b. b.capacity) c.pop.ensures.items in
     let gap : get_or row 0 None ≡ None = sym c.in_default.ensures.pair in
@@ -27,5 +29,6 @@ loop-at-preserved c =
       most = inv.most;
       capacity = same ∙ inv.capacity;
       room = omega (arith, same, inv.room, c.leave_front.ensures.room);
-      whole = λ w. popped ∙ whole_behind row (inv.whole w) ∙ ap (λ (r : List (Option Entry)). map (λ e. Some e) (present r)) (sym popped);
+      arrival = subst (λ (ks : List (Option RequestKey)). IsArrival ks arrival.first arrival.numbers.items) keys c.leave_front-in-loop-at.ensures.arrival;
+      arrival_room = omega (arith, same, inv.arrival_room, c.leave_front-in-loop-at.ensures.room);
     }

@@ -1,14 +1,16 @@
-use Rattle.std.proofs.Common.{◌≡◌, ◌<◌, ◌-◌, ◌++◌, ◌∷◌, [], ℕ, List, Option, Some, nat_lt, map, length, refl, sym, ap, subst, ◌∙◌, length-append, arith}
-use Rattle.std.proofs.lemmas.List.{map-append}
+use Rattle.std.proofs.Common.{◌≡◌, ◌<◌, ◌-◌, ◌++◌, ◌∷◌, [], ℕ, List, Option, Some, nat_lt, length, refl, sym, ap, subst, ◌∙◌, length-append, arith}
+use Rattle.std.proofs.lemmas.List.{length-map, map-append}
 use Rattle.std.specs.Option.{option_map}
 use Rattle.circular_buffer.specs.Buffer.{Buffer, buffer, keep_last}
 use Rattle.gw_kept.specs.declared.entry.Entry.{Entry}
 use Rattle.gw_kept.specs.declared.entry.RequestKey.{RequestKey}
 use Rattle.gw_kept.specs.Pairs.{KeptList, key_of, kept_list, bytes_for}
-use Rattle.gw_kept.specs.Rows.{Gapped, gapped, present, kept_in, keys_in, places_for, IsWhole}
+use Rattle.gw_kept.specs.Rows.{Gapped, gapped, present, kept_in, keys_in, places_for}
+use Rattle.gw_kept.specs.Arrival.{IsArrival}
 use Rattle.gw_kept.specs.Order.{IsOrder}
+use Rattle.gw_kept.proofs.Arrivals.{arrived}
 use Rattle.gw_kept.proofs.Last.{all_of, few_last, last_kept, last_dropped}
-use Rattle.gw_kept.proofs.Rows.{absent_drop, none_nowhere, keys_count, few_present, present_append, whole_more}
+use Rattle.gw_kept.proofs.Rows.{absent_drop, none_nowhere, keys_count, few_present, present_append}
 use Rattle.gw_kept.proofs.row.Row.push.Goals as goal
 
 -- the row when room was made, as its fields tell it
@@ -69,7 +71,16 @@ invariant_of-self c =
       subst (λ (ks : List (Option RequestKey)). IsOrder ks order.first order.numbers.items) keys c.insert.ensures.order,
       same ∙ inv.2,
       omega (arith, same, inv.3, c.insert.ensures.room),
+      subst (λ (ks : List (Option RequestKey)). IsArrival ks c.push.new.self.first c.push.new.self.numbers.items) keys (c.push.ensures.arrival (keys_in row) c.key.result inv.4 (c.len.ensures.len ∙ sym (length-map row (option_map key_of)))),
+      omega (arith, same, inv.5, c.push.ensures.room),
     )
+
+pub push-requires-clause-room : goal.push-requires-clause-room
+push-requires-clause-room c =
+    let si = c.self.inside in
+    let made = c.make_room-dropped in
+    let r = roomy c.args.self.now made.new.self si.ring.items si.most si.ring.capacity c.self.view_is made.ensures.pairs made.ensures.room c.self.invariant.2 in
+    omega (arith, si.arrival.numbers.ok.0, arrived (keys_in si.ring.items) si.arrival.first si.arrival.numbers.items c.self.invariant.4, keys_count si.ring.items, few_present si.ring.items, r.free, c.self.invariant.5)
 
 pub returns-clause-pairs : goal.returns-clause-pairs
 returns-clause-pairs c =
@@ -94,16 +105,3 @@ returns-clause-dropped c =
     let made = c.make_room-dropped in
     let r = roomy now made.new.self si.ring.items si.most si.ring.capacity c.self.view_is made.ensures.pairs made.ensures.room c.self.invariant.2 in
     made.ensures.dropped ∙ last_dropped (nat_lt (length (present now.row)) now.most) now.most (present now.row) c.args.entry refl (omega (arith, r.same, c.self.invariant.0.some))
-
-pub returns-clause-whole : goal.returns-clause-whole
-returns-clause-whole c =
-    λ was.
-    let now = c.args.self.now in
-    let si = c.self.inside in
-    let row = si.ring.items in
-    let e = c.args.entry in
-    let made = c.make_room-dropped in
-    let r = roomy now made.new.self row si.most si.ring.capacity c.self.view_is made.ensures.pairs made.ensures.room c.self.invariant.2 in
-    let items = pushed now row si.most si.ring.capacity e c.push_back.new.self r c.push_back.ensures.items in
-    let whole : row ≡ map (λ e. Some e) (present row) = subst (λ (g : Gapped). IsWhole g) (sym c.self.view_is) (made.ensures.whole was) in
-    items ∙ whole_more row e whole ∙ ap (λ (l : List (Option Entry)). map (λ e. Some e) (present l)) (sym items)

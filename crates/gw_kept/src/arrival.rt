@@ -1,0 +1,128 @@
+//! The kept pairs in order of arrival: which pair has so many before it, and how many are before one.
+
+ghost use Rattle.std.specs.Prelude.{◌≡◌, ◌≤◌, ◌<◌, ◌∷◌, ◌++◌, [], List, Option, Some, None, IfOk, drop, length, map, slice_get, slice_set};
+ghost use Rattle.std.specs.VecDeque.{deque_capacity, deque_len};
+ghost use Rattle.gw_kept.specs.declared.entry.RequestKey.{RequestKey as Key};
+ghost use Rattle.gw_kept.specs.Arrival.{taken_places, IsArrival, IsRank};
+ghost use Rattle.gw_kept.specs.Order.{place_of, IsTaken};
+ghost use Rattle.gw_kept.specs.Rows.{keys_in, most_places, present};
+
+use crate::ring::{Ring, pair_at};
+use std::alloc::{AllocError, Global};
+use std::collections::VecDeque;
+
+/// The numbers of the kept pairs, the oldest first. Places have the numbers that `Order` gives them, so these rise around the circle.
+#[derive(Drop)]
+pub struct Arrival {
+    pub(crate) numbers: VecDeque<u16>,
+    /// The number of the foremost place.
+    pub(crate) first: u16,
+}
+
+impl Arrival {
+    /// Of no pairs, with room for so many.
+    ///
+    /// # Errors
+    ///
+    /// `AllocError` where its memory was refused.
+    pub fn new(alloc: Global, most: usize) -> Result<Arrival, AllocError>
+        ensures arrival { IfOk result (λ arrival. IsArrival [] arrival.first arrival.numbers.items) }
+        ensures room { IfOk result (λ arrival. most ≤ deque_capacity arrival.numbers) }
+    {
+        Ok(Arrival {
+            numbers: VecDeque::with_capacity(alloc, most)?,
+            first: 0,
+        })
+    }
+
+    /// The same, with room for so many.
+    ///
+    /// # Errors
+    ///
+    /// `AllocError` where its memory was refused.
+    pub fn copy(&self, alloc: Global, most: usize) -> Result<Arrival, AllocError>
+        ensures first { IfOk result (λ arrival. arrival.first ≡ self.now.first) }
+        ensures numbers { IfOk result (λ arrival. arrival.numbers.items ≡ self.now.numbers.items) }
+        ensures room { IfOk result (λ arrival. most ≤ deque_capacity arrival.numbers) }
+    {
+        let mut numbers = VecDeque::with_capacity(alloc, most)?;
+        for at in 0..self.numbers.len() {
+            numbers.push_back(self.numbers[at])?;
+        }
+        Ok(Arrival {
+            numbers,
+            first: self.first,
+        })
+    }
+
+    /// The place that has this number.
+    fn place(&self, number: u16) -> usize
+        ensures { result ≡ place_of self.now.first number }
+    {
+        usize::from(number.wrapping_sub(self.first))
+    }
+
+    /// The place, gaps counted, of the pair that has so many before it, if there is one: one look.
+    pub fn nth(&self, rank: usize) -> Option<usize>
+        ensures { (keys : List (Option Key)) → IsArrival keys self.now.first self.now.numbers.items → result ≡ slice_get (taken_places 0 keys) rank }
+    {
+        match self.numbers.get(rank) {
+            Some(number) => Some(self.place(*number)),
+            None => None,
+        }
+    }
+
+    /// How many pairs are before the one at a place, gaps counted: as many steps as the count of pairs has binary digits.
+    pub fn rank(&self, place: usize) -> Option<usize>
+        ensures { (keys : List (Option Key)) → IsArrival keys self.now.first self.now.numbers.items → IsTaken keys place → IsRank keys place result }
+    {
+        self.numbers
+            .binary_search_by(|number| self.place(*number).cmp(&place))
+            .ok()
+    }
+
+    /// Notes a pair that is to go last, behind so many places. It takes no memory: the caller knows that there is room.
+    pub fn push(&mut self, places: usize)
+        requires few { places < most_places }
+        requires room { deque_len self.old.numbers < deque_capacity self.old.numbers }
+        ensures arrival { (keys : List (Option Key)) (key : Key) → IsArrival keys self.old.first self.old.numbers.items → places ≡ length keys → IsArrival (keys ++ Some key ∷ []) self.new.first self.new.numbers.items }
+        ensures room { deque_capacity self.old.numbers ≤ deque_capacity self.new.numbers }
+    {
+        let number = self.first.wrapping_add(places as u16);
+        let _ = self.numbers.push_back(number);
+    }
+
+    /// Leaves out the foremost place, which is to leave the ring: a pair or a gap.
+    pub fn leave_front(&mut self, ring: &Ring)
+        requires { IsArrival (keys_in ring.now.items) self.old.first self.old.numbers.items }
+        ensures arrival { IsArrival (drop 1 (keys_in ring.now.items)) self.new.first self.new.numbers.items }
+        ensures room { deque_capacity self.new.numbers ≡ deque_capacity self.old.numbers }
+    {
+        if pair_at(ring, 0).is_some() {
+            self.numbers.pop_front();
+        }
+        self.first = self.first.wrapping_add(1);
+    }
+
+    /// Leaves out the pair at a place, which is to be a gap.
+    pub fn leave(&mut self, place: usize)
+        ensures arrival { (keys : List (Option Key)) → IsArrival keys self.old.first self.old.numbers.items → IsTaken keys place → IsArrival (slice_set keys place None) self.new.first self.new.numbers.items }
+        ensures room { deque_capacity self.new.numbers ≡ deque_capacity self.old.numbers }
+    {
+        if let Some(rank) = self.rank(place) {
+            self.numbers.remove(rank);
+        }
+    }
+
+    /// Numbers the pairs anew, as they stand when the gaps are closed.
+    pub fn number_anew(&mut self)
+        requires { deque_len self.old.numbers ≤ most_places }
+        ensures arrival { (keys : List (Option Key)) → IsArrival keys self.old.first self.old.numbers.items → IsArrival (map (λ k. Some k) (present keys)) self.new.first self.new.numbers.items }
+        ensures room { deque_capacity self.new.numbers ≡ deque_capacity self.old.numbers }
+    {
+        for at in 0..self.numbers.len() {
+            self.numbers[at] = at as u16;
+        }
+        self.first = 0;
+    }
+}
