@@ -17,6 +17,7 @@ mod key;
 mod media;
 mod mid;
 mod name;
+mod short;
 mod span;
 mod term_ref;
 
@@ -33,5 +34,6 @@ pub use key::Key;
 pub use media::MediaAddr;
 pub use mid::Mid;
 pub use name::TermName;
+pub use short::Short;
 pub use span::Span;
 pub use term_ref::{Pattern, TermRef};

@@ -13,7 +13,7 @@ use crate::numbers::number_for;
 use crate::order::{Order, Search};
 use crate::owned::Owned;
 use crate::slots::own_slots;
-use gw_base::{Items, NoMemory};
+use gw_base::{NoMemory, Short};
 use gw_msg::{Action, Request};
 use gw_table::Tables;
 use std::alloc::Global;
@@ -83,8 +83,8 @@ fn own_all(
     ensures slot_search { IsSearch 4096 slots slot_search.new }
 {
     let mut owned = Owned {
-        contexts: Items::new(alloc),
-        slots: Items::new(alloc),
+        contexts: Short::new(alloc),
+        slots: Short::new(alloc),
     };
     for action in actions {
         owned

@@ -7,7 +7,7 @@ ghost use Rattle.gw_reserve.specs.Searches.{slots_from, IsSearch};
 ghost use Rattle.gw_table.specs.Stored.{maps_of};
 
 use crate::order::{Order, Search};
-use gw_base::{Items, NoMemory};
+use gw_base::{NoMemory, Short};
 use gw_msg::Command;
 use gw_table::{Tables, owns_slot, slot_name};
 
@@ -82,7 +82,7 @@ pub(crate) fn own_slots(
     order: Order,
     search: &mut Search,
     commands: &[Command<'_>],
-    slots: &mut Items<Option<u16>>,
+    slots: &mut Short<Option<u16>, 4>,
 ) -> Result<(), NoMemory>
     requires search { IsSearch 4096 order search.old }
     ensures slots { OnOk result (slots.new ≡ slots.old ++ taken_by is_adding commands.now (slots_from (maps_of tables.now) order search.old.next)) }
