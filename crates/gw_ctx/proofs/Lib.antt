@@ -1,1 +1,5 @@
 pub mod Fits
+pub mod Lists
+pub mod Numbers
+pub mod Places
+pub mod Singles

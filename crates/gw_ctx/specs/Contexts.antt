@@ -85,10 +85,10 @@ same_flow Bothway = refl
 same_flow Isolate = refl
 same_flow Oneway = refl
 
-abbrev coded_flow : Coded Flow
+abbrev pub coded_flow : Coded Flow
 coded_flow = code_by ℕ coded_ℕ flow_number flow_at same_flow
 
-abbrev coded_link : Coded Link
+abbrev pub coded_link : Coded Link
 coded_link =
     code_by (List ℕ × (List ℕ × Flow)) (coded× (coded_list coded_ℕ) (coded× (coded_list coded_ℕ) coded_flow))
     (λ l. (l.a, (l.b, l.flow))) (λ t. record { a = t.0; b = t.1.0; flow = t.1.1 }) (λ _. refl)

@@ -1,12 +1,12 @@
 //! A context: its members and its properties.
 
-ghost use Rattle.std.specs.Prelude.{◌≡◌, ◌<◌, ◌≤◌, ◌↔◌, length, IfOk, OnOk, OnErr, IsErrOf, true, false};
+ghost use Rattle.std.specs.Prelude.{◌≡◌, ◌<◌, ◌≤◌, ◌↔◌, length, slice_index_or, IfOk, OnOk, OnErr, IsErrOf, true, false};
 ghost use Rattle.gw_base.specs.NameLists.{is_in, NoDoubles};
 ghost use Rattle.gw_ctx.specs.Contexts.{new_context, joined, left, prioritized, marked, linked};
 
 use crate::fault::JoinFault;
-use crate::links::{drop_links, put_link};
-use gw_base::{Link, NoMemory, TermName};
+use crate::links::Links;
+use gw_base::{Items, Link, NoMemory, TermName};
 use indexmap::IndexSet;
 use std::alloc::{AllocError, Global};
 use std::marker::Model;
@@ -17,7 +17,7 @@ pub struct Context {
     members: IndexSet<TermName>,
     priority: u8,
     emergency: bool,
-    links: Vec<Link>,
+    links: Links,
 }
 
 // By hand, so that a function that lets a context go does so by one call. A derived one would stand in it field by field.
@@ -39,7 +39,7 @@ impl Model for Context {
 
     ghost coded = { coded_context };
 
-    ghost view = { λ a. record { members = a.members.keys; priority = a.priority; emergency = a.emergency; links = a.links.items } };
+    ghost view = { λ a. record { members = a.members.keys; priority = a.priority; emergency = a.emergency; links = a.links } };
 }
 
 impl Clone for Context {
@@ -59,7 +59,7 @@ impl Context {
             members: IndexSet::new(alloc),
             priority: 0,
             emergency: false,
-            links: Vec::new(alloc),
+            links: Links::new(alloc),
         }
     }
 
@@ -84,11 +84,30 @@ impl Context {
         self.emergency
     }
 
-    /// The links between members (RFC 3525, section 7.1.18), in the order in which they were made: none at first.
-    pub fn links(&self) -> &[Link]
-        ensures { result.now ≡ self.now.links }
+    /// How many links there are between members (RFC 3525, section 7.1.18): none at first.
+    pub fn link_count(&self) -> usize
+        ensures { result ≡ length self.now.links }
     {
-        self.links.as_slice()
+        self.links.count()
+    }
+
+    /// The link at this place, in the order in which they were made.
+    pub fn link_at(&self, place: usize) -> Link
+        requires { place < length self.now.links }
+        ensures { result ≡ slice_index_or self.now.links place result }
+    {
+        self.links.at(place)
+    }
+
+    /// All links, in the order in which they were made.
+    ///
+    /// # Errors
+    ///
+    /// Want of memory.
+    pub fn links(&self, alloc: Global) -> Result<Items<Link>, AllocError>
+        ensures { IfOk result (λ links. links ≡ self.now.links) }
+    {
+        self.links.list(alloc)
     }
 
     /// The name joins as the last member. The caller knows that it is none yet.
@@ -110,12 +129,12 @@ impl Context {
     }
 
     /// The name leaves with its links, and the order of the others stays. Tells whether it was a member. The work is that of the
-    /// members and links behind what goes.
+    /// members behind it and of comparing the names that are linked, and a pass of the links where one is about it.
     pub fn leave(&mut self, name: &TermName) -> bool
         ensures left { self.new ≡ left name.now self.old }
         ensures there { result ≡ is_in name.now self.old.members }
     {
-        drop_links(&mut self.links, name);
+        self.links.drop_of(name);
         self.members.shift_remove(name)
     }
 
@@ -134,7 +153,7 @@ impl Context {
     }
 
     /// How media flow between two names from now on: the link of the pair, in either order, goes, and this one goes last, unless it
-    /// is both ways. The work is one pass of the links.
+    /// is both ways. The work is one pass of the names that are linked, and one of the links.
     ///
     /// # Errors
     ///
@@ -143,7 +162,7 @@ impl Context {
         ensures ok { OnOk result (self.new ≡ linked link self.old) }
         ensures err { OnErr result (self.new ≡ self.old) }
     {
-        put_link(&mut self.links, link)
+        self.links.put(link)
     }
 
     /// An equal context.
@@ -158,7 +177,7 @@ impl Context {
             members: self.members.clone()?,
             priority: self.priority,
             emergency: self.emergency,
-            links: Vec::from_slice(*self.links.allocator(), self.links.as_slice())?,
+            links: self.links.copy()?,
         })
     }
 }

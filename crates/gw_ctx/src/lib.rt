@@ -5,6 +5,8 @@ mod context;
 mod fault;
 mod laws;
 mod links;
+mod names;
+mod pairs;
 
 pub use context::Context;
 pub use fault::JoinFault;

@@ -110,11 +110,11 @@ fn write_link(number: CtxNum, link: Link, out: &mut Vec<u8>) -> Result<(), Alloc
 }
 
 /// A line for each link.
-fn write_links(number: CtxNum, links: &[Link], out: &mut Vec<u8>) -> Result<(), AllocError>
-    ensures { OnOk result (out.new.items ≡ out.old.items ++ flat_map (topology_line number) links.now) }
+fn write_links(number: CtxNum, context: &Context, out: &mut Vec<u8>) -> Result<(), AllocError>
+    ensures { OnOk result (out.new.items ≡ out.old.items ++ flat_map (topology_line number) context.now.links) }
 {
-    for link in links {
-        write_link(number, *link, out)?;
+    for place in 0..context.link_count() {
+        write_link(number, context.link_at(place), out)?;
     }
     Ok(())
 }
@@ -131,7 +131,7 @@ fn write_context(
         write_context_line(number, context.members().as_slice(), out)?;
         write_priority(number, context.priority(), out)?;
         write_emergency(number, context.emergency(), out)?;
-        write_links(number, context.links(), out)?;
+        write_links(number, context, out)?;
     }
     Ok(())
 }

@@ -1,4 +1,5 @@
 pub mod Asked
+pub mod ContextRoom
 pub mod EachContext
 pub mod Entries
 pub mod Facts

@@ -23,12 +23,12 @@ use Rattle.gw_tx.specs.Told.{inside, told_of, within}
 use Rattle.gw_tx.specs.Transactions.{action_reply, answered}
 
 -- a list has a comma less than its parts
-length-joined : {T : Type 0} (text : T → List ℕ) (first : T) (rest : List T) → suc (length (comma_separated (map text (first ∷ rest)))) ≡ length (later text (first ∷ rest))
+pub length-joined : {T : Type 0} (text : T → List ℕ) (first : T) (rest : List T) → suc (length (comma_separated (map text (first ∷ rest)))) ≡ length (later text (first ∷ rest))
 length-joined text first rest =
     let all = ap (λ (t : List ℕ). length t) (first_and_later text first rest) in
     omega (arith, all, length-append (text first) (later text rest))
 
-length-braces : (text : List ℕ) → length (in_braces text) ≡ length text + 2
+pub length-braces : (text : List ℕ) → length (in_braces text) ≡ length text + 2
 length-braces text = omega (arith, length-append text (codes "}"))
 
 -- texts behind others make a list no shorter
@@ -47,7 +47,7 @@ longer ctx parts (r ∷ rs) =
     omega (arith, length-append ctx (in_braces inner), length-braces inner, length-joined command_reply_text r rs, behind_others parts texts)
 
 -- what is not told within is not
-is_else : {A : Type 0} (b : Bool) (front : List A) (left : ℕ) → (let t : Telling A = if b then telling.Within front left else telling.TooLong in t) ≡ telling.TooLong → b ≡ false
+pub is_else : {A : Type 0} (b : Bool) (front : List A) (left : ℕ) → (let t : Telling A = if b then telling.Within front left else telling.TooLong in t) ≡ telling.TooLong → b ≡ false
 is_else true front left e = absurd cc
 is_else false front left e = refl
 

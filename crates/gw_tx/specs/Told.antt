@@ -1,11 +1,10 @@
 -- What is told of a transaction within a limit (own): its whole reply, or that its text is longer.
-use Rattle.std.specs.Prelude.{ℕ, nat_le, if◌then◌else◌, List, [], length, Ok}
+use Rattle.std.specs.Prelude.{ℕ, ◌==◌, Bool, false, nat_le, if◌then◌else◌, List, [], length, Ok}
 use Rattle.gw_base.specs.declared.ids.TxId.{TxId}
 use Rattle.gw_length.specs.declared.telling.Telling.{Telling}
 use Rattle.gw_length.specs.declared.telling.Telling.TheVariants as telling
 use Rattle.gw_length.specs.Tellings.{told_behind}
 use Rattle.gw_reply.specs.declared.reply.ActionReply.{ActionReply}
-use Rattle.gw_reply.specs.declared.reply.CommandReply.{CommandReply}
 use Rattle.gw_reply.specs.declared.reply.TxReply.{TxReply}
 use Rattle.gw_reply.specs.Replies.{transaction_reply_text}
 use Rattle.gw_table.specs.declared.attempts.Attempts.{Attempts}
@@ -21,8 +20,8 @@ within limit reply = if nat_le (length (transaction_reply_text reply)) limit the
 abbrev pub counted : {S A : Type 0} → (A → List ℕ) → Telling A → Attempts S A → Counted S A
 counted text told done = record { next = done.next; told = told_behind text told done.answers; stopped = done.stopped }
 
--- of the commands of an action no more is told than of the action
-abbrev pub inside : Telling ActionReply → Telling CommandReply
+-- of the parts of an action no more is told than of the action
+abbrev pub inside : {T : Type 0} → Telling ActionReply → Telling T
 inside (telling.All replies) = telling.All []
 inside (telling.Within replies room) = telling.Within [] room
 inside telling.TooLong = telling.TooLong
@@ -32,3 +31,15 @@ abbrev pub told_of : TxId → Telling ActionReply → Told
 told_of id (telling.All replies) = Whole (record { id = id; result = Ok replies })
 told_of id (telling.Within replies room) = Whole (record { id = id; result = Ok replies })
 told_of id telling.TooLong = TooLong
+
+-- what was told, where there was room for it
+abbrev pub told_so_far : {T : Type 0} → Telling T → List T
+told_so_far (telling.All parts) = parts
+told_so_far (telling.Within parts room) = parts
+told_so_far telling.TooLong = []
+
+-- nothing was told, though there was room for it
+abbrev pub is_nothing_told : {T : Type 0} → Telling T → Bool
+is_nothing_told (telling.All parts) = length parts == 0
+is_nothing_told (telling.Within parts room) = length parts == 0
+is_nothing_told telling.TooLong = false

@@ -17,7 +17,7 @@ ghost use Rattle.gw_tx.specs.Transactions.{in_context as done_in_context, in_all
 use crate::commands::commands_in;
 use crate::replies::action_error;
 use crate::setting::set_properties;
-use crate::telling::context_parts_if;
+use crate::telling::{context_parts_if, parts_within};
 use crate::told::Counted;
 use gw_base::{Code, CtxNum, CtxRef, NoMemory, Rules};
 use gw_cmd::At;
@@ -27,7 +27,8 @@ use gw_reply::ActionReply;
 use gw_table::Draft;
 use std::alloc::Global;
 
-/// Carries an action out in a context that is there: sets its properties, tells what it then is, and carries the commands out.
+/// Carries an action out in a context that is there: sets its properties, tells what it then is, and carries the commands out. Where
+/// nothing more is told, the commands are carried out all the same.
 pub(crate) fn in_context(
     alloc: Global,
     rules: &Rules,
@@ -47,7 +48,8 @@ pub(crate) fn in_context(
     ensures keys { draft.new.keys ≡ draft.old.keys }
 {
     set_properties(alloc, draft, number, sent.props.as_slice())?;
-    let parts = context_parts_if(alloc, draft, number, sent)?;
+    let parts = context_parts_if(alloc, draft, number, sent, &told)?;
+    let (parts, told) = parts_within(alloc, parts, told);
     let asked = sent.commands.as_slice();
     commands_in(alloc, rules, draft, &[], at, slots, asked, parts, told)
 }

@@ -1,15 +1,30 @@
 //! What an action is told of its context itself.
 
-ghost use Rattle.std.specs.Prelude.{◌≡◌, ◌++◌, IfOk, OnOk};
+ghost use Rattle.std.specs.Prelude.{◌≡◌, ◌∷◌, [], true, length, List, IfOk};
 ghost use Rattle.std.specs.List.{flat_map};
+ghost use Rattle.gw_length.specs.Rooms.{Leaves};
+ghost use Rattle.gw_length.specs.Tellings.{told_behind};
+ghost use Rattle.gw_length.specs.declared.telling.Telling.TheVariants.{TooLong};
+ghost use Rattle.gw_refusal.specs.declared.at.At.{At};
+ghost use Rattle.gw_reply.specs.ContextParts.{link_text, context_part_text};
+ghost use Rattle.gw_reply.specs.Lists.{later};
+ghost use Rattle.gw_reply.specs.Replies.{action_reply_text};
+ghost use Rattle.gw_reply.specs.declared.context_parts.ContextPart.{ContextPart};
+ghost use Rattle.gw_reply.specs.declared.context_parts.ContextPart.TheVariants.{Topology};
+ghost use Rattle.gw_reply.specs.declared.reply.CommandReply.{CommandReply};
 ghost use Rattle.gw_table.specs.Maps.{ctx};
-ghost use Rattle.gw_tx.specs.Properties.{items_in, items_of, kind_in, told_items, told_of_item, context_parts, context_parts_if};
+ghost use Rattle.gw_table.specs.declared.attempts.Attempts.{Attempts};
+ghost use Rattle.gw_tx.specs.Properties.{items_in, items_of, kind_in, told_items, links_told, told_of_item, context_parts, context_parts_if};
+ghost use Rattle.gw_tx.specs.Told.{counted, inside, is_nothing_told, told_so_far};
+ghost use Rattle.gw_tx.specs.Transactions.{replied};
 
 use crate::properties::has_audit;
+use crate::told::inside;
 use gw_base::{CtxNum, Items, NoMemory};
 use gw_ctx::Context;
+use gw_length::{Length, Telling, behind};
 use gw_msg::{Action, ContextItem, ContextProp};
-use gw_reply::ContextPart;
+use gw_reply::{ActionReply, ContextPart};
 use gw_table::Draft;
 use std::alloc::Global;
 
@@ -56,44 +71,90 @@ fn told_items(alloc: Global, sent: &Action<'_>) -> Result<Vec<ContextItem>, NoMe
     Ok(Vec::new(alloc))
 }
 
+/// The room that is left behind the links, each with a comma before it. The work is that of the links that there is room for.
+fn behind_links(room: usize, context: &Context) -> Option<usize>
+    ensures { Leaves result room (length (later link_text context.now.links)) }
+{
+    let mut left = room;
+    for place in 0..context.link_count() {
+        let after_comma = behind(left, 1)?;
+        left = context.link_at(place).room_behind(after_comma)?;
+    }
+    Some(left)
+}
+
+/// Whether the links have no room behind what is told.
+fn are_too_long(context: &Context, told: &Telling<ContextPart>) -> bool
+    ensures { result ≡ true → told_behind context_part_text told.now (Topology context.now.links ∷ []) ≡ TooLong }
+{
+    match told {
+        Telling::All(_) => false,
+        Telling::Within(_, room) => behind_links(*room, context).is_none(),
+        Telling::TooLong => true,
+    }
+}
+
+/// Tells the links, if there are any. A list of them is made only where there is room for it.
+fn tell_links(
+    alloc: Global,
+    context: &Context,
+    told: Telling<ContextPart>,
+) -> Result<Telling<ContextPart>, NoMemory>
+    ensures { IfOk result (λ all. all ≡ told_behind context_part_text told (links_told context.now.links)) }
+{
+    if context.link_count() == 0 {
+        return Ok(told);
+    }
+    if are_too_long(context, &told) {
+        return Ok(Telling::TooLong);
+    }
+    told.tell(ContextPart::Topology(context.links(alloc)?))
+}
+
 /// Tells one item. Where there is no mark, or no link, nothing tells it.
 fn tell(
     alloc: Global,
     context: &Context,
     item: ContextItem,
-    parts: &mut Items<ContextPart>,
-) -> Result<(), NoMemory>
-    ensures { OnOk result (parts.new ≡ parts.old ++ told_of_item context.now item) }
+    told: Telling<ContextPart>,
+) -> Result<Telling<ContextPart>, NoMemory>
+    ensures { IfOk result (λ all. all ≡ told_behind context_part_text told (told_of_item context.now item)) }
 {
     match item {
-        ContextItem::Priority => parts.push(ContextPart::Priority(context.priority()))?,
+        ContextItem::Priority => told.tell(ContextPart::Priority(context.priority())),
         ContextItem::Emergency => {
             if context.emergency() {
-                parts.push(ContextPart::Emergency)?;
+                return told.tell(ContextPart::Emergency);
             }
+            Ok(told)
         }
-        ContextItem::Topology => {
-            if !context.links().is_empty() {
-                let links = Items::from_slice(alloc, context.links())?;
-                parts.push(ContextPart::Topology(links))?;
-            }
-        }
+        ContextItem::Topology => tell_links(alloc, context, told),
     }
-    Ok(())
 }
 
 fn tell_each(
     alloc: Global,
     context: &Context,
     items: &[ContextItem],
-) -> Result<Items<ContextPart>, NoMemory>
-    ensures { IfOk result (λ parts. parts ≡ flat_map (told_of_item context.now) items.now) }
+    told: Telling<ContextPart>,
+) -> Result<Telling<ContextPart>, NoMemory>
+    ensures { IfOk result (λ all. all ≡ told_behind context_part_text told (flat_map (told_of_item context.now) items.now)) }
 {
-    let mut parts = Items::new(alloc);
+    let mut told = told;
     for item in items {
-        tell(alloc, context, *item, &mut parts)?;
+        told = tell(alloc, context, *item, told)?;
     }
-    Ok(parts)
+    Ok(told)
+}
+
+/// Whether nothing is told, though there was room for it.
+fn is_nothing(told: &Telling<ContextPart>) -> bool
+    ensures { result ≡ is_nothing_told told.now }
+{
+    match told {
+        Telling::All(parts) | Telling::Within(parts, _) => parts.is_empty(),
+        Telling::TooLong => false,
+    }
 }
 
 /// What is told of a context as it is. An action without commands is told something: the priority.
@@ -101,18 +162,21 @@ fn context_parts(
     alloc: Global,
     context: &Context,
     sent: &Action<'_>,
-) -> Result<Items<ContextPart>, NoMemory>
-    ensures { IfOk result (λ parts. parts ≡ context_parts sent.now context.now) }
+    told: Telling<ContextPart>,
+) -> Result<Telling<ContextPart>, NoMemory>
+    requires { told_so_far told ≡ [] }
+    ensures { IfOk result (λ all. all ≡ told_behind context_part_text told (context_parts sent.now context.now)) }
 {
     let items = told_items(alloc, sent)?;
-    let mut parts = tell_each(alloc, context, &items)?;
-    if sent.commands.is_empty() && parts.is_empty() {
-        parts.push(ContextPart::Priority(context.priority()))?;
+    let all = tell_each(alloc, context, &items, told)?;
+    if sent.commands.is_empty() && is_nothing(&all) {
+        return all.tell(ContextPart::Priority(context.priority()));
     }
-    Ok(parts)
+    Ok(all)
 }
 
-/// What is told of the context with this number, where it is there. The work is that of what is told.
+/// What is told of the context with this number, where it is there: no more than there is room for behind the actions before. Where
+/// those are too long, nothing is looked up. The work is that of what is told.
 ///
 /// # Errors
 ///
@@ -122,11 +186,31 @@ pub(crate) fn context_parts_if(
     draft: &Draft<'_>,
     number: CtxNum,
     sent: &Action<'_>,
-) -> Result<Items<ContextPart>, NoMemory>
-    ensures { IfOk result (λ parts. parts ≡ context_parts_if sent.now (ctx draft.now.maps number)) }
+    told: &Telling<ActionReply>,
+) -> Result<Telling<ContextPart>, NoMemory>
+    ensures { IfOk result (λ all. all ≡ told_behind context_part_text (inside told.now) (context_parts_if sent.now (ctx draft.now.maps number))) }
 {
+    let none = inside(alloc, told);
+    if let Telling::TooLong = none {
+        return Ok(none);
+    }
     match draft.ctx(number) {
-        Some(context) => context_parts(alloc, context, sent),
-        None => Ok(Items::new(alloc)),
+        Some(context) => context_parts(alloc, context, sent, none),
+        None => Ok(none),
+    }
+}
+
+/// The parts that are told of a context, with what is told of the actions before. Where the parts are too long, so is the action, and
+/// nothing more is told.
+pub(crate) fn parts_within(
+    alloc: Global,
+    parts: Telling<ContextPart>,
+    told: Telling<ActionReply>,
+) -> (Items<ContextPart>, Telling<ActionReply>)
+    ensures { (all : List ContextPart) (a : Attempts At CommandReply) → parts ≡ told_behind context_part_text (inside told) all → counted action_reply_text result.1 (replied result.0 a) ≡ counted action_reply_text told (replied all a) }
+{
+    match parts {
+        Telling::All(parts) | Telling::Within(parts, _) => (parts, told),
+        Telling::TooLong => (Items::new(alloc), Telling::TooLong),
     }
 }

@@ -9,7 +9,7 @@ ghost use Rattle.gw_tx.specs.Told.{inside, told_of, within};
 
 use gw_base::{Items, TxId};
 use gw_length::{Telling, behind, behind_number};
-use gw_reply::{ActionReply, CommandReply, TxReply};
+use gw_reply::{ActionReply, TxReply};
 use std::alloc::Global;
 
 /// What attempts came to that are told as they come.
@@ -32,8 +32,8 @@ pub enum Told {
     TooLong,
 }
 
-/// What may be told of the commands of an action: no more than of the action.
-pub(crate) fn inside(alloc: Global, told: &Telling<ActionReply>) -> Telling<CommandReply>
+/// What may be told of the parts of an action, before the first of them: no more than of the action.
+pub(crate) fn inside<T: Drop>(alloc: Global, told: &Telling<ActionReply>) -> Telling<T>
     ensures { result ≡ inside told.now }
 {
     match told {

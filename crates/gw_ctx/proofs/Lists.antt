@@ -1,0 +1,80 @@
+-- Lists that are filtered, or made of others, where tests and functions agree at each element.
+use Rattle.std.proofs.Common.{◌≡◌, ℕ, zero, suc, ◌<◌, Bool, true, false, not, cond, List, [], ◌∷◌, length, get_or, map, filter, All, None, Some, refl, ap, ◌∙◌, sym, arith, nat_lt, ◌≤◌}
+use Rattle.std.specs.List.{remove, position, position_or_len}
+use Rattle.std.proofs.lemmas.Bool.{ltb-true, ltb-false, not-true}
+use Rattle.std.proofs.lemmas.List.Sums.{prefix_len_passes}
+use Rattle.std.proofs.lemmas.List.Elements.{All-head, All-tail}
+use Rattle.std.proofs.lemmas.List.Quantifiers.{position-Some}
+
+-- the same function of each
+pub map_agree : {X Y : Type 0} (f g : X → Y) (xs : List X) → All (λ x. f x ≡ g x) xs → map f xs ≡ map g xs
+map_agree f g [] h = refl
+map_agree {X} {Y} f g (x ∷ xs) h =
+    let one : f x ≡ g x = All-head (λ y. f y ≡ g y) x xs h in
+    let rest : map f xs ≡ map g xs = map_agree f g xs (All-tail (λ y. f y ≡ g y) x xs h) in
+    cc
+
+-- one function behind another
+pub map_through : {X Y Z : Type 0} (g : Y → Z) (h : X → Y) (f : X → Z) (xs : List X) → All (λ x. g (h x) ≡ f x) xs → map g (map h xs) ≡ map f xs
+map_through g h f [] e = refl
+map_through {X} {Y} {Z} g h f (x ∷ xs) e =
+    let one : g (h x) ≡ f x = All-head (λ y. g (h y) ≡ f y) x xs e in
+    let rest : map g (map h xs) ≡ map f xs = map_through g h f xs (All-tail (λ y. g (h y) ≡ f y) x xs e) in
+    cc
+
+-- where each passes, all stay
+pub filter_all : {X : Type 0} (p : X → Bool) (xs : List X) → All (λ x. p x ≡ true) xs → filter p xs ≡ xs
+filter_all p [] h = refl
+filter_all {X} p (x ∷ xs) h =
+    ap (λ (b : Bool). cond b (x ∷ filter p xs) (filter p xs)) (All-head (λ y. p y ≡ true) x xs h) ∙ ap (λ (l : List X). x ∷ l) (filter_all p xs (All-tail (λ y. p y ≡ true) x xs h))
+
+-- to filter by a test of what is made, and by one of what it is made of
+filter_step : {X Y : Type 0} (f : X → Y) (x : X) (made : List Y) (kept : List X) (b : Bool) → made ≡ map f kept → cond b (f x ∷ made) made ≡ map f (cond b (x ∷ kept) kept)
+filter_step {X} {Y} f x made kept true h = ap (λ (l : List Y). f x ∷ l) h
+filter_step f x made kept false h = h
+
+pub filter_through : {X Y : Type 0} (p : Y → Bool) (q : X → Bool) (f : X → Y) (xs : List X) → All (λ x. p (f x) ≡ q x) xs → filter p (map f xs) ≡ map f (filter q xs)
+filter_through p q f [] h = refl
+filter_through {X} {Y} p q f (x ∷ xs) h =
+    let made : List Y = filter p (map f xs) in
+    ap (λ (t : Bool). cond t (f x ∷ made) made) (All-head (λ y. p (f y) ≡ q y) x xs h)
+    ∙ filter_step f x made (filter q xs) (q x) (filter_through p q f xs (All-tail (λ y. p (f y) ≡ q y) x xs h))
+
+-- the only one that passes goes
+removed_at : {X : Type 0} (p : X → Bool) (xs : List X) (k : ℕ) → k < length xs → ((d : X) → p (get_or xs k d) ≡ true) → ((j : ℕ) (d : X) → j < k → p (get_or xs j d) ≡ false)
+    → ((j : ℕ) (d : X) → k < j → j < length xs → p (get_or xs j d) ≡ false) → remove xs k ≡ filter (λ x. not (p x)) xs
+removed_at p [] k h at before after = absurd (omega arith)
+removed_at {X} p (x ∷ xs) zero h at before after =
+    sym (ap (λ (b : Bool). cond (not b) (x ∷ filter (λ y. not (p y)) xs) (filter (λ y. not (p y)) xs)) (at x)
+    ∙ filter_all (λ y. not (p y)) xs (λ k d l. ap (λ (b : Bool). not b) (after (suc k) d (omega arith) (omega arith))))
+removed_at {X} p (x ∷ xs) (suc k) h at before after =
+    let rest : remove xs k ≡ filter (λ y. not (p y)) xs = removed_at p xs k (omega arith) at (λ j d l. before (suc j) d (omega arith)) (λ j d l m. after (suc j) d (omega arith) (omega arith)) in
+    ap (λ (l : List X). x ∷ l) rest ∙ sym (ap (λ (b : Bool). cond (not b) (x ∷ filter (λ y. not (p y)) xs) (filter (λ y. not (p y)) xs)) (before zero x (omega arith)))
+
+-- what a first place that passes is, or that none is
+placed : (b : Bool) (n k : ℕ) → cond b (Some n) None ≡ Some k → (b ≡ true) × (n ≡ k)
+placed true n k e = (refl, cc)
+placed false n k e = absurd cc
+
+unplaced : (b : Bool) (n : ℕ) → cond b (Some n) None ≡ None → b ≡ false
+unplaced true n e = absurd cc
+unplaced false n e = refl
+
+pub place_within : {X : Type 0} (p : X → Bool) (xs : List X) (k : ℕ) → position p xs ≡ Some k → k < length xs
+place_within p xs k e =
+    let found = placed (nat_lt (position_or_len p xs) (length xs)) (position_or_len p xs) k e in
+    let below : position_or_len p xs < length xs = ltb-true (position_or_len p xs) (length xs) found.0 in
+    omega (arith, below, found.1)
+
+pub none_passes : {X : Type 0} (p : X → Bool) (xs : List X) → position p xs ≡ None → All (λ x. p x ≡ false) xs
+none_passes p xs e k d h =
+    let past : length xs ≤ position_or_len p xs = ltb-false (position_or_len p xs) (length xs) (unplaced (nat_lt (position_or_len p xs) (length xs)) (position_or_len p xs) e) in
+    not-true (p (get_or xs k d)) (prefix_len_passes (λ x. not (p x)) xs k d (omega (arith, past, h)))
+
+pub removed : {X : Type 0} (p : X → Bool) (xs : List X) (k : ℕ) → position p xs ≡ Some k → ((j : ℕ) (d : X) → k < j → j < length xs → p (get_or xs k d) ≡ true → p (get_or xs j d) ≡ false) → remove xs k ≡ filter (λ x. not (p x)) xs
+removed p xs k e after =
+    removed_at p xs k (place_within p xs k e) (λ d. (position-Some p xs k d e).1) (λ j d l. (position-Some p xs k d e).2 j l) (λ j d l m. after j d l m (position-Some p xs k d e).1)
+
+-- where none passes, all stay
+pub none_removed : {X : Type 0} (p : X → Bool) (xs : List X) → position p xs ≡ None → xs ≡ filter (λ x. not (p x)) xs
+none_removed p xs e = sym (filter_all (λ x. not (p x)) xs (λ k d h. ap (λ (b : Bool). not b) (none_passes p xs e k d h)))

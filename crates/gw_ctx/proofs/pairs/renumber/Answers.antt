@@ -1,0 +1,15 @@
+use Rattle.std.proofs.Common.{◌<◌, length, get_or, set, ap, ◌∙◌, arith}
+use Rattle.std.proofs.lemmas.List.{get_or_default}
+use Rattle.std.proofs.lemmas.List.Edits.{map_over_more}
+use Rattle.gw_base.specs.declared.context_words.Flow.TheVariants.{Bothway}
+use Rattle.gw_ctx.specs.declared.pairs.Pair.{Pair}
+use Rattle.gw_ctx.specs.Places.{renumbered}
+use Rattle.gw_ctx.proofs.pairs.renumber.Goals as goal
+
+pub loop-pair-preserved : goal.loop-pair-preserved
+loop-pair-preserved c =
+    let none : Pair = record { a = 0; b = 0; flow = Bothway } in
+    let old : Pair = get_or c.loop-pair.pairs c.loop-pair.pair-index none in
+    let within : c.loop-pair.pair-index < length c.loop-pair.pairs = omega arith in
+    ap (λ (p : Pair). set c.loop-pair.pairs c.loop-pair.pair-index p) c.renumbered.ensures
+    ∙ map_over_more (renumbered c.args.gone) c.args.pairs.now c.loop-pair.pairs c.loop-pair.pair-index old c.loop-pair-test.true c.loop-pair.invariant (get_or_default c.loop-pair.pairs c.loop-pair.pair-index none old within)

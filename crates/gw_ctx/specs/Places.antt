@@ -1,0 +1,49 @@
+-- How links are kept (own): a list of names, each once, and of each link the places of its two names in that list.
+use Rattle.std.specs.Prelude.{◌≡◌, ℕ, ◌-◌, ◌<◌, nat_lt, Bool, false, not, ◌&&◌, ◌||◌, ◌==◌, if◌then◌else◌, List, [], ◌∷◌, ◌++◌, length, map, slice_index_or, bytes_eq, All, AllPairs}
+use Rattle.gw_base.specs.NameLists.{is_in}
+use Rattle.gw_base.specs.declared.context_words.Link.{Link}
+use Rattle.gw_ctx.specs.declared.pairs.Pair.{Pair}
+
+-- the link of the names at two places
+abbrev pub link_at : List (List ℕ) → Pair → Link
+link_at names p = record { a = slice_index_or names p.a []; b = slice_index_or names p.b []; flow = p.flow }
+
+abbrev pub links_at : List (List ℕ) → List Pair → List Link
+links_at names pairs = map (link_at names) pairs
+
+-- it is about none at this place
+abbrev pub is_off : ℕ → Pair → Bool
+is_off place p = not (p.a == place || p.b == place)
+
+-- it is about these two places, in either order
+abbrev pub joins : ℕ → ℕ → Pair → Bool
+joins a b p = (p.a == a && p.b == b) || (p.b == a && p.a == b)
+
+abbrev pub joins_others : ℕ → ℕ → Pair → Bool
+joins_others a b p = not (joins a b p)
+
+-- both of its names are in a list of so many
+pub record IsWithin (count : ℕ) (p : Pair) : Type 0 where
+  pub first : p.a < count
+  pub second : p.b < count
+
+-- no two are about the same two places
+abbrev pub IsSingle : List Pair → Type 0
+IsSingle pairs = AllPairs (λ earlier later. joins later.a later.b earlier ≡ false) pairs
+
+-- each name stands once, each link is about names of the list, and there is at most one of a pair
+pub record AreKept (names : List (List ℕ)) (pairs : List Pair) : Type 0 where
+  pub apart : AllPairs (λ s t. bytes_eq s t ≡ false) names
+  pub within : All (IsWithin (length names)) pairs
+  pub single : IsSingle pairs
+
+-- a name goes last, unless it is there
+abbrev pub with_name : List ℕ → List (List ℕ) → List (List ℕ)
+with_name name names = if is_in name names then names else names ++ name ∷ []
+
+-- where a name stands once the one at this place is gone
+abbrev pub moved_down : ℕ → ℕ → ℕ
+moved_down gone place = if nat_lt gone place then place - 1 else place
+
+abbrev pub renumbered : ℕ → Pair → Pair
+renumbered gone p = record { a = moved_down gone p.a; b = moved_down gone p.b; flow = p.flow }
