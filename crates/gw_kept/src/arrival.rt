@@ -1,6 +1,6 @@
 //! The kept pairs in order of arrival: which pair has so many before it, and how many are before one.
 
-ghost use Rattle.std.specs.Prelude.{◌≡◌, ◌≤◌, ◌<◌, ◌∷◌, ◌++◌, [], List, Option, Some, None, IfOk, drop, length, map, slice_get, slice_set};
+ghost use Rattle.std.specs.Prelude.{◌≡◌, ◌≤◌, ◌<◌, ◌∷◌, ◌++◌, [], List, Option, Some, None, true, IfOk, drop, length, map, slice_get, slice_set};
 ghost use Rattle.std.specs.VecDeque.{deque_capacity, deque_len};
 ghost use Rattle.gw_kept.specs.declared.entry.RequestKey.{RequestKey as Key};
 ghost use Rattle.gw_kept.specs.Arrival.{taken_places, IsArrival, IsRank};
@@ -72,10 +72,28 @@ impl Arrival {
         }
     }
 
-    /// How many pairs are before the one at a place, gaps counted: as many steps as the count of pairs has binary digits.
+    /// Whether the pair that has so many before it stands at this place.
+    fn is_at(&self, rank: usize, place: usize) -> bool
+        ensures { (keys : List (Option Key)) → IsArrival keys self.now.first self.now.numbers.items → result ≡ true → IsRank keys place (Some rank) }
+    {
+        match self.nth(rank) {
+            Some(at) => at == place,
+            None => false,
+        }
+    }
+
+    /// How many pairs are before the one at a place, gaps counted: a look or two where it is the oldest or the newest, and else as
+    /// many steps more as the count of pairs has binary digits.
     pub fn rank(&self, place: usize) -> Option<usize>
         ensures { (keys : List (Option Key)) → IsArrival keys self.now.first self.now.numbers.items → IsTaken keys place → IsRank keys place result }
     {
+        let newest = self.numbers.len().saturating_sub(1);
+        if self.is_at(0, place) {
+            return Some(0);
+        }
+        if self.is_at(newest, place) {
+            return Some(newest);
+        }
         self.numbers
             .binary_search_by(|number| self.place(*number).cmp(&place))
             .ok()
