@@ -60,7 +60,7 @@ place_itself : (p : Option CtxNum) → same_place p p ≡ true
 place_itself None = refl
 place_itself (Some n) = number_itself n n refl
 
-stands_here : (place there : Option CtxNum) → there ≡ place → refusal_elsewhere place there ≡ None
+pub stands_here : (place there : Option CtxNum) → there ≡ place → refusal_elsewhere place there ≡ None
 stands_here place there e = ap (λ (p : Option CtxNum). refusal_elsewhere place p) e ∙ by (same_place place place) (place_itself place)
   where
     by : (b : Bool) → b ≡ true → (if b then None else Some NotInContext) ≡ None
@@ -185,6 +185,43 @@ module _ (told : Telling CommandReply) (f : List ℕ → CommandReply) where
       ap (λ (t : Telling CommandReply). told_behind command_reply_text t (map f (drop i ts))) e ∙ told_both (take i ts) (drop i ts)
       ∙ ap (λ (l : List (List ℕ)). told_behind command_reply_text told (map f l)) (take-append-drop i ts)
 
+-- ---- a wildcard that is not refused
+
+first_none : (a b : Option Code) → first_code a b ≡ None → (a ≡ None) × (b ≡ None)
+first_none None b h = (refl, h)
+first_none (Some x) b h = absurd cc
+
+module _ (at : At) (slot : Option ℕ) (c : Command) (m : Maps) where
+  matched_by : (r : TermRef) → is_wildcard r ≡ true → missing at slot c m r ≡ None → is_some_list (targets at c m) ≡ true
+  matched_by r w h = by r w h
+    where
+      found : (code : Code) (b : Bool) → code_if code (not b) ≡ None → b ≡ true
+      found code true h = refl
+      found code false h = absurd cc
+
+      by : (r : TermRef) → is_wildcard r ≡ true → missing at slot c m r ≡ None → is_some_list (targets at c m) ≡ true
+      by All w h = found NoWildcardMatch (is_some_list (targets at c m)) h
+      by (Under x) w h = found NoWildcardMatch (is_some_list (targets at c m)) h
+      by Root w h = absurd cc
+      by Choose w h = absurd cc
+      by (Name x) w h = absurd cc
+      by (Other x) w h = absurd cc
+
+  -- it matches a termination
+  pub some_matched : is_wildcard c.term ≡ true → refusal_by_tables at slot c m ≡ None → is_some_list (targets at c m) ≡ true
+  unfolding refusal_by_tables
+  some_matched wildcard h =
+      let rest = (first_none _ (first_code (missing at slot c m c.term) (check_code c.verb c.descriptors)) h).1 in
+      matched_by c.term wildcard (first_none (missing at slot c m c.term) (check_code c.verb c.descriptors) rest).0
+
+  pub carried_on : (rules : Rules) (r : TermRef) → is_wildcard r ≡ true → carried rules at slot c m r ≡ on_names rules at c m
+  carried_on rules All w = refl
+  carried_on rules (Under x) w = refl
+  carried_on rules Root w = absurd cc
+  carried_on rules Choose w = absurd cc
+  carried_on rules (Name x) w = absurd cc
+  carried_on rules (Other x) w = absurd cc
+
 -- ---- the targets of a command
 
 passes : (p : List ℕ → Bool) (l : List (List ℕ)) (t : List ℕ) → is_in t (filter p l) ≡ true → p t ≡ true
@@ -196,10 +233,10 @@ passes p (x ∷ xs) t h = by (p x) refl h (passes p xs t)
     by false e h later = later h
 
 -- a termination that is in this place
-abbrev StandsIn : Option CtxNum → List ℕ → Maps → Type 0
+abbrev pub StandsIn : Option CtxNum → List ℕ → Maps → Type 0
 StandsIn place t m = (r : Termination) × (term m t ≡ Some r) × (r.place ≡ place)
 
-free_one : (t : List ℕ) (m : Maps) → is_in t (filter (is_free m) (names m)) ≡ true → StandsIn None t m
+pub free_one : (t : List ℕ) (m : Maps) → is_in t (filter (is_free m) (names m)) ≡ true → StandsIn None t m
 free_one t m h = by (term m t) refl (sym (is_named m t) ∙ in_filter (is_free m) (names m) t h) (passes (is_free m) (names m) t h)
   where
     free : (p : Option CtxNum) → is_none p ≡ true → p ≡ None
@@ -259,43 +296,11 @@ module _ (keys : PartKeys) (rules : Rules) (at : At) (slot : Option ℕ) (c : Co
   each_left : (t : List ℕ) → is_in t (targets at c m) ≡ true → on_name rules (place_at at) c t m ≡ left c t m
   each_left t h = let one = stands t (is_add c.verb) (in_place t (in_matched t c.term idle.wildcard h)) in left_one rules at c t one.0 m idle.leaves one.1 one.2
 
-  -- ---- one that is not refused
-
-  first_none : (a b : Option Code) → first_code a b ≡ None → (a ≡ None) × (b ≡ None)
-  first_none None b h = (refl, h)
-  first_none (Some x) b h = absurd cc
-
-  matched_by : (r : TermRef) → is_wildcard r ≡ true → missing at slot c m r ≡ None → is_some_list (targets at c m) ≡ true
-  matched_by r w h = by r w h
-    where
-      found : (code : Code) (b : Bool) → code_if code (not b) ≡ None → b ≡ true
-      found code true h = refl
-      found code false h = absurd cc
-
-      by : (r : TermRef) → is_wildcard r ≡ true → missing at slot c m r ≡ None → is_some_list (targets at c m) ≡ true
-      by All w h = found NoWildcardMatch (is_some_list (targets at c m)) h
-      by (Under x) w h = found NoWildcardMatch (is_some_list (targets at c m)) h
-      by Root w h = absurd cc
-      by Choose w h = absurd cc
-      by (Name x) w h = absurd cc
-      by (Other x) w h = absurd cc
-
   pub some_target : refusal_by_tables at slot c m ≡ None → is_some_list (targets at c m) ≡ true
-  unfolding refusal_by_tables
-  some_target h =
-      let rest = (first_none _ (first_code (missing at slot c m c.term) (check_code c.verb c.descriptors)) h).1 in
-      matched_by c.term idle.wildcard (first_none (missing at slot c m c.term) (check_code c.verb c.descriptors) rest).0
-
-  carried_on : (r : TermRef) → is_wildcard r ≡ true → carried rules at slot c m r ≡ on_names rules at c m
-  carried_on All w = refl
-  carried_on (Under x) w = refl
-  carried_on Root w = absurd cc
-  carried_on Choose w = absurd cc
-  carried_on (Name x) w = absurd cc
-  carried_on (Other x) w = absurd cc
+  some_target h = some_matched at slot c m idle.wildcard h
 
   -- the maps stay, and each target has its reply
   pub idle_carried : refusal_by_tables at slot c m ≡ None → allowed rules at slot c m ≡ record { maps = m; answer = outcome_told at c (map (idle_reply c m) (targets at c m)) }
   idle_carried h =
-      ap (λ (o : Option Code). unless_refused o at c m (carried rules at slot c m c.term)) h ∙ carried_on c.term idle.wildcard
+      ap (λ (o : Option Code). unless_refused o at c m (carried rules at slot c m c.term)) h ∙ carried_on at slot c m rules c.term idle.wildcard
       ∙ ap (λ (o : Outcome (Attempts Unit CommandReply)). let x : Outcome CmdOutcome = record { maps = o.maps; answer = outcome_told at c o.answer.answers } in x) (left_all rules at c m (targets at c m) each_left)

@@ -19,9 +19,9 @@ use Rattle.gw_reply.specs.declared.reply.CommandReply.{CommandReply}
 use Rattle.gw_term.specs.Record.{ephemeral}
 use Rattle.gw_table.specs.declared.attempts.Attempts.{Attempts}
 use Rattle.gw_table.specs.Folds.{in_order}
-use Rattle.gw_table.specs.Maps.{Maps, Outcome, term, names}
-use Rattle.gw_table.specs.Members.{put_service}
+use Rattle.gw_table.specs.Maps.{Maps, Outcome, names}
 use Rattle.gw_table.specs.Reserved.{slot_name}
+pub use Rattle.gw_table.specs.Served.{all_serviced}
 use Rattle.gw_refusal.specs.declared.at.At.{At}
 use Rattle.gw_cmd.specs.declared.outcome.CmdOutcome.{CmdOutcome}
 use Rattle.gw_refusal.specs.Asked.{is_wildcard, audited, service_asked}
@@ -109,10 +109,6 @@ on_new rules at c (Some slot) m =
     with_replies at o.maps (new_reply c slot o.answer ∷ [])
 
 -- ---- on ROOT, the gateway itself
-
-abbrev pub all_serviced : Service → List (List ℕ) → Maps → Maps
-all_serviced s [] m = m
-all_serviced s (t ∷ ts) m = all_serviced s ts (put_service s t m (term m t))
 
 -- a service state for every termination, if one is asked for
 abbrev pub serviced_if : Option Service → Maps → Maps

@@ -6,6 +6,7 @@ pub mod Changes
 pub mod Needs
 pub mod Refusals
 pub mod Refused
+pub mod Serving
 pub mod Suits
 pub use Rattle.gw_refusal.specs.Asked
 pub use Rattle.gw_refusal.specs.Forms

@@ -61,7 +61,7 @@ pub(crate) fn is_idle(rules: &Rules, draft: &Draft<'_>, at: At, command: &Comman
 
 /// What comes of the targets of such a command, if there are any, by what is told of it: an Add is refused by each, the others are
 /// done.
-fn seen_idle(verb: Verb, told: Telling<CommandReply>) -> Seen
+pub(crate) fn seen_idle(verb: Verb, told: Telling<CommandReply>) -> Seen
     ensures { result ≡ idle_seen verb told }
 {
     let first_error = match verb {
@@ -111,7 +111,7 @@ fn idle_reply(
 }
 
 /// What comes of the terminations that such a command matched: once their replies are too long, the others are as these.
-fn on_each(
+pub(crate) fn on_each(
     alloc: Global,
     draft: &Draft<'_>,
     command: &Command<'_>,
@@ -187,7 +187,7 @@ fn with_none(
 
 /// Whether nothing is kept of what the targets would be told one by one: they have one reply together, or what was told before them
 /// is too long.
-fn keeps_none(command: &Command<'_>, told: &Telling<CommandReply>) -> bool
+pub(crate) fn keeps_none(command: &Command<'_>, told: &Telling<CommandReply>) -> bool
     ensures none { result ≡ true → (command.now.wild && is_wildcard command.now.term) ≡ false → told.now ≡ TooLong }
     ensures some { result ≡ false → (command.now.wild && is_wildcard command.now.term) ≡ false }
 {

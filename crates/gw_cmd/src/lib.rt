@@ -13,6 +13,7 @@ mod outcome;
 mod refusal;
 mod replies;
 mod root;
+mod serving;
 mod tables;
 
 pub use carry::{command, command_told};

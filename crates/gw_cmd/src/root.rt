@@ -9,29 +9,12 @@ ghost use Rattle.gw_table.specs.Parts.{holds};
 ghost use Rattle.gw_refusal.specs.Asked.{audited};
 ghost use Rattle.gw_cmd.specs.Commands.{all_serviced, bare_told};
 
-use gw_base::{Items, NoMemory, Service, Span, TermName};
+use gw_base::{Items, NoMemory, Service, Span};
 use gw_desc::{Descriptor, item_of};
 use gw_refusal::first_audit;
 use gw_reply::{AuditReply, ReplyPart};
-use gw_table::Draft;
+use gw_table::{Draft, Reach};
 use std::alloc::Global;
-
-/// The terminations of these names have this service state.
-fn all_serviced(
-    alloc: Global,
-    draft: &mut Draft<'_>,
-    service: Service,
-    named: &[TermName],
-) -> Result<(), NoMemory>
-    requires { (t : List ℕ) → is_in t named.now ≡ true → holds draft.old.keys (Term t) ≡ true }
-    ensures maps { OnOk result (draft.new.maps ≡ all_serviced service named.now draft.old.maps) }
-    ensures keys { draft.new.keys ≡ draft.old.keys }
-{
-    for name in named {
-        draft.set_service(alloc, name, service)?;
-    }
-    Ok(())
-}
 
 /// Every termination has this service state.
 pub(crate) fn every_serviced(
@@ -43,8 +26,7 @@ pub(crate) fn every_serviced(
     ensures ok { OnOk result (draft.new.maps ≡ all_serviced service (names draft.old.maps) draft.old.maps) }
     ensures keys { draft.new.keys ≡ draft.old.keys }
 {
-    let named = draft.names(alloc)?;
-    all_serviced(alloc, draft, service, &named)
+    draft.set_service_of_all(alloc, Reach::Every, b"", service)
 }
 
 /// The items that the words ask for, each bare.

@@ -42,7 +42,7 @@ found_behind e es [] less h = tt
 found_behind e es (f ∷ fs) less h =
     (passed (is_eq (name_cmp f.0 e.0)) (Some e.1) (lookup (is_at (name_cmp f.0)) es) (sym ((eq_by_cmp_equiv nat_list_cmp_total).symm e.0 f.0) ∙ ap is_eq less.0) ∙ h.0, found_behind e es fs less.1 h.1)
 
-each_found : (es : List Named) → IsStrictlySortedBy name_cmp (keys_of es) → AllByRecursion (λ e. lookup (is_at (name_cmp e.0)) es ≡ Some e.1) es
+pub each_found : (es : List Named) → IsStrictlySortedBy name_cmp (keys_of es) → AllByRecursion (λ e. lookup (is_at (name_cmp e.0)) es ≡ Some e.1) es
 unfolding IsStrictlySortedBy
 each_found [] s = tt
 each_found (e ∷ es) s = (ap (λ r. cond (is_eq r) (Some e.1) (lookup (is_at (name_cmp e.0)) es)) (tied_itself nat_list_cmp_total e.0), found_behind e es es s.0 (each_found es s.1))

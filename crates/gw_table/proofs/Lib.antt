@@ -20,6 +20,8 @@ pub mod Prepared
 pub mod Provisioning
 pub mod Shown
 pub mod Searched
+pub mod Served
+pub mod Settings
 pub mod SlotNames
 pub mod Standing
 pub mod Swept

@@ -1,6 +1,6 @@
 -- Writes that are taken back: what is read then, and what one more write comes to.
-use Rattle.std.proofs.Common.{nat_eq, ◌≡◌, ℕ, ◌<◌, length, get_or, Bool, true, false, cond, List, [], ◌∷◌, ◌++◌, bytes_eq, Option, None, refl, sym, ap, ◌∙◌}
-use Rattle.std.specs.Prelude.{◌||◌}
+use Rattle.std.proofs.Common.{nat_eq, ◌≡◌, ℕ, ◌<◌, length, get_or, Bool, true, false, cond, List, [], ◌∷◌, ◌++◌, bytes_eq, Option, None, inl, inr, refl, sym, ap, ◌∙◌}
+use Rattle.std.specs.Prelude.{◌||◌, ◌⊎◌}
 use Rattle.std.specs.Bool.{OnTrue}
 use Rattle.std.specs.FinMap.{get-empty}
 use Rattle.std.specs.List.{list_any}
@@ -101,6 +101,17 @@ undone_ctx_again ws m n o h = same_maps (undone ws (put_ctx m n o)) (undone ws m
     (λ q. term-undone ws (put_ctx m n o) q ∙ ap (cond (has (keys_written ws) (Term q)) (term (undone ws no_maps) q)) (term-put_ctx m n o q) ∙ sym (term-undone ws m q))
     (λ q. ctx-undone ws (put_ctx m n o) q ∙ ap (cond (has (keys_written ws) (Ctx q)) (ctx (undone ws no_maps) q)) (ctx-put_ctx m n o q)
     ∙ there_already (has (keys_written ws) (Ctx q)) (nat_eq q.0 n.0) (ctx (undone ws no_maps) q) o (ctx m q) (λ e. ap (λ (x : CtxNum). has (keys_written ws) (Ctx x)) (same_number q n e) ∙ h) ∙ sym (ctx-undone ws m q))
+
+-- maps that differ at such keys alone are led back to the same
+agree : {A : Type 0} (h : Bool) (x y z : A) → (h ≡ true) ⊎ (y ≡ z) → cond h x y ≡ cond h x z
+agree true x y z d = refl
+agree false x y z (inl e) = absurd cc
+agree false x y z (inr e) = e
+
+pub undone_elsewhere : (ws : List Write) (m n : Maps) → ((q : List ℕ) → (has (keys_written ws) (Term q) ≡ true) ⊎ (term n q ≡ term m q)) → ((q : CtxNum) → ctx n q ≡ ctx m q) → undone ws n ≡ undone ws m
+undone_elsewhere ws m n ts cs = same_maps (undone ws n) (undone ws m)
+    (λ q. term-undone ws n q ∙ agree (has (keys_written ws) (Term q)) (term (undone ws no_maps) q) (term n q) (term m q) (ts q) ∙ sym (term-undone ws m q))
+    (λ q. ctx-undone ws n q ∙ ap (cond (has (keys_written ws) (Ctx q)) (ctx (undone ws no_maps) q)) (cs q) ∙ sym (ctx-undone ws m q))
 
 -- ---- a key that is found among the writes
 

@@ -13,6 +13,8 @@ pub mod Members
 pub mod Originals
 pub mod Parts
 pub mod Reserved
+pub mod Served
+pub mod Settings
 pub mod Stored
 pub mod TableTexts
 pub mod Unused

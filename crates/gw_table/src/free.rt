@@ -27,7 +27,7 @@ fn is_free_at(site: &Site<Held<Termination>>) -> bool
 }
 
 /// Whether a name begins so.
-fn begins_with(name: &TermName, prefix: &[u8]) -> bool
+pub(crate) fn begins_with(name: &TermName, prefix: &[u8]) -> bool
     ensures { result ≡ starts_with nat_eq name.now prefix.now }
 {
     name.as_bytes().starts_with(prefix)

@@ -23,7 +23,7 @@ use std::snapshot::Snapshot;
 /// each key, however often it is written; those of earlier changes are gone on with, and then the way back leads to where they began.
 pub(crate) struct InPlace {
     pub(crate) tables: Tables,
-    writes: Vec<Write>,
+    pub(crate) writes: Vec<Write>,
     vacated: Vec<Key>,
     before: Snapshot<Tables>,
     earlier: Snapshot<Originals>,

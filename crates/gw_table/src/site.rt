@@ -5,14 +5,17 @@ ghost use Rattle.std.specs.Bool.{OnTrue};
 ghost use Rattle.gw_base.specs.Keys.{has};
 ghost use Rattle.gw_table.specs.Found.{IsFound, original_of};
 ghost use Rattle.gw_table.specs.Originals.{keys_written};
+ghost use Rattle.gw_table.specs.Served.{IsNoted, MayNote};
+ghost use Rattle.gw_table.specs.Settings.{set_at};
 ghost use Rattle.gw_table.specs.Stored.{shown, served, emptied};
 
 use crate::originals::Write;
 use crate::place::{Place, copied, serve, set_in_place};
-use gw_base::{Held, Key, NoMemory, Service};
+use crate::setting::{self, Setting, set_copy};
+use gw_base::{Held, Key, NoMemory, Service, TermName};
 use gw_ctx::Context;
 use gw_term::Termination;
-use std::alloc::{AllocError, Global};
+use std::alloc::Global;
 use std::marker::Model;
 use std::mem;
 
@@ -160,6 +163,52 @@ impl Site<Held<Termination>> {
         self.noted = next_of(writes);
         Ok(Found::Original(before))
     }
+
+    /// Notes the termination that stands here, as a copy, where it has another service state and its key is not noted. The termination
+    /// may then be changed in its place.
+    ///
+    /// # Errors
+    ///
+    /// Want of memory. Nothing is noted then.
+    pub(crate) fn note(
+        &self,
+        alloc: Global,
+        name: &TermName,
+        service: Service,
+        writes: &mut Vec<Write>,
+    ) -> Result<(), NoMemory>
+        ensures least { MayNote name.now self.now writes.old.items writes.new.items }
+        ensures noted { OnOk result (IsNoted service writes.new.items name.now self.now) }
+    {
+        let Place::Here(termination) = &self.place else {
+            return Ok(());
+        };
+        if termination.get().service() == service || self.is_noted(writes, &Key::Term(*name)) {
+            return Ok(());
+        }
+        let before = Held::new(alloc, termination.get().copy(alloc)?)?;
+        writes.push(Write::OfTerm(*name, Some(before)))?;
+        Ok(())
+    }
+
+    /// The termination that stands here has another service state, if there is one. It is changed in its place. Where it is noted at
+    /// this index of a list of writes, that is kept for later. Answers the index behind it then, and else this one.
+    pub(crate) fn serve_noted(
+        &mut self,
+        name: &TermName,
+        service: Service,
+        writes: &[Write],
+        next: usize,
+    ) -> usize
+        ensures { self.new ≡ served service self.old }
+    {
+        set_in_place(&mut self.place, service);
+        if !is_at(writes, next, &Key::Term(*name)) {
+            return next;
+        }
+        self.noted = u32::try_from(next).unwrap_or(u32::MAX);
+        next.saturating_add(1)
+    }
 }
 
 impl Site<Held<Context>> {
@@ -185,6 +234,30 @@ impl Site<Held<Context>> {
     }
 }
 
+impl Site<Held<Context>> {
+    /// Sets a property of the context that stands here, if there is one: in its place where the key is noted, and else in a copy, and the
+    /// original is to be noted next. After want of memory nothing has changed.
+    pub(crate) fn set(
+        &mut self,
+        alloc: Global,
+        setting: Setting,
+        writes: &[Write],
+        key: &Key,
+    ) -> Result<Found<Held<Context>>, NoMemory>
+        ensures found { IfOk result (λ found. IsFound (keys_written writes.now) key.now (shown (Some self.old)) found) }
+        ensures after { OnOk result (self.new ≡ set_at setting self.old) }
+        ensures err { OnErr result (self.new ≡ self.old) }
+    {
+        if self.is_noted(writes, key) {
+            setting::set_in_place(&mut self.place, setting);
+            return Ok(Found::Noted);
+        }
+        let before = set_copy(&mut self.place, alloc, setting)?;
+        self.noted = next_of(writes);
+        Ok(Found::Original(before))
+    }
+}
+
 /// The place, if there is one.
 pub(crate) fn place_at<T>(site: Option<&Site<T>>) -> Option<&Place<T>>
     ensures { option_copied result ≡ option_copied site.entry }
@@ -202,31 +275,5 @@ pub(crate) fn place_in<T>(site: Option<Site<T>>) -> Option<Place<T>>
     match site {
         Some(site) => Some(site.into_place()),
         None => None,
-    }
-}
-
-impl Clone for Site<Held<Termination>> {
-    ghost use Rattle.std.specs.Prelude.{◌≡◌};
-
-    ghost is_clone = { λ a b. b ≡ a };
-
-    fn clone(&self) -> Result<Self, AllocError> {
-        Ok(Site {
-            place: self.place.clone()?,
-            noted: self.noted,
-        })
-    }
-}
-
-impl Clone for Site<Held<Context>> {
-    ghost use Rattle.std.specs.Prelude.{◌≡◌};
-
-    ghost is_clone = { λ a b. b ≡ a };
-
-    fn clone(&self) -> Result<Self, AllocError> {
-        Ok(Site {
-            place: self.place.clone()?,
-            noted: self.noted,
-        })
     }
 }

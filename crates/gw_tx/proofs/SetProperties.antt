@@ -24,6 +24,8 @@ use Rattle.gw_msg.specs.declared.message.ContextProp.{ContextProp}
 use Rattle.gw_msg.specs.declared.message.ContextProp.TheVariants.{Priority, Emergency, Topology, ContextAudit}
 use Rattle.gw_table.specs.Maps.{Maps, term, ctx, put_ctx, place_of, context_of, members_of}
 use Rattle.gw_table.specs.Parts.{PartKeys, IsPart}
+use Rattle.gw_table.specs.Settings.{with_setting, put_setting}
+use Rattle.gw_table.specs.declared.setting.Setting.{Setting}
 use Rattle.gw_table.specs.WellFormed.{IsSound, AreWellFormed}
 use Rattle.gw_table.proofs.Growth.{Grows, grows_on}
 use Rattle.gw_table.proofs.Lookups.{term-put_ctx, ctx-put_ctx, same_maps}
@@ -329,6 +331,14 @@ put_ctx-same m n o e = same_maps (put_ctx m n o) m (λ q. term-put_ctx m n o q) 
     at : (q : CtxNum) (b : Bool) → nat_eq q.0 n.0 ≡ b → cond b o (ctx m q) ≡ ctx m q
     at q true h = e ∙ ap (ctx m) (sym (same_number q n h))
     at q false h = refl
+
+-- a property that is set in its place
+pub set_in_place : (n : CtxNum) (p : ContextProp) (x : Setting) (m : Maps) → ((c : ContextRecord) → with_setting x c ≡ with_property p c) → put_setting x n m (ctx m n) ≡ set_property n p m
+set_in_place n p x m same = by (ctx m n) refl
+  where
+    by : (o : Option ContextRecord) → o ≡ ctx m n → put_setting x n m o ≡ put_ctx m n (with_property_if p o)
+    by None e = sym (put_ctx-same m n None e)
+    by (Some c) e = ap (λ (d : ContextRecord). put_ctx m n (Some d)) (same c)
 
 -- a ContextAudit sets nothing
 pub set_asked : (n : CtxNum) (p : ContextProp) (items : List ContextItem) (m : Maps) → p ≡ ContextAudit items → m ≡ set_property n p m

@@ -3,8 +3,9 @@
 ghost use Rattle.std.specs.Prelude.{◌≡◌, true, false, OnOk};
 ghost use Rattle.std.specs.List.{list_any};
 ghost use Rattle.gw_base.specs.declared.key.Key.TheVariants.{Ctx};
+ghost use Rattle.gw_msg.specs.declared.message.ContextProp.TheVariants.{Topology};
 ghost use Rattle.gw_table.specs.Parts.{holds};
-ghost use Rattle.gw_tx.specs.Properties.{linked_if, link_of, name_of, linked_by, is_too_high, with_property, set_property, set_properties};
+ghost use Rattle.gw_tx.specs.Properties.{linked_if, link_of, name_of, linked_by, is_too_high, set_property, set_properties};
 ghost use Rattle.gw_base.specs.declared.ids.CtxNum.{CtxNum};
 ghost use Rattle.gw_refusal.specs.declared.at.At.TheVariants.{Unmade};
 ghost use Rattle.gw_tx.specs.Transactions.{set_when_made};
@@ -14,7 +15,7 @@ use gw_base::{CtxNum, Link, NoMemory};
 use gw_cmd::At;
 use gw_ctx::Context;
 use gw_msg::{ContextProp, Triple};
-use gw_table::Draft;
+use gw_table::{Draft, Setting};
 use std::alloc::Global;
 
 fn link_two(context: &mut Context, triple: &Triple) -> Result<(), NoMemory>
@@ -40,40 +41,26 @@ fn link_all(context: &mut Context, triples: &[Triple]) -> Result<(), NoMemory>
     Ok(())
 }
 
-/// Sets what is asked of a context. The caller knows that a priority is one that there is.
-fn change(context: &mut Context, prop: &ContextProp) -> Result<(), NoMemory>
-    requires { is_too_high prop.now ≡ false }
-    ensures { OnOk result (context.new ≡ with_property prop.now context.old) }
-{
-    match prop {
-        ContextProp::Priority(priority) => context.set_priority(*priority as u8),
-        ContextProp::Emergency => context.set_emergency(),
-        ContextProp::Topology(triples) => link_all(context, triples.as_slice())?,
-        ContextProp::ContextAudit(_) => {}
-    }
-    Ok(())
-}
-
-/// Changes one property of the context, where it is there.
-fn change_in_place(
+/// Links the members of the context, where it is there: it is taken out, linked and set again.
+fn link_in(
     alloc: Global,
     draft: &mut Draft<'_>,
     number: CtxNum,
-    prop: &ContextProp,
+    triples: &[Triple],
 ) -> Result<(), NoMemory>
     requires key { holds draft.old.keys (Ctx number) ≡ true }
-    requires low { is_too_high prop.now ≡ false }
-    ensures maps { OnOk result (draft.new.maps ≡ set_property number prop.now draft.old.maps) }
+    ensures maps { OnOk result (draft.new.maps ≡ set_property number (Topology triples.now) draft.old.maps) }
     ensures keys { draft.new.keys ≡ draft.old.keys }
 {
     let Some(mut context) = draft.take_ctx(alloc, number)? else {
         return Ok(());
     };
-    change(context.get_mut(), prop)?;
+    link_all(context.get_mut(), triples)?;
     draft.set_ctx(number, Some(context))
 }
 
-/// Sets one property, where the context is there. What only asks leaves it where it lies.
+/// Sets one property, where the context is there: a priority and an emergency in its place. What only asks leaves it where it lies. The
+/// caller knows that a priority is one that there is.
 fn set_property(
     alloc: Global,
     draft: &mut Draft<'_>,
@@ -86,8 +73,12 @@ fn set_property(
     ensures keys { draft.new.keys ≡ draft.old.keys }
 {
     match prop {
+        ContextProp::Priority(priority) => {
+            draft.set_property(alloc, number, Setting::Priority(*priority as u8))
+        }
+        ContextProp::Emergency => draft.set_property(alloc, number, Setting::Emergency),
+        ContextProp::Topology(triples) => link_in(alloc, draft, number, triples.as_slice()),
         ContextProp::ContextAudit(_) => Ok(()),
-        _ => change_in_place(alloc, draft, number, prop),
     }
 }
 

@@ -1,8 +1,8 @@
 use Rattle.std.proofs.Common.{ap, ◌∙◌}
 use Rattle.gw_base.specs.declared.key.Key.TheVariants.{Term}
 use Rattle.gw_table.specs.Parts.{PartKeys, holds}
-use Rattle.gw_cmd.proofs.OneByOne.{in_at}
-use Rattle.gw_cmd.proofs.root.all_serviced.Goals as goal
+use Rattle.gw_table.proofs.Served.{in_at}
+use Rattle.gw_table.proofs.over_part.OverPart.set_service_of_each.Goals as goal
 
 pub set_service-requires : goal.set_service-requires
 set_service-requires c =
