@@ -1,7 +1,7 @@
 //! Links by the places of their names in a list.
 
 ghost use Rattle.std.specs.Prelude.{◌≡◌, ◌<◌, ◌≤◌, ◌↔◌, ◌++◌, ◌∷◌, [], IsTrue, true, All, filter, map, position, vec_len, vec_capacity};
-ghost use Rattle.gw_ctx.specs.Places.{IsSingle, is_off, joins, joins_others, moved_down, renumbered};
+ghost use Rattle.gw_ctx.specs.Places.{IsSingle, is_off, joins, joins_others, moved, renumbered};
 
 use gw_base::Flow;
 
@@ -79,25 +79,25 @@ pub(crate) fn put_pair(pairs: &mut Vec<Pair>, pair: Pair)
     }
 }
 
-fn moved_down(gone: usize, place: usize) -> usize
-    ensures { result ≡ moved_down gone place }
+fn moved(last: usize, gone: usize, place: usize) -> usize
+    ensures { result ≡ moved last gone place }
 {
-    if gone < place { place - 1 } else { place }
+    if place == last { gone } else { place }
 }
 
-/// The pair follows the names, once the one at this place is gone from the list.
-fn follow(pair: &mut Pair, gone: usize)
-    ensures { pair.new ≡ renumbered gone pair.old }
+/// The pair follows the names, once one is gone and the last one has taken its place.
+fn follow(pair: &mut Pair, last: usize, gone: usize)
+    ensures { pair.new ≡ renumbered last gone pair.old }
 {
-    pair.a = moved_down(gone, pair.a);
-    pair.b = moved_down(gone, pair.b);
+    pair.a = moved(last, gone, pair.a);
+    pair.b = moved(last, gone, pair.b);
 }
 
-/// Follows the names, once the one at this place is gone from the list.
-pub(crate) fn renumber(pairs: &mut [Pair], gone: usize)
-    ensures { pairs.new ≡ map (renumbered gone) pairs.old }
+/// Each follows the names, once one is gone and the last one has taken its place.
+pub(crate) fn renumber(pairs: &mut [Pair], last: usize, gone: usize)
+    ensures { pairs.new ≡ map (renumbered last gone) pairs.old }
 {
     for pair in pairs.iter_mut() {
-        follow(pair, gone);
+        follow(pair, last, gone);
     }
 }
