@@ -1,40 +1,69 @@
--- Places of names, once one of them is gone.
-use Rattle.std.proofs.Common.{◌≡◌, ℕ, ◌-◌, ◌<◌, ◌≤◌, nat_eq, Bool, cond, ◌⊎◌, inl, inr, List, length, get_or, arith, ap, sym, ◌∙◌}
-use Rattle.std.specs.List.{remove}
-use Rattle.std.proofs.lemmas.Bool.{lt-ltb, le-ltb, cases_lt, cases_eq, eq-eqb, ne_eqb}
-use Rattle.std.proofs.lemmas.List.Edits.{length-remove, get_or-remove_below, get_or-remove_above}
-use Rattle.gw_ctx.specs.Places.{moved_down}
+-- Places of names, once one of them is gone and the last one has taken its place.
+use Rattle.std.proofs.Common.{◌≡◌, ℕ, ◌+◌, ◌-◌, ◌<◌, nat_eq, Bool, false, cond, ◌⊎◌, inl, inr, List, length, get_or, bytes_eq, arith, ap, sym, ◌∙◌}
+use Rattle.std.specs.Prelude.{AllPairs}
+use Rattle.std.proofs.lemmas.Bool.{cases_eq, eq-eqb, ne_eqb}
+use Rattle.gw_base.proofs.NamesInLists.{other_way}
+use Rattle.gw_ctx.specs.Places.{moved}
 
-pub moved_cases : (g x : ℕ) → ((g < x) × (moved_down g x ≡ x - 1)) ⊎ ((x ≤ g) × (moved_down g x ≡ x))
-moved_cases g x = elim (cases_lt g x) [
-  | inl h ↦ inl (h, ap (λ (b : Bool). cond b (x - 1) x) (lt-ltb g x h))
-  | inr h ↦ inr (h, ap (λ (b : Bool). cond b (x - 1) x) (le-ltb g x h))
+-- a list without the element at a place, which the last one has taken
+pub record IsSwapped {X : Type 0} (old new : List X) (g : ℕ) : Type 0 where
+  pub fewer : length new + 1 ≡ length old
+  pub taken : (d : X) → g + 1 < length old → get_or new g d ≡ get_or old (length old - 1) d
+  pub others : (k : ℕ) (d : X) → (k ≡ g → ⊥) → k + 1 < length old → get_or new k d ≡ get_or old k d
+
+moved_cases : (last g x : ℕ) → ((x ≡ last) × (moved last g x ≡ g)) ⊎ ((x ≡ last → ⊥) × (moved last g x ≡ x))
+moved_cases last g x = elim (cases_eq x last) [
+  | inl e ↦ inl (e, ap (λ (b : Bool). cond b g x) (eq-eqb x last e))
+  | inr n ↦ inr (n, ap (λ (b : Bool). cond b g x) (ne_eqb x last n))
 ]
 
 -- two places that move to one were one
-moved_one : (g x y : ℕ) → (x ≡ g → ⊥) → (y ≡ g → ⊥) → moved_down g x ≡ moved_down g y → x ≡ y
-moved_one g x y n m e = elim (moved_cases g x) [
-  | inl a ↦ elim (moved_cases g y) [ inl b ↦ omega (arith, a, b, e) | inr b ↦ absurd (m (omega (arith, a, b, e))) ]
-  | inr a ↦ elim (moved_cases g y) [ inl b ↦ absurd (n (omega (arith, a, b, e))) | inr b ↦ omega (arith, a, b, e) ]
+moved_one : (last g x y : ℕ) → (x ≡ g → ⊥) → (y ≡ g → ⊥) → moved last g x ≡ moved last g y → x ≡ y
+moved_one last g x y n m e = elim (moved_cases last g x) [
+  | inl a ↦ elim (moved_cases last g y) [ inl b ↦ a.0 ∙ sym b.0 | inr b ↦ absurd (m (sym b.1 ∙ sym e ∙ a.1)) ]
+  | inr a ↦ elim (moved_cases last g y) [ inl b ↦ absurd (n (sym a.1 ∙ e ∙ b.1)) | inr b ↦ sym a.1 ∙ e ∙ b.1 ]
 ]
 
-pub moved_same : (g x y : ℕ) → (x ≡ g → ⊥) → (y ≡ g → ⊥) → nat_eq (moved_down g x) (moved_down g y) ≡ nat_eq x y
-moved_same g x y n m = elim (cases_eq x y) [
-  | inl e ↦ eq-eqb (moved_down g x) (moved_down g y) (ap (moved_down g) e) ∙ sym (eq-eqb x y e)
-  | inr d ↦ ne_eqb (moved_down g x) (moved_down g y) (λ e. d (moved_one g x y n m e)) ∙ sym (ne_eqb x y d)
+pub moved_same : (last g x y : ℕ) → (x ≡ g → ⊥) → (y ≡ g → ⊥) → nat_eq (moved last g x) (moved last g y) ≡ nat_eq x y
+moved_same last g x y n m = elim (cases_eq x y) [
+  | inl e ↦ eq-eqb (moved last g x) (moved last g y) (ap (moved last g) e) ∙ sym (eq-eqb x y e)
+  | inr d ↦ ne_eqb (moved last g x) (moved last g y) (λ e. d (moved_one last g x y n m e)) ∙ sym (ne_eqb x y d)
 ]
 
-pub moved_within : {X : Type 0} (names : List X) (g x : ℕ) → g < length names → x < length names → (x ≡ g → ⊥) → moved_down g x < length (remove names g)
-moved_within names g x h l n =
-    let size = length-remove names g h in
-    elim (moved_cases g x) [
-      | inl a ↦ omega (arith, size, a, l)
-      | inr a ↦ elim (cases_eq x g) [ inl e ↦ absurd (n e) | inr d ↦ omega (arith, size, a, l, d, h) ]
+module _ {X : Type 0} (old new : List X) (g : ℕ) (s : IsSwapped old new g) (inside : g < length old) where
+  pub moved_within : (x : ℕ) → x < length old → (x ≡ g → ⊥) → moved (length new) g x < length new
+  moved_within x l n = elim (moved_cases (length new) g x) [
+    | inl a ↦ elim (cases_eq g (length new)) [ inl e ↦ absurd (n (a.0 ∙ sym e)) | inr d ↦ omega (arith, s.fewer, a.1, d, inside) ]
+    | inr a ↦ omega (arith, s.fewer, a.0, a.1, l)
+  ]
+
+  -- what stood at a place stands where it moves to
+  pub moved_there : (x : ℕ) (d : X) → x < length old → (x ≡ g → ⊥) → get_or new (moved (length new) g x) d ≡ get_or old x d
+  moved_there x d l n = elim (moved_cases (length new) g x) [
+    | inl a ↦ elim (cases_eq g (length new)) [
+      | inl e ↦ absurd (n (a.0 ∙ sym e))
+      | inr m ↦ ap (λ (k : ℕ). get_or new k d) a.1 ∙ s.taken d (omega (arith, s.fewer, m, inside)) ∙ ap (λ (k : ℕ). get_or old k d) (omega (arith, s.fewer, a.0))
     ]
+    | inr a ↦ ap (λ (k : ℕ). get_or new k d) a.1 ∙ s.others x d n (omega (arith, s.fewer, a.0, l))
+  ]
 
--- what stood at a place stands where it moves to
-pub moved_there : {X : Type 0} (names : List X) (g x : ℕ) (d : X) → g < length names → (x ≡ g → ⊥) → get_or (remove names g) (moved_down g x) d ≡ get_or names x d
-moved_there names g x d h n = elim (moved_cases g x) [
-  | inl a ↦ ap (λ (k : ℕ). get_or (remove names g) k d) a.1 ∙ get_or-remove_above names g d (x - 1) (omega (arith, a.0)) h ∙ ap (λ (k : ℕ). get_or names k d) (omega (arith, a.0))
-  | inr a ↦ elim (cases_eq x g) [ inl e ↦ absurd (n e) | inr m ↦ ap (λ (k : ℕ). get_or (remove names g) k d) a.1 ∙ get_or-remove_below names g d x (omega (arith, a.0, m)) h ]
+-- names that stood apart do so still
+pub apart_swapped : (old new : List (List ℕ)) (g : ℕ) → IsSwapped old new g → AllPairs (λ s t. bytes_eq s t ≡ false) old → AllPairs (λ s t. bytes_eq s t ≡ false) new
+apart_swapped old new g s h i j d l m = elim (cases_eq i g) [
+  | inl e ↦
+      ap (λ (k : ℕ). bytes_eq (get_or new k d) (get_or new j d)) e
+      ∙ ap (λ (n : List ℕ). bytes_eq n (get_or new j d)) (s.taken d (omega (arith, s.fewer, e, l, m)))
+      ∙ ap (λ (n : List ℕ). bytes_eq (get_or old (length old - 1) d) n) (s.others j d (λ f. omega (arith, e, f, l)) (omega (arith, s.fewer, m)))
+      ∙ other_way (get_or old j d) (get_or old (length old - 1) d) (h j (length old - 1) d (omega (arith, s.fewer, m)) (omega (arith, s.fewer)))
+  | inr n ↦ elim (cases_eq j g) [
+    | inl e ↦
+        ap (λ (k : ℕ). bytes_eq (get_or new i d) (get_or new k d)) e
+        ∙ ap (λ (t : List ℕ). bytes_eq (get_or new i d) t) (s.taken d (omega (arith, s.fewer, e, m)))
+        ∙ ap (λ (t : List ℕ). bytes_eq t (get_or old (length old - 1) d)) (s.others i d n (omega (arith, s.fewer, l, m)))
+        ∙ h i (length old - 1) d (omega (arith, s.fewer, l, m)) (omega (arith, s.fewer))
+    | inr f ↦
+        ap (λ (t : List ℕ). bytes_eq t (get_or new j d)) (s.others i d n (omega (arith, s.fewer, l, m)))
+        ∙ ap (λ (t : List ℕ). bytes_eq (get_or old i d) t) (s.others j d f (omega (arith, s.fewer, m)))
+        ∙ h i j d l (omega (arith, s.fewer, m))
+  ]
 ]

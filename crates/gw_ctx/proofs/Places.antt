@@ -1,24 +1,24 @@
 -- Links that are kept by the places of their names: what a change of names or places leaves.
 use Rattle.std.proofs.Common.{◌≡◌, ℕ, ◌<◌, nat_eq, Bool, true, false, not, ◌&&◌, ◌||◌, cond, inl, inr, List, [], ◌∷◌, ◌++◌, length, get_or, map, filter, bytes_eq, All, None, Some, arith, ap, refl, sym, subst, ◌∙◌, length-append}
 use Rattle.std.specs.Prelude.{AllPairs}
-use Rattle.std.specs.List.{remove, position}
+use Rattle.std.specs.List.{position}
 use Rattle.std.proofs.lemmas.Bool.{cases_order, eq-eqb, ne_eqb, eqb-false, not-true, or_parts, and_left, and_right, both_ways, false_from_ne_true}
 use Rattle.std.proofs.lemmas.List.{get_or_append_left, get_or-map, length-map, map_push}
 use Rattle.std.proofs.lemmas.List.Elements.{All-filter, All-push, All-weaker, All-map}
 use Rattle.std.proofs.lemmas.List.Folds.{list_any_at, list_any_none}
 use Rattle.std.proofs.lemmas.List.Kept.{AllPairs-filter}
-use Rattle.std.proofs.lemmas.List.Quantifiers.{all_pairs_push, all_pairs_remove, position-Some}
+use Rattle.std.proofs.lemmas.List.Quantifiers.{all_pairs_push, position-Some}
 use Rattle.gw_base.specs.NameLists.{is_in}
 use Rattle.gw_base.specs.declared.context_words.Flow.{Flow}
 use Rattle.gw_base.specs.declared.context_words.Link.{Link}
 use Rattle.gw_base.proofs.NamesInLists.{other_way, itself}
 use Rattle.gw_base.proofs.NameTests.{same_name}
 use Rattle.gw_ctx.specs.Contexts.{is_apart_from, is_other_pair, links_without, links_beside}
-use Rattle.gw_ctx.specs.Places.{link_at, links_at, is_off, joins, joins_others, IsWithin, IsSingle, AreKept, with_name, moved_down, renumbered}
+use Rattle.gw_ctx.specs.Places.{link_at, links_at, is_off, joins, joins_others, IsWithin, IsSingle, AreKept, with_name, moved, renumbered}
 use Rattle.gw_ctx.specs.declared.pairs.Pair.{Pair}
 use Rattle.gw_ctx.proofs.Lists.{map_agree, map_through, filter_all, filter_through, none_passes, place_within}
 use Rattle.gw_ctx.proofs.Singles.{single_push}
-use Rattle.gw_ctx.proofs.Numbers.{moved_same, moved_within, moved_there}
+use Rattle.gw_ctx.proofs.Numbers.{IsSwapped, moved_same, moved_within, moved_there, apart_swapped}
 
 -- a name stands where the place of it is, and nowhere else
 apart_at : (names : List (List ℕ)) (i k : ℕ) → AllPairs (λ s t. bytes_eq s t ≡ false) names → i < length names → k < length names → bytes_eq (get_or names i []) (get_or names k []) ≡ nat_eq k i
@@ -159,34 +159,34 @@ module _ (names : List (List ℕ)) (pairs : List Pair) (kept : AreKept names pai
 
   -- ---- a name less
 
-  single_moved : (g : ℕ) → All (λ p. is_off g p ≡ true) pairs → IsSingle (map (renumbered g) pairs)
-  single_moved g off i j d l h =
-      let m : j < length pairs = omega (arith, h, length-map pairs (renumbered g)) in
+  single_moved : (last g : ℕ) → All (λ p. is_off g p ≡ true) pairs → IsSingle (map (renumbered last g) pairs)
+  single_moved last g off i j d l h =
+      let m : j < length pairs = omega (arith, h, length-map pairs (renumbered last g)) in
       let n : i < length pairs = omega (arith, l, m) in
       let p : Pair = get_or pairs i d in let q : Pair = get_or pairs j d in
       let po = off_parts g p (off i d n) in let qo = off_parts g q (off j d m) in
-      ap (λ (x : Pair). joins (get_or (map (renumbered g) pairs) j d).a (get_or (map (renumbered g) pairs) j d).b x) (get_or-map (renumbered g) pairs i d d n)
-      ∙ ap (λ (y : Pair). joins y.a y.b (renumbered g p)) (get_or-map (renumbered g) pairs j d d m)
-      ∙ same_or (nat_eq (moved_down g p.a) (moved_down g q.a) && nat_eq (moved_down g p.b) (moved_down g q.b)) (nat_eq (moved_down g p.b) (moved_down g q.a) && nat_eq (moved_down g p.a) (moved_down g q.b)) (nat_eq p.a q.a && nat_eq p.b q.b) (nat_eq p.b q.a && nat_eq p.a q.b)
-      (same_both (nat_eq (moved_down g p.a) (moved_down g q.a)) (nat_eq (moved_down g p.b) (moved_down g q.b)) (nat_eq p.a q.a) (nat_eq p.b q.b) (moved_same g p.a q.a po.0 qo.0) (moved_same g p.b q.b po.1 qo.1))
-      (same_both (nat_eq (moved_down g p.b) (moved_down g q.a)) (nat_eq (moved_down g p.a) (moved_down g q.b)) (nat_eq p.b q.a) (nat_eq p.a q.b) (moved_same g p.b q.a po.1 qo.0) (moved_same g p.a q.b po.0 qo.1))
+      ap (λ (x : Pair). joins (get_or (map (renumbered last g) pairs) j d).a (get_or (map (renumbered last g) pairs) j d).b x) (get_or-map (renumbered last g) pairs i d d n)
+      ∙ ap (λ (y : Pair). joins y.a y.b (renumbered last g p)) (get_or-map (renumbered last g) pairs j d d m)
+      ∙ same_or (nat_eq (moved last g p.a) (moved last g q.a) && nat_eq (moved last g p.b) (moved last g q.b)) (nat_eq (moved last g p.b) (moved last g q.a) && nat_eq (moved last g p.a) (moved last g q.b)) (nat_eq p.a q.a && nat_eq p.b q.b) (nat_eq p.b q.a && nat_eq p.a q.b)
+      (same_both (nat_eq (moved last g p.a) (moved last g q.a)) (nat_eq (moved last g p.b) (moved last g q.b)) (nat_eq p.a q.a) (nat_eq p.b q.b) (moved_same last g p.a q.a po.0 qo.0) (moved_same last g p.b q.b po.1 qo.1))
+      (same_both (nat_eq (moved last g p.b) (moved last g q.a)) (nat_eq (moved last g p.a) (moved last g q.b)) (nat_eq p.b q.a) (nat_eq p.a q.b) (moved_same last g p.b q.a po.1 qo.0) (moved_same last g p.a q.b po.0 qo.1))
       ∙ kept.single i j d l m
 
-  pub forgotten_kept : (g : ℕ) → g < length names → All (λ p. is_off g p ≡ true) pairs → AreKept (remove names g) (map (renumbered g) pairs)
-  forgotten_kept g l off = record {
-    apart = all_pairs_remove (λ s t. bytes_eq s t ≡ false) names g l kept.apart;
-    within = All-map (IsWithin (length (remove names g))) (renumbered g) pairs (λ k d h.
+  pub forgotten_kept : (new : List (List ℕ)) (g : ℕ) → IsSwapped names new g → g < length names → All (λ p. is_off g p ≡ true) pairs → AreKept new (map (renumbered (length new) g) pairs)
+  forgotten_kept new g s l off = record {
+    apart = apart_swapped names new g s kept.apart;
+    within = All-map (IsWithin (length new)) (renumbered (length new) g) pairs (λ k d h.
         let p : Pair = get_or pairs k d in
         let o = off_parts g p (off k d h) in
-        record { first = moved_within names g p.a l (kept.within k d h).first o.0; second = moved_within names g p.b l (kept.within k d h).second o.1 });
-    single = single_moved g off;
+        record { first = moved_within names new g s l p.a (kept.within k d h).first o.0; second = moved_within names new g s l p.b (kept.within k d h).second o.1 });
+    single = single_moved (length new) g off;
   }
 
-  pub forgotten_same : (g : ℕ) → g < length names → All (λ p. is_off g p ≡ true) pairs → links_at (remove names g) (map (renumbered g) pairs) ≡ links_at names pairs
-  forgotten_same g l off = map_through (link_at (remove names g)) (renumbered g) (link_at names) pairs (λ k d h.
+  pub forgotten_same : (new : List (List ℕ)) (g : ℕ) → IsSwapped names new g → g < length names → All (λ p. is_off g p ≡ true) pairs → links_at new (map (renumbered (length new) g) pairs) ≡ links_at names pairs
+  forgotten_same new g s l off = map_through (link_at new) (renumbered (length new) g) (link_at names) pairs (λ k d h.
       let p : Pair = get_or pairs k d in
       let o = off_parts g p (off k d h) in
-      same_link p.flow (moved_there names g p.a [] l o.0) (moved_there names g p.b [] l o.1))
+      same_link p.flow (moved_there names new g s l p.a [] (kept.within k d h).first o.0) (moved_there names new g s l p.b [] (kept.within k d h).second o.1))
 
 -- a name more leaves the others where they are
 grown_at : (name : List ℕ) (names : List (List ℕ)) (k : ℕ) → k < length names → (k < length (with_name name names)) × (get_or (with_name name names) k [] ≡ get_or names k [])

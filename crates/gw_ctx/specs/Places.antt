@@ -1,5 +1,5 @@
 -- How links are kept (own): a list of names, each once, and of each link the places of its two names in that list.
-use Rattle.std.specs.Prelude.{◌≡◌, ℕ, ◌-◌, ◌<◌, nat_lt, Bool, false, not, ◌&&◌, ◌||◌, ◌==◌, if◌then◌else◌, List, [], ◌∷◌, ◌++◌, length, map, slice_index_or, bytes_eq, All, AllPairs}
+use Rattle.std.specs.Prelude.{◌≡◌, ℕ, ◌<◌, Bool, false, not, ◌&&◌, ◌||◌, ◌==◌, if◌then◌else◌, List, [], ◌∷◌, ◌++◌, length, map, slice_index_or, bytes_eq, All, AllPairs}
 use Rattle.gw_base.specs.NameLists.{is_in}
 use Rattle.gw_base.specs.declared.context_words.Link.{Link}
 use Rattle.gw_ctx.specs.declared.pairs.Pair.{Pair}
@@ -41,9 +41,9 @@ pub record AreKept (names : List (List ℕ)) (pairs : List Pair) : Type 0 where
 abbrev pub with_name : List ℕ → List (List ℕ) → List (List ℕ)
 with_name name names = if is_in name names then names else names ++ name ∷ []
 
--- where a name stands once the one at this place is gone
-abbrev pub moved_down : ℕ → ℕ → ℕ
-moved_down gone place = if nat_lt gone place then place - 1 else place
+-- where a name stands once another is gone and the last one has taken its place
+abbrev pub moved : ℕ → ℕ → ℕ → ℕ
+moved last gone place = if place == last then gone else place
 
-abbrev pub renumbered : ℕ → Pair → Pair
-renumbered gone p = record { a = moved_down gone p.a; b = moved_down gone p.b; flow = p.flow }
+abbrev pub renumbered : ℕ → ℕ → Pair → Pair
+renumbered last gone p = record { a = moved last gone p.a; b = moved last gone p.b; flow = p.flow }

@@ -31,7 +31,7 @@ pub(crate) fn place_in(names: &mut Vec<TermName>, name: TermName) -> usize
     place
 }
 
-/// The name at this place goes, of which no pair speaks.
+/// The name at this place goes, of which no pair speaks, and the last one takes its place.
 pub(crate) fn forget(names: &mut Vec<TermName>, pairs: &mut Vec<Pair>, place: usize)
     requires kept { AreKept names.old.items pairs.old.items }
     requires within { place < length names.old.items }
@@ -40,8 +40,8 @@ pub(crate) fn forget(names: &mut Vec<TermName>, pairs: &mut Vec<Pair>, place: us
     ensures same { links_at names.new.items pairs.new.items ≡ links_at names.old.items pairs.old.items }
     ensures fewer { length names.new.items + 1 ≡ length names.old.items }
 {
-    names.remove(place);
-    renumber(pairs, place);
+    names.swap_remove(place);
+    renumber(pairs, names.len(), place);
 }
 
 /// Where there are more names than pairs could speak of, those go of which none does. The work is then that of the pairs for each

@@ -11,5 +11,5 @@ loop-pair-preserved c =
     let none : Pair = record { a = 0; b = 0; flow = Bothway } in
     let old : Pair = get_or c.loop-pair.pairs c.loop-pair.pair-index none in
     let within : c.loop-pair.pair-index < length c.loop-pair.pairs = omega arith in
-    ap (λ (p : Pair). set c.loop-pair.pairs c.loop-pair.pair-index p) c.renumbered.ensures
-    ∙ map_over_more (renumbered c.args.gone) c.args.pairs.now c.loop-pair.pairs c.loop-pair.pair-index old c.loop-pair-test.true c.loop-pair.invariant (get_or_default c.loop-pair.pairs c.loop-pair.pair-index none old within)
+    ap (λ (p : Pair). set c.loop-pair.pairs c.loop-pair.pair-index p) c.follow.ensures
+    ∙ map_over_more (renumbered c.args.last c.args.gone) c.args.pairs.now c.loop-pair.pairs c.loop-pair.pair-index old c.loop-pair-test.true c.loop-pair.invariant (get_or_default c.loop-pair.pairs c.loop-pair.pair-index none old within)
