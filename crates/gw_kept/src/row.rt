@@ -210,7 +210,7 @@ impl Row {
     }
 
     /// Closes the gaps, where there are any: one pass over the places.
-    pub fn settle(&mut self)
+    fn settle(&mut self)
         ensures kept { kept_in self.new ≡ kept_in self.old }
         ensures whole { IsWhole self.new }
     {
