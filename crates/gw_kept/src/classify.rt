@@ -42,7 +42,7 @@ impl Kept {
         ensures classes { IfOk result (λ classes. classes ≡ classes_of self.now points.now) }
     {
         let mut index = Index::of(alloc, self, points, asks_behind(points))?;
-        let mut classes = Items::from(Vec::with_capacity(alloc, points.len())?);
+        let mut classes = Items::new(alloc);
         for point in points {
             let class = index.class(alloc, point);
             classes.push(class)?;
