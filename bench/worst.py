@@ -139,6 +139,7 @@ def kept_replies():
     turns = [b"K{0-4294967295}" + audit % (10_000 + number) for number in each]
     yield Kind("an acknowledgement of all and a request in turn, 4,096 kept", whole, packed(turns), keep=4_096)
     yield Kind("one acknowledgement of the oldest of 4,096 kept", whole, [HEAD + b"K{2}"], keep=4_096)
+    yield Kind("one acknowledgement of all of 4,096 kept", whole, [HEAD + b"K{0-4294967295}"], keep=4_096)
     yield Kind("one request, 4,096 kept", whole, [HEAD + audit % 10_000], keep=4_096)
     yield Kind("repeats of one request, 4,096 kept", whole, packed([audit % 2] * 4_000, 4_000), keep=4_096)
     yield Kind("repeats of one request, 256 datagrams", whole, packed([audit % 2] * 4_096, 16), keep=4_096)
@@ -163,6 +164,11 @@ def on_links():
     yield Kind("2,016 links, a Topology of a pair, which tells all", state, asked([b"C=1{%s}" % it for it in of_pair]), b"Error=533")
     yield Kind("2,016 links, a Topology of a pair and a command", state, asked([b"C=1{%s,AV=T/1{AT{}}}" % it for it in of_pair]))
     yield Kind("2,016 links, one Topology of many pairs", state, asked([listed(b"C=1{TP{", [b"T/%d,T/%d,IS" % it for it in 2 * pairs(64)], b"}}")]), None)
+    again, parted = b"T/63,T/64,IS", b"T/63,T/64,BW,T/63,T/64,IS"
+    yield Kind("2,016 links, the last pair again and again", state, [HEAD + as_often(b"T=1{C=1{TP{", again, b"}}}")], None)
+    yield Kind("2,016 links, the last pair apart and together", state, [HEAD + as_often(b"T=1{C=1{TP{", parted, b"}}}")], None)
+    left = b",".join(b"C=1{TP{T/%d,T/3,OW},S=T/%d,A=T/%d}" % (n, n, n) for n in (1, 2))
+    yield Kind("2,016 links, a Topology, Subtract and Add of two in turn", state, in_one(left), b"Error=533")
     yield Kind("2,016 links, a Priority", state, asked([b"C=1{PR=3}"] * MOST))
     yield Kind("2,016 links, a Priority in each of many actions", state, in_one(b"C=1{PR=3}"), b"Error=533")
     yield Kind("2,016 links, an AuditValue of a member", state, asked([b"C=1{AV=T/%d{AT{}}}" % (n % 64 + 1) for n in range(MOST)]))

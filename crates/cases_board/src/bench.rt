@@ -1,4 +1,4 @@
-//! The tables of a gateway, and bursts on a board of them.
+//! The tables of a gateway, and bursts on a board of a copy of them.
 
 ghost use Rattle.std.specs.Prelude.{◌≡◌};
 ghost use Rattle.std.specs.List.{list_any};
@@ -90,47 +90,43 @@ impl Bench {
     /// # Errors
     ///
     /// `Form` where the text is no message; `NoMemory` where a growth was refused.
-    pub fn after(self, alloc: Global, text: &[u8]) -> Result<Bench, CaseFault> {
-        let Bench {
-            manner,
-            limits,
-            tables,
-        } = self;
+    pub fn after(&self, alloc: Global, text: &[u8]) -> Result<Bench, CaseFault> {
         let Ok(message) = read_message(alloc, text) else {
             return Err(CaseFault::Form);
         };
-        let Ok(asked) = asks_in(alloc, &tables, limits, &message) else {
+        let Ok(asked) = asks_in(alloc, &self.tables, self.limits, &message) else {
             return Err(CaseFault::NoMemory);
         };
-        let Ok(tables) = carried_out(alloc, tables, manner, &asked) else {
+        let Ok(tables) = self.tables.copy() else {
+            return Err(CaseFault::NoMemory);
+        };
+        let Ok(tables) = carried_out(alloc, tables, self.manner, &asked) else {
             return Err(CaseFault::NoMemory);
         };
         Ok(Bench {
-            manner,
-            limits,
+            manner: self.manner,
+            limits: self.limits,
             tables,
         })
     }
 
-    /// Takes steps with the requests of a message, on a board of the tables, which end with it.
+    /// Takes steps with the requests of a message, on a board of a copy of the tables.
     ///
     /// # Errors
     ///
     /// `Form` where the text is no message, and what is wrong with a step; `NoMemory` where a growth was refused.
-    pub fn play(self, text: &[u8], steps: &[u8], out: &mut Page) -> Result<(), CaseFault> {
-        let Bench {
-            manner,
-            limits,
-            tables,
-        } = self;
+    pub fn play(&self, text: &[u8], steps: &[u8], out: &mut Page) -> Result<(), CaseFault> {
         let alloc = out.alloc();
         let Ok(message) = read_message(alloc, text) else {
             return Err(CaseFault::Form);
         };
-        let Ok(asked) = asks_in(alloc, &tables, limits, &message) else {
+        let Ok(asked) = asks_in(alloc, &self.tables, self.limits, &message) else {
             return Err(CaseFault::NoMemory);
         };
-        play(tables, manner, &asked, steps, out)
+        let Ok(tables) = self.tables.copy() else {
+            return Err(CaseFault::NoMemory);
+        };
+        play(tables, self.manner, &asked, steps, out)
     }
 
     /// Writes the footprint of a request of a message.

@@ -121,26 +121,29 @@ impl Bench {
         &self.tables
     }
 
-    /// The command carried out at its place: its replies, and the tables after it.
+    /// The command carried out at its place on a copy of the tables: its replies, and the copy.
     fn carried(
-        self,
+        &self,
         alloc: Global,
         place: Place,
         asked: &Command<'_>,
     ) -> Result<(CmdOutcome, Bench), CaseFault> {
-        let Bench { rules, mut tables } = self;
-        if !is_unused(&tables, place.slot) {
+        if !is_unused(&self.tables, place.slot) {
             return Err(CaseFault::Form);
         }
-        let Ok(outcome) = carry_out(alloc, &rules, &mut tables, place, asked) else {
+        let Ok(mut tables) = self.tables.copy() else {
             return Err(CaseFault::NoMemory);
         };
+        let Ok(outcome) = carry_out(alloc, &self.rules, &mut tables, place, asked) else {
+            return Err(CaseFault::NoMemory);
+        };
+        let rules = self.rules;
         Ok((outcome, Bench { rules, tables }))
     }
 
     /// The command of a message carried out at its place.
     fn asked_by(
-        self,
+        &self,
         alloc: Global,
         place: Place,
         message: &[u8],
@@ -156,7 +159,7 @@ impl Bench {
 
     /// The command of this text carried out at its place: its replies, and the tables after it.
     pub fn asked(
-        self,
+        &self,
         alloc: Global,
         place: Place,
         text: &[u8],
