@@ -96,6 +96,11 @@ impl Board<'_, '_, '_> {
         }
     }
 
+    /// Whether all places behind this one are closed: there is nothing that it could be carried out beside.
+    pub fn is_last(&self, place: usize) -> bool {
+        self.seats.iter().skip(place + 1).all(is_closed)
+    }
+
     /// Carries out the first place that is not closed, on the tables where they lie, and closes it with its reply: what opening the
     /// place, carrying its job out and closing it with the result come to. No footprint is told, and no entry is taken out: what stood
     /// where the commands write goes to the journal, once for each key of the places that are carried out so one after another. So the

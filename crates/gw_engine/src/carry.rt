@@ -59,8 +59,8 @@ fn carry_wave<R: Threads + Sync, G: Gate>(
 }
 
 /// Carries out what is pending on the board. One worker carries out each request by itself, in order of arrival, and passes the gate with
-/// the number 0. Several go wave after wave, but for a request that is meant for all, which is a wave by itself and is carried out in
-/// that way, too. The caller knows that nothing is open. There are at most as many waves as requests.
+/// the number 0. Several go wave after wave, but for a request that is meant for all, which is a wave by itself, and for the last that is
+/// pending: these are carried out in that way, too. The caller knows that nothing is open. There are at most as many waves as requests.
 ///
 /// # Errors
 ///
@@ -77,7 +77,7 @@ fn carry_all<R: Threads + Sync, G: Gate>(
 {
     let mut closed = 0;
     while let Some(place) = board.first_unclosed(closed) {
-        if crew.workers == 1 || board.is_for_all(place) {
+        if crew.workers == 1 || board.is_for_all(place) || board.is_last(place) {
             crew.gate.pass(0);
             board.carry_alone(alloc, place)?;
             closed = place;

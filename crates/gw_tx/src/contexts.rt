@@ -1,6 +1,7 @@
 //! An action in a context that is there, and in each that there is.
 
-ghost use Rattle.std.specs.Prelude.{◌≡◌, true, false, All, Option, IfOk, OnOk};
+ghost use Rattle.std.specs.Prelude.{◌≡◌, true, false, [], All, Option, IfOk, OnOk};
+ghost use Rattle.gw_length.specs.declared.telling.Telling.TheVariants.{TooLong};
 ghost use Rattle.std.specs.List.{list_any};
 ghost use Rattle.gw_base.specs.declared.ids.CtxNum.{CtxNum};
 ghost use Rattle.gw_base.specs.declared.key.Key.TheVariants.{Ctx};
@@ -27,8 +28,16 @@ use gw_reply::ActionReply;
 use gw_table::Draft;
 use std::alloc::Global;
 
+/// Whether nothing more is told, and there is no command that is still to be carried out.
+fn is_over(told: &Telling<ActionReply>, sent: &Action<'_>) -> bool
+    ensures long { result ≡ true → told.now ≡ TooLong }
+    ensures none { result ≡ true → sent.now.commands ≡ [] }
+{
+    matches!(told, Telling::TooLong) && sent.commands.is_empty()
+}
+
 /// Carries an action out in a context that is there: sets its properties, tells what it then is, and carries the commands out. Where
-/// nothing more is told, the commands are carried out all the same.
+/// nothing more is told, the commands are carried out all the same; and where there is none, to set the properties is all.
 pub(crate) fn in_context(
     alloc: Global,
     rules: &Rules,
@@ -48,6 +57,13 @@ pub(crate) fn in_context(
     ensures keys { draft.new.keys ≡ draft.old.keys }
 {
     set_properties(alloc, draft, number, sent.props.as_slice())?;
+    if is_over(&told, sent) {
+        return Ok(Counted {
+            next: (),
+            told: Telling::TooLong,
+            stopped: false,
+        });
+    }
     let parts = context_parts_if(alloc, draft, number, sent, &told)?;
     let (parts, told) = parts_within(alloc, parts, told);
     let asked = sent.commands.as_slice();

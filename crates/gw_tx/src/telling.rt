@@ -1,6 +1,6 @@
 //! What an action is told of its context itself.
 
-ghost use Rattle.std.specs.Prelude.{◌≡◌, ◌∷◌, [], true, length, List, IfOk};
+ghost use Rattle.std.specs.Prelude.{◌≡◌, ◌∷◌, [], true, length, List, IfOk, option_to_list};
 ghost use Rattle.std.specs.List.{flat_map};
 ghost use Rattle.gw_length.specs.Rooms.{Leaves};
 ghost use Rattle.gw_length.specs.Tellings.{told_behind};
@@ -27,49 +27,6 @@ use gw_msg::{Action, ContextItem, ContextProp};
 use gw_reply::{ActionReply, ContextPart};
 use gw_table::Draft;
 use std::alloc::Global;
-
-/// The items of each ContextAudit.
-fn items_of(alloc: Global, props: &[ContextProp]) -> Result<Vec<ContextItem>, NoMemory>
-    ensures { IfOk result (λ items. items.items ≡ items_of props.now) }
-{
-    let mut items = Vec::new(alloc);
-    for prop in props {
-        if let ContextProp::ContextAudit(asked) = prop {
-            items.extend_from_slice(asked.as_slice())?;
-        }
-    }
-    Ok(items)
-}
-
-/// The kinds that are set.
-fn kinds_of(alloc: Global, props: &[ContextProp]) -> Result<Vec<ContextItem>, NoMemory>
-    ensures { IfOk result (λ items. items.items ≡ flat_map kind_in props.now) }
-{
-    let mut items = Vec::new(alloc);
-    for prop in props {
-        match prop {
-            ContextProp::Priority(_) => items.push(ContextItem::Priority)?,
-            ContextProp::Emergency => items.push(ContextItem::Emergency)?,
-            ContextProp::Topology(_) => items.push(ContextItem::Topology)?,
-            ContextProp::ContextAudit(_) => {}
-        }
-    }
-    Ok(items)
-}
-
-/// What is to be told: what is asked for, or, where there is neither a ContextAudit nor a command, what was set.
-#[tactic(auto, unfolding(crate::specs::Properties::told_items))]
-fn told_items(alloc: Global, sent: &Action<'_>) -> Result<Vec<ContextItem>, NoMemory>
-    ensures { IfOk result (λ items. items.items ≡ told_items sent.now) }
-{
-    if has_audit(sent.props.as_slice()) {
-        return items_of(alloc, sent.props.as_slice());
-    }
-    if sent.commands.is_empty() {
-        return kinds_of(alloc, sent.props.as_slice());
-    }
-    Ok(Vec::new(alloc))
-}
 
 /// The room that is left behind the links, each with a comma before it. The work is that of the links that there is room for.
 fn behind_links(room: usize, context: &Context) -> Option<usize>
@@ -157,6 +114,74 @@ fn is_nothing(told: &Telling<ContextPart>) -> bool
     }
 }
 
+/// Tells what each ContextAudit asks for.
+fn tell_audited(
+    alloc: Global,
+    context: &Context,
+    props: &[ContextProp],
+    told: Telling<ContextPart>,
+) -> Result<Telling<ContextPart>, NoMemory>
+    ensures { IfOk result (λ all. all ≡ told_behind context_part_text told (flat_map (told_of_item context.now) (items_of props.now))) }
+{
+    let mut told = told;
+    for prop in props {
+        if let ContextProp::ContextAudit(items) = prop {
+            told = tell_each(alloc, context, items.as_slice(), told)?;
+        }
+    }
+    Ok(told)
+}
+
+/// What a property sets: nothing, where it only asks.
+fn kind_in(prop: &ContextProp) -> Option<ContextItem>
+    ensures { option_to_list result ≡ kind_in prop.now }
+{
+    match prop {
+        ContextProp::Priority(_) => Some(ContextItem::Priority),
+        ContextProp::Emergency => Some(ContextItem::Emergency),
+        ContextProp::Topology(_) => Some(ContextItem::Topology),
+        ContextProp::ContextAudit(_) => None,
+    }
+}
+
+/// Tells what was set.
+fn tell_set(
+    alloc: Global,
+    context: &Context,
+    props: &[ContextProp],
+    told: Telling<ContextPart>,
+) -> Result<Telling<ContextPart>, NoMemory>
+    ensures { IfOk result (λ all. all ≡ told_behind context_part_text told (flat_map (told_of_item context.now) (flat_map kind_in props.now))) }
+{
+    let mut told = told;
+    for prop in props {
+        if let Some(item) = kind_in(prop) {
+            told = tell(alloc, context, item, told)?;
+        }
+    }
+    Ok(told)
+}
+
+/// Tells what is asked for, or, where there is neither a ContextAudit nor a command, what was set.
+#[tactic(auto, unfolding(crate::specs::Properties::told_items))]
+fn tell_items(
+    alloc: Global,
+    context: &Context,
+    sent: &Action<'_>,
+    told: Telling<ContextPart>,
+) -> Result<Telling<ContextPart>, NoMemory>
+    ensures { IfOk result (λ all. all ≡ told_behind context_part_text told (flat_map (told_of_item context.now) (told_items sent.now))) }
+{
+    let props = sent.props.as_slice();
+    if has_audit(props) {
+        return tell_audited(alloc, context, props, told);
+    }
+    if sent.commands.is_empty() {
+        return tell_set(alloc, context, props, told);
+    }
+    Ok(told)
+}
+
 /// What is told of a context as it is. An action without commands is told something: the priority.
 fn context_parts(
     alloc: Global,
@@ -167,8 +192,7 @@ fn context_parts(
     requires { told_so_far told ≡ [] }
     ensures { IfOk result (λ all. all ≡ told_behind context_part_text told (context_parts sent.now context.now)) }
 {
-    let items = told_items(alloc, sent)?;
-    let all = tell_each(alloc, context, &items, told)?;
+    let all = tell_items(alloc, context, sent, told)?;
     if sent.commands.is_empty() && is_nothing(&all) {
         return all.tell(ContextPart::Priority(context.priority()));
     }
