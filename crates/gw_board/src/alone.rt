@@ -98,7 +98,10 @@ impl Board<'_, '_, '_> {
 
     /// Whether all places behind this one are closed: there is nothing that it could be carried out beside.
     pub fn is_last(&self, place: usize) -> bool {
-        self.seats.iter().skip(place + 1).all(is_closed)
+        self.seats
+            .iter()
+            .skip(place.saturating_add(1))
+            .all(is_closed)
     }
 
     /// Carries out the first place that is not closed, on the tables where they lie, and closes it with its reply: what opening the
