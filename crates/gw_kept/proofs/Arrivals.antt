@@ -246,6 +246,18 @@ thinned_arrived keys next first numbers a t =
       few = omega (arith, t.size, a.few);
     }
 
+no_items : {X : Type 0} (xs : List X) → length xs ≡ 0 → [] ≡ xs
+no_items [] e = refl
+no_items (x ∷ xs) e = absurd (omega arith)
+
+-- none is left
+pub emptied_arrived : (keys next : List (Option RequestKey)) (first : ℕ) (numbers : List ℕ) → IsArrival keys first numbers → IsThinned keys next → length (present next) ≡ 0 → IsArrival next first []
+emptied_arrived keys next first numbers a t none = record {
+  numbered = ap (map (number_at first)) (no_items (taken_places 0 next) (count_taken 0 next ∙ none));
+  around = a.around;
+  few = omega (arith, t.size, a.few);
+}
+
 pub closed_arrived : (keys : List (Option RequestKey)) (first : ℕ) (numbers next : List ℕ) → IsArrival keys first numbers → length next ≡ length numbers → ((p : ℕ) → p < length next → get_or next p 0 ≡ p) → IsArrival (map (λ k. Some k) (present keys)) 0 next
 closed_arrived keys first numbers next a same f =
     let size : length numbers ≡ length (present keys) = arrived keys first numbers a in

@@ -237,7 +237,7 @@ clear_next mid range before row next first numbers start i until end at c le l w
     let one : i + 1 ≡ suc i = omega arith in
     let rest : List ℕ = remove_range numbers (suc i) end in
     let c' : IsClearing mid range before row first rest start (i + 1) =
-        subst (λ (n : ℕ). IsClearing mid range before row first (remove_range numbers n end) start (i + 1)) one (subst (λ (n : ℕ). IsClearing mid range before row first (remove_range numbers n end) start n) at c) in
+    subst (λ (n : ℕ). IsClearing mid range before row first (remove_range numbers n end) start (i + 1)) one (subst (λ (n : ℕ). IsClearing mid range before row first (remove_range numbers n end) start n) at c) in
     subst (λ (ns : List ℕ). IsClearing mid range before next first ns start i) (less_by_one numbers i end l within)
     (clear_more mid range before row next first rest start i c' le (is ∙ ap (λ (n : ℕ). set row (place_of first n) None) (sym (still_there numbers i end 0 (omega arith)))))
 

@@ -139,6 +139,14 @@ impl Arrival {
         }
     }
 
+    /// Leaves out all pairs, where only gaps are left.
+    pub fn leave_all(&mut self)
+        ensures arrival { (keys next : List (Option Key)) → IsArrival keys self.old.first self.old.numbers.items → IsThinned keys next → length (present next) ≡ 0 → IsArrival next self.new.first self.new.numbers.items }
+        ensures room { deque_capacity self.new.numbers ≡ deque_capacity self.old.numbers }
+    {
+        self.numbers.clear();
+    }
+
     /// Leaves out each pair in whose place there is a gap by now: one look at every pair.
     pub fn leave_gaps(&mut self, ring: &Ring)
         ensures arrival { (keys : List (Option Key)) → IsArrival keys self.old.first self.old.numbers.items → IsThinned keys (keys_in ring.now.items) → IsArrival (keys_in ring.now.items) self.new.first self.new.numbers.items }

@@ -18,8 +18,11 @@ use crate::ring::{Ring, let_go};
 use gw_base::Mid;
 use gw_msg::AckRange;
 
-/// Pairs go all at once where they are more than one in so many of those that are kept: what the others cost is then less than to
-/// take out one after another.
+/// So few pairs go one after another.
+const FEW: usize = 4;
+
+/// More go all at once where they are more than one in so many of those that are kept: a pass over all is less then than to take
+/// out one after another.
 const ONE_IN: usize = 32;
 
 impl Order {
@@ -68,10 +71,10 @@ impl Order {
         ensures order { (mid : List ℕ) (range : Range) → IsMarked ring.old.items self.now.first self.now.numbers.items mid range (start, end) → IsOrder (keys_in ring.new.items) self.now.first (remove_range self.now.numbers.items start end) }
         ensures capacity { ring.new.capacity ≡ ring.old.capacity }
     {
-        let mut until = end;
-        while start < until {
-            until -= 1;
-            let_go(ring, self.place(self.numbers[until]));
+        let mut at = end;
+        while start < at {
+            at -= 1;
+            let_go(ring, self.place(self.numbers[at]));
         }
     }
 
@@ -88,7 +91,11 @@ impl Order {
     {
         self.clear(ring, start, end);
         self.numbers.drain(start..end);
-        arrival.leave_gaps(ring);
+        if self.numbers.is_empty() {
+            arrival.leave_all();
+        } else {
+            arrival.leave_gaps(ring);
+        }
     }
 
     /// Takes out each pair of this sender whose number is in the range: all at once where they are many, and else the last in the
@@ -102,7 +109,8 @@ impl Order {
         ensures room { (deque_capacity self.new.numbers ≡ deque_capacity self.old.numbers) × (deque_capacity arrival.new.numbers ≡ deque_capacity arrival.old.numbers) }
     {
         let (start, end) = self.span(ring, mid, range);
-        if self.numbers.len() / ONE_IN < end.saturating_sub(start) {
+        let few = FEW.max(self.numbers.len() / ONE_IN);
+        if few < end.saturating_sub(start) {
             self.take_out_all(ring, arrival, start, end);
             return;
         }

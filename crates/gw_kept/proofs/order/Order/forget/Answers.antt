@@ -47,13 +47,13 @@ returns-clause-left c =
 marked : (c : goal.After-take_out_all) → IsMarked c.args.ring.now.items c.args.self.now.first c.args.self.now.numbers.items c.args.mid.now c.args.range.now (c.span-start.result.0, c.span-start.result.1)
 marked c = record { order = c.requires.order; span = c.span-start.ensures.span c.requires.order }
 
-pub returns-then-len-saturating_sub-clause-left : goal.returns-then-len-saturating_sub-clause-left
-returns-then-len-saturating_sub-clause-left c =
+pub returns-then-few-saturating_sub-clause-left : goal.returns-then-few-saturating_sub-clause-left
+returns-then-few-saturating_sub-clause-left c =
     ap (λ xs. buffer xs c.take_out_all.new.ring.capacity) (c.take_out_all.ensures.left c.args.mid.now c.args.range.now (marked c))
     ∙ ap (λ n. buffer (map (left_of c.args.mid.now (c.args.range.now ∷ [])) c.args.ring.now.items) n) c.take_out_all.ensures.capacity
 
-pub returns-then-len-saturating_sub-clause-order : goal.returns-then-len-saturating_sub-clause-order
-returns-then-len-saturating_sub-clause-order c = c.take_out_all.ensures.order c.args.mid.now c.args.range.now (marked c)
+pub returns-then-few-saturating_sub-clause-order : goal.returns-then-few-saturating_sub-clause-order
+returns-then-few-saturating_sub-clause-order c = c.take_out_all.ensures.order c.args.mid.now c.args.range.now (marked c)
 
-pub returns-then-len-saturating_sub-clause-arrival : goal.returns-then-len-saturating_sub-clause-arrival
-returns-then-len-saturating_sub-clause-arrival c = c.take_out_all.ensures.arrival c.args.mid.now c.args.range.now (marked c) c.requires.arrival
+pub returns-then-few-saturating_sub-clause-arrival : goal.returns-then-few-saturating_sub-clause-arrival
+returns-then-few-saturating_sub-clause-arrival c = c.take_out_all.ensures.arrival c.args.mid.now c.args.range.now (marked c) c.requires.arrival
