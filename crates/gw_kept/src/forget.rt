@@ -1,6 +1,6 @@
 //! What an acknowledgement removes: the pairs that a range names stand together in the order, and each leaves a gap.
 
-ghost use Rattle.std.specs.Prelude.{◌≡◌, ◌≤◌, ◌<◌, ◌∷◌, [], ℕ, List, map, length, nat_le, nat_lt, not};
+ghost use Rattle.std.specs.Prelude.{◌≡◌, ◌≤◌, ◌<◌, ◌∷◌, ◌++◌, [], ℕ, List, map, length, slice_index, nat_le, nat_lt, not};
 ghost use Rattle.std.specs.VecDeque.{deque_capacity, deque_len};
 ghost use Rattle.std.specs.List.{remove_range};
 ghost use Rattle.std.specs.Ordering.{is_gt, is_lt};
@@ -24,6 +24,18 @@ const FEW: usize = 4;
 /// More go all at once where they are more than one in so many of those that are kept: a pass over all is less then than to take
 /// out one after another.
 const ONE_IN: usize = 32;
+
+/// The number that stands here in a queue of these two parts.
+fn number_at(front: &[u16], back: &[u16], at: usize) -> u16
+    requires { at < length (front.now ++ back.now) }
+    ensures { result ≡ slice_index (front.now ++ back.now) at }
+{
+    if at < front.len() {
+        front[at]
+    } else {
+        back[at - front.len()]
+    }
+}
 
 impl Order {
     /// From where on in the order no key comes before this one.
@@ -71,10 +83,11 @@ impl Order {
         ensures order { (mid : List ℕ) (range : Range) → IsMarked ring.old.items self.now.first self.now.numbers.items mid range (start, end) → IsOrder (keys_in ring.new.items) self.now.first (remove_range self.now.numbers.items start end) }
         ensures capacity { ring.new.capacity ≡ ring.old.capacity }
     {
+        let (front, back) = self.numbers.as_slices();
         let mut at = end;
         while start < at {
             at -= 1;
-            let_go(ring, self.place(self.numbers[at]));
+            let_go(ring, self.place(number_at(front, back, at)));
         }
     }
 
@@ -90,10 +103,11 @@ impl Order {
         ensures room { (deque_capacity self.new.numbers ≡ deque_capacity self.old.numbers) × (deque_capacity arrival.new.numbers ≡ deque_capacity arrival.old.numbers) }
     {
         self.clear(ring, start, end);
-        self.numbers.drain(start..end);
-        if self.numbers.is_empty() {
+        if end - start == self.numbers.len() {
+            self.numbers.clear();
             arrival.leave_all();
         } else {
+            self.numbers.drain(start..end);
             arrival.leave_gaps(ring);
         }
     }

@@ -1,5 +1,4 @@
-use Rattle.std.proofs.Common.{◌≡◌, ◌+◌, ◌-◌, ◌≤◌, ℕ, None, length, get_or, set, refl, ap, subst, ◌∙◌, arith}
-use Rattle.std.proofs.lemmas.List.{get_or_default}
+use Rattle.std.proofs.Common.{◌≡◌, ◌+◌, ◌-◌, ◌≤◌, ℕ, List, None, length, get_or, set, refl, ap, subst, ◌∙◌, arith}
 use Rattle.std.specs.List.{remove_range}
 use Rattle.gw_kept.specs.Order.{place_of, IsOrder}
 use Rattle.gw_kept.specs.Rows.{keys_in}
@@ -23,7 +22,7 @@ loop-at-preserved c =
     let inv = c.loop-at.invariant in
     let at : until ≡ i + 1 = omega (arith, c.loop-at-test.true) in
     let size : c.args.end ≤ length now.numbers.items = omega (arith, c.requires.within, now.numbers.ok.0) in
-    let read : c.index.result.now ≡ get_or now.numbers.items i 0 = c.index.ensures ∙ get_or_default now.numbers.items i c.index.result.now 0 (omega (arith, size, inv.high, at)) in
+    let read : c.number_at.result ≡ get_or now.numbers.items i 0 = c.number_at.ensures ∙ ap (λ (ns : List ℕ). get_or ns i 0) c.as_slices.ensures.items in
     let next : c.let_go.new.ring.items ≡ set row (place_of now.first (get_or now.numbers.items i 0)) None =
     ap (λ b. b.items) c.let_go.ensures ∙ ap (λ (p : ℕ). set row p None) (c.place.ensures ∙ ap (place_of now.first) read) in
     record {
