@@ -1,7 +1,9 @@
 -- Lists that are filtered, or made of others, where tests and functions agree at each element.
-use Rattle.std.proofs.Common.{◌≡◌, ℕ, zero, suc, ◌<◌, Bool, true, false, not, cond, List, [], ◌∷◌, length, get_or, map, filter, All, None, Some, refl, ap, ◌∙◌, sym, arith, nat_lt, ◌≤◌}
+use Rattle.std.proofs.Common.{◌≡◌, ℕ, zero, suc, ◌+◌, ◌<◌, Bool, true, false, not, cond, inl, inr, ◌-◌, List, [], ◌∷◌, length, get_or, drop, take, map, filter, All, None, Some, refl, ap, ◌∙◌, sym, arith, nat_lt, ◌≤◌}
 use Rattle.std.specs.List.{remove, position, position_or_len}
-use Rattle.std.proofs.lemmas.Bool.{ltb-true, ltb-false, not-true}
+use Rattle.std.proofs.lemmas.Bool.{cases_lt, le-ltb, lt-ltb, ltb-true, ltb-false, not-true}
+use Rattle.std.proofs.Math.Seq.{take-length}
+use Rattle.std.proofs.lemmas.List.{get_or-drop, get_or-take, length-drop}
 use Rattle.std.proofs.lemmas.List.Sums.{prefix_len_passes}
 use Rattle.std.proofs.lemmas.List.Elements.{All-head, All-tail}
 use Rattle.std.proofs.lemmas.List.Quantifiers.{position-Some}
@@ -78,3 +80,39 @@ removed p xs k e after =
 -- where none passes, all stay
 pub none_removed : {X : Type 0} (p : X → Bool) (xs : List X) → position p xs ≡ None → xs ≡ filter (λ x. not (p x)) xs
 none_removed p xs e = sym (filter_all (λ x. not (p x)) xs (λ k d h. ap (λ (b : Bool). not b) (none_passes p xs e k d h)))
+
+-- what is behind a place
+pub rest_of : {X : Type 0} (xs : List X) (n : ℕ) → take (length xs - n) (drop n xs) ≡ drop n xs
+rest_of {X} xs n = ap (λ (k : ℕ). take k (drop n xs)) (sym (length-drop n xs)) ∙ take-length (drop n xs)
+
+-- where those in front do not pass, the first that passes is sought behind them
+first_behind : {X : Type 0} (p : X → Bool) (xs : List X) (n : ℕ) → n ≤ length xs → ((k : ℕ) (d : X) → k < n → p (get_or xs k d) ≡ false) → position_or_len p xs ≡ n + position_or_len p (drop n xs)
+first_behind p xs zero h before = omega arith
+first_behind p [] (suc n) h before = absurd (omega arith)
+first_behind {X} p (x ∷ xs) (suc n) h before =
+    let rest : position_or_len p xs ≡ n + position_or_len p (drop n xs) = first_behind p xs n (omega arith) (λ k d l. before (suc k) d (omega arith)) in
+    let here : position_or_len p (x ∷ xs) ≡ 1 + position_or_len p xs = ap (λ (b : Bool). cond (not b) (1 + position_or_len p xs) 0) (before zero x (omega arith)) in
+    omega (arith, rest, here)
+
+pub position_behind : {X : Type 0} (p : X → Bool) (xs : List X) (n k : ℕ) → n ≤ length xs → ((j : ℕ) (d : X) → j < n → p (get_or xs j d) ≡ false) → position p (drop n xs) ≡ Some k → position p xs ≡ Some (n + k)
+position_behind p xs n k h before e =
+    let found = placed (nat_lt (position_or_len p (drop n xs)) (length (drop n xs))) (position_or_len p (drop n xs)) k e in
+    let below : position_or_len p (drop n xs) < length (drop n xs) = ltb-true (position_or_len p (drop n xs)) (length (drop n xs)) found.0 in
+    let at : position_or_len p xs ≡ n + k = omega (arith, first_behind p xs n h before, found.1) in
+    ap (λ (b : Bool). cond b (Some (position_or_len p xs)) None) (lt-ltb (position_or_len p xs) (length xs) (omega (arith, at, below, found.1, length-drop n xs, h))) ∙ ap (λ (q : ℕ). Some q) at
+
+pub none_behind : {X : Type 0} (p : X → Bool) (xs : List X) (n : ℕ) → n ≤ length xs → ((j : ℕ) (d : X) → j < n → p (get_or xs j d) ≡ false) → position p (drop n xs) ≡ None → position p xs ≡ None
+none_behind p xs n h before e =
+    let past : length (drop n xs) ≤ position_or_len p (drop n xs) = ltb-false (position_or_len p (drop n xs)) (length (drop n xs)) (unplaced (nat_lt (position_or_len p (drop n xs)) (length (drop n xs))) (position_or_len p (drop n xs)) e) in
+    ap (λ (b : Bool). cond b (Some (position_or_len p xs)) None) (le-ltb (position_or_len p xs) (length xs) (omega (arith, past, first_behind p xs n h before, length-drop n xs, h)))
+
+-- where neither those in front pass nor the row behind them, none does up to its end
+pub more_fail : {X : Type 0} (p : X → Bool) (xs row : List X) (n m : ℕ) → ((j : ℕ) (d : X) → j < n → p (get_or xs j d) ≡ false) → n + m ≤ length xs → row ≡ take m (take (length xs - n) (drop n xs)) → length row ≡ m → All (λ x. p x ≡ false) row → (k : ℕ) (d : X) → k < n + m → p (get_or xs k d) ≡ false
+more_fail {X} p xs row n m before fits is size fail k d h = elim (cases_lt k n) [
+  | inl l ↦ before k d l
+  | inr g ↦
+      let at : get_or row (k - n) d ≡ get_or xs k d =
+      ap (λ (l : List X). get_or l (k - n) d) is ∙ get_or-take m (take (length xs - n) (drop n xs)) (k - n) d (omega arith)
+      ∙ get_or-take (length xs - n) (drop n xs) (k - n) d (omega arith) ∙ get_or-drop n xs (k - n) d ∙ ap (λ (i : ℕ). get_or xs i d) (omega arith) in
+      ap p (sym at) ∙ fail (k - n) d (omega (arith, size))
+]

@@ -14,8 +14,7 @@ use Rattle.gw_base.specs.declared.context_words.Link.{Link}
 use Rattle.gw_base.proofs.NamesInLists.{other_way, itself}
 use Rattle.gw_base.proofs.NameTests.{same_name}
 use Rattle.gw_ctx.specs.Contexts.{is_apart_from, is_other_pair, links_without, links_beside}
-use Rattle.gw_ctx.specs.Places.{link_at, links_at, is_off, joins, joins_others, IsWithin, IsSingle, AreKept, with_name, moved, renumbered}
-use Rattle.gw_ctx.specs.declared.pairs.Pair.{Pair}
+use Rattle.gw_ctx.specs.Places.{Pair, link_at, links_at, is_off, joins, joins_others, IsWithin, IsSingle, AreKept, with_name, moved, renumbered}
 use Rattle.gw_ctx.proofs.Lists.{map_agree, map_through, filter_all, filter_through, none_passes, place_within}
 use Rattle.gw_ctx.proofs.Singles.{single_push}
 use Rattle.gw_ctx.proofs.Numbers.{IsSwapped, moved_same, moved_within, moved_there, apart_swapped}

@@ -3,8 +3,7 @@ use Rattle.std.proofs.Common.{◌≡◌, ℕ, ◌<◌, nat_eq, true, false, ◌&
 use Rattle.std.proofs.lemmas.Bool.{eq-eqb, eqb-true, not-true, or_cases, and_parts, or_left, or_right, and_from, false_from_ne_true, both_ways}
 use Rattle.std.proofs.lemmas.List.Elements.{filter_passes}
 use Rattle.std.proofs.lemmas.List.Quantifiers.{all_pairs_push}
-use Rattle.gw_ctx.specs.Places.{joins, joins_others, IsSingle}
-use Rattle.gw_ctx.specs.declared.pairs.Pair.{Pair}
+use Rattle.gw_ctx.specs.Places.{Pair, joins, joins_others, IsSingle}
 
 -- what joins two places stands for one order or the other
 pub either_order : (a b : ℕ) (p : Pair) → joins a b p ≡ true → ((p.a ≡ a) × (p.b ≡ b)) ⊎ ((p.b ≡ a) × (p.a ≡ b))

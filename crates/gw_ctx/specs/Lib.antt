@@ -1,3 +1,4 @@
 pub mod Contexts
 pub mod Fitting
+pub mod PairLaw
 pub mod Places

@@ -1,8 +1,21 @@
 -- How links are kept (own): a list of names, each once, and of each link the places of its two names in that list.
-use Rattle.std.specs.Prelude.{◌≡◌, ℕ, ◌<◌, Bool, false, not, ◌&&◌, ◌||◌, ◌==◌, if◌then◌else◌, List, [], ◌∷◌, ◌++◌, length, map, slice_index_or, bytes_eq, All, AllPairs}
+use Rattle.std.specs.Prelude.{◌≡◌, ℕ, ◌+◌, ◌%◌, ◌^◌, ◌<◌, Bool, false, not, ◌&&◌, ◌||◌, ◌==◌, if◌then◌else◌, List, [], ◌∷◌, ◌++◌, length, map, slice_index_or, bytes_eq, All, AllPairs}
 use Rattle.gw_base.specs.NameLists.{is_in}
+use Rattle.gw_base.specs.declared.context_words.Flow.{Flow}
 use Rattle.gw_base.specs.declared.context_words.Link.{Link}
-use Rattle.gw_ctx.specs.declared.pairs.Pair.{Pair}
+
+-- the places of a link's two names, the first that was named before the second, and how media flow between them
+pub record Pair : Type 0 where
+  pub a : ℕ
+  pub b : ℕ
+  pub flow : Flow
+
+abbrev pub pair_of : ℕ → ℕ → Flow → Pair
+pair_of a b flow = record { a = a; b = b; flow = flow }
+
+-- the sum of two places, as far as 16 bits hold it
+abbrev pub sum_of : ℕ → ℕ → ℕ
+sum_of a b = (a + b) % 2 ^ 64 % 2 ^ 16
 
 -- the link of the names at two places
 abbrev pub link_at : List (List ℕ) → Pair → Link

@@ -42,9 +42,9 @@ fn link_at(names: &[TermName], pair: Pair) -> Link
     ensures { result ≡ link_at names.now pair }
 {
     Link {
-        a: names[pair.a],
-        b: names[pair.b],
-        flow: pair.flow,
+        a: names[pair.a()],
+        b: names[pair.b()],
+        flow: pair.flow(),
     }
 }
 
@@ -108,12 +108,7 @@ impl Links {
         self.pairs.reserve(1)?;
         let a = place_in(&mut self.names, link.a);
         let b = place_in(&mut self.names, link.b);
-        let pair = Pair {
-            a,
-            b,
-            flow: link.flow,
-        };
-        put_pair(&mut self.pairs, pair);
+        put_pair(&mut self.pairs, a, b, link.flow);
         Ok(())
     }
 

@@ -1,10 +1,10 @@
 -- The places where something stands, with one more, one less, and without gaps; and the numbers of these places.
-use Rattle.std.proofs.Common.{◌≡◌, ℕ, zero, suc, ◌+◌, ◌<◌, ◌≤◌, ◌%◌, ◌^◌, true, false, List, [], ◌∷◌, ◌++◌, map, length, drop, set, get_or, is_some, Option, Some, None, Result, Ok, Err, refl, ap, sym, subst, ◌∙◌, length-append, arith}
+use Rattle.std.proofs.Common.{◌≡◌, ℕ, zero, suc, ◌+◌, ◌<◌, ◌≤◌, ◌%◌, ◌^◌, Bool, true, false, cond, List, [], ◌∷◌, ◌++◌, map, length, drop, set, get_or, is_some, Option, Some, None, Result, Ok, Err, refl, ap, sym, subst, ◌∙◌, length-append, arith}
 use Rattle.std.proofs.lemmas.List.{get_or-map, get_or_default, length-map, length-set, map-append}
 use Rattle.std.proofs.lemmas.Option.{slice_get-get_or, slice_get_past, slice_get_within}
 use Rattle.std.proofs.lemmas.List.Sorted.{searchable_from_sorted}
 use Rattle.std.specs.Cmp.{nat_cmp_is, nat_cmp_total, tied_itself}
-use Rattle.std.specs.List.{slice_get, remove}
+use Rattle.std.specs.List.{filter, slice_get, remove}
 use Rattle.std.specs.List.Sorted.{IsSearchInRange, IsBinarySearchResult, IsNonDecreasingBy}
 use Rattle.std.specs.Option.{option_copied, option_map}
 use Rattle.std.specs.Ordering.{nat_cmp, is_eq, is_lt, ordering_index}
@@ -17,8 +17,9 @@ use Rattle.gw_kept.specs.Pairs.{key_of, AreDistinct}
 use Rattle.gw_kept.specs.Classes.{last_place}
 use Rattle.gw_kept.specs.Rows.{present, keys_in, most_places, IsFound}
 use Rattle.gw_kept.specs.Order.{number_at, place_of, IsTaken}
-use Rattle.gw_kept.specs.Arrival.{taken_places, IsArrival, IsRank}
+use Rattle.gw_kept.specs.Arrival.{taken_places, IsArrival, IsRank, IsThinned}
 use Rattle.gw_kept.proofs.Circle.{place_back, next_around}
+use Rattle.gw_kept.proofs.Filters.{filter_map_is}
 use Rattle.gw_kept.proofs.Forgetting.{keys_get}
 use Rattle.gw_kept.proofs.Found.{no_place, place_is}
 use Rattle.gw_kept.proofs.Lists.{below_or_not, map_agree, map_map, map_remove}
@@ -212,6 +213,49 @@ gap_arrived keys first numbers place rank a there = record {
       ∙ ap (map (number_at first)) (sym (taken_gap 0 keys place rank place there (let e : place ≡ 0 + place = omega arith in e)));
   around = a.around;
   few = omega (arith, length-set keys place None, a.few);
+}
+
+-- some of the places at most are left
+thinned_places : (at : ℕ) (keys next : List (Option RequestKey)) (test : ℕ → Bool) → length next ≡ length keys → ((p : ℕ) → IsTaken next p → IsTaken keys p) → ((p q : ℕ) → p < length next → q ≡ at + p → test q ≡ is_some (get_or next p None))
+    → filter test (taken_places at keys) ≡ taken_places at next
+thinned_places at [] [] test size among is = refl
+thinned_places at [] (o ∷ os) test size among is = absurd (omega arith)
+thinned_places at (k ∷ ks) [] test size among is = absurd (omega arith)
+thinned_places at (Some k ∷ ks) (Some m ∷ ms) test size among is =
+    let here : test at ≡ true = is 0 at (omega arith) (omega arith) in
+    ap (λ (b : Bool). cond b (at ∷ filter test (taken_places (suc at) ks)) (filter test (taken_places (suc at) ks))) here
+    ∙ ap (λ (l : List ℕ). at ∷ l) (thinned_places (suc at) ks ms test (omega arith) (λ p t. among (suc p) t) (λ p q l e. is (suc p) q (omega arith) (omega arith)))
+thinned_places at (Some k ∷ ks) (None ∷ ms) test size among is =
+    let here : test at ≡ false = is 0 at (omega arith) (omega arith) in
+    ap (λ (b : Bool). cond b (at ∷ filter test (taken_places (suc at) ks)) (filter test (taken_places (suc at) ks))) here
+    ∙ thinned_places (suc at) ks ms test (omega arith) (λ p t. among (suc p) t) (λ p q l e. is (suc p) q (omega arith) (omega arith))
+thinned_places at (None ∷ ks) (Some m ∷ ms) test size among is = let clash : false ≡ true = among 0 refl in absurd cc
+thinned_places at (None ∷ ks) (None ∷ ms) test size among is = thinned_places (suc at) ks ms test (omega arith) (λ p t. among (suc p) t) (λ p q l e. is (suc p) q (omega arith) (omega arith))
+
+pub thinned_arrived : (keys next : List (Option RequestKey)) (first : ℕ) (numbers : List ℕ) → IsArrival keys first numbers → IsThinned keys next → IsArrival next first (filter (λ n. is_some (get_or next (place_of first n) None)) numbers)
+thinned_arrived keys next first numbers a t =
+    let test : ℕ → Bool = λ n. is_some (get_or next (place_of first n) None) in
+    record {
+      numbered =
+          ap (filter test) a.numbered
+          ∙ filter_map_is test (number_at first) (taken_places 0 keys)
+          ∙ ap (map (number_at first))
+          (thinned_places 0 keys next (λ q. test (number_at first q)) t.size t.among
+          (λ p q l e. let same : q ≡ p = omega arith in ap (λ (n : ℕ). is_some (get_or next n None)) (place_back first q a.around (omega (arith, t.size, a.few, e, l)) ∙ same)));
+      around = a.around;
+      few = omega (arith, t.size, a.few);
+    }
+
+no_items : {X : Type 0} (xs : List X) → length xs ≡ 0 → [] ≡ xs
+no_items [] e = refl
+no_items (x ∷ xs) e = absurd (omega arith)
+
+-- none is left
+pub emptied_arrived : (keys next : List (Option RequestKey)) (first : ℕ) (numbers : List ℕ) → IsArrival keys first numbers → IsThinned keys next → length (present next) ≡ 0 → IsArrival next first []
+emptied_arrived keys next first numbers a t none = record {
+  numbered = ap (map (number_at first)) (no_items (taken_places 0 next) (count_taken 0 next ∙ none));
+  around = a.around;
+  few = omega (arith, t.size, a.few);
 }
 
 pub closed_arrived : (keys : List (Option RequestKey)) (first : ℕ) (numbers next : List ℕ) → IsArrival keys first numbers → length next ≡ length numbers → ((p : ℕ) → p < length next → get_or next p 0 ≡ p) → IsArrival (map (λ k. Some k) (present keys)) 0 next

@@ -1,9 +1,9 @@
 -- What ranges name, range by range; and a row from which what a range names is taken out, pair by pair.
-use Rattle.std.proofs.Common.{◌≡◌, ◌≢◌, ℕ, zero, suc, ◌+◌, ◌<◌, ◌≤◌, ◌&&◌, ◌||◌, nat_le, nat_lt, not, Bool, true, false, cond, bytes_eq, List, [], ◌∷◌, ◌++◌, map, length, take, set, get_or, is_some, Option, Some, None, refl, ap, sym, subst, ◌∙◌, arith}
+use Rattle.std.proofs.Common.{◌≡◌, ◌≢◌, ℕ, zero, suc, ◌+◌, ◌<◌, ◌≤◌, ◌&&◌, ◌||◌, nat_le, nat_lt, not, Bool, true, false, cond, bytes_eq, List, [], ◌∷◌, ◌++◌, map, length, take, drop, set, get_or, is_some, Option, Some, None, refl, ap, sym, subst, ◌∙◌, arith}
 use Rattle.std.proofs.lemmas.Bool.Decides.{nat_tests}
-use Rattle.std.proofs.lemmas.List.{take_more, take_all, get_or_default, get_or-set_other}
+use Rattle.std.proofs.lemmas.List.{take_more, take_all, take-append-drop, length-take-le, get_or_default, get_or_append_left, get_or-set_other, get_or-take}
 use Rattle.std.proofs.lemmas.List.Edits.{length-remove, get_or-remove_below, get_or-remove_above}
-use Rattle.std.specs.List.{filter, remove}
+use Rattle.std.specs.List.{filter, remove, remove_range}
 use Rattle.std.specs.Option.{option_map, unwrap_or}
 use Rattle.gw_msg.specs.declared.message.AckRange.{AckRange}
 use Rattle.gw_kept.specs.declared.entry.Entry.{Entry}
@@ -11,7 +11,8 @@ use Rattle.gw_kept.specs.declared.entry.RequestKey.{RequestKey}
 use Rattle.gw_kept.specs.Pairs.{key_of, kept_list}
 use Rattle.gw_kept.specs.Forgotten.{is_within, is_acknowledged, is_named, forgotten}
 use Rattle.gw_kept.specs.Rows.{Gapped, present, kept_in, keys_in, key_in, left_of}
-use Rattle.gw_kept.specs.Order.{place_of, key_there, IsSorted, IsOrder, IsSpan, IsTaken}
+use Rattle.gw_kept.specs.Arrival.{IsThinned}
+use Rattle.gw_kept.specs.Order.{place_of, key_there, IsMarked, IsSorted, IsOrder, IsSpan, IsTaken}
 use Rattle.gw_kept.proofs.Filters.{few_left}
 use Rattle.gw_kept.proofs.Lists.{below_or_not}
 use Rattle.gw_kept.proofs.Orders.{numbers_are, place_at, others, order_gap, gap_places}
@@ -217,3 +218,46 @@ clear_order mid range before row first numbers start until c = subst (λ (ks : L
 
 pub clear_none : (mid : List ℕ) (range : AckRange) (row : List (Option Entry)) (first : ℕ) (numbers : List ℕ) (start until : ℕ) → (o : IsOrder (keys_in row) first numbers) → IsSpan (keys_in row) o.places mid range (start, until) → until ≤ length numbers → IsClearing mid range row row first numbers start until
 clear_none mid range row first numbers start until o span few = record { keys = keys_in row; same = refl; order = o; span = span; few = few; left = refl }
+
+-- ---- all of a span at once: the numbers from until to before end are as good as gone
+
+less_by_one : {X : Type 0} (xs : List X) (i end : ℕ) → i < end → end ≤ length xs → remove (remove_range xs (suc i) end) i ≡ remove_range xs i end
+less_by_one [] i end l le = absurd (omega arith)
+less_by_one (x ∷ xs) i zero l le = absurd (omega arith)
+less_by_one (x ∷ xs) zero (suc end) l le = refl
+less_by_one {X} (x ∷ xs) (suc i) (suc end) l le = ap (λ (ys : List X). x ∷ ys) (less_by_one xs i end (omega arith) (omega arith))
+
+still_there : {X : Type 0} (xs : List X) (i end : ℕ) (d : X) → i < length xs → get_or (remove_range xs (suc i) end) i d ≡ get_or xs i d
+still_there xs i end d l =
+    get_or_append_left (take (suc i) xs) (drop end xs) d i (omega (arith, length-take-le (suc i) xs (omega arith))) ∙ get_or-take (suc i) xs i d (omega arith)
+
+pub clear_next : (mid : List ℕ) (range : AckRange) (before row next : List (Option Entry)) (first : ℕ) (numbers : List ℕ) (start i until end : ℕ) → until ≡ i + 1 → IsClearing mid range before row first (remove_range numbers until end) start until → start ≤ i → i < end → end ≤ length numbers
+    → next ≡ set row (place_of first (get_or numbers i 0)) None → IsClearing mid range before next first (remove_range numbers i end) start i
+clear_next mid range before row next first numbers start i until end at c le l within is =
+    let one : i + 1 ≡ suc i = omega arith in
+    let rest : List ℕ = remove_range numbers (suc i) end in
+    let c' : IsClearing mid range before row first rest start (i + 1) =
+    subst (λ (n : ℕ). IsClearing mid range before row first (remove_range numbers n end) start (i + 1)) one (subst (λ (n : ℕ). IsClearing mid range before row first (remove_range numbers n end) start n) at c) in
+    subst (λ (ns : List ℕ). IsClearing mid range before next first ns start i) (less_by_one numbers i end l within)
+    (clear_more mid range before row next first rest start i c' le (is ∙ ap (λ (n : ℕ). set row (place_of first n) None) (sym (still_there numbers i end 0 (omega arith)))))
+
+pub clear_begin : (mid : List ℕ) (range : AckRange) (row : List (Option Entry)) (first : ℕ) (numbers : List ℕ) (start end : ℕ) → IsMarked row first numbers mid range (start, end) → end ≤ length numbers → IsClearing mid range row row first (remove_range numbers end end) start end
+clear_begin mid range row first numbers start end m le =
+    subst (λ (ns : List ℕ). IsClearing mid range row row first ns start end) (sym (take-append-drop end numbers)) (clear_none mid range row first numbers start end m.order m.span le)
+
+-- what is left has no pair where there was none
+pub left_thins : (mid : List ℕ) (range : AckRange) (row : List (Option Entry)) → IsThinned (keys_in row) (keys_in (map (left_of mid (range ∷ [])) row))
+left_thins mid range row = record { size = size row; among = among row }
+  where
+    size : (os : List (Option Entry)) → length (keys_in (map (left_of mid (range ∷ [])) os)) ≡ length (keys_in os)
+    size [] = refl
+    size (o ∷ os) = ap (λ (n : ℕ). suc n) (size os)
+
+    one : (o : Option Entry) → is_some (option_map key_of (left_of mid (range ∷ []) o)) ≡ true → is_some (option_map key_of o) ≡ true
+    one None t = t
+    one (Some e) t = refl
+
+    among : (os : List (Option Entry)) (p : ℕ) → IsTaken (keys_in (map (left_of mid (range ∷ [])) os)) p → IsTaken (keys_in os) p
+    among [] p t = t
+    among (o ∷ os) zero t = one o t
+    among (o ∷ os) (suc p) t = among os p t

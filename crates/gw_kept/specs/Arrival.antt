@@ -3,7 +3,7 @@
 use Rattle.std.specs.Prelude.{◌≡◌, ◌≤◌, ◌<◌, ◌^◌, ℕ, suc, List, [], ◌∷◌, map, length, slice_get, Option, Some, None}
 use Rattle.gw_kept.specs.declared.entry.RequestKey.{RequestKey}
 use Rattle.gw_kept.specs.Rows.{most_places}
-use Rattle.gw_kept.specs.Order.{number_at}
+use Rattle.gw_kept.specs.Order.{number_at, IsTaken}
 
 -- the places where something stands, where the first has this one
 abbrev pub taken_places : {X : Type 0} → ℕ → List (Option X) → List ℕ
@@ -21,3 +21,8 @@ pub record IsArrival (keys : List (Option RequestKey)) (first : ℕ) (numbers : 
 abbrev pub IsRank : List (Option RequestKey) → (place : ℕ) → Option ℕ → Type 0
 IsRank keys place (Some rank) = slice_get (taken_places 0 keys) rank ≡ Some place
 IsRank keys place None = ⊥
+
+-- the same places, of which no more are taken
+pub record IsThinned (keys next : List (Option RequestKey)) : Type 0 where
+  pub size : length next ≡ length keys
+  pub among : (p : ℕ) → IsTaken next p → IsTaken keys p

@@ -1,9 +1,9 @@
 //! The kept pairs in order of arrival: which pair has so many before it, and how many are before one.
 
-ghost use Rattle.std.specs.Prelude.{◌≡◌, ◌≤◌, ◌<◌, ◌∷◌, ◌++◌, [], List, Option, Some, None, true, IfOk, drop, length, map, slice_get, slice_set};
+ghost use Rattle.std.specs.Prelude.{◌≡◌, ◌≤◌, ◌<◌, ◌∷◌, ◌++◌, [], List, Option, Some, None, true, IfOk, drop, length, map, is_some, slice_get, slice_index_or, slice_set};
 ghost use Rattle.std.specs.VecDeque.{deque_capacity, deque_len};
 ghost use Rattle.gw_kept.specs.declared.entry.RequestKey.{RequestKey as Key};
-ghost use Rattle.gw_kept.specs.Arrival.{taken_places, IsArrival, IsRank};
+ghost use Rattle.gw_kept.specs.Arrival.{taken_places, IsArrival, IsRank, IsThinned};
 ghost use Rattle.gw_kept.specs.Order.{place_of, IsTaken};
 ghost use Rattle.gw_kept.specs.Rows.{keys_in, most_places, present};
 
@@ -17,6 +17,13 @@ pub struct Arrival {
     pub(crate) numbers: VecDeque<u16>,
     /// The number of the foremost place.
     pub(crate) first: u16,
+}
+
+/// Whether a pair stands in the place that has this number, where the foremost has the first.
+fn is_there(ring: &Ring, first: u16, number: u16) -> bool
+    ensures { result ≡ is_some (slice_index_or (keys_in ring.now.items) (place_of first number) None) }
+{
+    pair_at(ring, usize::from(number.wrapping_sub(first))).is_some()
 }
 
 impl Arrival {
@@ -130,6 +137,23 @@ impl Arrival {
         if let Some(rank) = self.rank(place) {
             self.numbers.remove(rank);
         }
+    }
+
+    /// Leaves out all pairs, where only gaps are left.
+    pub fn leave_all(&mut self)
+        ensures arrival { (keys next : List (Option Key)) → IsArrival keys self.old.first self.old.numbers.items → IsThinned keys next → length (present next) ≡ 0 → IsArrival next self.new.first self.new.numbers.items }
+        ensures room { deque_capacity self.new.numbers ≡ deque_capacity self.old.numbers }
+    {
+        self.numbers.clear();
+    }
+
+    /// Leaves out each pair in whose place there is a gap by now: one look at every pair.
+    pub fn leave_gaps(&mut self, ring: &Ring)
+        ensures arrival { (keys : List (Option Key)) → IsArrival keys self.old.first self.old.numbers.items → IsThinned keys (keys_in ring.now.items) → IsArrival (keys_in ring.now.items) self.new.first self.new.numbers.items }
+        ensures room { deque_capacity self.new.numbers ≡ deque_capacity self.old.numbers }
+    {
+        let first = self.first;
+        self.numbers.retain(|number| is_there(ring, first, *number));
     }
 
     /// Numbers the pairs anew, as they stand when the gaps are closed.

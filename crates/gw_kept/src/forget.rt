@@ -1,20 +1,41 @@
 //! What an acknowledgement removes: the pairs that a range names stand together in the order, and each leaves a gap.
 
-ghost use Rattle.std.specs.Prelude.{◌≡◌, ◌≤◌, ◌<◌, ◌∷◌, [], ℕ, map, length, nat_le, nat_lt, not};
+ghost use Rattle.std.specs.Prelude.{◌≡◌, ◌≤◌, ◌<◌, ◌∷◌, ◌++◌, [], ℕ, List, map, length, slice_index, nat_le, nat_lt, not};
 ghost use Rattle.std.specs.VecDeque.{deque_capacity, deque_len};
+ghost use Rattle.std.specs.List.{remove_range};
 ghost use Rattle.std.specs.Ordering.{is_gt, is_lt};
 ghost use Rattle.circular_buffer.specs.Buffer.{buffer};
+ghost use Rattle.gw_msg.specs.declared.message.AckRange.{AckRange as Range};
 ghost use Rattle.gw_kept.specs.declared.entry.RequestKey.{RequestKey as Key};
 ghost use Rattle.gw_kept.specs.Rows.{keys_in, left_of};
 ghost use Rattle.gw_kept.specs.Arrival.{IsArrival};
-ghost use Rattle.gw_kept.specs.Order.{key_cmp, key_there, IsOrder, IsSpan};
+ghost use Rattle.gw_kept.specs.Order.{key_cmp, key_there, IsMarked, IsOrder, IsSpan};
 
 use crate::arrival::Arrival;
 use crate::entry::RequestKey;
 use crate::order::Order;
-use crate::ring::Ring;
+use crate::ring::{Ring, let_go};
 use gw_base::Mid;
 use gw_msg::AckRange;
+
+/// So few pairs go one after another.
+const FEW: usize = 4;
+
+/// More go all at once where they are more than one in so many of those that are kept: a pass over all is less then than to take
+/// out one after another.
+const ONE_IN: usize = 32;
+
+/// The number that stands here in a queue of these two parts.
+fn number_at(front: &[u16], back: &[u16], at: usize) -> u16
+    requires { at < length (front.now ++ back.now) }
+    ensures { result ≡ slice_index (front.now ++ back.now) at }
+{
+    if at < front.len() {
+        front[at]
+    } else {
+        back[at - front.len()]
+    }
+}
 
 impl Order {
     /// From where on in the order no key comes before this one.
@@ -54,7 +75,45 @@ impl Order {
         (self.start_of(ring, &first), self.end_of(ring, &last))
     }
 
-    /// Takes out each pair of this sender whose number is in the range, the last in the order first: so few numbers move.
+    /// Lets the pairs go that stand in the order from the one place to before the other: each leaves a gap.
+    fn clear(&self, ring: &mut Ring, start: usize, end: usize)
+        requires in_order { start ≤ end }
+        requires within { end ≤ deque_len self.now.numbers }
+        ensures left { (mid : List ℕ) (range : Range) → IsMarked ring.old.items self.now.first self.now.numbers.items mid range (start, end) → ring.new.items ≡ map (left_of mid (range ∷ [])) ring.old.items }
+        ensures order { (mid : List ℕ) (range : Range) → IsMarked ring.old.items self.now.first self.now.numbers.items mid range (start, end) → IsOrder (keys_in ring.new.items) self.now.first (remove_range self.now.numbers.items start end) }
+        ensures capacity { ring.new.capacity ≡ ring.old.capacity }
+    {
+        let (front, back) = self.numbers.as_slices();
+        let mut at = end;
+        while start < at {
+            at -= 1;
+            let_go(ring, self.place(number_at(front, back, at)));
+        }
+    }
+
+    /// Takes out the pairs that stand in the order from the one place to before the other, all at once. The work is that of passing
+    /// over the numbers a few times.
+    fn take_out_all(&mut self, ring: &mut Ring, arrival: &mut Arrival, start: usize, end: usize)
+        requires in_order { start ≤ end }
+        requires within { end ≤ deque_len self.old.numbers }
+        ensures left { (mid : List ℕ) (range : Range) → IsMarked ring.old.items self.old.first self.old.numbers.items mid range (start, end) → ring.new.items ≡ map (left_of mid (range ∷ [])) ring.old.items }
+        ensures order { (mid : List ℕ) (range : Range) → IsMarked ring.old.items self.old.first self.old.numbers.items mid range (start, end) → IsOrder (keys_in ring.new.items) self.new.first self.new.numbers.items }
+        ensures arrival { (mid : List ℕ) (range : Range) → IsMarked ring.old.items self.old.first self.old.numbers.items mid range (start, end) → IsArrival (keys_in ring.old.items) arrival.old.first arrival.old.numbers.items → IsArrival (keys_in ring.new.items) arrival.new.first arrival.new.numbers.items }
+        ensures capacity { ring.new.capacity ≡ ring.old.capacity }
+        ensures room { (deque_capacity self.new.numbers ≡ deque_capacity self.old.numbers) × (deque_capacity arrival.new.numbers ≡ deque_capacity arrival.old.numbers) }
+    {
+        self.clear(ring, start, end);
+        if end - start == self.numbers.len() {
+            self.numbers.clear();
+            arrival.leave_all();
+        } else {
+            self.numbers.drain(start..end);
+            arrival.leave_gaps(ring);
+        }
+    }
+
+    /// Takes out each pair of this sender whose number is in the range: all at once where they are many, and else the last in the
+    /// order first, so that few numbers move.
     pub fn forget(&mut self, ring: &mut Ring, arrival: &mut Arrival, mid: &Mid, range: &AckRange)
         requires order { IsOrder (keys_in ring.old.items) self.old.first self.old.numbers.items }
         requires arrival { IsArrival (keys_in ring.old.items) arrival.old.first arrival.old.numbers.items }
@@ -64,6 +123,11 @@ impl Order {
         ensures room { (deque_capacity self.new.numbers ≡ deque_capacity self.old.numbers) × (deque_capacity arrival.new.numbers ≡ deque_capacity arrival.old.numbers) }
     {
         let (start, end) = self.span(ring, mid, range);
+        let few = FEW.max(self.numbers.len() / ONE_IN);
+        if few < end.saturating_sub(start) {
+            self.take_out_all(ring, arrival, start, end);
+            return;
+        }
         let mut until = end;
         while start < until {
             until -= 1;

@@ -34,6 +34,13 @@ pub fn take(ring: &mut Ring, place: usize) -> Option<Entry>
     }
 }
 
+/// Lets the pair at a place go: it leaves a gap.
+pub fn let_go(ring: &mut Ring, place: usize)
+    ensures { ring.new ≡ buffer (slice_set ring.old.items place None) ring.old.capacity }
+{
+    take(ring, place);
+}
+
 /// Brings the pair at a place to one in front of it, or leaves it where it is.
 fn bring(ring: &mut Ring, from: usize, to: usize)
     requires { to ≤ from }

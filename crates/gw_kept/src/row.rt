@@ -181,7 +181,9 @@ impl Row {
     }
 
     /// Removes what an acknowledgement names, and leaves gaps. It takes no memory. For n ranges and k pairs it costs n log k steps,
-    /// and for each pair that goes log k steps and two moves of at most k bytes.
+    /// and a constant for each pair that goes. Where a range names more than four of the pairs, and more than one in 32, a few
+    /// passes over the numbers of all come on top: some 32 steps for each that goes. Else each that goes costs log k steps and two
+    /// moves of at most k bytes.
     pub fn forget(&mut self, mid: &Mid, ranges: &[AckRange])
         ensures { kept_in self.new ≡ forgotten (kept_in self.old) mid.now ranges.now }
     {

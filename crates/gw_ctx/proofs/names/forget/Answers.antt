@@ -1,8 +1,7 @@
 use Rattle.std.proofs.Common.{◌≡◌, ◌++◌, List, ℕ, length, get_or, take, drop, sym, subst, map, ap, ◌∙◌, arith}
 use Rattle.std.proofs.lemmas.List.{take_at, length-map}
 use Rattle.gw_base.specs.declared.context_words.Link.{Link}
-use Rattle.gw_ctx.specs.declared.pairs.Pair.{Pair}
-use Rattle.gw_ctx.specs.Places.{AreKept, links_at, renumbered}
+use Rattle.gw_ctx.specs.Places.{Pair, AreKept, links_at, renumbered}
 use Rattle.gw_ctx.proofs.Numbers.{IsSwapped}
 use Rattle.gw_ctx.proofs.Places.{forgotten_kept, forgotten_same}
 use Rattle.gw_ctx.proofs.names.forget.Goals as goal

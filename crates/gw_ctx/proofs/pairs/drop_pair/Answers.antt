@@ -1,7 +1,6 @@
 use Rattle.std.proofs.Common.{◌≡◌, ◌∙◌, ap, List, sym, Some, None}
 use Rattle.std.specs.List.{position}
-use Rattle.gw_ctx.specs.declared.pairs.Pair.{Pair}
-use Rattle.gw_ctx.specs.Places.{joins}
+use Rattle.gw_ctx.specs.Places.{Pair, joins}
 use Rattle.gw_ctx.proofs.Lists.{removed, none_removed}
 use Rattle.gw_ctx.proofs.Singles.{single_one}
 use Rattle.gw_ctx.proofs.pairs.drop_pair.Goals as goal

@@ -1,14 +1,12 @@
 use Rattle.std.proofs.Common.{◌<◌, length, get_or, set, ap, ◌∙◌, arith}
 use Rattle.std.proofs.lemmas.List.{get_or_default}
 use Rattle.std.proofs.lemmas.List.Edits.{map_over_more}
-use Rattle.gw_base.specs.declared.context_words.Flow.TheVariants.{Bothway}
-use Rattle.gw_ctx.specs.declared.pairs.Pair.{Pair}
-use Rattle.gw_ctx.specs.Places.{renumbered}
+use Rattle.gw_ctx.specs.Places.{Pair, renumbered}
 use Rattle.gw_ctx.proofs.pairs.renumber.Goals as goal
 
 pub loop-pair-preserved : goal.loop-pair-preserved
 loop-pair-preserved c =
-    let none : Pair = record { a = 0; b = 0; flow = Bothway } in
+    let none : Pair = c.pair-item.result in
     let old : Pair = get_or c.loop-pair.pairs c.loop-pair.pair-index none in
     let within : c.loop-pair.pair-index < length c.loop-pair.pairs = omega arith in
     ap (λ (p : Pair). set c.loop-pair.pairs c.loop-pair.pair-index p) c.follow.ensures

@@ -3,8 +3,7 @@ use Rattle.std.specs.List.{position, All}
 use Rattle.std.proofs.lemmas.List.Elements.{filter_passes}
 use Rattle.gw_base.specs.declared.context_words.Link.{Link}
 use Rattle.gw_ctx.specs.Contexts.{links_without}
-use Rattle.gw_ctx.specs.Places.{AreKept, is_off, links_at}
-use Rattle.gw_ctx.specs.declared.pairs.Pair.{Pair}
+use Rattle.gw_ctx.specs.Places.{Pair, AreKept, is_off, links_at}
 use Rattle.gw_ctx.proofs.Places.{kept_filtered, without_there, without_none}
 use Rattle.gw_ctx.proofs.links.Links.drop_of.Goals as goal
 

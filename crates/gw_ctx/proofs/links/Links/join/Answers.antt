@@ -1,8 +1,7 @@
 use Rattle.std.proofs.Common.{◌≡◌, ◌∙◌, ℕ, List, ◌++◌, ◌∷◌, [], filter, sym, ap, subst}
 use Rattle.gw_base.specs.declared.context_words.Link.{Link}
 use Rattle.gw_ctx.specs.Contexts.{links_beside}
-use Rattle.gw_ctx.specs.Places.{AreKept, joins_others, links_at, with_name}
-use Rattle.gw_ctx.specs.declared.pairs.Pair.{Pair}
+use Rattle.gw_ctx.specs.Places.{Pair, AreKept, joins_others, links_at, with_name}
 use Rattle.gw_ctx.proofs.Places.{joined_kept, joined_same}
 use Rattle.gw_ctx.proofs.links.Links.join.Goals as goal
 

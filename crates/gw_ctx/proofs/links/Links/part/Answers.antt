@@ -2,8 +2,7 @@ use Rattle.std.proofs.Common.{◌≡◌, ◌∙◌, ℕ, List, bytes_eq, Some, N
 use Rattle.std.specs.List.{position}
 use Rattle.gw_base.specs.declared.context_words.Link.{Link}
 use Rattle.gw_ctx.specs.Contexts.{links_beside}
-use Rattle.gw_ctx.specs.Places.{AreKept, joins_others, links_at}
-use Rattle.gw_ctx.specs.declared.pairs.Pair.{Pair}
+use Rattle.gw_ctx.specs.Places.{Pair, AreKept, joins_others, links_at}
 use Rattle.gw_ctx.proofs.Lists.{place_within}
 use Rattle.gw_ctx.proofs.Places.{found_there, kept_filtered, beside_there, beside_no_first, beside_no_second}
 use Rattle.gw_ctx.proofs.links.Links.part.Goals as goal

@@ -1,0 +1,18 @@
+use Rattle.std.proofs.Common.{◌≡◌, ◌≤◌, ℕ, List}
+use Rattle.std.specs.List.{remove_range}
+use Rattle.gw_msg.specs.declared.message.AckRange.{AckRange}
+use Rattle.gw_kept.specs.Order.{IsMarked}
+use Rattle.gw_kept.proofs.Forgetting.{IsClearing}
+use Rattle.gw_kept.proofs.order.Order.clear.Given as goal
+
+-- the last ones so far have left gaps, and from the first on the others still stand
+abbrev pub invariant-loop-at : goal.invariant-loop-at
+invariant-loop-at l = record {
+  clearing : (mid : List ℕ) (range : AckRange) → IsMarked l.fn.ring.items l.self.first l.self.numbers.items mid range (l.start, l.end) → IsClearing mid range l.fn.ring.items l.ring.items l.self.first (remove_range l.self.numbers.items l.at l.end) l.start l.at;
+  low : l.start ≤ l.at;
+  high : l.at ≤ l.end;
+  capacity : l.ring.capacity ≡ l.fn.ring.capacity;
+}
+
+abbrev pub decreases-loop-at : goal.decreases-loop-at
+decreases-loop-at l = l.at
