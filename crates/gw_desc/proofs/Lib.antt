@@ -15,3 +15,4 @@ pub mod FillForms
 pub mod FillChain
 pub mod FillKept
 pub mod FillEnds
+pub mod WordLengths

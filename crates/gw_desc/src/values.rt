@@ -103,19 +103,25 @@ pub fn item_of(word: &[u8]) -> Option<AuditItem>
     }
 }
 
-/// Whether a property of a LocalControl is Mode.
-#[tactic(auto, unfolding(crate::specs::Values::is_mode))]
+/// Whether a property of a LocalControl is Mode. Most others are told by the length of their name.
+#[tactic(auto, using(crate::proofs::WordLengths::no_mode), unfolding(crate::specs::Values::is_mode))]
 pub fn is_mode(name: &[u8]) -> bool
     ensures { result ≡ is_mode name.now }
 {
+    if name.len() != 4 && name.len() != 2 {
+        return false;
+    }
     matches!(token_of(name), Some(Token::Mode))
 }
 
-/// Whether a property of a TerminationState is ServiceStates.
-#[tactic(auto, unfolding(crate::specs::Values::is_service_states))]
+/// Whether a property of a TerminationState is ServiceStates. Most others are told by the length of their name.
+#[tactic(auto, using(crate::proofs::WordLengths::no_states), unfolding(crate::specs::Values::is_service_states))]
 pub fn is_service_states(name: &[u8]) -> bool
     ensures { result ≡ is_service_states name.now }
 {
+    if name.len() != 13 && name.len() != 2 {
+        return false;
+    }
     matches!(token_of(name), Some(Token::ServiceStates))
 }
 
