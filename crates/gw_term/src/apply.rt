@@ -1,7 +1,8 @@
 //! What descriptors do to a termination: all of it, or nothing.
 
-ghost use Rattle.std.specs.Prelude.{◌≡◌, ◌++◌, [], OnOk, None};
-ghost use Rattle.gw_term.specs.Merge.{filled_in};
+ghost use Rattle.std.specs.Prelude.{◌≡◌, ◌++◌, [], OnOk, None, Some, true};
+ghost use Rattle.gw_term.specs.Merge.{filled_in, merged_properties, merged_service};
+ghost use Rattle.gw_term.specs.Named.{named_by};
 ghost use Rattle.gw_term.specs.Record.{unset};
 ghost use Rattle.gw_term.specs.Applies.{IsMergedInto, merging_of};
 
@@ -20,19 +21,16 @@ use std::alloc::Global;
 /// The streams whose Local was filled, in rising order.
 pub type Filled = Items<FilledStream>;
 
-/// The stream's Local goes last, if it was filled.
+/// The stream's Local goes last. Not inlined, since few Locals are filled.
+#[inline(never)]
 fn push_filled(
     alloc: Global,
     number: u8,
-    is_filled: bool,
     stream: &Option<Held<Stream>>,
     filled: &mut Filled,
 ) -> Result<(), NoMemory>
-    ensures { OnOk result (filled.new ≡ filled.old ++ filled_in number (merging_of stream.now is_filled)) }
+    ensures { OnOk result (filled.new ≡ filled.old ++ filled_in number (merging_of stream.now true)) }
 {
-    if !is_filled {
-        return Ok(());
-    }
     let Some(stream) = stream else {
         return Ok(());
     };
@@ -43,35 +41,50 @@ fn push_filled(
     Ok(())
 }
 
-/// What the descriptors make of the old record is put in a new one, in which nothing is set; the streams whose Local was filled
-/// are told in rising order.
+/// The stream's Local goes last, if it was filled.
+#[inline]
+fn tell(
+    alloc: Global,
+    number: u8,
+    is_filled: bool,
+    stream: &Option<Held<Stream>>,
+    filled: &mut Filled,
+) -> Result<(), NoMemory>
+    ensures { OnOk result (filled.new ≡ filled.old ++ filled_in number (merging_of stream.now is_filled)) }
+{
+    if is_filled {
+        return push_filled(alloc, number, stream, filled);
+    }
+    Ok(())
+}
+
+/// What the descriptors make of the streams and of the tails is put in a record that has none, in which the rest is merged; the
+/// streams whose Local was filled are told in rising order.
 #[tactic(auto, unfolding(crate::specs::Merge::merged, crate::specs::Merge::merged_media, crate::specs::Merge::filled_by))]
 fn merge_into(
     alloc: Global,
     sent: &Sent<'_, '_>,
+    named: &Named,
     old: &Termination,
     new: &mut Termination,
     filled: &mut Filled,
 ) -> Result<(), ApplyFault>
+    requires named { named.now ≡ named_by sent.now.descriptors.now }
     requires slot { sent.now.slot ≡ old.now.slot }
-    requires fresh { new.old ≡ unset old.now.place old.now.service old.now.slot }
+    requires rest { merged_properties sent.now.descriptors.now old.now.properties ≡ Some new.old.properties }
+    requires fresh { new.old ≡ record (unset old.now.place (merged_service sent.now.descriptors.now old.now.service) old.now.slot) { properties = new.old.properties } }
     requires none { filled.old ≡ [] }
     ensures { IsMergedInto sent.now.rules.now sent.now.descriptors.now old.now new.new filled.new result }
 {
-    let named = Named::by(sent.descriptors);
-    let properties = old.properties.as_slice();
-    let properties = merged_properties(alloc, named.states, sent.descriptors, properties)?;
-    put(&mut new.properties, properties);
-    new.service = merged_service(named.states, sent.descriptors, old.service);
     let first = merge_stream(alloc, sent, 1, named.first, &old.first, &mut new.first)?;
     let second = merge_stream(alloc, sent, 2, named.second, &old.second, &mut new.second)?;
     let third = merge_stream(alloc, sent, 3, named.third, &old.third, &mut new.third)?;
     let fourth = merge_stream(alloc, sent, 4, named.fourth, &old.fourth, &mut new.fourth)?;
-    push_filled(alloc, 1, first, &new.first, filled)?;
-    push_filled(alloc, 2, second, &new.second, filled)?;
-    push_filled(alloc, 3, third, &new.third, filled)?;
-    push_filled(alloc, 4, fourth, &new.fourth, filled)?;
-    merge_tails(alloc, &named, sent.descriptors, old, new)?;
+    tell(alloc, 1, first, &new.first, filled)?;
+    tell(alloc, 2, second, &new.second, filled)?;
+    tell(alloc, 3, third, &new.third, filled)?;
+    tell(alloc, 4, fourth, &new.fourth, filled)?;
+    merge_tails(alloc, named, sent.descriptors, old, new)?;
     Ok(())
 }
 
@@ -100,6 +113,7 @@ impl Termination {
     /// # Errors
     ///
     /// `Code(InsufficientResources)` where a list would hold more than 32 properties; `NoMemory`.
+    #[tactic(auto, unfolding(crate::specs::Merge::merged, crate::specs::Merge::merged_media))]
     pub fn merged(
         &self,
         alloc: Global,
@@ -108,15 +122,19 @@ impl Termination {
     ) -> Result<Applied, ApplyFault>
         ensures { IsMerged rules.now descriptors.now self.now result }
     {
-        let fresh = Termination::unset(alloc, self.place, self.service, self.slot);
-        let mut record = Held::new(alloc, fresh)?;
+        let named = Named::by(descriptors);
+        let own = self.properties.as_slice();
+        let properties = merged_properties(alloc, named.states, descriptors, own)?;
+        let service = merged_service(named.states, descriptors, self.service);
+        let begun = Termination::begun(self.place, service, self.slot, properties);
+        let mut record = Held::new(alloc, begun)?;
         let mut filled = Items::new(alloc);
         let sent = Sent {
             rules,
             slot: self.slot,
             descriptors,
         };
-        merge_into(alloc, &sent, self, record.get_mut(), &mut filled)?;
+        merge_into(alloc, &sent, &named, self, record.get_mut(), &mut filled)?;
         Ok(Applied { record, filled })
     }
 

@@ -1,6 +1,7 @@
 //! Copies of what is kept: of texts that stand in a datagram, and of texts of a record.
 
-ghost use Rattle.std.specs.Prelude.{◌≡◌, IfOk, OnOk, Some};
+ghost use Rattle.std.specs.Prelude.{◌≡◌, IfOk, OnOk, None, Some};
+ghost use Rattle.gw_term.specs.Applies.{HasNoStreams, HasNoTails};
 
 use crate::record::{Stream, Termination};
 use gw_base::{Held, Items, NoMemory, Span};
@@ -113,8 +114,8 @@ pub(crate) fn put<T: Drop>(place: &mut T, value: T)
     *place = value;
 }
 
-/// The stream is copied to a place. Inlined four times it would have each copy of a record clear a larger frame, whether streams
-/// are there or not.
+/// The stream is copied to a place. Inlined it would have each copy of a record clear a larger frame, whether streams are there or
+/// not.
 #[inline(never)]
 fn copy_held_stream(
     alloc: Global,
@@ -127,19 +128,20 @@ fn copy_held_stream(
     Ok(())
 }
 
-/// The stream is copied to a place, if it is there.
+/// The stream is copied to an empty place, if it is there.
+#[inline]
 pub(crate) fn copy_stream(
     alloc: Global,
     stream: &Option<Held<Stream>>,
     copy: &mut Option<Held<Stream>>,
 ) -> Result<(), AllocError>
+    requires { copy.old ≡ None }
     ensures { OnOk result (copy.new ≡ stream.now) }
 {
-    if let Some(stream) = stream {
-        return copy_held_stream(alloc, stream.get(), copy);
+    match stream {
+        Some(stream) => copy_held_stream(alloc, stream.get(), copy),
+        None => Ok(()),
     }
-    put(copy, None);
-    Ok(())
 }
 
 /// The tail is copied to a place. Not inlined, as that of a stream.
@@ -155,23 +157,25 @@ fn copy_held_tail(
     Ok(())
 }
 
-/// The tail is copied to a place, if it is there.
+/// The tail is copied to an empty place, if it is there.
+#[inline]
 pub(crate) fn copy_tail(
     alloc: Global,
     tail: &Option<Held<KeptTail>>,
     copy: &mut Option<Held<KeptTail>>,
 ) -> Result<(), AllocError>
+    requires { copy.old ≡ None }
     ensures { OnOk result (copy.new ≡ tail.now) }
 {
-    if let Some(tail) = tail {
-        return copy_held_tail(alloc, tail.get(), copy);
+    match tail {
+        Some(tail) => copy_held_tail(alloc, tail.get(), copy),
+        None => Ok(()),
     }
-    put(copy, None);
-    Ok(())
 }
 
-/// The streams are copied to a record.
+/// The streams are copied to a record that has none.
 fn copy_streams(alloc: Global, old: &Termination, copy: &mut Termination) -> Result<(), AllocError>
+    requires { HasNoStreams copy.old }
     ensures { OnOk result (copy.new ≡ record copy.old { first = old.now.first; second = old.now.second; third = old.now.third; fourth = old.now.fourth }) }
 {
     copy_stream(alloc, &old.first, &mut copy.first)?;
@@ -180,8 +184,9 @@ fn copy_streams(alloc: Global, old: &Termination, copy: &mut Termination) -> Res
     copy_stream(alloc, &old.fourth, &mut copy.fourth)
 }
 
-/// The tails are copied to a record.
+/// The tails are copied to a record that has none.
 fn copy_tails(alloc: Global, old: &Termination, copy: &mut Termination) -> Result<(), AllocError>
+    requires { HasNoTails copy.old }
     ensures { OnOk result (copy.new ≡ record copy.old { events = old.now.events; signals = old.now.signals; digit_map = old.now.digit_map; event_buffer = old.now.event_buffer }) }
 {
     copy_tail(alloc, &old.events, &mut copy.events)?;

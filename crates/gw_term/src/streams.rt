@@ -1,6 +1,6 @@
 //! Streams: what the parts of a Media do to each.
 
-ghost use Rattle.std.specs.Prelude.{◌≡◌, ◌≤◌, IfOk, true};
+ghost use Rattle.std.specs.Prelude.{◌≡◌, ◌≤◌, IfOk, None, true};
 ghost use Rattle.gw_desc.specs.declared.descriptor.StreamPart.TheVariants.{Local};
 ghost use Rattle.std.specs.List.{flat_map, list_any};
 ghost use Rattle.gw_term.specs.Merge.{put_control, local_text, is_filled, put_part, begun, parts_in, parts_in_part, is_named_in, merged_stream, each};
@@ -242,8 +242,9 @@ fn merge_named(
     Ok(filled)
 }
 
-/// The stream of this number after the descriptors is put in a place; whether its Local was filled. One that is not named is
-/// copied, if it is there.
+/// The stream of this number after the descriptors is put in an empty place; whether its Local was filled. One that is not named
+/// is copied, if it is there.
+#[inline]
 #[tactic(auto, unfolding(crate::specs::Merge::merged_stream))]
 pub(crate) fn merge_stream(
     alloc: Global,
@@ -256,6 +257,7 @@ pub(crate) fn merge_stream(
     requires first { 1 ≤ number }
     requires last { number ≤ 4 }
     requires named { is_named ≡ list_any (is_named_in number) sent.now.descriptors.now }
+    requires empty { new.old ≡ None }
     ensures { IsStreamMerged result new.new (merged_stream sent.now.rules.now sent.now.slot number sent.now.descriptors.now old.now) }
 {
     if is_named {

@@ -1,10 +1,11 @@
 //! Tails: what is kept of Events, Signals, DigitMap and EventBuffer.
 
-ghost use Rattle.std.specs.Prelude.{◌≡◌, bytes_eq, codes, IfOk, OnOk};
+ghost use Rattle.std.specs.Prelude.{◌≡◌, bytes_eq, codes, IfOk, OnOk, None};
 ghost use Rattle.gw_text.specs.SpaceScan.{skip};
 ghost use Rattle.std.specs.List.{list_any};
 ghost use Rattle.gw_desc.specs.Checks.{is_kept};
 ghost use Rattle.gw_desc.specs.declared.descriptor.KeptKind.TheVariants.{Events, Signals, DigitMap, EventBuffer};
+ghost use Rattle.gw_term.specs.Applies.{HasNoTails};
 ghost use Rattle.gw_term.specs.Named.{named_by};
 ghost use Rattle.gw_term.specs.Merge.{has_blank_inside, is_blank_group, kept_tail, merged_tail, tail_after};
 
@@ -73,7 +74,7 @@ fn put_tail(
     Ok(())
 }
 
-/// The tail of this kind after the descriptors, one of which names it, is put in a place.
+/// The tail of this kind after the descriptors, one of which names it, is put in an empty place.
 #[inline(never)]
 fn merge_named(
     alloc: Global,
@@ -82,6 +83,7 @@ fn merge_named(
     old: &Option<Held<KeptTail>>,
     new: &mut Option<Held<KeptTail>>,
 ) -> Result<(), AllocError>
+    requires { new.old ≡ None }
     ensures { OnOk result (new.new ≡ merged_tail kind descriptors.now old.now) }
 {
     copy_tail(alloc, old, new)?;
@@ -91,7 +93,8 @@ fn merge_named(
     Ok(())
 }
 
-/// The tail of this kind after the descriptors is put in a place. One that is not named is copied, if it is there.
+/// The tail of this kind after the descriptors is put in an empty place. One that is not named is copied, if it is there.
+#[inline]
 #[tactic(auto, using(crate::proofs::Naming::tail_stays))]
 fn merge_tail(
     alloc: Global,
@@ -101,7 +104,8 @@ fn merge_tail(
     old: &Option<Held<KeptTail>>,
     new: &mut Option<Held<KeptTail>>,
 ) -> Result<(), AllocError>
-    requires { is_named ≡ list_any (is_kept kind) descriptors.now }
+    requires named { is_named ≡ list_any (is_kept kind) descriptors.now }
+    requires empty { new.old ≡ None }
     ensures { OnOk result (new.new ≡ merged_tail kind descriptors.now old.now) }
 {
     if is_named {
@@ -110,7 +114,7 @@ fn merge_tail(
     copy_tail(alloc, old, new)
 }
 
-/// The tails after the descriptors are put in a record.
+/// The tails after the descriptors are put in a record that has none.
 pub(crate) fn merge_tails(
     alloc: Global,
     named: &Named,
@@ -118,7 +122,8 @@ pub(crate) fn merge_tails(
     old: &Termination,
     new: &mut Termination,
 ) -> Result<(), AllocError>
-    requires { named.now ≡ named_by descriptors.now }
+    requires named { named.now ≡ named_by descriptors.now }
+    requires empty { HasNoTails new.old }
     ensures { OnOk result (new.new ≡ record new.old { events = merged_tail Events descriptors.now old.now.events; signals = merged_tail Signals descriptors.now old.now.signals; digit_map = merged_tail DigitMap descriptors.now old.now.digit_map; event_buffer = merged_tail EventBuffer descriptors.now old.now.event_buffer }) }
 {
     merge_tail(
