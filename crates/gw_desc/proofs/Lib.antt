@@ -16,3 +16,4 @@ pub mod FillChain
 pub mod FillKept
 pub mod FillEnds
 pub mod WordLengths
+pub mod Few
