@@ -140,6 +140,9 @@ pub(crate) fn merged_properties(
     requires { is_named ≡ list_any has_states descriptors.now }
     ensures { Yields result (merged_properties descriptors.now old.now) }
 {
+    if !is_named && old.is_empty() {
+        return Ok(Items::new(alloc));
+    }
     let mut list = copied_properties(alloc, old)?;
     if is_named {
         put_all_states(alloc, descriptors, &mut list)?;
