@@ -1,7 +1,6 @@
 -- What descriptors name, from one element to the next.
-use Rattle.std.proofs.Common.{◌≡◌, ℕ, ◌+◌, ◌<◌, ◌||◌, Bool, false, List, [], ◌∷◌, length, get_or, take, Option, refl, ap, sym, ◌∙◌}
+use Rattle.std.proofs.Common.{◌≡◌, ℕ, ◌+◌, ◌<◌, ◌||◌, Bool, true, false, List, [], ◌∷◌, length, get_or, take, Option, refl, ap, sym, ◌∙◌}
 use Rattle.std.proofs.lemmas.Bool.{or_parts}
-use Rattle.std.proofs.Math.Bool.{or_assoc}
 use Rattle.std.proofs.lemmas.List.Folds.{list_any_more}
 use Rattle.std.specs.List.{flat_map, list_any}
 use Rattle.gw_desc.specs.Checks.{is_state, is_kept, same_kept}
@@ -13,7 +12,7 @@ use Rattle.gw_desc.specs.declared.descriptor.MediaPart.{MediaPart}
 use Rattle.gw_desc.specs.declared.descriptor.MediaPart.TheVariants as media
 use Rattle.gw_desc.specs.declared.descriptor.Tail.{Tail}
 use Rattle.gw_term.specs.Merge.{is_named_in, media_parts, merged_tail, names_stream, states_in, states_in_part}
-use Rattle.gw_term.specs.Named.{has_states, named_by, with_descriptor, with_part, with_parts}
+use Rattle.gw_term.specs.Named.{has_states, named_by, noted, with_descriptor, with_part, with_parts}
 use Rattle.gw_term.specs.declared.named.Named.{Named}
 
 -- without a TerminationState no property is named
@@ -44,8 +43,23 @@ tail_stays kind (descriptor.Other word ∷ ds) old h = tail_stays kind ds old h
 one_more : {X : Type 0} (p : X → Bool) (xs : List X) (i : ℕ) (x : X) → i < length xs → x ≡ get_or xs i x → list_any p (take (i + 1) xs) ≡ (list_any p (take i xs) || p x)
 one_more p xs i x h is = list_any_more p xs i x h ∙ ap (λ y. list_any p (take i xs) || p y) (sym is)
 
-grown : {X : Type 0} (p : X → Bool) (b : Bool) (xs : List X) (i : ℕ) (x : X) → i < length xs → x ≡ get_or xs i x → ((b || list_any p (take i xs)) || p x) ≡ (b || list_any p (take (i + 1) xs))
-grown p b xs i x h is = or_assoc b (list_any p (take i xs)) (p x) ∙ ap (λ y. b || y) (sym (one_more p xs i x h is))
+noted_one : (a b : Bool) → noted b a ≡ (a || b)
+noted_one true true = refl
+noted_one true false = refl
+noted_one false true = refl
+noted_one false false = refl
+
+noted_more : (a b before : Bool) → noted b (noted a before) ≡ noted (a || b) before
+noted_more true true before = refl
+noted_more true false before = refl
+noted_more false true before = refl
+noted_more false false before = refl
+
+grown : {X : Type 0} (p : X → Bool) (before : Bool) (xs : List X) (i : ℕ) (x : X) → i < length xs → x ≡ get_or xs i x → noted (p x) (noted (list_any p (take i xs)) before) ≡ noted (list_any p (take (i + 1) xs)) before
+grown p before xs i x h is = noted_more (list_any p (take i xs)) (p x) before ∙ ap (λ y. noted y before) (sym (one_more p xs i x h is))
+
+begun : {X : Type 0} (p : X → Bool) (xs : List X) (i : ℕ) (x : X) → i < length xs → x ≡ get_or xs i x → noted (p x) (list_any p (take i xs)) ≡ list_any p (take (i + 1) xs)
+begun p xs i x h is = noted_one (list_any p (take i xs)) (p x) ∙ sym (one_more p xs i x h is)
 
 -- one part more
 pub part_noted : (parts : List MediaPart) (i : ℕ) (part : MediaPart) (n : Named) → i < length parts → part ≡ get_or parts i part
@@ -64,13 +78,13 @@ pub descriptor_noted : (descriptors : List Descriptor) (i : ℕ) (d : Descriptor
     → with_descriptor d (named_by (take i descriptors)) ≡ named_by (take (i + 1) descriptors)
 descriptor_noted descriptors i d h is =
     rw (
-      one_more (is_named_in 1) descriptors i d h is,
-      one_more (is_named_in 2) descriptors i d h is,
-      one_more (is_named_in 3) descriptors i d h is,
-      one_more (is_named_in 4) descriptors i d h is,
-      one_more has_states descriptors i d h is,
-      one_more (is_kept Events) descriptors i d h is,
-      one_more (is_kept Signals) descriptors i d h is,
-      one_more (is_kept DigitMap) descriptors i d h is,
-      one_more (is_kept EventBuffer) descriptors i d h is,
+      begun (is_named_in 1) descriptors i d h is,
+      begun (is_named_in 2) descriptors i d h is,
+      begun (is_named_in 3) descriptors i d h is,
+      begun (is_named_in 4) descriptors i d h is,
+      begun has_states descriptors i d h is,
+      begun (is_kept Events) descriptors i d h is,
+      begun (is_kept Signals) descriptors i d h is,
+      begun (is_kept DigitMap) descriptors i d h is,
+      begun (is_kept EventBuffer) descriptors i d h is,
     )

@@ -1,8 +1,9 @@
 -- What descriptors name of a termination (own).
-use Rattle.std.specs.Prelude.{◌||◌, Bool, List}
+use Rattle.std.specs.Prelude.{ℕ, ◌==◌, Bool, true, if◌then◌else◌, List}
 use Rattle.std.specs.List.{list_any}
-use Rattle.gw_desc.specs.Checks.{is_kept, is_state}
+use Rattle.gw_desc.specs.Checks.{is_kept, is_state, same_kept}
 use Rattle.gw_desc.specs.declared.descriptor.Descriptor.{Descriptor}
+use Rattle.gw_desc.specs.declared.descriptor.KeptKind.{KeptKind}
 use Rattle.gw_desc.specs.declared.descriptor.KeptKind.TheVariants.{Events, Signals, DigitMap, EventBuffer}
 use Rattle.gw_desc.specs.declared.descriptor.MediaPart.{MediaPart}
 use Rattle.gw_term.specs.Merge.{is_named_in, media_parts, names_stream}
@@ -12,37 +13,59 @@ use Rattle.gw_term.specs.declared.named.Named.{Named}
 abbrev pub has_states : Descriptor → Bool
 has_states d = list_any is_state (media_parts d)
 
+-- named now, or before
+abbrev pub noted : Bool → Bool → Bool
+noted now before = if now then true else before
+
+-- what was named, and the stream of a number
+abbrev pub with_stream : ℕ → Named → Named
+with_stream number n = record n {
+  first = noted (number == 1) n.first;
+  second = noted (number == 2) n.second;
+  third = noted (number == 3) n.third;
+  fourth = noted (number == 4) n.fourth;
+}
+
+-- what was named, and a kind of tails
+abbrev pub with_kind : KeptKind → Named → Named
+with_kind kind n = record n {
+  events = noted (same_kept Events kind) n.events;
+  signals = noted (same_kept Signals kind) n.signals;
+  digit_map = noted (same_kept DigitMap kind) n.digit_map;
+  event_buffer = noted (same_kept EventBuffer kind) n.event_buffer;
+}
+
 -- what was named, and what a part of a Media names
 abbrev pub with_part : MediaPart → Named → Named
 with_part part n = record n {
-  first = n.first || names_stream 1 part;
-  second = n.second || names_stream 2 part;
-  third = n.third || names_stream 3 part;
-  fourth = n.fourth || names_stream 4 part;
-  states = n.states || is_state part;
+  first = noted (names_stream 1 part) n.first;
+  second = noted (names_stream 2 part) n.second;
+  third = noted (names_stream 3 part) n.third;
+  fourth = noted (names_stream 4 part) n.fourth;
+  states = noted (is_state part) n.states;
 }
 
 abbrev pub with_parts : List MediaPart → Named → Named
 with_parts parts n = record n {
-  first = n.first || list_any (names_stream 1) parts;
-  second = n.second || list_any (names_stream 2) parts;
-  third = n.third || list_any (names_stream 3) parts;
-  fourth = n.fourth || list_any (names_stream 4) parts;
-  states = n.states || list_any is_state parts;
+  first = noted (list_any (names_stream 1) parts) n.first;
+  second = noted (list_any (names_stream 2) parts) n.second;
+  third = noted (list_any (names_stream 3) parts) n.third;
+  fourth = noted (list_any (names_stream 4) parts) n.fourth;
+  states = noted (list_any is_state parts) n.states;
 }
 
 -- what was named, and what a descriptor names
 abbrev pub with_descriptor : Descriptor → Named → Named
 with_descriptor d n = record {
-  first = n.first || is_named_in 1 d;
-  second = n.second || is_named_in 2 d;
-  third = n.third || is_named_in 3 d;
-  fourth = n.fourth || is_named_in 4 d;
-  states = n.states || has_states d;
-  events = n.events || is_kept Events d;
-  signals = n.signals || is_kept Signals d;
-  digit_map = n.digit_map || is_kept DigitMap d;
-  event_buffer = n.event_buffer || is_kept EventBuffer d;
+  first = noted (is_named_in 1 d) n.first;
+  second = noted (is_named_in 2 d) n.second;
+  third = noted (is_named_in 3 d) n.third;
+  fourth = noted (is_named_in 4 d) n.fourth;
+  states = noted (has_states d) n.states;
+  events = noted (is_kept Events d) n.events;
+  signals = noted (is_kept Signals d) n.signals;
+  digit_map = noted (is_kept DigitMap d) n.digit_map;
+  event_buffer = noted (is_kept EventBuffer d) n.event_buffer;
 }
 
 -- what the descriptors name

@@ -1,12 +1,9 @@
 //! What descriptors name of a termination, found in one pass.
 
 ghost use Rattle.std.specs.Prelude.{◌≡◌, []};
-ghost use Rattle.gw_desc.specs.Checks.{is_kept, is_state};
-ghost use Rattle.gw_term.specs.Merge.{media_parts, names_stream};
-ghost use Rattle.gw_term.specs.Named.{named_by, with_descriptor, with_part, with_parts};
+ghost use Rattle.gw_term.specs.Named.{named_by, with_descriptor, with_kind, with_part, with_parts, with_stream};
 
-use crate::properties::media_parts;
-use gw_desc::{Descriptor, KeptKind, MediaPart, same_kept};
+use gw_desc::{Descriptor, KeptKind, MediaPart};
 
 /// What descriptors name.
 #[derive(Clone, Copy)]
@@ -31,31 +28,6 @@ pub(crate) struct Named {
     pub event_buffer: bool,
 }
 
-fn names_stream(number: u16, part: &MediaPart<'_>) -> bool
-    ensures { result ≡ names_stream number part.now }
-{
-    match part {
-        MediaPart::Outside(_) => number == 1,
-        MediaPart::Stream(other, _) => *other == number,
-        MediaPart::TerminationState(_) => false,
-    }
-}
-
-fn is_state(part: &MediaPart<'_>) -> bool
-    ensures { result ≡ is_state part.now }
-{
-    matches!(part, MediaPart::TerminationState(_))
-}
-
-fn is_kept(kind: KeptKind, descriptor: &Descriptor<'_>) -> bool
-    ensures { result ≡ is_kept kind descriptor.now }
-{
-    match descriptor {
-        Descriptor::Keep(other, _) => same_kept(kind, *other),
-        _ => false,
-    }
-}
-
 impl Named {
     /// What no descriptor names.
     fn nothing() -> Named
@@ -74,15 +46,40 @@ impl Named {
         }
     }
 
+    /// The stream of this number is named too.
+    fn note_stream(&mut self, number: u16)
+        ensures { self.new ≡ with_stream number self.old }
+    {
+        match number {
+            1 => self.first = true,
+            2 => self.second = true,
+            3 => self.third = true,
+            4 => self.fourth = true,
+            _ => {}
+        }
+    }
+
+    /// Tails of this kind are named too.
+    fn note_kind(&mut self, kind: KeptKind)
+        ensures { self.new ≡ with_kind kind self.old }
+    {
+        match kind {
+            KeptKind::Events => self.events = true,
+            KeptKind::Signals => self.signals = true,
+            KeptKind::DigitMap => self.digit_map = true,
+            KeptKind::EventBuffer => self.event_buffer = true,
+        }
+    }
+
     /// What the part of a Media names is named too.
     fn note_part(&mut self, part: &MediaPart<'_>)
         ensures { self.new ≡ with_part part.now self.old }
     {
-        self.first |= names_stream(1, part);
-        self.second |= names_stream(2, part);
-        self.third |= names_stream(3, part);
-        self.fourth |= names_stream(4, part);
-        self.states |= is_state(part);
+        match part {
+            MediaPart::Outside(_) => self.first = true,
+            MediaPart::Stream(number, _) => self.note_stream(*number),
+            MediaPart::TerminationState(_) => self.states = true,
+        }
     }
 
     fn note_parts(&mut self, parts: &[MediaPart<'_>])
@@ -97,11 +94,11 @@ impl Named {
     fn note(&mut self, descriptor: &Descriptor<'_>)
         ensures { self.new ≡ with_descriptor descriptor.now self.old }
     {
-        self.note_parts(media_parts(descriptor));
-        self.events |= is_kept(KeptKind::Events, descriptor);
-        self.signals |= is_kept(KeptKind::Signals, descriptor);
-        self.digit_map |= is_kept(KeptKind::DigitMap, descriptor);
-        self.event_buffer |= is_kept(KeptKind::EventBuffer, descriptor);
+        match descriptor {
+            Descriptor::Media(parts) => self.note_parts(parts.as_slice()),
+            Descriptor::Keep(kind, _) => self.note_kind(*kind),
+            _ => {}
+        }
     }
 
     /// What the descriptors name.
