@@ -2,6 +2,7 @@ pub mod Texts
 pub mod TailLaws
 pub mod PropertyLaws
 pub mod MediaLaws
+pub mod Modes
 pub mod ServiceLaws
 pub mod DescriptorLaws
 pub mod Fills
@@ -14,3 +15,5 @@ pub mod FillForms
 pub mod FillChain
 pub mod FillKept
 pub mod FillEnds
+pub mod WordLengths
+pub mod Few

@@ -1,6 +1,6 @@
 //! The words that stand for values: modes, service states, what an Audit asks for.
 
-ghost use Rattle.std.specs.Prelude.{◌≡◌};
+ghost use Rattle.std.specs.Prelude.{◌≡◌, IfSome, Some};
 ghost use Rattle.gw_desc.specs.Values.{mode_of, service_of, item_of, is_mode, is_service_states, mode_set_by, service_set_by, uint32_of, is_parm};
 
 use crate::descriptor::{KeptKind, Property, ServiceParm, Sign};
@@ -37,11 +37,31 @@ pub enum AuditItem {
     Packages,
 }
 
+/// The mode of a value that is sent as the table of tokens has it: it is told by the value's length and its bytes.
+fn often_mode(value: &[u8]) -> Option<Mode>
+    ensures { IfSome result (λ mode. mode_of value.now ≡ Some mode) }
+{
+    match value {
+        b"SendReceive" => Some(Mode::SendReceive),
+        b"SendOnly" => Some(Mode::SendOnly),
+        b"ReceiveOnly" => Some(Mode::ReceiveOnly),
+        b"Inactive" => Some(Mode::Inactive),
+        b"SR" => Some(Mode::SendReceive),
+        b"SO" => Some(Mode::SendOnly),
+        b"RC" => Some(Mode::ReceiveOnly),
+        b"IN" => Some(Mode::Inactive),
+        _ => None,
+    }
+}
+
 /// The mode that a value is.
 #[tactic(auto, unfolding(crate::specs::Values::mode_of))]
 pub fn mode_of(value: &[u8]) -> Option<Mode>
     ensures { result ≡ mode_of value.now }
 {
+    if let Some(mode) = often_mode(value) {
+        return Some(mode);
+    }
     match token_of(value) {
         Some(Token::SendOnly) => Some(Mode::SendOnly),
         Some(Token::ReceiveOnly) => Some(Mode::ReceiveOnly),
@@ -83,19 +103,25 @@ pub fn item_of(word: &[u8]) -> Option<AuditItem>
     }
 }
 
-/// Whether a property of a LocalControl is Mode.
-#[tactic(auto, unfolding(crate::specs::Values::is_mode))]
+/// Whether a property of a LocalControl is Mode. Most others are told by the length of their name.
+#[tactic(auto, using(crate::proofs::WordLengths::no_mode), unfolding(crate::specs::Values::is_mode))]
 pub fn is_mode(name: &[u8]) -> bool
     ensures { result ≡ is_mode name.now }
 {
+    if name.len() != 4 && name.len() != 2 {
+        return false;
+    }
     matches!(token_of(name), Some(Token::Mode))
 }
 
-/// Whether a property of a TerminationState is ServiceStates.
-#[tactic(auto, unfolding(crate::specs::Values::is_service_states))]
+/// Whether a property of a TerminationState is ServiceStates. Most others are told by the length of their name.
+#[tactic(auto, using(crate::proofs::WordLengths::no_states), unfolding(crate::specs::Values::is_service_states))]
 pub fn is_service_states(name: &[u8]) -> bool
     ensures { result ≡ is_service_states name.now }
 {
+    if name.len() != 13 && name.len() != 2 {
+        return false;
+    }
     matches!(token_of(name), Some(Token::ServiceStates))
 }
 

@@ -1,5 +1,5 @@
 -- A merge by its fields.
-use Rattle.std.proofs.Common.{◌≡◌, ℕ, List, Option, Some, None, refl, ap, sym, ◌∙◌, false}
+use Rattle.std.proofs.Common.{◌≡◌, ℕ, List, Option, Some, None, refl, ap, sym, ◌∙◌}
 use Rattle.std.specs.Option.{option_map}
 use Rattle.gw_base.specs.declared.command_words.Rules.{Rules}
 use Rattle.gw_desc.specs.declared.descriptor.Descriptor.{Descriptor}
@@ -7,10 +7,8 @@ use Rattle.gw_desc.specs.declared.descriptor.KeptKind.{KeptKind}
 use Rattle.gw_desc.specs.declared.descriptor.KeptKind.TheVariants.{Events, Signals, DigitMap, EventBuffer}
 use Rattle.gw_term.specs.declared.record.Stream.{Stream}
 use Rattle.gw_term.specs.declared.record.Termination.{Termination}
-use Rattle.gw_term.specs.declared.streams.Merging.{Merging}
-use Rattle.gw_term.specs.declared.apply.Media.{Media}
 use Rattle.gw_term.specs.Record.{tail_of}
-use Rattle.gw_term.specs.Merge.{and_then, merged, merged_media, merged_properties, merged_stream, merged_tail, stream_in, unnamed, with_media}
+use Rattle.gw_term.specs.Merge.{Media, and_then, merged, merged_media, merged_properties, merged_stream, merged_tail, stream_in, unnamed, with_media}
 use Rattle.gw_term.specs.Laws.{GoesByField, KeepsUnnamed, IsStreamAfter, IsUnnamed}
 
 some_then : {S T : Type 0} (first : Option S) (next : S → Option T) (t : T) → and_then first next ≡ Some t → (s : S) × (first ≡ Some s) × (next s ≡ Some t)

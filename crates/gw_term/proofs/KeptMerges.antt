@@ -23,12 +23,11 @@ use Rattle.gw_desc.specs.declared.descriptor.Property.{Property}
 use Rattle.gw_desc.specs.declared.descriptor.Tail.{Tail}
 use Rattle.gw_desc.proofs.FillKept.{all_kept}
 use Rattle.gw_reply.specs.KeptParts.{IsKeptFilled}
-use Rattle.gw_term.specs.declared.apply.Media.{Media}
 use Rattle.gw_term.specs.declared.record.Stream.{Stream}
 use Rattle.gw_term.specs.declared.record.Termination.{Termination}
 use Rattle.gw_term.specs.declared.streams.Merging.{Merging}
 use Rattle.gw_term.specs.Record.{unset, placed, serviced, tail_of}
-use Rattle.gw_term.specs.Merge.{each, most_properties, property_place, put_property, put_state, put_control, put_part, local_text, is_filled, begun, unnamed, stream_in, is_named_in, media_parts, states_in_part, states_in, parts_in_part, parts_in, merged_properties, merged_stream, merged_tail, tail_after, kept_tail, is_blank_group, merged_media, merged, local_if, filled_in, filled_of, filled_by}
+use Rattle.gw_term.specs.Merge.{Media, each, most_properties, property_place, put_property, put_state, put_control, put_part, local_text, is_filled, begun, unnamed, stream_in, is_named_in, media_parts, states_in_part, states_in, parts_in_part, parts_in, merged_properties, merged_stream, merged_tail, tail_after, kept_tail, is_blank_group, merged_media, merged, local_if, filled_in, filled_of, filled_by}
 use Rattle.gw_term.specs.Laws.{IsStreamAfter}
 use Rattle.gw_term.specs.KeptRecords.{IsKeptStream, IsKeptRecord}
 use Rattle.gw_term.proofs.ByField.{by_field}

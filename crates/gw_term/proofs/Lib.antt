@@ -6,3 +6,4 @@ pub mod StreamsFound
 pub mod TooLong
 pub mod KeptMerges
 pub mod KeptAudits
+pub mod Naming

@@ -7,3 +7,4 @@ pub mod Laws
 pub mod Limits
 pub mod Lookups
 pub mod KeptRecords
+pub mod Named

@@ -1,6 +1,6 @@
 -- What descriptors do to a termination, field by field (RFC 3525, sections 7.1.4 to 7.1.7; how it merges: own). Read for
 -- descriptors with which nothing is wrong: of which no code applies.
-use Rattle.std.specs.Prelude.{ℕ, ◌<◌, ◌==◌, nat_lt, nat_le, Bool, true, false, not, ◌||◌, ◌&&◌, if◌then◌else◌, List, [], ◌∷◌, ◌++◌, length, bytes_eq, codes, slice_set, Option, Some, None}
+use Rattle.std.specs.Prelude.{ℕ, ◌==◌, nat_lt, Bool, true, false, not, ◌&&◌, if◌then◌else◌, List, [], ◌∷◌, ◌++◌, length, bytes_eq, codes, slice_set, Option, Some, None}
 use Rattle.std.specs.List.{list_any, flat_map, position_or_len}
 use Rattle.std.specs.Option.{option_map, unwrap_or}
 use Rattle.gw_base.specs.declared.command_words.Rules.{Rules}
@@ -24,7 +24,6 @@ use Rattle.gw_reply.specs.declared.parts.FilledStream.{FilledStream}
 use Rattle.gw_term.specs.declared.record.Stream.{Stream}
 use Rattle.gw_term.specs.declared.record.Termination.{Termination}
 use Rattle.gw_term.specs.declared.streams.Merging.{Merging}
-use Rattle.gw_term.specs.declared.apply.Media.{Media}
 use Rattle.gw_term.specs.Record.{new_stream}
 
 -- what follows, if there is a value
@@ -172,6 +171,13 @@ merged_tail kind (d ∷ ds) old = merged_tail kind ds (tail_after kind d old)
 -- ---- the whole
 
 -- what can be too much: the properties, and each stream
+pub record Media : Type 0 where
+  pub properties : List (Property (List ℕ))
+  pub first : Option Merging
+  pub second : Option Merging
+  pub third : Option Merging
+  pub fourth : Option Merging
+
 unfoldable pub merged_media : Rules → List Descriptor → Termination → Option Media
 merged_media rules descriptors r =
     and_then (merged_properties descriptors r.properties) (λ properties.

@@ -1,182 +1,91 @@
 //! What descriptors do to a termination: all of it, or nothing.
 
-ghost use Rattle.std.specs.Prelude.{◌≡◌, ◌≤◌, ◌++◌, IfOk, OnOk, Some, None};
-ghost use Rattle.gw_desc.specs.declared.descriptor.KeptKind.TheVariants.{Events, Signals, DigitMap, EventBuffer};
-ghost use Rattle.gw_term.specs.Merge.{filled_in, filled_of, merged_media, merged_tail, stream_in, local_if};
-ghost use Rattle.gw_term.specs.Applies.{Yields};
+ghost use Rattle.std.specs.Prelude.{◌≡◌, ◌++◌, [], OnOk, None, Some, true};
+ghost use Rattle.gw_term.specs.Merge.{filled_in, merged_properties, merged_service};
+ghost use Rattle.gw_term.specs.Named.{named_by};
+ghost use Rattle.gw_term.specs.Record.{unset};
+ghost use Rattle.gw_term.specs.Applies.{IsMergedInto, merging_of};
 
+use crate::copies::put;
 use crate::fault::ApplyFault;
+use crate::named::Named;
 use crate::properties::{merged_properties, merged_service};
 use crate::record::{Stream, Termination};
-use crate::streams::{Merging, Sent, merge_stream};
-use crate::tails::merge_tail;
-use gw_base::{CtxNum, Held, Items, NoMemory, Rules, Service};
-use gw_desc::{Descriptor, KeptKind};
-use gw_reply::{FilledStream, KeptProperty, KeptTail};
-use std::alloc::{AllocError, Global};
+use crate::streams::{Sent, merge_stream};
+use crate::tails::merge_tails;
+use gw_base::{Held, Items, NoMemory, Rules};
+use gw_desc::Descriptor;
+use gw_reply::FilledStream;
+use std::alloc::Global;
 
 /// The streams whose Local was filled, in rising order.
 pub type Filled = Items<FilledStream>;
 
-/// What of a merge can be too much.
-pub(crate) struct Media {
-    pub properties: Items<KeptProperty>,
-    pub first: Option<Merging>,
-    pub second: Option<Merging>,
-    pub third: Option<Merging>,
-    pub fourth: Option<Merging>,
-}
-
-// By hand, as that of a stream.
-impl Drop for Media {
-    fn drop(self) {
-        let Media {
-            properties: _,
-            first: _,
-            second: _,
-            third: _,
-            fourth: _,
-        } = self;
-    }
-}
-
-/// The properties and the streams after the descriptors.
-#[tactic(auto, unfolding(crate::specs::Merge::merged_media))]
-fn merged_media(
-    alloc: Global,
-    rules: &Rules,
-    descriptors: &[Descriptor<'_>],
-    old: &Termination,
-) -> Result<Media, ApplyFault>
-    ensures { Yields result (merged_media rules.now descriptors.now old.now) }
-{
-    let mut media = Media {
-        properties: merged_properties(alloc, descriptors, old.properties.as_slice())?,
-        first: None,
-        second: None,
-        third: None,
-        fourth: None,
-    };
-    let sent = Sent {
-        rules: *rules,
-        slot: old.slot,
-        descriptors,
-    };
-    merge_stream(alloc, &sent, 1, &old.first, &mut media.first)?;
-    merge_stream(alloc, &sent, 2, &old.second, &mut media.second)?;
-    merge_stream(alloc, &sent, 3, &old.third, &mut media.third)?;
-    merge_stream(alloc, &sent, 4, &old.fourth, &mut media.fourth)?;
-    Ok(media)
-}
-
-/// The stream's Local goes last, if it was filled.
+/// The stream's Local goes last. Not inlined, since few Locals are filled.
+#[inline(never)]
 fn push_filled(
     alloc: Global,
     number: u8,
-    merging: &Option<Merging>,
+    stream: &Option<Held<Stream>>,
     filled: &mut Filled,
 ) -> Result<(), NoMemory>
-    ensures { OnOk result (filled.new ≡ filled.old ++ filled_in number merging.now) }
+    ensures { OnOk result (filled.new ≡ filled.old ++ filled_in number (merging_of stream.now true)) }
 {
-    let Some(merging) = merging else {
+    let Some(stream) = stream else {
         return Ok(());
     };
-    if !merging.filled {
-        return Ok(());
-    }
-    if let Some(text) = &merging.stream.get().local {
+    if let Some(text) = &stream.get().local {
         let local = Items::from_slice(alloc, text.as_slice())?;
         filled.push(FilledStream { number, local })?;
     }
     Ok(())
 }
 
-/// The streams whose Local was filled go last.
-fn push_all_filled(alloc: Global, media: &Media, filled: &mut Filled) -> Result<(), NoMemory>
-    ensures { OnOk result (filled.new ≡ filled.old ++ filled_of (Some media.now)) }
-{
-    push_filled(alloc, 1, &media.first, filled)?;
-    push_filled(alloc, 2, &media.second, filled)?;
-    push_filled(alloc, 3, &media.third, filled)?;
-    push_filled(alloc, 4, &media.fourth, filled)
-}
-
-/// The stream without what was noted of it.
-fn stream_in(merging: Option<Merging>) -> Option<Held<Stream>>
-    ensures { result ≡ stream_in merging }
-{
-    match merging {
-        Some(merging) => Some(merging.into_stream()),
-        None => None,
-    }
-}
-
-impl Media {
-    /// The record with what was merged, and no tails yet.
-    fn into_record(self, place: Option<CtxNum>, service: Service, slot: Option<u16>) -> Termination
-        ensures { result ≡ record { place = place; service = service; slot = slot; properties = self.properties; first = stream_in self.first; second = stream_in self.second; third = stream_in self.third; fourth = stream_in self.fourth; events = None; signals = None; digit_map = None; event_buffer = None } }
-    {
-        let Media {
-            properties,
-            first,
-            second,
-            third,
-            fourth,
-        } = self;
-        Termination {
-            place,
-            service,
-            slot,
-            properties,
-            first: stream_in(first),
-            second: stream_in(second),
-            third: stream_in(third),
-            fourth: stream_in(fourth),
-            events: None,
-            signals: None,
-            digit_map: None,
-            event_buffer: None,
-        }
-    }
-}
-
-/// The tails after the descriptors are put in a record.
-pub(crate) fn merge_tails(
+/// The stream's Local goes last, if it was filled.
+#[inline]
+fn tell(
     alloc: Global,
-    descriptors: &[Descriptor<'_>],
+    number: u8,
+    is_filled: bool,
+    stream: &Option<Held<Stream>>,
+    filled: &mut Filled,
+) -> Result<(), NoMemory>
+    ensures { OnOk result (filled.new ≡ filled.old ++ filled_in number (merging_of stream.now is_filled)) }
+{
+    if is_filled {
+        return push_filled(alloc, number, stream, filled);
+    }
+    Ok(())
+}
+
+/// What the descriptors make of the streams and of the tails is put in a record that has none, in which the rest is merged; the
+/// streams whose Local was filled are told in rising order.
+#[tactic(auto, unfolding(crate::specs::Merge::merged, crate::specs::Merge::merged_media, crate::specs::Merge::filled_by))]
+fn merge_into(
+    alloc: Global,
+    sent: &Sent<'_, '_>,
+    named: &Named,
     old: &Termination,
     new: &mut Termination,
-) -> Result<(), AllocError>
-    ensures { OnOk result (new.new ≡ record new.old { events = merged_tail Events descriptors.now old.now.events; signals = merged_tail Signals descriptors.now old.now.signals; digit_map = merged_tail DigitMap descriptors.now old.now.digit_map; event_buffer = merged_tail EventBuffer descriptors.now old.now.event_buffer }) }
+    filled: &mut Filled,
+) -> Result<(), ApplyFault>
+    requires named { named.now ≡ named_by sent.now.descriptors.now }
+    requires slot { sent.now.slot ≡ old.now.slot }
+    requires rest { merged_properties sent.now.descriptors.now old.now.properties ≡ Some new.old.properties }
+    requires fresh { new.old ≡ record (unset old.now.place (merged_service sent.now.descriptors.now old.now.service) old.now.slot) { properties = new.old.properties } }
+    requires none { filled.old ≡ [] }
+    ensures { IsMergedInto sent.now.rules.now sent.now.descriptors.now old.now new.new filled.new result }
 {
-    merge_tail(
-        alloc,
-        KeptKind::Events,
-        descriptors,
-        &old.events,
-        &mut new.events,
-    )?;
-    merge_tail(
-        alloc,
-        KeptKind::Signals,
-        descriptors,
-        &old.signals,
-        &mut new.signals,
-    )?;
-    merge_tail(
-        alloc,
-        KeptKind::DigitMap,
-        descriptors,
-        &old.digit_map,
-        &mut new.digit_map,
-    )?;
-    merge_tail(
-        alloc,
-        KeptKind::EventBuffer,
-        descriptors,
-        &old.event_buffer,
-        &mut new.event_buffer,
-    )
+    let first = merge_stream(alloc, sent, 1, named.first, &old.first, &mut new.first)?;
+    let second = merge_stream(alloc, sent, 2, named.second, &old.second, &mut new.second)?;
+    let third = merge_stream(alloc, sent, 3, named.third, &old.third, &mut new.third)?;
+    let fourth = merge_stream(alloc, sent, 4, named.fourth, &old.fourth, &mut new.fourth)?;
+    tell(alloc, 1, first, &new.first, filled)?;
+    tell(alloc, 2, second, &new.second, filled)?;
+    tell(alloc, 3, third, &new.third, filled)?;
+    tell(alloc, 4, fourth, &new.fourth, filled)?;
+    merge_tails(alloc, named, sent.descriptors, old, new)?;
+    Ok(())
 }
 
 /// A record after descriptors.
@@ -204,7 +113,7 @@ impl Termination {
     /// # Errors
     ///
     /// `Code(InsufficientResources)` where a list would hold more than 32 properties; `NoMemory`.
-    #[tactic(auto, unfolding(crate::specs::Merge::merged, crate::specs::Merge::filled_by))]
+    #[tactic(auto, unfolding(crate::specs::Merge::merged, crate::specs::Merge::merged_media))]
     pub fn merged(
         &self,
         alloc: Global,
@@ -213,12 +122,19 @@ impl Termination {
     ) -> Result<Applied, ApplyFault>
         ensures { IsMerged rules.now descriptors.now self.now result }
     {
-        let media = merged_media(alloc, rules, descriptors, self)?;
+        let named = Named::by(descriptors);
+        let own = self.properties.as_slice();
+        let properties = merged_properties(alloc, named.states, descriptors, own)?;
+        let service = merged_service(named.states, descriptors, self.service);
+        let begun = Termination::begun(self.place, service, self.slot, properties);
+        let mut record = Held::new(alloc, begun)?;
         let mut filled = Items::new(alloc);
-        push_all_filled(alloc, &media, &mut filled)?;
-        let service = merged_service(descriptors, self.service);
-        let mut record = Held::new(alloc, media.into_record(self.place, service, self.slot))?;
-        merge_tails(alloc, descriptors, self, record.get_mut())?;
+        let sent = Sent {
+            rules,
+            slot: self.slot,
+            descriptors,
+        };
+        merge_into(alloc, &sent, &named, self, record.get_mut(), &mut filled)?;
         Ok(Applied { record, filled })
     }
 

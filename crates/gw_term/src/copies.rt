@@ -1,8 +1,8 @@
 //! Copies of what is kept: of texts that stand in a datagram, and of texts of a record.
 
-ghost use Rattle.std.specs.Prelude.{◌≡◌, IfOk, OnOk};
+ghost use Rattle.std.specs.Prelude.{◌≡◌, IfOk, OnOk, None, Some};
+ghost use Rattle.gw_term.specs.Applies.{HasNoStreams, HasNoTails};
 
-use crate::apply::merge_tails;
 use crate::record::{Stream, Termination};
 use gw_base::{Held, Items, NoMemory, Span};
 use gw_desc::{Property, Sign, Tail};
@@ -91,19 +91,6 @@ pub(crate) fn copied_tail(alloc: Global, tail: &KeptTail) -> Result<KeptTail, Al
     })
 }
 
-/// A copy of the tail, if it is there.
-pub(crate) fn copied_tail_if(
-    alloc: Global,
-    tail: &Option<Held<KeptTail>>,
-) -> Result<Option<Held<KeptTail>>, AllocError>
-    ensures { IfOk result (λ copy. copy ≡ tail.now) }
-{
-    match tail {
-        Some(tail) => Ok(Some(Held::new(alloc, copied_tail(alloc, tail.get())?)?)),
-        None => Ok(None),
-    }
-}
-
 /// A copy of the stream.
 pub(crate) fn copied_stream(alloc: Global, stream: &Stream) -> Result<Stream, AllocError>
     ensures { IfOk result (λ copy. copy ≡ stream.now) }
@@ -127,32 +114,85 @@ pub(crate) fn put<T: Drop>(place: &mut T, value: T)
     *place = value;
 }
 
-/// The stream is copied to an empty place, if it is there. Inlined four times it would have each copy of a record clear a larger
-/// frame, whether streams are there or not.
+/// The stream is copied to a place. Inlined it would have each copy of a record clear a larger frame, whether streams are there or
+/// not.
 #[inline(never)]
-fn copy_stream(
+fn copy_held_stream(
+    alloc: Global,
+    stream: &Stream,
+    copy: &mut Option<Held<Stream>>,
+) -> Result<(), AllocError>
+    ensures { OnOk result (copy.new ≡ Some stream.now) }
+{
+    put(copy, Some(Held::new(alloc, copied_stream(alloc, stream)?)?));
+    Ok(())
+}
+
+/// The stream is copied to an empty place, if it is there.
+#[inline]
+pub(crate) fn copy_stream(
     alloc: Global,
     stream: &Option<Held<Stream>>,
     copy: &mut Option<Held<Stream>>,
 ) -> Result<(), AllocError>
+    requires { copy.old ≡ None }
     ensures { OnOk result (copy.new ≡ stream.now) }
 {
-    let value = match stream {
-        Some(stream) => Some(Held::new(alloc, copied_stream(alloc, stream.get())?)?),
-        None => None,
-    };
-    put(copy, value);
+    match stream {
+        Some(stream) => copy_held_stream(alloc, stream.get(), copy),
+        None => Ok(()),
+    }
+}
+
+/// The tail is copied to a place. Not inlined, as that of a stream.
+#[inline(never)]
+fn copy_held_tail(
+    alloc: Global,
+    tail: &KeptTail,
+    copy: &mut Option<Held<KeptTail>>,
+) -> Result<(), AllocError>
+    ensures { OnOk result (copy.new ≡ Some tail.now) }
+{
+    put(copy, Some(Held::new(alloc, copied_tail(alloc, tail)?)?));
     Ok(())
 }
 
-/// The streams are copied to a record.
+/// The tail is copied to an empty place, if it is there.
+#[inline]
+pub(crate) fn copy_tail(
+    alloc: Global,
+    tail: &Option<Held<KeptTail>>,
+    copy: &mut Option<Held<KeptTail>>,
+) -> Result<(), AllocError>
+    requires { copy.old ≡ None }
+    ensures { OnOk result (copy.new ≡ tail.now) }
+{
+    match tail {
+        Some(tail) => copy_held_tail(alloc, tail.get(), copy),
+        None => Ok(()),
+    }
+}
+
+/// The streams are copied to a record that has none.
 fn copy_streams(alloc: Global, old: &Termination, copy: &mut Termination) -> Result<(), AllocError>
+    requires { HasNoStreams copy.old }
     ensures { OnOk result (copy.new ≡ record copy.old { first = old.now.first; second = old.now.second; third = old.now.third; fourth = old.now.fourth }) }
 {
     copy_stream(alloc, &old.first, &mut copy.first)?;
     copy_stream(alloc, &old.second, &mut copy.second)?;
     copy_stream(alloc, &old.third, &mut copy.third)?;
     copy_stream(alloc, &old.fourth, &mut copy.fourth)
+}
+
+/// The tails are copied to a record that has none.
+fn copy_tails(alloc: Global, old: &Termination, copy: &mut Termination) -> Result<(), AllocError>
+    requires { HasNoTails copy.old }
+    ensures { OnOk result (copy.new ≡ record copy.old { events = old.now.events; signals = old.now.signals; digit_map = old.now.digit_map; event_buffer = old.now.event_buffer }) }
+{
+    copy_tail(alloc, &old.events, &mut copy.events)?;
+    copy_tail(alloc, &old.signals, &mut copy.signals)?;
+    copy_tail(alloc, &old.digit_map, &mut copy.digit_map)?;
+    copy_tail(alloc, &old.event_buffer, &mut copy.event_buffer)
 }
 
 /// A copy of all that is kept of a termination, field by field into a new one.
@@ -162,8 +202,7 @@ fn copied_termination(alloc: Global, old: &Termination) -> Result<Termination, A
     let mut copy = Termination::unset(alloc, old.place, old.service, old.slot);
     copy.properties = copied_properties(alloc, old.properties.as_slice())?;
     copy_streams(alloc, old, &mut copy)?;
-    // No descriptor is merged, so that the tails are copied.
-    merge_tails(alloc, &[], old, &mut copy)?;
+    copy_tails(alloc, old, &mut copy)?;
     Ok(copy)
 }
 

@@ -6,6 +6,7 @@ mod audit;
 mod copies;
 mod fault;
 mod laws;
+mod named;
 mod properties;
 mod record;
 mod streams;

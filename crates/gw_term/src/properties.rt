@@ -1,7 +1,8 @@
 //! Properties: how one takes its place in a list, and what the TerminationStates of descriptors set.
 
 ghost use Rattle.std.specs.Prelude.{◌≡◌, ◌≤◌, length};
-ghost use Rattle.std.specs.List.{flat_map};
+ghost use Rattle.std.specs.List.{flat_map, list_any};
+ghost use Rattle.gw_term.specs.Named.{has_states};
 ghost use Rattle.gw_term.specs.Merge.{property_place, put_property, put_state, service_after, last_service, merged_service, merged_properties, states_in, states_in_part, media_parts, each};
 ghost use Rattle.gw_term.specs.Applies.{Becomes, Yields};
 
@@ -128,17 +129,24 @@ fn put_all_states(
     Ok(())
 }
 
-/// The properties after the descriptors.
-#[tactic(auto, unfolding(crate::specs::Merge::merged_properties))]
+/// The properties after the descriptors; whether a TerminationState is among these is known.
+#[tactic(auto, using(crate::proofs::Naming::no_states), unfolding(crate::specs::Merge::merged_properties))]
 pub(crate) fn merged_properties(
     alloc: Global,
+    is_named: bool,
     descriptors: &[Descriptor<'_>],
     old: &[KeptProperty],
 ) -> Result<Items<KeptProperty>, ApplyFault>
+    requires { is_named ≡ list_any has_states descriptors.now }
     ensures { Yields result (merged_properties descriptors.now old.now) }
 {
+    if !is_named && old.is_empty() {
+        return Ok(Items::new(alloc));
+    }
     let mut list = copied_properties(alloc, old)?;
-    put_all_states(alloc, descriptors, &mut list)?;
+    if is_named {
+        put_all_states(alloc, descriptors, &mut list)?;
+    }
     Ok(list)
 }
 
@@ -175,7 +183,7 @@ fn last_service_of(parts: &[MediaPart<'_>], old: Service) -> Service
 
 /// The service state after the descriptors.
 #[tactic(auto, unfolding(crate::specs::Merge::merged_service))]
-pub(crate) fn merged_service(descriptors: &[Descriptor<'_>], old: Service) -> Service
+fn service_by(descriptors: &[Descriptor<'_>], old: Service) -> Service
     ensures { result ≡ merged_service descriptors.now old }
 {
     let mut service = old;
@@ -183,4 +191,21 @@ pub(crate) fn merged_service(descriptors: &[Descriptor<'_>], old: Service) -> Se
         service = last_service_of(media_parts(descriptor), service);
     }
     service
+}
+
+/// The service state after the descriptors; whether a TerminationState is among these is known.
+#[tactic(auto, using(crate::proofs::Naming::no_states), unfolding(crate::specs::Merge::merged_service))]
+pub(crate) fn merged_service(
+    is_named: bool,
+    descriptors: &[Descriptor<'_>],
+    old: Service,
+) -> Service
+    requires { is_named ≡ list_any has_states descriptors.now }
+    ensures { result ≡ merged_service descriptors.now old }
+{
+    if is_named {
+        service_by(descriptors, old)
+    } else {
+        old
+    }
 }

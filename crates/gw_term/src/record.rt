@@ -116,11 +116,23 @@ impl Termination {
     ) -> Termination
         ensures { result ≡ unset place service slot }
     {
+        Termination::begun(place, service, slot, Items::new(alloc))
+    }
+
+    /// A termination with these properties, and no streams and tails.
+    pub(crate) fn begun(
+        place: Option<CtxNum>,
+        service: Service,
+        slot: Option<u16>,
+        properties: Items<KeptProperty>,
+    ) -> Termination
+        ensures { result ≡ record (unset place service slot) { properties = properties } }
+    {
         Termination {
             place,
             service,
             slot,
-            properties: Items::new(alloc),
+            properties,
             first: None,
             second: None,
             third: None,

@@ -1,12 +1,12 @@
 //! Streams: what the parts of a Media do to each.
 
-ghost use Rattle.std.specs.Prelude.{◌≡◌, ◌≤◌, IfOk};
+ghost use Rattle.std.specs.Prelude.{◌≡◌, ◌≤◌, IfOk, None, true};
 ghost use Rattle.gw_desc.specs.declared.descriptor.StreamPart.TheVariants.{Local};
 ghost use Rattle.std.specs.List.{flat_map, list_any};
-ghost use Rattle.gw_term.specs.Merge.{put_control, local_text, is_filled, put_part, begun, parts_in, parts_in_part, names_stream, is_named_in, merged_stream, each};
-ghost use Rattle.gw_term.specs.Applies.{Becomes};
+ghost use Rattle.gw_term.specs.Merge.{put_control, local_text, is_filled, put_part, begun, parts_in, parts_in_part, is_named_in, merged_stream, each};
+ghost use Rattle.gw_term.specs.Applies.{Becomes, IsStreamMerged};
 
-use crate::copies::{copied_stream, put};
+use crate::copies::{copied_stream, copy_stream, put};
 use crate::fault::ApplyFault;
 use crate::properties::{media_parts, put_property};
 use crate::record::Stream;
@@ -44,12 +44,12 @@ impl Merging {
     }
 }
 
-/// What a part of a stream is merged with: the gateway's rules, the termination's slot and the stream's number.
+/// What is merged into a record: descriptors, under the gateway's rules, where the termination has this slot.
 #[derive(Clone, Copy)]
-pub(crate) struct Target {
-    pub rules: Rules,
+pub(crate) struct Sent<'a, 'b> {
+    pub rules: &'a Rules,
     pub slot: Option<u16>,
-    pub number: u8,
+    pub descriptors: &'a [Descriptor<'b>],
 }
 
 /// A property of a LocalControl: Mode, or one of the list.
@@ -80,19 +80,21 @@ fn put_controls(
     Ok(())
 }
 
-/// A Local, filled where the termination has a slot.
+/// A Local, filled where the termination has a slot. Inlined it would have each part of a stream clear a larger frame.
+#[inline(never)]
 fn put_local(
     alloc: Global,
-    target: &Target,
+    sent: &Sent<'_, '_>,
+    number: u8,
     text: &[u8],
     merging: &mut Merging,
 ) -> Result<(), ApplyFault>
-    requires first { 1 ≤ target.now.number }
-    requires last { target.now.number ≤ 4 }
-    ensures { Becomes result merging.new (put_part target.now.rules target.now.slot target.now.number (Local text.now) merging.old) }
+    requires first { 1 ≤ number }
+    requires last { number ≤ 4 }
+    ensures { Becomes result merging.new (put_part sent.now.rules.now sent.now.slot number (Local text.now) merging.old) }
 {
-    let (local, filled) = match target.slot {
-        Some(slot) => fill_local(alloc, text, &target.rules.media, slot, target.number)?,
+    let (local, filled) = match sent.slot {
+        Some(slot) => fill_local(alloc, text, &sent.rules.media, slot, number)?,
         None => (Vec::from_slice(alloc, text)?, false),
     };
     put(
@@ -106,16 +108,17 @@ fn put_local(
 /// A part of the stream.
 fn put_part(
     alloc: Global,
-    target: &Target,
+    sent: &Sent<'_, '_>,
+    number: u8,
     part: &StreamPart<'_>,
     merging: &mut Merging,
 ) -> Result<(), ApplyFault>
-    requires first { 1 ≤ target.now.number }
-    requires last { target.now.number ≤ 4 }
-    ensures { Becomes result merging.new (put_part target.now.rules target.now.slot target.now.number part.now merging.old) }
+    requires first { 1 ≤ number }
+    requires last { number ≤ 4 }
+    ensures { Becomes result merging.new (put_part sent.now.rules.now sent.now.slot number part.now merging.old) }
 {
     match part {
-        StreamPart::Local(text) => put_local(alloc, target, text.as_bytes(), merging),
+        StreamPart::Local(text) => put_local(alloc, sent, number, text.as_bytes(), merging),
         StreamPart::Remote(text) => {
             let remote = Items::from_slice(alloc, text.as_bytes())?;
             put(&mut merging.stream.get_mut().remote, Some(remote));
@@ -129,16 +132,17 @@ fn put_part(
 
 fn put_parts(
     alloc: Global,
-    target: &Target,
+    sent: &Sent<'_, '_>,
+    number: u8,
     parts: &[StreamPart<'_>],
     merging: &mut Merging,
 ) -> Result<(), ApplyFault>
-    requires first { 1 ≤ target.now.number }
-    requires last { target.now.number ≤ 4 }
-    ensures { Becomes result merging.new (each (put_part target.now.rules target.now.slot target.now.number) parts.now merging.old) }
+    requires first { 1 ≤ number }
+    requires last { number ≤ 4 }
+    ensures { Becomes result merging.new (each (put_part sent.now.rules.now sent.now.slot number) parts.now merging.old) }
 {
     for part in parts {
-        put_part(alloc, target, part, merging)?;
+        put_part(alloc, sent, number, part, merging)?;
     }
     Ok(())
 }
@@ -146,18 +150,19 @@ fn put_parts(
 /// What of a part of a Media is of the stream.
 fn put_part_of(
     alloc: Global,
-    target: &Target,
+    sent: &Sent<'_, '_>,
+    number: u8,
     part: &MediaPart<'_>,
     merging: &mut Merging,
 ) -> Result<(), ApplyFault>
-    requires first { 1 ≤ target.now.number }
-    requires last { target.now.number ≤ 4 }
-    ensures { Becomes result merging.new (each (put_part target.now.rules target.now.slot target.now.number) (parts_in_part target.now.number part.now) merging.old) }
+    requires first { 1 ≤ number }
+    requires last { number ≤ 4 }
+    ensures { Becomes result merging.new (each (put_part sent.now.rules.now sent.now.slot number) (parts_in_part number part.now) merging.old) }
 {
     match part {
-        MediaPart::Outside(p) if target.number == 1 => put_part(alloc, target, p, merging),
-        MediaPart::Stream(number, parts) if *number == u16::from(target.number) => {
-            put_parts(alloc, target, parts.as_slice(), merging)
+        MediaPart::Outside(p) if number == 1 => put_part(alloc, sent, number, p, merging),
+        MediaPart::Stream(other, parts) if *other == u16::from(number) => {
+            put_parts(alloc, sent, number, parts.as_slice(), merging)
         }
         _ => Ok(()),
     }
@@ -165,59 +170,35 @@ fn put_part_of(
 
 fn put_media(
     alloc: Global,
-    target: &Target,
+    sent: &Sent<'_, '_>,
+    number: u8,
     parts: &[MediaPart<'_>],
     merging: &mut Merging,
 ) -> Result<(), ApplyFault>
-    requires first { 1 ≤ target.now.number }
-    requires last { target.now.number ≤ 4 }
-    ensures { Becomes result merging.new (each (put_part target.now.rules target.now.slot target.now.number) (flat_map (parts_in_part target.now.number) parts.now) merging.old) }
+    requires first { 1 ≤ number }
+    requires last { number ≤ 4 }
+    ensures { Becomes result merging.new (each (put_part sent.now.rules.now sent.now.slot number) (flat_map (parts_in_part number) parts.now) merging.old) }
 {
     for part in parts {
-        put_part_of(alloc, target, part, merging)?;
+        put_part_of(alloc, sent, number, part, merging)?;
     }
     Ok(())
 }
 
 fn put_all(
     alloc: Global,
-    target: &Target,
-    descriptors: &[Descriptor<'_>],
+    sent: &Sent<'_, '_>,
+    number: u8,
     merging: &mut Merging,
 ) -> Result<(), ApplyFault>
-    requires first { 1 ≤ target.now.number }
-    requires last { target.now.number ≤ 4 }
-    ensures { Becomes result merging.new (each (put_part target.now.rules target.now.slot target.now.number) (flat_map (parts_in target.now.number) descriptors.now) merging.old) }
+    requires first { 1 ≤ number }
+    requires last { number ≤ 4 }
+    ensures { Becomes result merging.new (each (put_part sent.now.rules.now sent.now.slot number) (flat_map (parts_in number) sent.now.descriptors.now) merging.old) }
 {
-    for descriptor in descriptors {
-        put_media(alloc, target, media_parts(descriptor), merging)?;
+    for descriptor in sent.descriptors {
+        put_media(alloc, sent, number, media_parts(descriptor), merging)?;
     }
     Ok(())
-}
-
-fn names_stream(number: u8, part: &MediaPart<'_>) -> bool
-    ensures { result ≡ names_stream number part.now }
-{
-    match part {
-        MediaPart::Outside(_) => number == 1,
-        MediaPart::Stream(other, _) => *other == u16::from(number),
-        MediaPart::TerminationState(_) => false,
-    }
-}
-
-/// Whether the stream is named in a descriptor.
-fn is_named_in(number: u8, descriptor: &Descriptor<'_>) -> bool
-    ensures { result ≡ is_named_in number descriptor.now }
-{
-    media_parts(descriptor)
-        .iter()
-        .any(|p| names_stream(number, p))
-}
-
-fn is_named(number: u8, descriptors: &[Descriptor<'_>]) -> bool
-    ensures { result ≡ list_any (is_named_in number) descriptors.now }
-{
-    descriptors.iter().any(|d| is_named_in(number, d))
 }
 
 /// A copy of the stream, or a new one where there was none: in mode Inactive, and nothing else.
@@ -239,40 +220,49 @@ fn begun(alloc: Global, old: &Option<Held<Stream>>) -> Result<Merging, NoMemory>
     })
 }
 
-/// What is merged into each stream: descriptors, under the gateway's rules, where the termination has this slot.
-#[derive(Clone, Copy)]
-pub(crate) struct Sent<'a, 'b> {
-    pub rules: Rules,
-    pub slot: Option<u16>,
-    pub descriptors: &'a [Descriptor<'b>],
+/// The stream of this number, which is named, after the descriptors is put in a place; whether its Local was filled.
+#[inline(never)]
+#[tactic(auto, unfolding(crate::specs::Merge::merged_stream))]
+fn merge_named(
+    alloc: Global,
+    sent: &Sent<'_, '_>,
+    number: u8,
+    old: &Option<Held<Stream>>,
+    new: &mut Option<Held<Stream>>,
+) -> Result<bool, ApplyFault>
+    requires first { 1 ≤ number }
+    requires last { number ≤ 4 }
+    requires named { list_any (is_named_in number) sent.now.descriptors.now ≡ true }
+    ensures { IsStreamMerged result new.new (merged_stream sent.now.rules.now sent.now.slot number sent.now.descriptors.now old.now) }
+{
+    let mut merging = begun(alloc, old)?;
+    put_all(alloc, sent, number, &mut merging)?;
+    let filled = merging.filled;
+    put(new, Some(merging.into_stream()));
+    Ok(filled)
 }
 
-/// The stream of this number after the descriptors is put in a place: a copy of one that is not named, if it is there.
+/// The stream of this number after the descriptors is put in an empty place; whether its Local was filled. One that is not named
+/// is copied, if it is there.
+#[inline]
 #[tactic(auto, unfolding(crate::specs::Merge::merged_stream))]
 pub(crate) fn merge_stream(
     alloc: Global,
     sent: &Sent<'_, '_>,
     number: u8,
+    is_named: bool,
     old: &Option<Held<Stream>>,
-    new: &mut Option<Merging>,
-) -> Result<(), ApplyFault>
+    new: &mut Option<Held<Stream>>,
+) -> Result<bool, ApplyFault>
     requires first { 1 ≤ number }
     requires last { number ≤ 4 }
-    ensures { Becomes result new.new (merged_stream sent.now.rules sent.now.slot number sent.now.descriptors.now old.now) }
+    requires named { is_named ≡ list_any (is_named_in number) sent.now.descriptors.now }
+    requires empty { new.old ≡ None }
+    ensures { IsStreamMerged result new.new (merged_stream sent.now.rules.now sent.now.slot number sent.now.descriptors.now old.now) }
 {
-    let named = is_named(number, sent.descriptors);
-    if !named && old.is_none() {
-        put(new, None);
-        return Ok(());
+    if is_named {
+        return merge_named(alloc, sent, number, old, new);
     }
-    let merging = new.insert(begun(alloc, old)?);
-    if named {
-        let target = Target {
-            rules: sent.rules,
-            slot: sent.slot,
-            number,
-        };
-        put_all(alloc, &target, sent.descriptors, merging)?;
-    }
-    Ok(())
+    copy_stream(alloc, old, new)?;
+    Ok(false)
 }

@@ -37,9 +37,13 @@ pub(crate) fn up_to_two<K: Copy, T: OfKind<K>>(items: &[T], kind: K) -> u8
     count
 }
 
-/// Whether two at least are.
+/// Whether two at least are. Most lists have one item.
+#[tactic(auto, using(crate::proofs::Few::none_of_one))]
 pub(crate) fn has_two<K: Copy, T: OfKind<K>>(items: &[T], kind: K) -> bool
     ensures { result ≡ has_two (T.is_of kind) items.now }
 {
+    if items.len() < 2 {
+        return false;
+    }
     up_to_two(items, kind) == 2
 }

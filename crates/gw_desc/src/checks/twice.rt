@@ -249,11 +249,14 @@ impl<'a> OfKind<Crowded> for MediaPart<'a> {
     }
 }
 
-/// Whether something stands twice in a Media.
-#[tactic(auto, unfolding(crate::specs::Checks::is_media_twice))]
+/// Whether something stands twice in a Media. Where it has one part, that stream has all of its own.
+#[tactic(auto, using(crate::proofs::Few::none_of_one_part), unfolding(crate::specs::Checks::is_media_twice))]
 fn is_media_twice(parts: &[MediaPart<'_>]) -> bool
     ensures { result ≡ is_media_twice parts.now }
 {
+    if parts.len() < 2 {
+        return has_one(parts, Crowded);
+    }
     has_two(parts, StateKind)
         || has_number_twice(parts)
         || has_one(parts, Crowded)

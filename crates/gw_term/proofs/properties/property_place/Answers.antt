@@ -1,4 +1,4 @@
-use Rattle.std.proofs.Common.{◌≡◌, ◌∙◌, true, false, arith, rules}
+use Rattle.std.proofs.Common.{◌≡◌, true, false, arith, rules}
 use Rattle.gw_text.specs.Tokens.{is_same_word}
 use Rattle.gw_term.proofs.Merges.{place_here, place_later}
 use Rattle.gw_term.proofs.properties.property_place.Goals as goal

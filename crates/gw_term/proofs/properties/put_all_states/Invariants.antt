@@ -1,6 +1,6 @@
 use Rattle.std.proofs.Common.{◌≡◌, drop}
 use Rattle.std.specs.List.{flat_map}
-use Rattle.gw_term.specs.Merge.{each, put_state, states_in, states_in_part}
+use Rattle.gw_term.specs.Merge.{each, put_state, states_in}
 use Rattle.gw_term.proofs.properties.put_all_states.Given as goal
 
 -- what is left does the rest

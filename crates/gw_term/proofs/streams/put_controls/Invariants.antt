@@ -1,6 +1,5 @@
 use Rattle.std.proofs.Common.{◌≡◌, drop}
-use Rattle.std.specs.List.{flat_map}
-use Rattle.gw_term.specs.Merge.{each, put_control, put_part, parts_in, parts_in_part}
+use Rattle.gw_term.specs.Merge.{each, put_control}
 use Rattle.gw_term.proofs.streams.put_controls.Given as goal
 
 -- what is left does the rest

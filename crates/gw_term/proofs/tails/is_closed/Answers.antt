@@ -1,4 +1,4 @@
-use Rattle.std.proofs.Common.{◌≡◌, ◌∙◌, ◌∷◌, [], ℕ, List, bytes_eq, ap, sym, false}
+use Rattle.std.proofs.Common.{◌≡◌, ◌∙◌, ◌∷◌, [], ℕ, List, bytes_eq, ap, sym}
 use Rattle.std.proofs.lemmas.Bool.Decides.{same_from_decides}
 use Rattle.gw_text.specs.SpaceScan.{skip}
 use Rattle.gw_term.proofs.Merges.{closes_there, closes_not}

@@ -1,6 +1,6 @@
 use Rattle.std.proofs.Common.{◌≡◌, drop}
 use Rattle.gw_term.specs.Merge.{merged_tail}
-use Rattle.gw_term.proofs.tails.merge_tail.Given as goal
+use Rattle.gw_term.proofs.tails.merge_named.Given as goal
 
 -- what is left does the rest
 abbrev pub invariant-loop-descriptor : goal.invariant-loop-descriptor

@@ -1,0 +1,56 @@
+-- A word that is a token is as long as a form of it.
+use Rattle.std.proofs.Common.{◌≡◌, ℕ, ◌==◌, ◌||◌, ◌&&◌, cond, Bool, true, false, List, [], ◌∷◌, length, map, Option, Some, None, refl, ap, sym, ◌∙◌, arith}
+use Rattle.std.specs.Char.{to_ascii_lowercase}
+use Rattle.std.proofs.lemmas.Bool.{or_from, or_parts}
+use Rattle.std.proofs.lemmas.List.{length-map}
+use Rattle.std.proofs.lemmas.Bool.Decides.{nat_tests}
+use Rattle.std.proofs.lemmas.Slice.Eq.{bytes_eq-Decides}
+use Rattle.gw_text.specs.Tokens.{Spelling, table, is_same_word, is_spelling, find_token, token_of}
+use Rattle.gw_text.specs.declared.token.Token.{Token}
+use Rattle.gw_desc.specs.Values.{is_for_mode, is_for_states, is_mode, is_service_states}
+
+-- a form of a token that passes is so long
+abbrev has_form : (Option Token → Bool) → ℕ → List Spelling → Bool
+has_form passes n [] = false
+has_form passes n (s ∷ rest) = (passes (Some s.token) && (n == length s.long || n == length s.short)) || has_form passes n rest
+
+itself : (n : ℕ) → n == n ≡ true
+itself n = grind (arith, nat_tests)
+
+not_true : (t : Bool) → (t ≡ true → ⊥) → t ≡ false
+not_true false h = refl
+not_true true h = absurd (h refl)
+
+other_form : (word form : List ℕ) → length word == length form ≡ false → is_same_word word form ≡ false
+other_form word form h =
+    not_true (is_same_word word form) (λ same.
+    let folded : map to_ascii_lowercase word ≡ map to_ascii_lowercase form = (bytes_eq-Decides (map to_ascii_lowercase word) (map to_ascii_lowercase form)).0 same in
+    let long : length word ≡ length form = sym (length-map word to_ascii_lowercase) ∙ ap length folded ∙ length-map form to_ascii_lowercase in
+    let clash : true ≡ false = sym (itself (length form)) ∙ ap (λ n. n == length form) (sym long) ∙ h in absurd cc)
+
+other_spelling : (word : List ℕ) (s : Spelling) → (length word == length s.long || length word == length s.short) ≡ false → is_spelling s.long s.short word ≡ false
+unfolding is_spelling
+other_spelling word s h =
+    let parts = or_parts (length word == length s.long) (length word == length s.short) h in
+    or_from (is_same_word word s.long) (is_same_word word s.short) (other_form word s.long parts.0) (other_form word s.short parts.1)
+
+not_found : (passes : Option Token → Bool) (word : List ℕ) (rows : List Spelling) → passes None ≡ false → has_form passes (length word) rows ≡ false → passes (find_token word rows) ≡ false
+not_found passes word [] none h = none
+not_found passes word (s ∷ rest) none h =
+    let fits : Bool = length word == length s.long || length word == length s.short in
+    let parts = or_parts (passes (Some s.token) && fits) (has_form passes (length word) rest) h in
+    by (passes (Some s.token)) (is_spelling s.long s.short word) refl refl parts.0 (not_found passes word rest none parts.1)
+  where
+    by : (p t : Bool) → passes (Some s.token) ≡ p → is_spelling s.long s.short word ≡ t → (p && (length word == length s.long || length word == length s.short)) ≡ false
+        → passes (find_token word rest) ≡ false → passes (cond t (Some s.token) (find_token word rest)) ≡ false
+    by p false e f k later = later
+    by false true e f k later = e
+    by true true e f k later = let clash : true ≡ false = sym f ∙ other_spelling word s k in absurd cc
+
+pub no_mode : (name : List ℕ) → (length name == 4 || length name == 2) ≡ false → is_mode name ≡ false
+unfolding is_mode token_of
+no_mode name h = not_found is_for_mode name table refl (rw h refl)
+
+pub no_states : (name : List ℕ) → (length name == 13 || length name == 2) ≡ false → is_service_states name ≡ false
+unfolding is_service_states token_of
+no_states name h = not_found is_for_states name table refl (rw h refl)

@@ -1,0 +1,90 @@
+-- What descriptors name, from one element to the next.
+use Rattle.std.proofs.Common.{◌≡◌, ℕ, ◌+◌, ◌<◌, ◌||◌, Bool, true, false, List, [], ◌∷◌, length, get_or, take, Option, refl, ap, sym, ◌∙◌}
+use Rattle.std.proofs.lemmas.Bool.{or_parts}
+use Rattle.std.proofs.lemmas.List.Folds.{list_any_more}
+use Rattle.std.specs.List.{flat_map, list_any}
+use Rattle.gw_desc.specs.Checks.{is_state, is_kept, same_kept}
+use Rattle.gw_desc.specs.declared.descriptor.Descriptor.{Descriptor}
+use Rattle.gw_desc.specs.declared.descriptor.Descriptor.TheVariants as descriptor
+use Rattle.gw_desc.specs.declared.descriptor.KeptKind.{KeptKind}
+use Rattle.gw_desc.specs.declared.descriptor.KeptKind.TheVariants.{Events, Signals, DigitMap, EventBuffer}
+use Rattle.gw_desc.specs.declared.descriptor.MediaPart.{MediaPart}
+use Rattle.gw_desc.specs.declared.descriptor.MediaPart.TheVariants as media
+use Rattle.gw_desc.specs.declared.descriptor.Tail.{Tail}
+use Rattle.gw_term.specs.Merge.{is_named_in, media_parts, merged_tail, names_stream, states_in, states_in_part}
+use Rattle.gw_term.specs.Named.{has_states, named_by, noted, with_descriptor, with_part, with_parts}
+use Rattle.gw_term.specs.declared.named.Named.{Named}
+
+-- without a TerminationState no property is named
+none_in : (parts : List MediaPart) → list_any is_state parts ≡ false → flat_map states_in_part parts ≡ []
+none_in [] h = refl
+none_in (media.Outside p ∷ parts) h = none_in parts h
+none_in (media.Stream number own ∷ parts) h = none_in parts h
+none_in (media.TerminationState properties ∷ parts) h = absurd cc
+
+pub no_states : (descriptors : List Descriptor) → list_any has_states descriptors ≡ false → flat_map states_in descriptors ≡ []
+no_states [] h = refl
+no_states (d ∷ ds) h =
+    let parts = or_parts (has_states d) (list_any has_states ds) h in
+    rw (none_in (media_parts d) parts.0, no_states ds parts.1) refl
+
+-- a tail of a kind that is not named stays
+pub tail_stays : (kind : KeptKind) (descriptors : List Descriptor) (old : Option (Tail (List ℕ))) → list_any (is_kept kind) descriptors ≡ false → merged_tail kind descriptors old ≡ old
+tail_stays kind [] old h = refl
+tail_stays kind (descriptor.Keep other tail ∷ ds) old h =
+    let parts = or_parts (same_kept kind other) (list_any (is_kept kind) ds) h in
+    rw parts.0 (tail_stays kind ds old parts.1)
+tail_stays kind (descriptor.Media parts ∷ ds) old h = tail_stays kind ds old h
+tail_stays kind (descriptor.Audit words ∷ ds) old h = tail_stays kind ds old h
+tail_stays kind (descriptor.Services parms ∷ ds) old h = tail_stays kind ds old h
+tail_stays kind (descriptor.Other word ∷ ds) old h = tail_stays kind ds old h
+
+-- one element more
+one_more : {X : Type 0} (p : X → Bool) (xs : List X) (i : ℕ) (x : X) → i < length xs → x ≡ get_or xs i x → list_any p (take (i + 1) xs) ≡ (list_any p (take i xs) || p x)
+one_more p xs i x h is = list_any_more p xs i x h ∙ ap (λ y. list_any p (take i xs) || p y) (sym is)
+
+noted_one : (a b : Bool) → noted b a ≡ (a || b)
+noted_one true true = refl
+noted_one true false = refl
+noted_one false true = refl
+noted_one false false = refl
+
+noted_more : (a b before : Bool) → noted b (noted a before) ≡ noted (a || b) before
+noted_more true true before = refl
+noted_more true false before = refl
+noted_more false true before = refl
+noted_more false false before = refl
+
+grown : {X : Type 0} (p : X → Bool) (before : Bool) (xs : List X) (i : ℕ) (x : X) → i < length xs → x ≡ get_or xs i x → noted (p x) (noted (list_any p (take i xs)) before) ≡ noted (list_any p (take (i + 1) xs)) before
+grown p before xs i x h is = noted_more (list_any p (take i xs)) (p x) before ∙ ap (λ y. noted y before) (sym (one_more p xs i x h is))
+
+begun : {X : Type 0} (p : X → Bool) (xs : List X) (i : ℕ) (x : X) → i < length xs → x ≡ get_or xs i x → noted (p x) (list_any p (take i xs)) ≡ list_any p (take (i + 1) xs)
+begun p xs i x h is = noted_one (list_any p (take i xs)) (p x) ∙ sym (one_more p xs i x h is)
+
+-- one part more
+pub part_noted : (parts : List MediaPart) (i : ℕ) (part : MediaPart) (n : Named) → i < length parts → part ≡ get_or parts i part
+    → with_part part (with_parts (take i parts) n) ≡ with_parts (take (i + 1) parts) n
+part_noted parts i part n h is =
+    rw (
+      grown (names_stream 1) n.first parts i part h is,
+      grown (names_stream 2) n.second parts i part h is,
+      grown (names_stream 3) n.third parts i part h is,
+      grown (names_stream 4) n.fourth parts i part h is,
+      grown is_state n.states parts i part h is,
+    )
+
+-- one descriptor more
+pub descriptor_noted : (descriptors : List Descriptor) (i : ℕ) (d : Descriptor) → i < length descriptors → d ≡ get_or descriptors i d
+    → with_descriptor d (named_by (take i descriptors)) ≡ named_by (take (i + 1) descriptors)
+descriptor_noted descriptors i d h is =
+    rw (
+      begun (is_named_in 1) descriptors i d h is,
+      begun (is_named_in 2) descriptors i d h is,
+      begun (is_named_in 3) descriptors i d h is,
+      begun (is_named_in 4) descriptors i d h is,
+      begun has_states descriptors i d h is,
+      begun (is_kept Events) descriptors i d h is,
+      begun (is_kept Signals) descriptors i d h is,
+      begun (is_kept DigitMap) descriptors i d h is,
+      begun (is_kept EventBuffer) descriptors i d h is,
+    )
