@@ -191,7 +191,7 @@ module _ (keys : PartKeys) (at : At) (slot : Option ℕ) (c : Command) (m : Maps
   found_all : is_for_all at c ≡ true → (t : List ℕ) → HoldsFound keys t m
   found_all e t f = covered (Term t) (among_all at slot c m (Term t) e (every_term m t (named m t f)))
 
-  found_named : (t q : List ℕ) → c.term ≡ Name t → is_in q (t ∷ []) ≡ true → HoldsFound keys q m
+  pub found_named : (t q : List ℕ) → c.term ≡ Name t → is_in q (t ∷ []) ≡ true → HoldsFound keys q m
   found_named t q e h f =
       let same : bytes_eq q t ≡ true = either (or_cases (bytes_eq q t) false h) (λ a. a) (λ b. absurd cc) in
       let here : has (term_keys at slot c m c.term) (Term q) ≡ true = ap (λ (r : TermRef). has (term_keys at slot c m r) (Term q)) e ∙ or_left (bytes_eq q t) (has (place_key (place_of (term m t))) (Term q)) same in
@@ -246,13 +246,13 @@ module _ (keys : PartKeys) (at : At) (slot : Option ℕ) (c : Command) (m : Maps
   there None h = absurd cc
   there (Some x) h = refl
 
-  held_place : (a : At) → at ≡ a → has_ended at m ≡ false → HoldsPlace keys (place_at a)
+  pub held_place : (a : At) → at ≡ a → has_ended at m ≡ false → HoldsPlace keys (place_at a)
   held_place Null e l = tt
   held_place (Live n) e l = held_action n (ap (λ (x : At). has (action_keys x) (Ctx n)) e ∙ has-head (Ctx n) [])
   held_place (Unmade n) e l = held_action n (ap (λ (x : At). has (action_keys x) (Ctx n)) e ∙ has-head (Ctx n) [])
   held_place (Each n) e l = held_each n (ap (λ (x : At). is_each x) e) (there (ctx m n) (ap (λ (x : At). has_ended x m) (sym e) ∙ l))
 
-  held_moved : (t : List ℕ) → c.term ≡ Name t → (o : Option CtxNum) → place_of (term m t) ≡ o → HoldsPlace keys o
+  pub held_moved : (t : List ℕ) → c.term ≡ Name t → (o : Option CtxNum) → place_of (term m t) ≡ o → HoldsPlace keys o
   held_moved t e None i = tt
   held_moved t e (Some p) i =
       covered (Ctx p) (among_term at slot c m (Ctx p)

@@ -1,6 +1,6 @@
 //! Carrying one command out.
 
-ghost use Rattle.std.specs.Prelude.{◌≡◌, ◌&&◌, true, false, ◌∷◌, [], ℕ, List, Option, None, Some, Err, IfOk, OnOk};
+ghost use Rattle.std.specs.Prelude.{◌≡◌, ◌≢◌, true, false, ℕ, List, Option, None, IfOk, OnOk};
 ghost use Rattle.gw_base.specs.declared.key.Key.TheVariants.{Term};
 ghost use Rattle.gw_base.specs.declared.command_words.Verb.TheVariants.{ServiceChange};
 ghost use Rattle.gw_base.specs.declared.term_ref.TermRef.TheVariants.{Name};
@@ -27,7 +27,7 @@ use crate::refusal::Refusal;
 use crate::replies::{code_of, has_one_reply, one, outcome_of, outcome_of_all, refused, reply};
 use crate::root::{every_serviced, root_parts};
 use crate::serving::{on_all_free, service_for_all};
-use crate::tables::{is_some, refusal_by_tables};
+use crate::tables::{has_ended, is_some, refusal_by_tables, wrong_with};
 use gw_base::{Code, Items, NoMemory, Rules, TermName, TermRef, Verb};
 use gw_length::Telling;
 use gw_msg::Command;
@@ -43,14 +43,14 @@ fn on_target(
     draft: &mut Draft<'_>,
     at: At,
     command: &Command<'_>,
-    name: TermName,
+    name: &TermName,
 ) -> Result<CommandReply, NoMemory>
     requires sound { IsSound draft.old.keys draft.old.maps }
-    requires term_key { HoldsFound draft.old.keys name draft.old.maps }
+    requires term_key { HoldsFound draft.old.keys name.now draft.old.maps }
     requires ctx_key { HoldsPlace draft.old.keys (place_at at) }
-    requires moved_key { HoldsMoved draft.old.keys command.now.verb (place_of (term draft.old.maps name)) }
-    ensures maps { OnOk result (draft.new.maps ≡ (name_done rules.now (place_at at) command.now name draft.old.maps).maps) }
-    ensures answer { IfOk result (λ r. r ≡ reply command.now (Name name) (name_done rules.now (place_at at) command.now name draft.old.maps).answer) }
+    requires moved_key { HoldsMoved draft.old.keys command.now.verb (place_of (term draft.old.maps name.now)) }
+    ensures maps { OnOk result (draft.new.maps ≡ (name_done rules.now (place_at at) command.now name.now draft.old.maps).maps) }
+    ensures answer { IfOk result (λ r. r ≡ reply command.now (Name name.now) (name_done rules.now (place_at at) command.now name.now draft.old.maps).answer) }
     ensures keys { draft.new.keys ≡ draft.old.keys }
 {
     let told = match on_name(alloc, rules, draft, at.place(), command, name) {
@@ -58,7 +58,7 @@ fn on_target(
         Err(Refusal::Code(code)) => Err(code),
         Err(Refusal::NoMemory) => return Err(NoMemory),
     };
-    Ok(reply(command, TermRef::Name(name), told))
+    Ok(reply(command, TermRef::Name(*name), told))
 }
 
 /// What came of the terminations that a wildcard matched, one after another; none stops the others.
@@ -83,7 +83,7 @@ fn on_targets(
     let mut first_error = None;
     let mut any_done = false;
     for name in named {
-        let reply = on_target(alloc, rules, draft, at, command, *name)?;
+        let reply = on_target(alloc, rules, draft, at, command, name)?;
         let error = code_of(&reply);
         told = told.tell(reply)?;
         any_done = any_done || error.is_none();
@@ -96,55 +96,35 @@ fn on_targets(
     })
 }
 
-/// Carries the command out on one termination by its name.
+/// Carries a command by name out that its form allows. That no termination has the name shows where its record is looked up, to be
+/// changed.
 fn on_one(
     alloc: Global,
     rules: &Rules,
     draft: &mut Draft<'_>,
     at: At,
     command: &Command<'_>,
-    name: TermName,
+    name: &TermName,
     told: Telling<CommandReply>,
 ) -> Result<CmdTold, NoMemory>
     requires sound { IsSound draft.old.keys draft.old.maps }
-    requires term_key { HoldsFound draft.old.keys name draft.old.maps }
-    requires ctx_key { HoldsPlace draft.old.keys (place_at at) }
-    requires moved_key { HoldsMoved draft.old.keys command.now.verb (place_of (term draft.old.maps name)) }
-    ensures maps { OnOk result (draft.new.maps ≡ (on_targets rules.now at command.now (name ∷ []) draft.old.maps).maps) }
-    ensures answer { IfOk result (λ done. done ≡ outcome_behind told (outcome_of at (on_targets rules.now at command.now (name ∷ []) draft.old.maps).answer.answers)) }
+    requires covered { Holds draft.old.keys (command_keys at None command.now draft.old.maps) }
+    requires named { command.now.term ≡ Name name.now }
+    ensures maps { (slot : Option ℕ) → OnOk result (draft.new.maps ≡ (allowed rules.now at slot command.now draft.old.maps).maps) }
+    ensures answer { (slot : Option ℕ) → IfOk result (λ done. done ≡ outcome_behind told (allowed rules.now at slot command.now draft.old.maps).answer) }
     ensures keys { draft.new.keys ≡ draft.old.keys }
 {
+    if has_ended(draft, at) {
+        return refused(told, at, command, Code::UnknownContext);
+    }
+    if let Some(code) = wrong_with(draft, command, name) {
+        return refused(told, at, command, code);
+    }
     let reply = on_target(alloc, rules, draft, at, command, name)?;
     one(told, at, reply)
 }
 
 /// Carries the command out on the terminations that a wildcard matched. Where they have one reply together, nothing is told of each.
-fn on_all(
-    alloc: Global,
-    rules: &Rules,
-    draft: &mut Draft<'_>,
-    at: At,
-    command: &Command<'_>,
-    named: &[TermName],
-    told: Telling<CommandReply>,
-) -> Result<CmdTold, NoMemory>
-    requires sound { IsSound draft.old.keys draft.old.maps }
-    requires term_keys { (t : List ℕ) → is_in t named.now ≡ true → HoldsFound draft.old.keys t draft.old.maps }
-    requires ctx_key { HoldsPlace draft.old.keys (place_at at) }
-    requires stays { is_move command.now.verb ≡ false }
-    ensures maps { OnOk result (draft.new.maps ≡ (on_targets rules.now at command.now named.now draft.old.maps).maps) }
-    ensures answer { IfOk result (λ done. done ≡ outcome_behind told (outcome_told at command.now (on_targets rules.now at command.now named.now draft.old.maps).answer.answers)) }
-    ensures keys { draft.new.keys ≡ draft.old.keys }
-{
-    if has_one_reply(command) {
-        let seen = on_targets(alloc, rules, draft, at, command, named, Telling::TooLong)?;
-        return outcome_of_all(alloc, told, at, command, seen);
-    }
-    let seen = on_targets(alloc, rules, draft, at, command, named, told)?;
-    Ok(outcome_of(at, seen))
-}
-
-/// Carries the command out on the terminations that it is for.
 fn on_names(
     alloc: Global,
     rules: &Rules,
@@ -156,15 +136,18 @@ fn on_names(
 ) -> Result<CmdTold, NoMemory>
     requires sound { IsSound draft.old.keys draft.old.maps }
     requires ready { IsReady draft.old.keys at command.now draft.old.maps }
+    requires many { (t : List ℕ) → command.now.term ≢ Name t }
     requires named { named.now ≡ targets at command.now draft.old.maps }
     ensures maps { OnOk result (draft.new.maps ≡ (on_names rules.now at command.now draft.old.maps).maps) }
     ensures answer { IfOk result (λ done. done ≡ outcome_behind told (on_names rules.now at command.now draft.old.maps).answer) }
     ensures keys { draft.new.keys ≡ draft.old.keys }
 {
-    match command.term {
-        TermRef::Name(name) => on_one(alloc, rules, draft, at, command, name, told),
-        _ => on_all(alloc, rules, draft, at, command, named, told),
+    if has_one_reply(command) {
+        let seen = on_targets(alloc, rules, draft, at, command, named, Telling::TooLong)?;
+        return outcome_of_all(alloc, told, at, command, seen);
     }
+    let seen = on_targets(alloc, rules, draft, at, command, named, told)?;
+    Ok(outcome_of(at, seen))
 }
 
 /// Carries the command out on a termination that it makes in the slot, if one is owned.
@@ -219,7 +202,7 @@ fn on_root(
     one(told, at, reply(command, TermRef::Root, Ok(parts)))
 }
 
-/// Carries out a command that is not refused.
+/// Carries out a command that is not refused and not by name.
 fn carried(
     alloc: Global,
     rules: &Rules,
@@ -234,6 +217,7 @@ fn carried(
     requires ready { IsReady draft.old.keys at command.now draft.old.maps }
     requires new { HoldsNew draft.old.keys slot command.now }
     requires unused { IsUnused slot draft.old.maps }
+    requires many { (t : List ℕ) → command.now.term ≢ Name t }
     requires named { named.now ≡ targets at command.now draft.old.maps }
     ensures maps { OnOk result (draft.new.maps ≡ (carried_out rules.now at slot command.now draft.old.maps command.now.term).maps) }
     ensures answer { IfOk result (λ done. done ≡ outcome_behind told (carried_out rules.now at slot command.now draft.old.maps command.now.term).answer) }
@@ -246,7 +230,7 @@ fn carried(
     }
 }
 
-/// Carries out a command that its form allows, on its targets, unless the tables refuse it.
+/// Carries out a command that its form allows and that is not by name, on its targets, unless the tables refuse it.
 fn with_targets(
     alloc: Global,
     rules: &Rules,
@@ -261,6 +245,7 @@ fn with_targets(
     requires covered { Holds draft.old.keys (command_keys at slot command.now draft.old.maps) }
     requires unused { IsUnused slot draft.old.maps }
     requires form { refusal_by_form at command.now ≡ None }
+    requires many { (t : List ℕ) → command.now.term ≢ Name t }
     requires named { named.now ≡ targets at command.now draft.old.maps }
     ensures maps { OnOk result (draft.new.maps ≡ (allowed rules.now at slot command.now draft.old.maps).maps) }
     ensures answer { IfOk result (λ done. done ≡ outcome_behind told (allowed rules.now at slot command.now draft.old.maps).answer) }
@@ -299,8 +284,8 @@ pub fn command_told(
     if let Some(code) = refusal_by_form(at, command) {
         return refused(told, at, command, code);
     }
-    if let TermRef::Name(name) = command.term {
-        return with_targets(alloc, rules, draft, at, slot, command, &[name], told);
+    if let TermRef::Name(name) = &command.term {
+        return on_one(alloc, rules, draft, at, command, name, told);
     }
     if is_idle(rules, draft, at, command) {
         return on_idle(alloc, rules, draft, at, slot, command, told);

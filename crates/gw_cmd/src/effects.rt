@@ -29,14 +29,14 @@ use std::alloc::Global;
 /// The termination's record becomes this one, or none.
 pub(crate) fn put(
     draft: &mut Draft<'_>,
-    name: TermName,
+    name: &TermName,
     entry: Option<Held<Termination>>,
 ) -> Result<(), NoMemory>
-    requires { holds draft.old.keys (Term name) ≡ true }
-    ensures maps { OnOk result (draft.new.maps ≡ put_term draft.old.maps name entry) }
+    requires { holds draft.old.keys (Term name.now) ≡ true }
+    ensures maps { OnOk result (draft.new.maps ≡ put_term draft.old.maps name.now entry) }
     ensures keys { draft.new.keys ≡ draft.old.keys }
 {
-    draft.set_term(name, entry)
+    draft.set_term(*name, entry)
 }
 
 /// What a change makes of the tables.
@@ -44,11 +44,11 @@ fn changed(
     alloc: Global,
     rules: &Rules,
     draft: &mut Draft<'_>,
-    name: TermName,
+    name: &TermName,
     change: Change,
 ) -> Result<(), NoMemory>
-    requires { Suits rules.now draft.old.keys name change draft.old.maps }
-    ensures ok { OnOk result (draft.new.maps ≡ changed name change draft.old.maps) }
+    requires { Suits rules.now draft.old.keys name.now change draft.old.maps }
+    ensures ok { OnOk result (draft.new.maps ≡ changed name.now change draft.old.maps) }
     ensures keys { draft.new.keys ≡ draft.old.keys }
 {
     match change {
@@ -56,16 +56,16 @@ fn changed(
         Change::Becomes(record) => put(draft, name, Some(record)),
         Change::Joins(number, record) => {
             put(draft, name, Some(record))?;
-            draft.join(alloc, number, name, usize::from(rules.members))
+            draft.join(alloc, number, *name, usize::from(rules.members))
         }
         Change::Crosses(from, number, record) => {
             put(draft, name, Some(record))?;
-            draft.leave(alloc, from, &name)?;
-            draft.join(alloc, number, name, usize::from(rules.members))
+            draft.leave(alloc, from, name)?;
+            draft.join(alloc, number, *name, usize::from(rules.members))
         }
         Change::Leaves(number, remains) => {
             put(draft, name, remains)?;
-            draft.leave(alloc, number, &name)
+            draft.leave(alloc, number, name)
         }
     }
 }
@@ -75,11 +75,11 @@ fn done(
     alloc: Global,
     rules: &Rules,
     draft: &mut Draft<'_>,
-    name: TermName,
+    name: &TermName,
     decided: Decided,
 ) -> Result<Items<ReplyPart>, Refusal>
-    requires { Suits rules.now draft.old.keys name decided.change draft.old.maps }
-    ensures told { Tells result draft.new.maps (done name draft.old.maps (Ok decided)) }
+    requires { Suits rules.now draft.old.keys name.now decided.change draft.old.maps }
+    ensures told { Tells result draft.new.maps (done name.now draft.old.maps (Ok decided)) }
     ensures keys { draft.new.keys ≡ draft.old.keys }
 {
     changed(alloc, rules, draft, name, decided.change)?;
@@ -136,18 +136,18 @@ fn serviced(
     alloc: Global,
     draft: &mut Draft<'_>,
     place: Option<CtxNum>,
-    name: TermName,
+    name: &TermName,
     there: Option<CtxNum>,
     service: Service,
 ) -> Result<Items<ReplyPart>, Refusal>
-    requires { holds draft.old.keys (Term name) ≡ true }
-    ensures told { Tells result draft.new.maps (after_service (refusal_elsewhere place there) service name draft.old.maps) }
+    requires { holds draft.old.keys (Term name.now) ≡ true }
+    ensures told { Tells result draft.new.maps (after_service (refusal_elsewhere place there) service name.now draft.old.maps) }
     ensures keys { draft.new.keys ≡ draft.old.keys }
 {
     if let Some(code) = refusal_elsewhere(place, there) {
         return Err(Refusal::Code(code));
     }
-    draft.set_service(alloc, &name, service)?;
+    draft.set_service(alloc, name, service)?;
     Ok(Items::new(alloc))
 }
 
@@ -159,16 +159,16 @@ pub(crate) fn on_name(
     draft: &mut Draft<'_>,
     place: Option<CtxNum>,
     command: &Command<'_>,
-    name: TermName,
+    name: &TermName,
 ) -> Result<Items<ReplyPart>, Refusal>
     requires sound { IsSound draft.old.keys draft.old.maps }
-    requires term_key { HoldsFound draft.old.keys name draft.old.maps }
+    requires term_key { HoldsFound draft.old.keys name.now draft.old.maps }
     requires ctx_key { HoldsPlace draft.old.keys place }
-    requires moved_key { HoldsMoved draft.old.keys command.now.verb (place_of (term draft.old.maps name)) }
-    ensures told { Tells result draft.new.maps (on_name rules.now place command.now name draft.old.maps) }
+    requires moved_key { HoldsMoved draft.old.keys command.now.verb (place_of (term draft.old.maps name.now)) }
+    ensures told { Tells result draft.new.maps (on_name rules.now place command.now name.now draft.old.maps) }
     ensures keys { draft.new.keys ≡ draft.old.keys }
 {
-    let Some(old) = draft.term(&name) else {
+    let Some(old) = draft.term(name) else {
         return Err(Refusal::Code(Code::UnknownTermination));
     };
     match command.verb {
@@ -218,5 +218,5 @@ pub(crate) fn on_new(
     ensures keys { draft.new.keys ≡ draft.old.keys }
 {
     let decided = decided_new(alloc, rules, draft, place, command, slot)?;
-    done(alloc, rules, draft, slot_name(slot), decided)
+    done(alloc, rules, draft, &slot_name(slot), decided)
 }

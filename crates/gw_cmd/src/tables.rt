@@ -1,7 +1,11 @@
 //! Commands that are refused by the tables as they are, or by what is wrong with their descriptors.
 
 ghost use Rattle.std.specs.Prelude.{◌≡◌};
-ghost use Rattle.gw_cmd.specs.Refusals.{has_ended, missing, refusal_by_tables};
+ghost use Rattle.std.specs.Option.{is_none};
+ghost use Rattle.gw_base.specs.declared.code.Code.TheVariants.{UnknownTermination};
+ghost use Rattle.gw_desc.specs.Checks.{check_code};
+ghost use Rattle.gw_table.specs.Maps.{term};
+ghost use Rattle.gw_cmd.specs.Refusals.{has_ended, missing, code_if, first_code, refusal_by_tables};
 ghost use Rattle.gw_refusal.specs.Asked.{is_some_list};
 ghost use Rattle.gw_refusal.specs.Targets.{targets};
 
@@ -12,7 +16,7 @@ use gw_refusal::At;
 use gw_table::Draft;
 
 /// Whether the action's context has ended.
-fn has_ended(draft: &Draft<'_>, at: At) -> bool
+pub(crate) fn has_ended(draft: &Draft<'_>, at: At) -> bool
     ensures { result ≡ has_ended at draft.now.maps }
 {
     match at {
@@ -44,6 +48,20 @@ fn missing(
         TermRef::All | TermRef::Under(_) if !any => Some(Code::NoWildcardMatch),
         TermRef::Choose if slot.is_none() => Some(Code::NoTerminationLeft),
         _ => None,
+    }
+}
+
+/// What is wrong with a command by name, but for that no termination has the name: it is told only where the descriptors are wrong, and
+/// comes before them then.
+pub(crate) fn wrong_with(draft: &Draft<'_>, command: &Command<'_>, name: &TermName) -> Option<Code>
+    ensures { first_code result (code_if UnknownTermination (is_none (term draft.now.maps name.now))) ≡ first_code (code_if UnknownTermination (is_none (term draft.now.maps name.now))) (check_code command.now.verb command.now.descriptors) }
+{
+    let Err(code) = check(command.verb, command.descriptors.as_slice()) else {
+        return None;
+    };
+    match draft.term(name) {
+        Some(_) => Some(code),
+        None => Some(Code::UnknownTermination),
     }
 }
 

@@ -6,6 +6,7 @@ pub mod Frames
 pub mod FreeNames
 pub mod Growth
 pub mod InPlace
+pub mod LeftPlaces
 pub mod KeyLists
 pub mod KeyOrder
 pub mod LaidCells

@@ -5,6 +5,7 @@ pub mod Folds
 pub mod Found
 pub mod Free
 pub mod Grounds
+pub mod Joining
 pub mod KeyLists
 pub mod Locality
 pub mod Maps

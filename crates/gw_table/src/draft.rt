@@ -3,8 +3,7 @@
 ghost use Rattle.std.specs.Prelude.{◌≡◌, ◌<◌, None, true, false, length, IfOk, OnOk, option_copied};
 ghost use Rattle.gw_base.specs.declared.key.Key.TheVariants.{Term, Ctx};
 ghost use Rattle.gw_base.specs.NameLists.{is_in};
-ghost use Rattle.gw_ctx.specs.Contexts.{joined};
-ghost use Rattle.gw_table.specs.Maps.{term, ctx, put_term, put_ctx, names, numbers, members_of, context_of};
+ghost use Rattle.gw_table.specs.Maps.{term, ctx, put_term, put_ctx, names, numbers, members_of};
 ghost use Rattle.gw_table.specs.Members.{put_service, with_member, without_member};
 ghost use Rattle.gw_table.specs.Originals.{before_all};
 ghost use Rattle.gw_table.specs.Parts.{Over, Only, list_of, start_of, holds, restricted, overlaid};
@@ -16,7 +15,7 @@ use crate::over_part::OverPart;
 use crate::part::Part;
 use crate::tables::Tables;
 use gw_base::{CtxNum, Held, NoMemory, Service, TermName};
-use gw_ctx::{Context, JoinFault};
+use gw_ctx::Context;
 use gw_term::Termination;
 use std::alloc::Global;
 use std::marker::Model;
@@ -53,19 +52,6 @@ impl<'t> Model for Draft<'t> {
     ghost coded = { coded_part };
 
     ghost view = { λ a. ground_part a.ground };
-}
-
-/// The name joins the context as its last member. The caller knows that there is room.
-fn joined(context: &mut Context, name: TermName, limit: usize) -> Result<(), NoMemory>
-    requires new { is_in name context.old.members ≡ false }
-    requires room { length context.old.members < limit }
-    ensures { OnOk result (context.new ≡ joined name context.old) }
-{
-    match context.join(name, limit) {
-        Ok(()) => Ok(()),
-        Err(JoinFault::Full) => unreachable!(),
-        Err(JoinFault::NoMemory) => Err(NoMemory),
-    }
 }
 
 impl<'t> Draft<'t> {
@@ -126,7 +112,7 @@ impl<'t> Draft<'t> {
     {
         match &mut self.ground {
             Ground::OfPart(ground) => ground.set_term(name, entry),
-            Ground::OfTables(ground) => ground.set_term(name, entry),
+            Ground::OfTables(ground) => ground.set_term(&name, entry),
         }
     }
 
@@ -190,21 +176,9 @@ impl<'t> Draft<'t> {
         }
     }
 
-    /// Takes the context with a number out of its place. One that is not there is as one that has just come into being.
-    fn take_context(&mut self, alloc: Global, number: CtxNum) -> Result<Held<Context>, NoMemory>
-        requires { holds self.old.keys (Ctx number) ≡ true }
-        ensures context { IfOk result (λ context. context ≡ context_of (ctx self.old.maps number)) }
-        ensures maps { OnOk result (self.new.maps ≡ put_ctx self.old.maps number None) }
-        ensures keys { self.new.keys ≡ self.old.keys }
-    {
-        match self.take_ctx(alloc, number)? {
-            Some(context) => Ok(context),
-            None => Ok(Held::new(alloc, Context::new(alloc))?),
-        }
-    }
-
     /// The name joins the context as its last member. A context comes into being with its first. The caller knows that the number
-    /// is one of the draft's keys, that the name is no member, and that there are fewer members than `limit`.
+    /// is one of the draft's keys, that the name is no member, and that there are fewer members than `limit`. In whole tables it is one
+    /// look-up, or two where the context comes into being, and a copy of a context that was not written before.
     ///
     /// # Errors
     ///
@@ -222,13 +196,14 @@ impl<'t> Draft<'t> {
         ensures maps { OnOk result (self.new.maps ≡ with_member number name self.old.maps) }
         ensures keys { self.new.keys ≡ self.old.keys }
     {
-        let mut context = self.take_context(alloc, number)?;
-        joined(context.get_mut(), name, limit)?;
-        self.set_ctx(number, Some(context))?;
-        Ok(())
+        match &mut self.ground {
+            Ground::OfPart(ground) => ground.join(alloc, number, name, limit),
+            Ground::OfTables(ground) => ground.join(alloc, number, name, limit),
+        }
     }
 
-    /// The name leaves the context, which ends if it is empty. The caller knows that the number is one of the draft's keys.
+    /// The name leaves the context, which ends if it is empty. The caller knows that the number is one of the draft's keys. In whole
+    /// tables it is one look-up, and a copy of a context that was not written before.
     ///
     /// # Errors
     ///
@@ -238,14 +213,10 @@ impl<'t> Draft<'t> {
         ensures maps { OnOk result (self.new.maps ≡ without_member number name.now self.old.maps) }
         ensures keys { self.new.keys ≡ self.old.keys }
     {
-        let Some(mut context) = self.take_ctx(alloc, number)? else {
-            return Ok(());
-        };
-        context.get_mut().leave(name);
-        if context.get().members().is_empty() {
-            return self.set_ctx(number, None);
+        match &mut self.ground {
+            Ground::OfPart(ground) => ground.leave(alloc, number, name),
+            Ground::OfTables(ground) => ground.leave(alloc, number, name),
         }
-        self.set_ctx(number, Some(context))
     }
 
     /// The names of all terminations that the draft shows, in the order of their bytes. The work is one pass over the tables, or a

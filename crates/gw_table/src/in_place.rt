@@ -24,7 +24,7 @@ use std::snapshot::Snapshot;
 pub(crate) struct InPlace {
     pub(crate) tables: Tables,
     pub(crate) writes: Vec<Write>,
-    vacated: Vec<Key>,
+    pub(crate) vacated: Vec<Key>,
     before: Snapshot<Tables>,
     earlier: Snapshot<Originals>,
 }
@@ -57,7 +57,11 @@ impl Model for InPlace {
 }
 
 /// Notes a key that is left without an entry.
-fn note_vacated(vacated: &mut Vec<Key>, key: Key, is_vacated: bool) -> Result<(), NoMemory> {
+pub(crate) fn note_vacated(
+    vacated: &mut Vec<Key>,
+    key: Key,
+    is_vacated: bool,
+) -> Result<(), NoMemory> {
     if is_vacated {
         vacated.push(key)?;
     }
@@ -101,13 +105,13 @@ impl InPlace {
     /// there first is known.
     pub(crate) fn set_term(
         &mut self,
-        name: TermName,
+        name: &TermName,
         entry: Option<Held<Termination>>,
     ) -> Result<(), NoMemory>
-        ensures maps { OnOk result (self.new.maps ≡ put_term self.old.maps name entry) }
+        ensures maps { OnOk result (self.new.maps ≡ put_term self.old.maps name.now entry) }
         ensures keys { self.new.keys ≡ self.old.keys }
     {
-        note_vacated(&mut self.vacated, Key::Term(name), entry.is_none())?;
+        note_vacated(&mut self.vacated, Key::Term(*name), entry.is_none())?;
         self.writes.reserve(1)?;
         let found = self
             .tables
@@ -115,7 +119,7 @@ impl InPlace {
         let Found::Original(before) = found else {
             return Ok(());
         };
-        let Ok(()) = self.writes.push(Write::OfTerm(name, before)) else {
+        let Ok(()) = self.writes.push(Write::OfTerm(*name, before)) else {
             unreachable!()
         };
         Ok(())

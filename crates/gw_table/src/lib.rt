@@ -7,6 +7,7 @@ mod changes;
 mod draft;
 mod free;
 mod in_place;
+mod joining;
 mod key_list;
 mod key_order;
 mod keys;

@@ -111,6 +111,21 @@ pub(crate) fn copied(
     }
 }
 
+/// What stands in a place becomes a copy of itself, if there is something. Answers what stood there.
+pub(crate) fn renew(
+    place: &mut Place<Held<Context>>,
+    alloc: Global,
+) -> Result<Option<Held<Context>>, NoMemory>
+    ensures before { IfOk result (λ before. before ≡ shown (Some place.old)) }
+    ensures after { place.new ≡ place.old }
+{
+    let Place::Here(context) = place else {
+        return Ok(None);
+    };
+    let copy = Held::new(alloc, context.get().copy()?)?;
+    Ok(Some(mem::replace(context, copy)))
+}
+
 /// Whether there is a place, and nothing that stands in it or went out of it.
 pub(crate) fn is_vacant<T>(place: Option<&Place<T>>) -> bool
     ensures { result ≡ is_vacant (option_copied place.entry) }

@@ -1,16 +1,20 @@
 //! A place in the maps of tables, with a guide to where its key was noted.
 
-ghost use Rattle.std.specs.Prelude.{◌≡◌, true, Some, is_some, IfOk, OnOk, OnErr, option_copied};
+ghost use Rattle.std.specs.Prelude.{◌≡◌, ◌<◌, true, false, length, Some, is_some, IfOk, OnOk, OnErr, option_copied};
 ghost use Rattle.std.specs.Bool.{OnTrue};
 ghost use Rattle.gw_base.specs.Keys.{has};
+ghost use Rattle.gw_base.specs.NameLists.{is_in};
 ghost use Rattle.gw_table.specs.Found.{IsFound, original_of};
+ghost use Rattle.gw_table.specs.Joining.{joined_at, left_at};
+ghost use Rattle.gw_table.specs.Maps.{members_of};
 ghost use Rattle.gw_table.specs.Originals.{keys_written};
 ghost use Rattle.gw_table.specs.Served.{IsNoted, MayNote};
 ghost use Rattle.gw_table.specs.Settings.{set_at};
 ghost use Rattle.gw_table.specs.Stored.{shown, served, emptied};
 
+use crate::joining::{join_in_place, leave_in_place};
 use crate::originals::Write;
-use crate::place::{Place, copied, serve, set_in_place};
+use crate::place::{Place, copied, renew, serve, set_in_place};
 use crate::setting::{self, Setting, set_copy};
 use gw_base::{Held, Key, NoMemory, Service, TermName};
 use gw_ctx::Context;
@@ -255,6 +259,64 @@ impl Site<Held<Context>> {
         let before = set_copy(&mut self.place, alloc, setting)?;
         self.noted = next_of(writes);
         Ok(Found::Original(before))
+    }
+
+    /// Lets what stands here be changed in its place: where the key is not noted it becomes a copy of itself, and the original is to be
+    /// noted next. Nothing else changes.
+    fn own(
+        &mut self,
+        alloc: Global,
+        writes: &[Write],
+        key: &Key,
+    ) -> Result<Found<Held<Context>>, NoMemory>
+        ensures found { IfOk result (λ found. IsFound (keys_written writes.now) key.now (shown (Some self.old)) found) }
+        ensures after { self.new ≡ self.old }
+    {
+        if self.is_noted(writes, key) {
+            return Ok(Found::Noted);
+        }
+        let before = renew(&mut self.place, alloc)?;
+        self.noted = next_of(writes);
+        Ok(Found::Original(before))
+    }
+
+    /// The name joins the context that stands here, or one that comes into being: in its place where the key is noted, and else in a
+    /// copy, and the original is to be noted next. After want of memory nothing has changed. The caller knows that there is room.
+    pub(crate) fn join(
+        &mut self,
+        alloc: Global,
+        name: TermName,
+        limit: usize,
+        writes: &[Write],
+        key: &Key,
+    ) -> Result<Found<Held<Context>>, NoMemory>
+        requires new { is_in name (members_of (shown (Some self.old))) ≡ false }
+        requires room { length (members_of (shown (Some self.old))) < limit }
+        ensures found { IfOk result (λ found. IsFound (keys_written writes.now) key.now (shown (Some self.old)) found) }
+        ensures after { OnOk result (self.new ≡ joined_at name self.old) }
+        ensures err { OnErr result (self.new ≡ self.old) }
+    {
+        let found = self.own(alloc, writes, key)?;
+        join_in_place(&mut self.place, alloc, name, limit)?;
+        Ok(found)
+    }
+
+    /// The name leaves the context that stands here, if there is one: in its place where the key is noted, and else in a copy, and the
+    /// original is to be noted next. After want of memory nothing has changed.
+    pub(crate) fn leave(
+        &mut self,
+        alloc: Global,
+        name: &TermName,
+        writes: &[Write],
+        key: &Key,
+    ) -> Result<Found<Held<Context>>, NoMemory>
+        ensures found { IfOk result (λ found. IsFound (keys_written writes.now) key.now (shown (Some self.old)) found) }
+        ensures after { OnOk result (self.new ≡ left_at name.now self.old) }
+        ensures err { OnErr result (self.new ≡ self.old) }
+    {
+        let found = self.own(alloc, writes, key)?;
+        leave_in_place(&mut self.place, name);
+        Ok(found)
     }
 }
 

@@ -81,22 +81,22 @@ impl Tables {
     /// the list of writes, or what the caller notes next. A refused growth changes nothing.
     pub(crate) fn write_term(
         &mut self,
-        name: TermName,
+        name: &TermName,
         place: Place<Held<Termination>>,
         writes: &[Write],
     ) -> Result<Found<Held<Termination>>, NoMemory>
-        ensures found { IfOk result (λ found. IsFound (keys_written writes.now) (Term name) (term (maps_of self.old) name) found) }
-        ensures ok { OnOk result (self.new ≡ put_term_place self.old name place) }
+        ensures found { IfOk result (λ found. IsFound (keys_written writes.now) (Term name.now) (term (maps_of self.old) name.now) found) }
+        ensures ok { OnOk result (self.new ≡ put_term_place self.old name.now place) }
         ensures err { OnErr result (self.new ≡ self.old) }
     {
         let stands = place.is_here();
-        if let Some(site) = self.terms.get_mut(&name) {
-            let found = site.write(place, writes, &Key::Term(name));
-            note_slot(&mut self.slots, &name, stands);
+        if let Some(site) = self.terms.get_mut(name) {
+            let found = site.write(place, writes, &Key::Term(*name));
+            note_slot(&mut self.slots, name, stands);
             return Ok(found);
         }
-        self.terms.insert(name, Site::noted_in(writes, place))?;
-        note_slot(&mut self.slots, &name, stands);
+        self.terms.insert(*name, Site::noted_in(writes, place))?;
+        note_slot(&mut self.slots, name, stands);
         Ok(Found::Original(None))
     }
 

@@ -16,15 +16,15 @@ pub invariant_of-self-in_default : goal.invariant_of-self-in_default
 invariant_of-self-in_default c =
     let old : Stored = c.self.inside.tables in
     let start : Stored = before_all c.self.inside.earlier.value c.self.inside.before.value in
-    same_in_place start (put_term_place old c.args.name (placed c.args.entry)) c.write_term.new.self c.self.inside.writes.items c.reserve.new.self.items
-    (c.in_ok-found.ensures.ok ∙ ap (λ p. put_term_place old c.args.name p) c.of.ensures) c.in_ok-reserve.ensures.items
-    (wrote_term_again start old c.self.inside.writes.items c.self.invariant c.args.name (placed c.args.entry) (placed_here c.args.entry)
-    (noted_before c.self.inside.writes.items c.deref.result.now (Term c.args.name) (term (maps_of old) c.args.name) c.in_ok-found.found (c.deref.ensures.value ∙ c.in_ok-reserve.ensures.items) c.in_default.is c.in_ok-found.ensures.found))
+    same_in_place start (put_term_place old c.args.name.now (placed c.args.entry)) c.write_term.new.self c.self.inside.writes.items c.reserve.new.self.items
+    (c.in_ok-found.ensures.ok ∙ ap (λ p. put_term_place old c.args.name.now p) c.of.ensures) c.in_ok-reserve.ensures.items
+    (wrote_term_again start old c.self.inside.writes.items c.self.invariant c.args.name.now (placed c.args.entry) (placed_here c.args.entry)
+    (noted_before c.self.inside.writes.items c.deref.result.now (Term c.args.name.now) (term (maps_of old) c.args.name.now) c.in_ok-found.found (c.deref.ensures.value ∙ c.in_ok-reserve.ensures.items) c.in_default.is c.in_ok-found.ensures.found))
 
 pub returns-in_default-clause-maps : goal.returns-in_default-clause-maps
 returns-in_default-clause-maps c =
-    ap (λ s. maps_of s) (c.in_ok-found.ensures.ok ∙ ap (λ p. put_term_place c.self.inside.tables c.args.name p) c.of.ensures) ∙ maps-put_term_place c.self.inside.tables c.args.name (placed c.args.entry)
-    ∙ ap (put_term (maps_of c.self.inside.tables) c.args.name) (shown_placed c.args.entry) ∙ ap (λ (p : Parted). put_term p.maps c.args.name c.args.entry) c.self.view_is
+    ap (λ s. maps_of s) (c.in_ok-found.ensures.ok ∙ ap (λ p. put_term_place c.self.inside.tables c.args.name.now p) c.of.ensures) ∙ maps-put_term_place c.self.inside.tables c.args.name.now (placed c.args.entry)
+    ∙ ap (put_term (maps_of c.self.inside.tables) c.args.name.now) (shown_placed c.args.entry) ∙ ap (λ (p : Parted). put_term p.maps c.args.name.now c.args.entry) c.self.view_is
 
 -- ---- where it was not
 
@@ -32,13 +32,13 @@ pub invariant_of-self-2 : goal.invariant_of-self-2
 invariant_of-self-2 c =
     let old : Stored = c.self.inside.tables in
     let start : Stored = before_all c.self.inside.earlier.value c.self.inside.before.value in
-    same_in_place start (put_term_place old c.args.name (placed c.args.entry)) c.write_term.new.self (c.self.inside.writes.items ++ OfTerm c.args.name c.in-Original.before ∷ []) c.push.new.self.items
-    (c.in_ok-found.ensures.ok ∙ ap (λ p. put_term_place old c.args.name p) c.of.ensures)
-    (c.in-Ok.ensures.items ∙ ap (λ (l : List Write). l ++ OfTerm c.args.name c.in-Original.before ∷ []) c.in_ok-reserve.ensures.items)
-    (wrote_term start old c.self.inside.writes.items c.self.invariant c.args.name (placed c.args.entry) c.in-Original.before (placed_here c.args.entry)
-    (stood_there (keys_written c.deref.result.now) (Term c.args.name) (term (maps_of old) c.args.name) c.in_ok-found.found c.in-Original.before c.in-Original.is c.in_ok-found.ensures.found))
+    same_in_place start (put_term_place old c.args.name.now (placed c.args.entry)) c.write_term.new.self (c.self.inside.writes.items ++ OfTerm c.args.name.now c.in-Original.before ∷ []) c.push.new.self.items
+    (c.in_ok-found.ensures.ok ∙ ap (λ p. put_term_place old c.args.name.now p) c.of.ensures)
+    (c.in-Ok.ensures.items ∙ ap (λ (l : List Write). l ++ OfTerm c.args.name.now c.in-Original.before ∷ []) c.in_ok-reserve.ensures.items)
+    (wrote_term start old c.self.inside.writes.items c.self.invariant c.args.name.now (placed c.args.entry) c.in-Original.before (placed_here c.args.entry)
+    (stood_there (keys_written c.deref.result.now) (Term c.args.name.now) (term (maps_of old) c.args.name.now) c.in_ok-found.found c.in-Original.before c.in-Original.is c.in_ok-found.ensures.found))
 
 pub returns-clause-maps : goal.returns-clause-maps
 returns-clause-maps c =
-    ap (λ s. maps_of s) (c.in_ok-found.ensures.ok ∙ ap (λ p. put_term_place c.self.inside.tables c.args.name p) c.of.ensures) ∙ maps-put_term_place c.self.inside.tables c.args.name (placed c.args.entry)
-    ∙ ap (put_term (maps_of c.self.inside.tables) c.args.name) (shown_placed c.args.entry) ∙ ap (λ (p : Parted). put_term p.maps c.args.name c.args.entry) c.self.view_is
+    ap (λ s. maps_of s) (c.in_ok-found.ensures.ok ∙ ap (λ p. put_term_place c.self.inside.tables c.args.name.now p) c.of.ensures) ∙ maps-put_term_place c.self.inside.tables c.args.name.now (placed c.args.entry)
+    ∙ ap (put_term (maps_of c.self.inside.tables) c.args.name.now) (shown_placed c.args.entry) ∙ ap (λ (p : Parted). put_term p.maps c.args.name.now c.args.entry) c.self.view_is

@@ -4,7 +4,7 @@ use Rattle.gw_ctx.specs.Contexts.{ContextRecord, left}
 use Rattle.gw_table.specs.Maps.{Maps, ctx, put_ctx}
 use Rattle.gw_table.proofs.Leaving.{left_some, left_none}
 use Rattle.gw_table.proofs.Lookups.{put_ctx-put_ctx}
-use Rattle.gw_table.proofs.draft.Draft.leave.Goals as goal
+use Rattle.gw_table.proofs.over_part.OverPart.leave.Goals as goal
 
 pub returns-then-is_empty-clause-maps : goal.returns-then-is_empty-clause-maps
 returns-then-is_empty-clause-maps c =

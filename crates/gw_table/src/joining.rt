@@ -1,0 +1,247 @@
+//! Who joins and who leaves a context, in its place.
+
+ghost use Rattle.std.specs.Prelude.{◌≡◌, ◌<◌, ◌↔◌, true, false, length, None, Some, IsTrue, IfOk, OnOk, OnErr};
+ghost use Rattle.gw_base.specs.declared.key.Key.TheVariants.{Ctx};
+ghost use Rattle.gw_base.specs.NameLists.{is_in};
+ghost use Rattle.gw_ctx.specs.Contexts.{new_context, joined, left};
+ghost use Rattle.gw_table.specs.Found.{IsFound};
+ghost use Rattle.gw_table.specs.Joining.{joined_at, join_place, left_at, leave_place};
+ghost use Rattle.gw_table.specs.Maps.{ctx, put_ctx, members_of, context_of};
+ghost use Rattle.gw_table.specs.Members.{with_member, without_member};
+ghost use Rattle.gw_table.specs.Originals.{keys_written};
+ghost use Rattle.gw_table.specs.Parts.{holds};
+ghost use Rattle.gw_table.specs.Stored.{maps_of, shown};
+
+use crate::in_place::{InPlace, note_vacated};
+use crate::marked::note_number;
+use crate::originals::Write;
+use crate::over_part::OverPart;
+use crate::place::Place;
+use crate::site::{Found, Site};
+use crate::tables::Tables;
+use gw_base::{CtxNum, Held, Key, NoMemory, TermName};
+use gw_ctx::{Context, JoinFault};
+use std::alloc::Global;
+
+/// The name joins the context as its last member. The caller knows that there is room.
+fn joined(context: &mut Context, name: TermName, limit: usize) -> Result<(), NoMemory>
+    requires new { is_in name context.old.members ≡ false }
+    requires room { length context.old.members < limit }
+    ensures ok { OnOk result (context.new ≡ joined name context.old) }
+    ensures err { OnErr result (context.new ≡ context.old) }
+{
+    match context.join(name, limit) {
+        Ok(()) => Ok(()),
+        Err(JoinFault::Full) => unreachable!(),
+        Err(JoinFault::NoMemory) => Err(NoMemory),
+    }
+}
+
+/// A context that comes into being with its first member.
+fn begun(alloc: Global, name: TermName, limit: usize) -> Result<Held<Context>, NoMemory>
+    requires room { 0 < limit }
+    ensures { IfOk result (λ context. context ≡ joined name new_context) }
+{
+    let mut context = Held::new(alloc, Context::new(alloc))?;
+    joined(context.get_mut(), name, limit)?;
+    Ok(context)
+}
+
+/// The name joins the context that stands in a place, as its last member. Where none stands, one comes into being. The caller knows
+/// that there is room.
+pub(crate) fn join_in_place(
+    place: &mut Place<Held<Context>>,
+    alloc: Global,
+    name: TermName,
+    limit: usize,
+) -> Result<(), NoMemory>
+    requires new { is_in name (members_of (shown (Some place.old))) ≡ false }
+    requires room { length (members_of (shown (Some place.old))) < limit }
+    ensures after { OnOk result (place.new ≡ joined_at name place.old) }
+    ensures err { OnErr result (place.new ≡ place.old) }
+{
+    if let Place::Here(context) = place {
+        return joined(context.get_mut(), name, limit);
+    }
+    *place = Place::Here(begun(alloc, name, limit)?);
+    Ok(())
+}
+
+/// The name leaves the context. Answers whether no member is left.
+fn left(context: &mut Context, name: &TermName) -> bool
+    ensures left { context.new ≡ left name.now context.old }
+    ensures empty { IsTrue result ↔ (length context.new.members ≡ 0) }
+{
+    context.leave(name);
+    context.members().is_empty()
+}
+
+/// The name leaves the context that stands in a place, if there is one. The place is empty behind its last member.
+pub(crate) fn leave_in_place(place: &mut Place<Held<Context>>, name: &TermName)
+    ensures { place.new ≡ left_at name.now place.old }
+{
+    let ends = match place {
+        Place::Here(context) => left(context.get_mut(), name),
+        Place::Empty | Place::Out => false,
+    };
+    if ends {
+        *place = Place::Empty;
+    }
+}
+
+impl Tables {
+    /// The name joins the context with a number, which comes into being with its first member: in its place where the number is noted
+    /// in the list of writes, and else in a copy. Answers what was found there, as `write_ctx` does. It is one look-up where there is a
+    /// place. After want of memory nothing has changed. The caller knows that there is room.
+    fn join(
+        &mut self,
+        alloc: Global,
+        number: CtxNum,
+        name: TermName,
+        limit: usize,
+        writes: &[Write],
+    ) -> Result<Found<Held<Context>>, NoMemory>
+        requires new { is_in name (members_of (ctx (maps_of self.old) number)) ≡ false }
+        requires room { length (members_of (ctx (maps_of self.old) number)) < limit }
+        ensures found { IfOk result (λ found. IsFound (keys_written writes.now) (Ctx number) (ctx (maps_of self.old) number) found) }
+        ensures after { OnOk result (self.new ≡ join_place name number self.old (ctx (maps_of self.old) number)) }
+        ensures err { OnErr result (self.new ≡ self.old) }
+    {
+        if let Some(site) = self.contexts.get_mut(&number.0) {
+            let found = site.join(alloc, name, limit, writes, &Key::Ctx(number))?;
+            note_number(&mut self.numbers, number, true);
+            return Ok(found);
+        }
+        let new = Place::Here(begun(alloc, name, limit)?);
+        self.contexts.insert(number.0, Site::noted_in(writes, new))?;
+        note_number(&mut self.numbers, number, true);
+        Ok(Found::Original(None))
+    }
+
+    /// The name leaves the context with a number, if there is one, which ends with its last member: in its place where the number is
+    /// noted in the list of writes, and else in a copy. Answers what was found there, as `write_ctx` does, and whether its place is left
+    /// empty. It is one look-up. After want of memory nothing has changed.
+    fn leave(
+        &mut self,
+        alloc: Global,
+        number: CtxNum,
+        name: &TermName,
+        writes: &[Write],
+    ) -> Result<(Found<Held<Context>>, bool), NoMemory>
+        ensures found { IfOk result (λ left. IsFound (keys_written writes.now) (Ctx number) (ctx (maps_of self.old) number) left.0) }
+        ensures after { OnOk result (self.new ≡ leave_place name.now number self.old (ctx (maps_of self.old) number)) }
+        ensures err { OnErr result (self.new ≡ self.old) }
+    {
+        let Some(site) = self.contexts.get_mut(&number.0) else {
+            return Ok((Found::Original(None), false));
+        };
+        let found = site.leave(alloc, name, writes, &Key::Ctx(number))?;
+        let stands = site.is_here();
+        note_number(&mut self.numbers, number, stands);
+        Ok((found, !stands))
+    }
+}
+
+impl InPlace {
+    /// The name joins the context with a number, in its place where it was written before, and else in a copy, since the original is
+    /// kept.
+    pub(crate) fn join(
+        &mut self,
+        alloc: Global,
+        number: CtxNum,
+        name: TermName,
+        limit: usize,
+    ) -> Result<(), NoMemory>
+        requires new { is_in name (members_of (ctx self.old.maps number)) ≡ false }
+        requires room { length (members_of (ctx self.old.maps number)) < limit }
+        ensures maps { OnOk result (self.new.maps ≡ with_member number name self.old.maps) }
+        ensures keys { self.new.keys ≡ self.old.keys }
+    {
+        self.writes.reserve(1)?;
+        let found = self.tables.join(alloc, number, name, limit, &self.writes)?;
+        let Found::Original(before) = found else {
+            return Ok(());
+        };
+        let Ok(()) = self.writes.push(Write::OfCtx(number, before)) else {
+            unreachable!()
+        };
+        Ok(())
+    }
+
+    /// The name leaves the context with a number, if there is one, in its place where it was written before, and else in a copy, since
+    /// the original is kept.
+    pub(crate) fn leave(
+        &mut self,
+        alloc: Global,
+        number: CtxNum,
+        name: &TermName,
+    ) -> Result<(), NoMemory>
+        ensures maps { OnOk result (self.new.maps ≡ without_member number name.now self.old.maps) }
+        ensures keys { self.new.keys ≡ self.old.keys }
+    {
+        self.writes.reserve(1)?;
+        let (found, ends) = self.tables.leave(alloc, number, name, &self.writes)?;
+        if let Some(before) = found.into_original() {
+            let Ok(()) = self.writes.push(Write::OfCtx(number, Some(before))) else {
+                unreachable!()
+            };
+        }
+        note_vacated(&mut self.vacated, Key::Ctx(number), ends)
+    }
+}
+
+impl OverPart<'_> {
+    /// Takes the context with a number out of its place. One that is not there is as one that has just come into being.
+    fn take_context(&mut self, alloc: Global, number: CtxNum) -> Result<Held<Context>, NoMemory>
+        requires { holds self.old.keys (Ctx number) ≡ true }
+        ensures context { IfOk result (λ context. context ≡ context_of (ctx self.old.maps number)) }
+        ensures maps { OnOk result (self.new.maps ≡ put_ctx self.old.maps number None) }
+        ensures keys { self.new.keys ≡ self.old.keys }
+    {
+        match self.take_ctx(alloc, number)? {
+            Some(context) => Ok(context),
+            None => Ok(Held::new(alloc, Context::new(alloc))?),
+        }
+    }
+
+    /// The name joins the context as its last member. A context comes into being with its first.
+    pub(crate) fn join(
+        &mut self,
+        alloc: Global,
+        number: CtxNum,
+        name: TermName,
+        limit: usize,
+    ) -> Result<(), NoMemory>
+        requires new { is_in name (members_of (ctx self.old.maps number)) ≡ false }
+        requires room { length (members_of (ctx self.old.maps number)) < limit }
+        requires key { holds self.old.keys (Ctx number) ≡ true }
+        ensures maps { OnOk result (self.new.maps ≡ with_member number name self.old.maps) }
+        ensures keys { self.new.keys ≡ self.old.keys }
+    {
+        let mut context = self.take_context(alloc, number)?;
+        joined(context.get_mut(), name, limit)?;
+        self.set_ctx(number, Some(context))?;
+        Ok(())
+    }
+
+    /// The name leaves the context, which ends if it is empty.
+    pub(crate) fn leave(
+        &mut self,
+        alloc: Global,
+        number: CtxNum,
+        name: &TermName,
+    ) -> Result<(), NoMemory>
+        requires { holds self.old.keys (Ctx number) ≡ true }
+        ensures maps { OnOk result (self.new.maps ≡ without_member number name.now self.old.maps) }
+        ensures keys { self.new.keys ≡ self.old.keys }
+    {
+        let Some(mut context) = self.take_ctx(alloc, number)? else {
+            return Ok(());
+        };
+        context.get_mut().leave(name);
+        if context.get().members().is_empty() {
+            return self.set_ctx(number, None);
+        }
+        self.set_ctx(number, Some(context))
+    }
+}
