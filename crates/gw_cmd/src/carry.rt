@@ -171,8 +171,9 @@ fn on_slot(
     let Some(slot) = slot else {
         return refused(told, at, command, Code::NoTerminationLeft);
     };
-    let reply = match on_new(alloc, rules, draft, at.place(), command, slot) {
-        Ok(parts) => reply(command, TermRef::Name(slot_name(slot)), Ok(parts)),
+    let name = slot_name(slot);
+    let reply = match on_new(alloc, rules, draft, at.place(), command, slot, &name) {
+        Ok(parts) => reply(command, TermRef::Name(name), Ok(parts)),
         Err(Refusal::Code(code)) => reply(command, TermRef::Choose, Err(code)),
         Err(Refusal::NoMemory) => return Err(NoMemory),
     };

@@ -4,7 +4,6 @@ ghost use Rattle.std.specs.Prelude.{◌≡◌, true, List, None, Ok, OnOk};
 ghost use Rattle.gw_base.specs.declared.key.Key.TheVariants.{Term, Ctx};
 ghost use Rattle.gw_table.specs.Maps.{term, put_term, place_of};
 ghost use Rattle.gw_table.specs.Parts.{holds, HoldsPlace};
-ghost use Rattle.gw_table.specs.Reserved.{slot_name};
 ghost use Rattle.gw_table.specs.WellFormed.{IsSound};
 ghost use Rattle.gw_term.specs.Record.{ephemeral};
 ghost use Rattle.gw_term.specs.declared.record.Termination.{Termination};
@@ -22,7 +21,7 @@ use gw_base::{Code, CtxNum, Held, Items, NoMemory, Rules, Service, TermName, Ver
 use gw_msg::Command;
 use gw_refusal::service_asked;
 use gw_reply::ReplyPart;
-use gw_table::{Draft, slot_name};
+use gw_table::Draft;
 use gw_term::Termination;
 use std::alloc::Global;
 
@@ -200,7 +199,7 @@ fn decided_new(
     decided(alloc, rules, draft, place, command, &new)
 }
 
-/// Carries an Add out on a termination that it makes in a slot.
+/// Carries an Add out on a termination that it makes in a slot, under the slot's name.
 #[tactic(auto, unfolding(crate::specs::Effects::on_record))]
 pub(crate) fn on_new(
     alloc: Global,
@@ -209,14 +208,15 @@ pub(crate) fn on_new(
     place: Option<CtxNum>,
     command: &Command<'_>,
     slot: u16,
+    name: &TermName,
 ) -> Result<Items<ReplyPart>, Refusal>
     requires sound { IsSound draft.old.keys draft.old.maps }
-    requires unused { term draft.old.maps (slot_name slot) ≡ None }
-    requires term_key { holds draft.old.keys (Term (slot_name slot)) ≡ true }
+    requires unused { term draft.old.maps name.now ≡ None }
+    requires term_key { holds draft.old.keys (Term name.now) ≡ true }
     requires ctx_key { HoldsPlace draft.old.keys place }
-    ensures told { Tells result draft.new.maps (on_record rules.now place command.now (slot_name slot) (ephemeral slot) draft.old.maps) }
+    ensures told { Tells result draft.new.maps (on_record rules.now place command.now name.now (ephemeral slot) draft.old.maps) }
     ensures keys { draft.new.keys ≡ draft.old.keys }
 {
     let decided = decided_new(alloc, rules, draft, place, command, slot)?;
-    done(alloc, rules, draft, &slot_name(slot), decided)
+    done(alloc, rules, draft, name, decided)
 }
