@@ -58,8 +58,8 @@ noted_more false false before = refl
 grown : {X : Type 0} (p : X → Bool) (before : Bool) (xs : List X) (i : ℕ) (x : X) → i < length xs → x ≡ get_or xs i x → noted (p x) (noted (list_any p (take i xs)) before) ≡ noted (list_any p (take (i + 1) xs)) before
 grown p before xs i x h is = noted_more (list_any p (take i xs)) (p x) before ∙ ap (λ y. noted y before) (sym (one_more p xs i x h is))
 
-begun : {X : Type 0} (p : X → Bool) (xs : List X) (i : ℕ) (x : X) → i < length xs → x ≡ get_or xs i x → noted (p x) (list_any p (take i xs)) ≡ list_any p (take (i + 1) xs)
-begun p xs i x h is = noted_one (list_any p (take i xs)) (p x) ∙ sym (one_more p xs i x h is)
+found : {X : Type 0} (p : X → Bool) (xs : List X) (i : ℕ) (x : X) → i < length xs → x ≡ get_or xs i x → noted (p x) (list_any p (take i xs)) ≡ list_any p (take (i + 1) xs)
+found p xs i x h is = noted_one (list_any p (take i xs)) (p x) ∙ sym (one_more p xs i x h is)
 
 -- one part more
 pub part_noted : (parts : List MediaPart) (i : ℕ) (part : MediaPart) (n : Named) → i < length parts → part ≡ get_or parts i part
@@ -78,13 +78,13 @@ pub descriptor_noted : (descriptors : List Descriptor) (i : ℕ) (d : Descriptor
     → with_descriptor d (named_by (take i descriptors)) ≡ named_by (take (i + 1) descriptors)
 descriptor_noted descriptors i d h is =
     rw (
-      begun (is_named_in 1) descriptors i d h is,
-      begun (is_named_in 2) descriptors i d h is,
-      begun (is_named_in 3) descriptors i d h is,
-      begun (is_named_in 4) descriptors i d h is,
-      begun has_states descriptors i d h is,
-      begun (is_kept Events) descriptors i d h is,
-      begun (is_kept Signals) descriptors i d h is,
-      begun (is_kept DigitMap) descriptors i d h is,
-      begun (is_kept EventBuffer) descriptors i d h is,
+      found (is_named_in 1) descriptors i d h is,
+      found (is_named_in 2) descriptors i d h is,
+      found (is_named_in 3) descriptors i d h is,
+      found (is_named_in 4) descriptors i d h is,
+      found has_states descriptors i d h is,
+      found (is_kept Events) descriptors i d h is,
+      found (is_kept Signals) descriptors i d h is,
+      found (is_kept DigitMap) descriptors i d h is,
+      found (is_kept EventBuffer) descriptors i d h is,
     )

@@ -170,7 +170,7 @@ merged_tail kind (d ∷ ds) old = merged_tail kind ds (tail_after kind d old)
 
 -- ---- the whole
 
--- what can be too much: the properties, and each stream
+-- what can be too much: the properties, and each stream, after a merge
 pub record Media : Type 0 where
   pub properties : List (Property (List ℕ))
   pub first : Option Merging
@@ -178,6 +178,7 @@ pub record Media : Type 0 where
   pub third : Option Merging
   pub fourth : Option Merging
 
+-- these after the descriptors
 unfoldable pub merged_media : Rules → List Descriptor → Termination → Option Media
 merged_media rules descriptors r =
     and_then (merged_properties descriptors r.properties) (λ properties.

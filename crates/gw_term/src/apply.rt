@@ -6,7 +6,6 @@ ghost use Rattle.gw_term.specs.Named.{named_by};
 ghost use Rattle.gw_term.specs.Record.{unset};
 ghost use Rattle.gw_term.specs.Applies.{IsMergedInto, merging_of};
 
-use crate::copies::put;
 use crate::fault::ApplyFault;
 use crate::named::Named;
 use crate::properties::{merged_properties, merged_service};

@@ -220,7 +220,8 @@ fn begun(alloc: Global, old: &Option<Held<Stream>>) -> Result<Merging, NoMemory>
     })
 }
 
-/// The stream of this number, which is named, after the descriptors is put in a place; whether its Local was filled.
+/// The stream of this number, which is named, after the descriptors is put in a place; whether its Local was filled. Not inlined,
+/// since most streams are not named.
 #[inline(never)]
 #[tactic(auto, unfolding(crate::specs::Merge::merged_stream))]
 fn merge_named(

@@ -74,7 +74,8 @@ fn put_tail(
     Ok(())
 }
 
-/// The tail of this kind after the descriptors, one of which names it, is put in an empty place.
+/// The tail of this kind after the descriptors, one of which names it, is put in an empty place. Not inlined, since most tails are
+/// not named.
 #[inline(never)]
 fn merge_named(
     alloc: Global,
