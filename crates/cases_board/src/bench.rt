@@ -1,8 +1,10 @@
-//! The tables of a gateway, and bursts on a board of a copy of them.
+//! The tables of a gateway, and bursts on a board of them.
 
 ghost use Rattle.std.specs.Prelude.{◌≡◌};
 ghost use Rattle.std.specs.List.{list_any};
 ghost use Rattle.gw_table.specs.Reserved.{is_reserved};
+ghost use Rattle.gw_table.specs.Stored.{maps_of, NoneIsOut};
+ghost use Rattle.gw_table.specs.WellFormed.{AreWellFormed};
 
 use crate::asking::{Limits, asks_in};
 use crate::play::play;
@@ -57,6 +59,57 @@ fn limits_of(config: &Config) -> Option<Limits> {
     })
 }
 
+/// These tables after the requests of a message, carried out in waves. The caller knows that they are well-formed, and that nothing is
+/// out.
+fn carried_in(
+    alloc: Global,
+    manner: &Manner,
+    limits: Limits,
+    tables: Tables,
+    text: &[u8],
+) -> Result<Bench, CaseFault>
+    requires whole { AreWellFormed manner.now.rules.members (maps_of tables) }
+    requires here { NoneIsOut tables }
+{
+    let Ok(message) = read_message(alloc, text) else {
+        return Err(CaseFault::Form);
+    };
+    let Ok(asked) = asks_in(alloc, &tables, limits, &message) else {
+        return Err(CaseFault::NoMemory);
+    };
+    let Ok(tables) = carried_out(alloc, tables, *manner, &asked) else {
+        return Err(CaseFault::NoMemory);
+    };
+    Ok(Bench {
+        manner: *manner,
+        limits,
+        tables,
+    })
+}
+
+/// Takes steps with the requests of a message, on a board of these tables. The caller knows that they are well-formed, and that nothing
+/// is out.
+fn play_in(
+    manner: Manner,
+    limits: Limits,
+    tables: Tables,
+    text: &[u8],
+    steps: &[u8],
+    out: &mut Page,
+) -> Result<(), CaseFault>
+    requires whole { AreWellFormed manner.rules.members (maps_of tables) }
+    requires here { NoneIsOut tables }
+{
+    let alloc = out.alloc();
+    let Ok(message) = read_message(alloc, text) else {
+        return Err(CaseFault::Form);
+    };
+    let Ok(asked) = asks_in(alloc, &tables, limits, &message) else {
+        return Err(CaseFault::NoMemory);
+    };
+    play(tables, manner, &asked, steps, out)
+}
+
 impl Bench {
     /// The tables of a gateway that was just configured.
     ///
@@ -90,43 +143,27 @@ impl Bench {
     /// # Errors
     ///
     /// `Form` where the text is no message; `NoMemory` where a growth was refused.
-    pub fn after(&self, alloc: Global, text: &[u8]) -> Result<Bench, CaseFault> {
-        let Ok(message) = read_message(alloc, text) else {
-            return Err(CaseFault::Form);
-        };
-        let Ok(asked) = asks_in(alloc, &self.tables, self.limits, &message) else {
-            return Err(CaseFault::NoMemory);
-        };
-        let Ok(tables) = self.tables.copy() else {
-            return Err(CaseFault::NoMemory);
-        };
-        let Ok(tables) = carried_out(alloc, tables, self.manner, &asked) else {
-            return Err(CaseFault::NoMemory);
-        };
-        Ok(Bench {
-            manner: self.manner,
-            limits: self.limits,
+    pub fn after(self, alloc: Global, text: &[u8]) -> Result<Bench, CaseFault> {
+        let Bench {
+            manner,
+            limits,
             tables,
-        })
+        } = self;
+        carried_in(alloc, &manner, limits, tables, text)
     }
 
-    /// Takes steps with the requests of a message, on a board of a copy of the tables.
+    /// Takes steps with the requests of a message, on a board of the tables, which end with it.
     ///
     /// # Errors
     ///
     /// `Form` where the text is no message, and what is wrong with a step; `NoMemory` where a growth was refused.
-    pub fn play(&self, text: &[u8], steps: &[u8], out: &mut Page) -> Result<(), CaseFault> {
-        let alloc = out.alloc();
-        let Ok(message) = read_message(alloc, text) else {
-            return Err(CaseFault::Form);
-        };
-        let Ok(asked) = asks_in(alloc, &self.tables, self.limits, &message) else {
-            return Err(CaseFault::NoMemory);
-        };
-        let Ok(tables) = self.tables.copy() else {
-            return Err(CaseFault::NoMemory);
-        };
-        play(tables, self.manner, &asked, steps, out)
+    pub fn play(self, text: &[u8], steps: &[u8], out: &mut Page) -> Result<(), CaseFault> {
+        let Bench {
+            manner,
+            limits,
+            tables,
+        } = self;
+        play_in(manner, limits, tables, text, steps, out)
     }
 
     /// Writes the footprint of a request of a message.

@@ -2,6 +2,7 @@
 
 use crate::bench::Bench;
 use cases_text::{CaseFault, Desk, Page, config_of, decoded, number_of, split_word};
+use gw_base::Config;
 use std::alloc::Global;
 
 /// What stands before the transactions in a message.
@@ -10,10 +11,18 @@ const FRONT: &[u8] = b"MEGACO/1 [10.0.0.9]:2944";
 /// The most times that a transaction is put into a burst by one line.
 const MOST_TIMES: u32 = 4_096;
 
-/// Answers cases with tables and a burst, which live until the next are made.
+/// Tables as a case has made them: a configuration, and the transactions that were carried out since, in order. The tables themselves
+/// are made anew for each line.
+#[derive(Drop)]
+struct Made {
+    config: Config,
+    given: Vec<Page>,
+}
+
+/// Answers cases with tables and a burst, which stand until the next are made.
 #[derive(Drop)]
 pub struct Cases {
-    bench: Option<Bench>,
+    made: Option<Made>,
     burst: Page,
 }
 
@@ -27,44 +36,67 @@ fn put_times(text: &mut Page, transactions: &[u8], times: u32) -> Result<(), Cas
     Ok(())
 }
 
-/// The tables after these transactions.
-fn prepared(alloc: Global, bench: &Bench, transactions: &[u8]) -> Result<Bench, CaseFault> {
+/// The message of these transactions.
+fn message_of(alloc: Global, transactions: &[u8]) -> Result<Page, CaseFault> {
     let mut text = Page::new(alloc);
     text.put(FRONT);
     put_times(&mut text, transactions, 1)?;
-    bench.after(alloc, text.whole()?)
+    Ok(text)
+}
+
+impl Made {
+    /// The tables: as they were configured, with the transactions carried out.
+    fn bench(&self, alloc: Global) -> Result<Bench, CaseFault> {
+        let mut bench = Bench::new(alloc, &self.config)?;
+        for given in &self.given {
+            let text = given.whole()?;
+            bench = bench.after(alloc, text)?;
+        }
+        Ok(bench)
+    }
 }
 
 impl Cases {
     /// No tables yet, and an empty burst.
     pub fn new(alloc: Global) -> Cases {
         Cases {
-            bench: None,
+            made: None,
             burst: Page::new(alloc),
         }
     }
 
     /// Other tables take the place of these. A function of its own, since these are let go here.
-    fn put(&mut self, bench: Bench) {
-        self.bench = Some(bench);
+    fn put(&mut self, made: Made) {
+        self.made = Some(made);
     }
 
     /// New tables.
     fn make(&mut self, alloc: Global, words: &[u8]) -> Result<(), CaseFault> {
         let config = config_of(alloc, words)?;
-        let bench = Bench::new(alloc, &config)?;
-        self.put(bench);
+        let _tables = Bench::new(alloc, &config)?;
+        self.put(Made {
+            config,
+            given: Vec::new(alloc),
+        });
         Ok(())
     }
 
-    /// Carries transactions out that prepare a case.
+    /// The tables.
+    fn bench(&self, alloc: Global) -> Result<Bench, CaseFault> {
+        match &self.made {
+            Some(made) => made.bench(alloc),
+            None => Err(CaseFault::Form),
+        }
+    }
+
+    /// Keeps transactions that prepare a case, once they are carried out.
     fn prepare(&mut self, alloc: Global, transactions: &[u8]) -> Result<(), CaseFault> {
-        let Some(bench) = &self.bench else {
+        let text = message_of(alloc, transactions)?;
+        let _tables = self.bench(alloc)?.after(alloc, text.whole()?)?;
+        let Some(made) = &mut self.made else {
             return Err(CaseFault::Form);
         };
-        let after = prepared(alloc, bench, transactions)?;
-        self.put(after);
-        Ok(())
+        Ok(made.given.push(text)?)
     }
 
     /// A burst of these transactions begins.
@@ -85,17 +117,13 @@ impl Cases {
 
     fn write_footprint(&self, place: &[u8], out: &mut Page) -> Result<(), CaseFault> {
         let place = number_of(place).ok_or(CaseFault::Form)?;
-        match &self.bench {
-            Some(bench) => bench.write_footprint(self.burst.whole()?, place as usize, out),
-            None => Err(CaseFault::Form),
-        }
+        let bench = self.bench(out.alloc())?;
+        bench.write_footprint(self.burst.whole()?, place as usize, out)
     }
 
     fn take(&self, steps: &[u8], out: &mut Page) -> Result<(), CaseFault> {
-        match &self.bench {
-            Some(bench) => bench.play(self.burst.whole()?, steps, out),
-            None => Err(CaseFault::Form),
-        }
+        let bench = self.bench(out.alloc())?;
+        bench.play(self.burst.whole()?, steps, out)
     }
 }
 

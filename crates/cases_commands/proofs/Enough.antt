@@ -1,11 +1,8 @@
 -- A command that is carried out on all of the tables and its own keys leaves what it leaves on the whole.
-use Rattle.std.proofs.Common.{◌≡◌, ℕ, Bool, true, false, cond, List, [], ◌∷◌, ◌++◌, Option, None, Some, is_some, refl, sym, ap, subst, ◌∙◌}
-use Rattle.std.specs.List.{list_any}
-use Rattle.std.specs.Prelude.{if◌then◌else◌}
-use Rattle.gw_base.specs.declared.ids.CtxNum.{CtxNum}
+use Rattle.std.proofs.Common.{◌≡◌, ℕ, Bool, true, false, cond, List, [], ◌++◌, Option, None, refl, sym, ap, ◌∙◌}
 use Rattle.gw_base.specs.declared.command_words.Rules.{Rules}
 use Rattle.gw_base.specs.declared.key.Key.{Key}
-use Rattle.gw_base.specs.declared.key.Key.TheVariants.{Term, Ctx, Whole}
+use Rattle.gw_base.specs.declared.key.Key.TheVariants.{Term, Ctx}
 use Rattle.gw_base.specs.declared.term_ref.TermRef.{TermRef}
 use Rattle.gw_base.specs.declared.term_ref.TermRef.TheVariants as ref
 use Rattle.gw_base.specs.Keys.{same_key, has, Among}
@@ -14,7 +11,6 @@ use Rattle.gw_base.proofs.KeyTests.{any-append_cases, any-append_left, any-appen
 use Rattle.gw_base.proofs.NamesInLists.{either}
 use Rattle.gw_msg.specs.declared.message.Command.{Command}
 use Rattle.gw_refusal.specs.declared.at.At.{At}
-use Rattle.gw_refusal.specs.declared.at.At.TheVariants.{Null, Live, Unmade, Each}
 use Rattle.gw_refusal.specs.Asked.{is_add}
 use Rattle.gw_table.specs.Locality.{KeepsTo}
 use Rattle.gw_table.specs.Maps.{Maps, term, ctx}
@@ -24,7 +20,7 @@ use Rattle.gw_table.proofs.Localities.{part_is_all}
 use Rattle.gw_table.proofs.Lookups.{same_maps}
 use Rattle.gw_table.proofs.PartLookups.{term-cut, ctx-cut, term-overlaid, ctx-overlaid}
 use Rattle.gw_cmd.specs.Commands.{command}
-use Rattle.gw_cmd.specs.Keys.{every_key, keys_if, action_keys, member_keys, term_keys, new_keys, slot_key, is_for_all, command_keys}
+use Rattle.gw_cmd.specs.Keys.{every_key, keys_if, action_keys, member_keys, term_keys, slot_key, is_for_all, command_keys}
 use Rattle.gw_cmd.proofs.Locality.{command_keeps}
 use Rattle.gw_cmd.proofs.Ready.{every_term, every_ctx, named}
 use Rattle.cases_commands.specs.EnoughKeys.{AreEnough, own_name, all_keys}

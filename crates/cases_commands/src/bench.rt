@@ -98,6 +98,28 @@ fn carry_out(
     Ok(outcome)
 }
 
+/// The command carried out at its place in these tables: its replies, and the tables after it. The caller knows that they are
+/// well-formed, and that nothing is out.
+fn carried_in(
+    alloc: Global,
+    rules: &Rules,
+    mut tables: Tables,
+    place: Place,
+    asked: &Command<'_>,
+) -> Result<(CmdOutcome, Bench), CaseFault>
+    requires whole { AreWellFormed rules.now.members (maps_of tables) }
+    requires here { NoneIsOut tables }
+{
+    if !is_unused(&tables, place.slot) {
+        return Err(CaseFault::Form);
+    }
+    let Ok(outcome) = carry_out(alloc, rules, &mut tables, place, asked) else {
+        return Err(CaseFault::NoMemory);
+    };
+    let rules = *rules;
+    Ok((outcome, Bench { rules, tables }))
+}
+
 impl Bench {
     /// The tables of a gateway that was just configured.
     pub fn new(alloc: Global, config: &Config) -> Result<Bench, CaseFault> {
@@ -121,29 +143,20 @@ impl Bench {
         &self.tables
     }
 
-    /// The command carried out at its place on a copy of the tables: its replies, and the copy.
+    /// The command carried out at its place: its replies, and the tables after it.
     fn carried(
-        &self,
+        self,
         alloc: Global,
         place: Place,
         asked: &Command<'_>,
     ) -> Result<(CmdOutcome, Bench), CaseFault> {
-        if !is_unused(&self.tables, place.slot) {
-            return Err(CaseFault::Form);
-        }
-        let Ok(mut tables) = self.tables.copy() else {
-            return Err(CaseFault::NoMemory);
-        };
-        let Ok(outcome) = carry_out(alloc, &self.rules, &mut tables, place, asked) else {
-            return Err(CaseFault::NoMemory);
-        };
-        let rules = self.rules;
-        Ok((outcome, Bench { rules, tables }))
+        let Bench { rules, tables } = self;
+        carried_in(alloc, &rules, tables, place, asked)
     }
 
     /// The command of a message carried out at its place.
     fn asked_by(
-        &self,
+        self,
         alloc: Global,
         place: Place,
         message: &[u8],
@@ -159,7 +172,7 @@ impl Bench {
 
     /// The command of this text carried out at its place: its replies, and the tables after it.
     pub fn asked(
-        &self,
+        self,
         alloc: Global,
         place: Place,
         text: &[u8],

@@ -2,15 +2,31 @@
 
 use crate::bench::Bench;
 use crate::footprints::{write_footprint, write_meeting};
-use crate::places::place_of;
+use crate::places::{Place, place_of};
 use crate::tables::{write_changes, write_outcome, write_tables};
 use cases_text::{CaseFault, Desk, Page, as_text, config_of, decoded, split_word};
+use gw_base::Config;
 use std::alloc::Global;
 
-/// Answers cases with tables, which live until the next are made.
+/// A command that was carried out and is kept: where it stands, and its text.
+#[derive(Drop)]
+struct Kept {
+    place: Place,
+    text: Vec<u8>,
+}
+
+/// Tables as a case has made them: a configuration, and the commands that were carried out since, in order. The tables themselves
+/// are made anew for each line.
+#[derive(Drop)]
+struct Made {
+    config: Config,
+    kept: Vec<Kept>,
+}
+
+/// Answers cases with tables, which stand until the next are made.
 #[derive(Drop)]
 pub struct Commands {
-    bench: Option<Bench>,
+    made: Option<Made>,
 }
 
 /// What becomes of a command that is carried out.
@@ -24,39 +40,65 @@ enum Use {
     Asked,
 }
 
-/// Carries a command out on a copy of the tables and tells of it. Whether it failed, and the copy.
-fn carried(
-    bench: &Bench,
-    call: &str,
-    asked: &[u8],
-    out: &mut Page,
-) -> Result<(bool, Bench), CaseFault> {
-    let (place, text) = place_of(call, asked)?;
-    let text = decoded(out.alloc(), text)?;
-    let (outcome, after) = bench.asked(out.alloc(), place, text.as_slice())?;
+impl Made {
+    /// The tables: as they were configured, with the kept commands carried out.
+    fn bench(&self, alloc: Global) -> Result<Bench, CaseFault> {
+        let mut bench = Bench::new(alloc, &self.config)?;
+        for kept in &self.kept {
+            let (_, after) = bench.asked(alloc, kept.place, kept.text.as_slice())?;
+            bench = after;
+        }
+        Ok(bench)
+    }
+}
+
+/// Carries a command out and tells of it. Whether it failed.
+fn carried(bench: Bench, place: Place, text: &[u8], out: &mut Page) -> Result<bool, CaseFault> {
+    let mut before = Page::new(out.alloc());
+    write_tables(&mut before, bench.tables())?;
+    let (outcome, after) = bench.asked(out.alloc(), place, text)?;
     let failed = outcome.failed;
     write_outcome(out, outcome)?;
-    write_changes(out, bench.tables(), after.tables())?;
-    Ok((failed, after))
+    write_changes(out, before.whole()?, after.tables())?;
+    Ok(failed)
 }
 
 impl Commands {
     /// No tables yet.
     pub fn new() -> Commands {
-        Commands { bench: None }
+        Commands { made: None }
     }
 
     /// Other tables take the place of these. A function of its own, since these are let go here.
-    fn put(&mut self, bench: Bench) {
-        self.bench = Some(bench);
+    fn put(&mut self, made: Made) {
+        self.made = Some(made);
     }
 
     /// New tables.
     fn make(&mut self, alloc: Global, words: &[u8]) -> Result<(), CaseFault> {
         let config = config_of(alloc, words)?;
-        let bench = Bench::new(alloc, &config)?;
-        self.put(bench);
+        let _tables = Bench::new(alloc, &config)?;
+        self.put(Made {
+            config,
+            kept: Vec::new(alloc),
+        });
         Ok(())
+    }
+
+    /// The tables.
+    fn bench(&self, alloc: Global) -> Result<Bench, CaseFault> {
+        match &self.made {
+            Some(made) => made.bench(alloc),
+            None => Err(CaseFault::Form),
+        }
+    }
+
+    /// Keeps a command that was carried out.
+    fn keep(&mut self, place: Place, text: Vec<u8>) -> Result<(), CaseFault> {
+        let Some(made) = &mut self.made else {
+            return Err(CaseFault::Form);
+        };
+        Ok(made.kept.push(Kept { place, text })?)
     }
 
     /// Carries a command out.
@@ -67,18 +109,17 @@ impl Commands {
         asked: &[u8],
         out: &mut Page,
     ) -> Result<(), CaseFault> {
-        let Some(bench) = &self.bench else {
-            return Err(CaseFault::Form);
-        };
-        let (failed, after) = carried(bench, call, asked, out)?;
+        let bench = self.bench(out.alloc())?;
+        let (place, text) = place_of(call, asked)?;
+        let text = decoded(out.alloc(), text)?;
+        let failed = carried(bench, place, text.as_slice(), out)?;
         match used {
             Use::Given if failed => return Err(CaseFault::Form),
             Use::Given => out.clear(),
             Use::Tried => return Ok(()),
             Use::Asked => {}
         }
-        self.put(after);
-        Ok(())
+        self.keep(place, text)
     }
 }
 
@@ -87,18 +128,9 @@ impl Desk for Commands {
         let (next, behind) = split_word(asked);
         match call {
             "new" => self.make(out.alloc(), asked),
-            "tables" => match &self.bench {
-                Some(bench) => write_tables(out, bench.tables()),
-                None => Err(CaseFault::Form),
-            },
-            "footprint" => match &self.bench {
-                Some(bench) => write_footprint(out, bench.tables(), asked),
-                None => Err(CaseFault::Form),
-            },
-            "meeting" => match &self.bench {
-                Some(bench) => write_meeting(out, bench.tables(), asked),
-                None => Err(CaseFault::Form),
-            },
+            "tables" => write_tables(out, self.bench(out.alloc())?.tables()),
+            "footprint" => write_footprint(out, self.bench(out.alloc())?.tables(), asked),
+            "meeting" => write_meeting(out, self.bench(out.alloc())?.tables(), asked),
             "given" => self.ask(Use::Given, as_text(next), behind, out),
             "try" => self.ask(Use::Tried, as_text(next), behind, out),
             _ => self.ask(Use::Asked, call, asked, out),

@@ -129,13 +129,11 @@ fn write_gone(out: &mut Page, before: &[u8], after: &[u8]) {
     }
 }
 
-/// Each line of the tables that is new or another, and each entry that is gone.
-pub fn write_changes(out: &mut Page, before: &Tables, after: &Tables) -> Result<(), CaseFault> {
-    let mut old = Page::new(out.alloc());
-    write_tables(&mut old, before)?;
+/// Each line of the tables that is new or another than in the text of those before, and each entry that is gone.
+pub fn write_changes(out: &mut Page, before: &[u8], after: &Tables) -> Result<(), CaseFault> {
     let mut new = Page::new(out.alloc());
     write_tables(&mut new, after)?;
-    let (before, after) = (old.whole()?, new.whole()?);
+    let after = new.whole()?;
     write_new(out, before, after);
     write_gone(out, before, after);
     Ok(())

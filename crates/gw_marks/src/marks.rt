@@ -48,19 +48,6 @@ impl Marks {
         Ok(Marks { words })
     }
 
-    /// Equal marks.
-    ///
-    /// # Errors
-    ///
-    /// Want of memory.
-    pub fn copy(&self) -> Result<Self, NoMemory>
-        ensures { IfOk result (λ copy. copy ≡ self.now) }
-    {
-        Ok(Marks {
-            words: self.words.clone()?,
-        })
-    }
-
     /// Marks a number, where there is room for it; else nothing changes.
     pub fn mark(&mut self, number: u32)
         ensures marked { number < room self.old → is_marked self.new number ≡ true }

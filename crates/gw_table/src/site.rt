@@ -19,7 +19,7 @@ use crate::setting::{self, Setting, set_copy};
 use gw_base::{Held, Key, NoMemory, Service, TermName};
 use gw_ctx::Context;
 use gw_term::Termination;
-use std::alloc::{AllocError, Global};
+use std::alloc::Global;
 use std::marker::Model;
 use std::mem;
 
@@ -337,31 +337,5 @@ pub(crate) fn place_in<T>(site: Option<Site<T>>) -> Option<Place<T>>
     match site {
         Some(site) => Some(site.into_place()),
         None => None,
-    }
-}
-
-impl Clone for Site<Held<Termination>> {
-    ghost use Rattle.std.specs.Prelude.{◌≡◌};
-
-    ghost is_clone = { λ a b. b ≡ a };
-
-    fn clone(&self) -> Result<Self, AllocError> {
-        Ok(Site {
-            place: self.place.clone()?,
-            noted: self.noted,
-        })
-    }
-}
-
-impl Clone for Site<Held<Context>> {
-    ghost use Rattle.std.specs.Prelude.{◌≡◌};
-
-    ghost is_clone = { λ a b. b ≡ a };
-
-    fn clone(&self) -> Result<Self, AllocError> {
-        Ok(Site {
-            place: self.place.clone()?,
-            noted: self.noted,
-        })
     }
 }

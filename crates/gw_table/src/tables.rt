@@ -107,22 +107,6 @@ impl Tables {
         Ok(tables)
     }
 
-    /// Equal tables.
-    ///
-    /// # Errors
-    ///
-    /// Want of memory.
-    pub fn copy(&self) -> Result<Tables, NoMemory>
-        ensures { IfOk result (λ copy. copy ≡ self.now) }
-    {
-        Ok(Tables {
-            terms: self.terms.clone()?,
-            contexts: self.contexts.clone()?,
-            numbers: self.numbers.copy()?,
-            slots: self.slots.copy()?,
-        })
-    }
-
     /// The termination of a name. One that is out is not found.
     pub fn find_term(&self, name: &TermName) -> Option<&Termination>
         ensures { option_copied result ≡ term (maps_of self.now) name.now }

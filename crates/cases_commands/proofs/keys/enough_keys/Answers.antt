@@ -1,7 +1,7 @@
-use Rattle.std.proofs.Common.{◌≡◌, true, List, ◌++◌, sym, ap, ◌∙◌}
+use Rattle.std.proofs.Common.{◌≡◌, List, ◌++◌, ap, ◌∙◌}
 use Rattle.gw_base.specs.Keys.{has}
 use Rattle.gw_base.specs.declared.key.Key.{Key}
-use Rattle.gw_cmd.specs.Keys.{every_key, action_keys, member_keys, slot_key}
+use Rattle.gw_cmd.specs.Keys.{action_keys, member_keys, slot_key}
 use Rattle.gw_table.specs.Maps.{Maps}
 use Rattle.gw_table.specs.Stored.{maps_of}
 use Rattle.cases_commands.specs.EnoughKeys.{own_name, all_keys}
