@@ -1,8 +1,9 @@
 -- Of two texts the one whose head is the smaller number comes first.
-use Rattle.std.proofs.Common.{◌≡◌, ℕ, zero, suc, ◌*◌, ◌<◌, List, [], ◌∷◌, get_or, refl, ap, Less, Greater, arith}
-use Rattle.std.specs.Ordering.{nat_cmp}
+use Rattle.std.proofs.Common.{◌≡◌, ℕ, zero, suc, ◌*◌, ◌<◌, ◌≤◌, true, List, [], ◌∷◌, length, get_or, bytes_eq, refl, sym, ap, ◌∙◌, Less, Equal, Greater, arith}
+use Rattle.std.specs.Ordering.{is_eq, nat_cmp}
 use Rattle.std.specs.Cmp.Lexicographic.{slice_cmp}
 use Rattle.std.proofs.lemmas.Cmp.{by_ranked, ranked}
+use Rattle.std.proofs.lemmas.Map.Text.{is_eq-slice_cmp}
 use Rattle.std.proofs.lemmas.Nat.{mul-add-lt}
 use Rattle.gw_base.specs.Heads.{worth, head_of}
 
@@ -42,3 +43,37 @@ head_more (suc k) (x ∷ xs) (y ∷ ys) a b h =
     (λ o less. absurd (omega (arith, h, first_rules k y x ys xs (rest_bytes x xs a) less)))
     (λ o same. rw o (head_more k xs ys (rest_bytes x xs a) (rest_bytes y ys b) (omega (arith, h, ap (λ (n : ℕ). n * worth k) same))))
     (λ o more. rw o refl)
+
+cmp_less : (m n : ℕ) → m < n → nat_cmp m n ≡ Less
+cmp_less m n h = by_ranked (m < n) (m ≡ n) (n < m) (nat_cmp m n) (ranked m n (nat_cmp m n) refl) (λ o less. o) (λ o same. absurd (omega (arith, h, same))) (λ o more. absurd (omega (arith, h, more)))
+
+cmp_more : (m n : ℕ) → n < m → nat_cmp m n ≡ Greater
+cmp_more m n h = by_ranked (m < n) (m ≡ n) (n < m) (nat_cmp m n) (ranked m n (nat_cmp m n) refl) (λ o less. absurd (omega (arith, h, less))) (λ o same. absurd (omega (arith, h, same))) (λ o more. o)
+
+cmp_same : (m n : ℕ) → m ≡ n → nat_cmp m n ≡ Equal
+cmp_same m n h = by_ranked (m < n) (m ≡ n) (n < m) (nat_cmp m n) (ranked m n (nat_cmp m n) refl) (λ o less. absurd (omega (arith, h, less))) (λ o same. o) (λ o more. absurd (omega (arith, h, more)))
+
+cmp_suc : (m n : ℕ) → nat_cmp m n ≡ nat_cmp (suc m) (suc n)
+cmp_suc m n =
+    by_ranked (m < n) (m ≡ n) (n < m) (nat_cmp m n) (ranked m n (nat_cmp m n) refl)
+    (λ o less. o ∙ sym (cmp_less (suc m) (suc n) (omega (arith, less))))
+    (λ o same. o ∙ sym (cmp_same (suc m) (suc n) (omega (arith, same))))
+    (λ o more. o ∙ sym (cmp_more (suc m) (suc n) (omega (arith, more))))
+
+-- of texts that have no more bytes than their heads tell of, and the same head, the shorter comes first
+pub same_head : (k : ℕ) (xs ys : List ℕ) → AreBytes xs → AreBytes ys → length xs ≤ k → length ys ≤ k → head_of k xs ≡ head_of k ys → slice_cmp nat_cmp xs ys ≡ nat_cmp (length xs) (length ys)
+same_head k [] [] a b m n h = sym (cmp_same 0 0 refl)
+same_head k [] (y ∷ ys) a b m n h = sym (cmp_less 0 (suc (length ys)) (omega arith))
+same_head k (x ∷ xs) [] a b m n h = sym (cmp_more (suc (length xs)) 0 (omega arith))
+same_head zero (x ∷ xs) (y ∷ ys) a b m n h = absurd (omega (arith, m))
+same_head (suc k) (x ∷ xs) (y ∷ ys) a b m n h =
+    by_ranked (x < y) (x ≡ y) (y < x) (nat_cmp x y) (ranked x y (nat_cmp x y) refl)
+    (λ o less. absurd (omega (arith, h, first_rules k y x ys xs (rest_bytes x xs a) less)))
+    (λ o same. rw o (same_head k xs ys (rest_bytes x xs a) (rest_bytes y ys b) (omega (arith, m)) (omega (arith, n)) (omega (arith, h, ap (λ (n : ℕ). n * worth k) same)) ∙ cmp_suc (length xs) (length ys)))
+    (λ o more. absurd (omega (arith, h, first_rules k x y xs ys (rest_bytes y ys b) more)))
+
+-- texts of one length that have no more bytes than their heads tell of are the same where their heads are
+pub same_short : (k : ℕ) (xs ys : List ℕ) → AreBytes xs → AreBytes ys → length xs ≤ k → length xs ≡ length ys → head_of k xs ≡ head_of k ys → bytes_eq xs ys ≡ true
+same_short k xs ys a b m n h =
+    sym (is_eq-slice_cmp xs ys)
+    ∙ ap is_eq (same_head k xs ys a b m (omega (arith, m, n)) h ∙ cmp_same (length xs) (length ys) n)

@@ -13,13 +13,32 @@ use crate::inline::Inline;
 use std::cmp::Ordering;
 use std::hash::{Hash, Hasher};
 
+/// Whether two texts are the same, of which the first `seen` bytes are known as numbers.
+fn is_same(seen: usize, head: u64, text: &[u8], other_head: u64, other: &[u8]) -> bool
+    requires first { head ≡ head_of seen text.now }
+    requires second { other_head ≡ head_of seen other.now }
+    ensures { result ≡ bytes_eq text.now other.now }
+{
+    match (text, other) {
+        _ if head != other_head || text.len() != other.len() => false,
+        (text, other) => text.len() <= seen || text == other,
+    }
+}
+
 impl<const N: usize> PartialEq for Inline<N> {
     ghost eq = { bytes_eq };
 
     ghost laws = { partial_equiv_from_equiv nat_list_eq_equiv };
 
     fn eq(&self, other: &Inline<N>) -> bool {
-        self.as_bytes() == other.as_bytes()
+        let seen = Inline::<N>::seen();
+        is_same(
+            seen,
+            self.head(),
+            self.as_bytes(),
+            other.head(),
+            other.as_bytes(),
+        )
     }
 }
 
@@ -37,14 +56,17 @@ impl<const N: usize> PartialOrd for Inline<N> {
     }
 }
 
-/// How two texts stand to one another, of which the first bytes are known as numbers. These mostly tell.
-fn compare(head: u64, text: &[u8], other_head: u64, other: &[u8]) -> Ordering
-    requires { (k : ℕ) × (head ≡ head_of k text.now) × (other_head ≡ head_of k other.now) }
+/// How two texts stand to one another, of which the first `seen` bytes are known as numbers. These mostly tell, and where neither text
+/// has more bytes, what they leave open is told by the lengths.
+fn compare(seen: usize, head: u64, text: &[u8], other_head: u64, other: &[u8]) -> Ordering
+    requires first { head ≡ head_of seen text.now }
+    requires second { other_head ≡ head_of seen other.now }
     ensures { result ≡ slice_cmp nat_cmp text.now other.now }
 {
     match (text, other) {
         _ if head < other_head => Ordering::Less,
         _ if other_head < head => Ordering::Greater,
+        (text, other) if text.len() <= seen && other.len() <= seen => text.len().cmp(&other.len()),
         (text, other) => text.cmp(other),
     }
 }
@@ -59,7 +81,14 @@ impl<const N: usize> Ord for Inline<N> {
     ghost matches_eq = { texts_ties };
 
     fn cmp(&self, other: &Inline<N>) -> Ordering {
-        compare(self.head(), self.as_bytes(), other.head(), other.as_bytes())
+        let seen = Inline::<N>::seen();
+        compare(
+            seen,
+            self.head(),
+            self.as_bytes(),
+            other.head(),
+            other.as_bytes(),
+        )
     }
 }
 
