@@ -6,7 +6,8 @@
 Run it at the top of the repository, after `rt run` in crates/h248gw has built the program; it needs valgrind. Each line is a burst that
 is given to a gateway in some state. Work is instructions by callgrind, with one worker, less those of the same replay without the
 burst; bytes are those of its datagrams and of its answers. A burst may take 20 times as much a byte as typical transactions do in
-bursts of 16, which are measured first, and 1,000 instructions for each termination and context that its wildcards match, told or not.
+bursts of 16, which are measured first, and 1,000 instructions for each termination and context that its wildcards match, told or not,
+and for each kept reply that a range of an acknowledgement lets go: it is a wildcard over their numbers.
 Memory is the most that the process ever had, less the most that it had before the burst.
 
 It fails where a burst takes more, or is not answered as the line says, and flags what takes more than 64 MB. Words choose the lines that
@@ -139,7 +140,7 @@ def kept_replies():
     turns = [b"K{0-4294967295}" + audit % (10_000 + number) for number in each]
     yield Kind("an acknowledgement of all and a request in turn, 4,096 kept", whole, packed(turns), keep=4_096)
     yield Kind("one acknowledgement of the oldest of 4,096 kept", whole, [HEAD + b"K{2}"], keep=4_096)
-    yield Kind("one acknowledgement of all of 4,096 kept", whole, [HEAD + b"K{0-4294967295}"], keep=4_096)
+    yield Kind("one acknowledgement of all of 4,096 kept", whole, [HEAD + b"K{0-4294967295}"], matches=4_096, keep=4_096)
     yield Kind("one request, 4,096 kept", whole, [HEAD + audit % 10_000], keep=4_096)
     yield Kind("repeats of one request, 4,096 kept", whole, packed([audit % 2] * 4_000, 4_000), keep=4_096)
     yield Kind("repeats of one request, 256 datagrams", whole, packed([audit % 2] * 4_096, 16), keep=4_096)
