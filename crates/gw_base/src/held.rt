@@ -60,7 +60,7 @@ impl<T> Held<T> {
     }
 }
 
-// So that a map of handles is copied by its own `clone`, each value in a block of its own.
+// So that what holds a handle is copied by its own `clone`, each value in a block of its own.
 impl<T: Clone + Drop> Clone for Held<T> {
     ghost is_clone = { T.is_clone };
 

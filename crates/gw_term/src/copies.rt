@@ -206,7 +206,7 @@ fn copied_termination(alloc: Global, old: &Termination) -> Result<Termination, A
     Ok(copy)
 }
 
-// As the maps of tables copy it: the copy lies where the termination does.
+// As the entry of a part is copied: the copy lies where the termination does.
 impl Clone for Termination {
     ghost is_clone = { λ a b. b ≡ a };
 
