@@ -141,6 +141,7 @@ def kept_replies():
     yield Kind("an acknowledgement of all and a request in turn, 4,096 kept", whole, packed(turns), keep=4_096)
     yield Kind("one acknowledgement of the oldest of 4,096 kept", whole, [HEAD + b"K{2}"], keep=4_096)
     yield Kind("one acknowledgement of all of 4,096 kept", whole, [HEAD + b"K{0-4294967295}"], matches=4_096, keep=4_096)
+    yield Kind("one acknowledgement of 128 in the middle of 4,096 kept", whole, [HEAD + b"K{2000-2127}"], matches=128, keep=4_096)
     yield Kind("one request, 4,096 kept", whole, [HEAD + audit % 10_000], keep=4_096)
     yield Kind("repeats of one request, 4,096 kept", whole, packed([audit % 2] * 4_000, 4_000), keep=4_096)
     yield Kind("repeats of one request, 256 datagrams", whole, packed([audit % 2] * 4_096, 16), keep=4_096)
