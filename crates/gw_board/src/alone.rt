@@ -11,7 +11,7 @@ ghost use Rattle.gw_board.specs.OpenJobs.{IsSameBurst};
 ghost use Rattle.gw_board.specs.Results.{NothingIsOpen};
 ghost use Rattle.gw_board.specs.Seats.{standing_of};
 
-use crate::asked::Asked;
+use crate::asked::{Asked, is_seen_for_all};
 use crate::board::Board;
 use crate::job::carry_on;
 use crate::journal::{last_alone, put_all_back};
@@ -19,7 +19,6 @@ use crate::manner::Manner;
 use crate::original::Original;
 use crate::seat::{Seat, Stage, all_pending, set_stage};
 use gw_base::{Items, NoMemory};
-use gw_foot::is_for_all;
 use gw_table::{Draft, Originals, Tables};
 use std::alloc::Global;
 use std::mem;
@@ -88,10 +87,11 @@ impl Board<'_, '_, '_> {
     }
 
     /// Whether the request of a place is meant for all: it has an action for each context, or a command that stands for all. Its keys
-    /// are then all that there are, so that it is in a wave only as the first place that is pending, and alone.
+    /// are then all that there are, so that it is in a wave only as the first place that is pending, and alone. Of one whose tree is not
+    /// kept it is not looked for.
     pub fn is_for_all(&self, place: usize) -> bool {
         match self.seats.get(place) {
-            Some(seat) => is_for_all(seat.task.task().get().request.get()),
+            Some(seat) => is_seen_for_all(seat.task.task().get()),
             None => false,
         }
     }

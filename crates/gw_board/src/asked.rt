@@ -1,16 +1,22 @@
 //! What a burst asks: its requests, each with what it owns.
 
-ghost use Rattle.std.specs.Prelude.{◌≡◌};
+ghost use Rattle.std.specs.Prelude.{◌≡◌, true, IfOk, IfSome, IsTrue};
+ghost use Rattle.gw_base.specs.declared.key.Key.TheVariants.{Whole};
+ghost use Rattle.gw_base.specs.Keys.{has};
+ghost use Rattle.gw_table.specs.Maps.{Maps};
+ghost use Rattle.gw_board.specs.Carried.{keys_of};
 
-use gw_base::Mid;
-use gw_msg::Request;
+use gw_base::{Mid, NoMemory, TxId};
+use gw_foot::is_for_all;
+use gw_msg::{Passage, Request, Tree};
 use gw_reserve::Owned;
+use std::alloc::Global;
 use std::marker::Model;
 
-/// A request, lent by the message that it came in. Contracts see the request itself.
+/// A request, lent by the message that it came in, which keeps its tree, or where its text begins. Contracts see the request itself.
 #[derive(Drop)]
 pub struct Lent<'h, 'a> {
-    request: &'h Request<'a>,
+    passage: &'h Passage<'a>,
 }
 
 impl<'h, 'a> Model for Lent<'h, 'a> {
@@ -18,22 +24,49 @@ impl<'h, 'a> Model for Lent<'h, 'a> {
 
     ghost Value = { Whole };
 
-    ghost view = { λ a. a.request.now };
+    ghost view = { λ a. a.passage.now };
 }
 
 impl<'h, 'a> Lent<'h, 'a> {
     /// The request, lent.
-    pub fn new(request: &'h Request<'a>) -> Self
-        ensures { result ≡ request.now }
+    pub fn new(passage: &'h Passage<'a>) -> Self
+        ensures { result ≡ passage.now }
     {
-        Lent { request }
+        Lent { passage }
     }
 
-    /// The request, to look at.
-    pub fn get(&self) -> &'h Request<'a>
-        ensures { result.now ≡ self.now }
+    /// The same, lent once more.
+    pub fn again(&self) -> Self
+        ensures { result ≡ self.now }
     {
-        self.request
+        Lent {
+            passage: self.passage,
+        }
+    }
+
+    /// The number that its reply repeats.
+    pub fn id(&self) -> TxId
+        ensures { result ≡ self.now.id }
+    {
+        self.passage.id()
+    }
+
+    /// Its tree, if the message keeps it.
+    pub fn kept_tree(&self) -> Option<&Request<'a>>
+        ensures { IfSome result (λ tree. tree.now ≡ self.now) }
+    {
+        self.passage.kept_tree()
+    }
+
+    /// Its tree. Where the message does not keep it, it is read again; the work is linear in its text.
+    ///
+    /// # Errors
+    ///
+    /// Want of memory, where it is read again.
+    pub fn tree(&self, alloc: Global) -> Result<Tree<'h, 'a>, NoMemory>
+        ensures { IfOk result (λ tree. tree ≡ self.now) }
+    {
+        self.passage.tree(alloc)
     }
 }
 
@@ -46,6 +79,16 @@ pub struct Asked<'h, 'a> {
     pub request: Lent<'h, 'a>,
     /// What it owns: an entry for each of its actions, and for each of its commands.
     pub owned: Owned,
+}
+
+/// Whether the tree of what is asked is kept and shows that it is meant for all, so that its keys are all that there are.
+pub(crate) fn is_seen_for_all(asked: &Asked<'_, '_>) -> bool
+    ensures { IsTrue result → (m : Maps) → has (keys_of asked.now m) Whole ≡ true }
+{
+    match asked.request.kept_tree() {
+        Some(request) => is_for_all(request),
+        None => false,
+    }
 }
 
 /// What is asked, lent once more. Contracts see what is asked.

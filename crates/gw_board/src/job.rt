@@ -70,7 +70,8 @@ pub(crate) fn carry_on(
     ensures reply { IfOk result (λ text. text ≡ (done manner.now asked.now draft.old.maps).answer) }
     ensures keys { draft.new.keys ≡ draft.old.keys }
 {
-    let request = asked.request.get();
+    let tree = asked.request.tree(alloc)?;
+    let request = tree.get();
     let mid = &manner.mid;
     let limit = reply_limit(mid);
     let told = transaction_within(alloc, &manner.rules, draft, request, &asked.owned, limit)?;

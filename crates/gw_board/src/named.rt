@@ -61,7 +61,8 @@ fn names_of(alloc: Global, asked: &Asked<'_, '_>) -> Result<Vec<Key>, NoMemory>
 {
     let mut names = Vec::new(alloc);
     let mut left = asked.owned.contexts.as_slice();
-    let actions = asked.request.get().actions.as_slice();
+    let tree = asked.request.tree(alloc)?;
+    let actions = tree.get().actions.as_slice();
     for action in actions {
         let (own, later) = next_entry(left);
         left = later;

@@ -35,7 +35,8 @@ pub(crate) fn keys_of(
     ensures { IfOk result (λ keys. IsListOf keys (keys_of task.now (maps_of tables.now))) }
 {
     let asked = task.get();
-    footprint(alloc, tables, asked.request.get(), &asked.owned)
+    let tree = asked.request.tree(alloc)?;
+    footprint(alloc, tables, tree.get(), &asked.owned)
 }
 
 /// Whether two keys are the same.

@@ -14,6 +14,7 @@ ghost use Rattle.gw_board.specs.Seats.{standing_of, place_of};
 ghost use Rattle.gw_board.specs.Waiting.{meet_waiting};
 ghost use Rattle.gw_board.specs.Waves.{is_pending, wave};
 
+use crate::asked::is_seen_for_all;
 use crate::board::Board;
 use crate::namers::Namers;
 use crate::open::keys_of;
@@ -22,7 +23,6 @@ use crate::seat::{Seat, Stage};
 use crate::touch::Link;
 use crate::waiting::Waiting;
 use gw_base::NoMemory;
-use gw_foot::is_for_all;
 use gw_table::{Keys, Tables};
 use std::alloc::Global;
 
@@ -42,7 +42,7 @@ fn join_waiting(
         return Ok(None);
     };
     let task = seat.task.task();
-    if waiting.is_any() && is_for_all(task.get().request.get()) {
+    if waiting.is_any() && is_seen_for_all(task.get()) {
         waiting.add_whole();
         return Ok(None);
     }

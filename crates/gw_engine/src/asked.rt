@@ -25,7 +25,7 @@ impl<'h, 'a> Sent<'h, 'a> {
     {
         Sent {
             mid: self.mid,
-            request: Lent::new(self.request.get()),
+            request: self.request.again(),
         }
     }
 }
@@ -55,7 +55,7 @@ impl<'h> Ask<'h, '_> {
     {
         match &self.said {
             Said::Request(sent) => Point::Request(RequestKey {
-                id: sent.request.get().id.0,
+                id: sent.request.id().0,
                 mid: sent.mid,
             }),
             Said::Ack(removal) => Point::Ack(removal.again()),

@@ -119,7 +119,7 @@ fn with_texts(mut entries: Vec<Entry>, jobs: &[Asked<'_, '_>], texts: Vec<Items<
         let job = &jobs[entries.len()];
         let Ok(()) = entries.push(Entry {
             mid: job.mid,
-            id: job.request.get().id,
+            id: job.request.id(),
             bytes,
         }) else {
             unreachable!()

@@ -57,7 +57,7 @@ impl<'h, 'a> Classified<'h, 'a> {
                 Work::Reply(Source::Place(place))
             }
             (Said::Request(_), Class::Repeat(source)) => Work::Reply(source),
-            (Said::Request(sent), Class::Over) => Work::Over(sent.request.get().id),
+            (Said::Request(sent), Class::Over) => Work::Over(sent.request.id()),
             (Said::Request(_), Class::Nothing) => return Ok(()),
         };
         self.tasks.push(Task {

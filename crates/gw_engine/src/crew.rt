@@ -24,6 +24,15 @@ impl<'r, R: Threads + Sync, G: Gate> Crew<'r, R, G> {
         Crew { rt, gate, workers }
     }
 
+    /// One of them, if the others are of no use.
+    pub(crate) fn alone_unless(&self, are_of_use: bool) -> Self {
+        Crew {
+            rt: self.rt,
+            gate: self.gate,
+            workers: if are_of_use { self.workers } else { 1 },
+        }
+    }
+
     /// How many of them so much work is worth: one, and one more for each whole share.
     pub(crate) fn for_work(&self, work: usize, share: usize) -> u32
         requires { 1 ≤ share }

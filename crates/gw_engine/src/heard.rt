@@ -10,7 +10,7 @@ use crate::datagram::{Datagram, LentDatagram};
 use crate::drawn::{MOST_DRAWN, all_of};
 use gw_base::{Code, Items, NoMemory};
 use gw_draw::{Gate, OpenGate, draw_map};
-use gw_msg::{Message, ReadFault, read_message};
+use gw_msg::{Message, ReadFault, read_message, skim_message};
 use std::alloc::Global;
 use std::thread::Threads;
 
@@ -24,6 +24,9 @@ pub(crate) struct Heard<'a> {
 /// So many bytes of a burst are worth one more worker.
 const BYTES_FOR_ONE: usize = 4096;
 
+/// Of a burst of more bytes no trees are kept: those of commands may take some 16 times the bytes of their texts.
+const MOST_WITH_TREES: usize = 1_048_576;
+
 /// The error that a text without a message is answered with.
 fn code_of(fault: ReadFault) -> Result<Code, NoMemory>
     ensures { (text : List ℕ) → IsReadingOf text (Err fault) → IfOk result (λ code. IsMessageOf text (Err code)) }
@@ -35,12 +38,27 @@ fn code_of(fault: ReadFault) -> Result<Code, NoMemory>
     }
 }
 
+/// Reads a text, and keeps the trees of its requests, or not.
+fn read<'a>(alloc: Global, text: &'a [u8], keeps_trees: bool) -> Result<Message<'a>, ReadFault>
+    ensures { IsReadingOf text.now result }
+{
+    if keeps_trees {
+        read_message(alloc, text)
+    } else {
+        skim_message(alloc, text)
+    }
+}
+
 /// Reads a datagram.
-fn heard_of<'a>(alloc: Global, datagram: &'a Datagram) -> Result<Heard<'a>, NoMemory>
+fn heard_of<'a>(
+    alloc: Global,
+    datagram: &'a Datagram,
+    keeps_trees: bool,
+) -> Result<Heard<'a>, NoMemory>
     ensures { IfOk result (IsHeard datagram.now) }
 {
     let peer = datagram.peer;
-    match read_message(alloc, datagram.bytes.as_slice()) {
+    match read(alloc, datagram.bytes.as_slice(), keeps_trees) {
         Ok(message) => Ok(Heard {
             peer,
             message: Ok(message),
@@ -53,19 +71,27 @@ fn heard_of<'a>(alloc: Global, datagram: &'a Datagram) -> Result<Heard<'a>, NoMe
 }
 
 /// Reads a datagram that is lent.
-fn heard_of_lent<'a>(alloc: Global, datagram: &LentDatagram<'a>) -> Result<Heard<'a>, NoMemory>
+fn heard_of_lent<'a>(
+    alloc: Global,
+    datagram: &LentDatagram<'a>,
+    keeps_trees: bool,
+) -> Result<Heard<'a>, NoMemory>
     ensures { IfOk result (IsHeard datagram.now) }
 {
-    heard_of(alloc, datagram.get())
+    heard_of(alloc, datagram.get(), keeps_trees)
 }
 
 /// Reads datagrams, one after another.
-fn in_turn<'a>(alloc: Global, burst: &'a [Datagram]) -> Result<Items<Heard<'a>>, NoMemory>
+fn in_turn<'a>(
+    alloc: Global,
+    burst: &'a [Datagram],
+    keeps_trees: bool,
+) -> Result<Items<Heard<'a>>, NoMemory>
     ensures { IfOk result (AllZip IsHeard burst.now) }
 {
     let mut heard = Items::from(Vec::with_capacity(alloc, burst.len())?);
     for datagram in burst {
-        heard.push(heard_of(alloc, datagram)?)?;
+        heard.push(heard_of(alloc, datagram, keeps_trees)?)?;
     }
     Ok(heard)
 }
@@ -76,6 +102,7 @@ fn by_workers<'a, R: Threads + Sync>(
     alloc: Global,
     workers: u32,
     burst: &'a [Datagram],
+    keeps_trees: bool,
 ) -> Result<Items<Heard<'a>>, NoMemory>
     requires some { 1 ≤ workers }
     requires limit { workers ≤ 64 }
@@ -88,7 +115,7 @@ fn by_workers<'a, R: Threads + Sync>(
         alloc,
         workers,
         lent.as_slice(),
-        move |datagram| heard_of_lent(alloc, datagram),
+        move |datagram| heard_of_lent(alloc, datagram, keeps_trees),
         &OpenGate,
     )?;
     all_of(alloc, heard)
@@ -101,7 +128,14 @@ fn bytes_in(burst: &[Datagram]) -> usize {
     })
 }
 
-/// Reads the datagrams of a burst, by as many workers as its length is worth. One needs no thread.
+/// Whether the trees of a burst's requests are kept while it is carried out. Where they are not, each is read again when it is asked
+/// for, so that the memory for what is read goes by the number of requests and not by what they ask.
+pub(crate) fn keeps_trees(burst: &[Datagram]) -> bool {
+    bytes_in(burst) <= MOST_WITH_TREES
+}
+
+/// Reads the datagrams of a burst, by as many workers as its length is worth, and keeps the trees of their requests, or not. One needs
+/// no thread.
 ///
 /// # Errors
 ///
@@ -110,15 +144,16 @@ pub(crate) fn hear<'a, R: Threads + Sync, G: Gate>(
     crew: &Crew<'_, R, G>,
     alloc: Global,
     burst: &'a [Datagram],
+    keeps_trees: bool,
 ) -> Result<Items<Heard<'a>>, NoMemory>
     ensures { IfOk result (AllZip IsHeard burst.now) }
 {
     if crew.workers == 1 || burst.len() > MOST_DRAWN {
-        return in_turn(alloc, burst);
+        return in_turn(alloc, burst, keeps_trees);
     }
     let workers = crew.for_work(bytes_in(burst), BYTES_FOR_ONE);
     if workers == 1 {
-        return in_turn(alloc, burst);
+        return in_turn(alloc, burst, keeps_trees);
     }
-    by_workers(crew.rt, alloc, workers, burst)
+    by_workers(crew.rt, alloc, workers, burst, keeps_trees)
 }

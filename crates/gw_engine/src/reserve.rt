@@ -8,7 +8,7 @@ ghost use Rattle.gw_engine.specs.Phases.{ids_in, AreJobs};
 use crate::asked::Sent;
 use crate::gateway::Gateway;
 use gw_base::{Items, NoMemory};
-use gw_board::{Asked, Lent};
+use gw_board::Asked;
 use gw_reserve::{Cursors, Reservation};
 use std::alloc::Global;
 
@@ -33,10 +33,11 @@ impl Gateway {
         let mut reservation = Reservation::new(self.contexts, self.slots, &self.cursors);
         let mut jobs = Items::from(Vec::with_capacity(alloc, new.len())?);
         for sent in new {
-            let owned = reservation.own(alloc, &self.tables, sent.request.get())?;
+            let tree = sent.request.tree(alloc)?;
+            let owned = reservation.own(alloc, &self.tables, tree.get())?;
             jobs.push(Asked {
                 mid: sent.mid,
-                request: Lent::new(sent.request.get()),
+                request: sent.request.again(),
                 owned,
             })?;
         }

@@ -16,7 +16,7 @@ use crate::classify::{Task, classify};
 use crate::crew::Crew;
 use crate::datagram::Datagram;
 use crate::gateway::Gateway;
-use crate::heard::{Heard, hear};
+use crate::heard::{Heard, hear, keeps_trees};
 use gw_base::{Items, NoMemory};
 use gw_board::{Asked, Manner};
 use gw_draw::Gate;
@@ -134,6 +134,10 @@ impl Gateway {
     /// returns holds up the call. A burst of 4,096 bytes or more is read by workers too, and 128 answers or more are written by them;
     /// there they pass no gate.
     ///
+    /// Of a burst of more than 1,048,576 bytes the trees of requests are not kept: each request is read when the burst comes in, once more
+    /// for what it owns and once more to be carried out, and one worker carries all of them out, one after another. So a burst takes
+    /// memory for its tree of one transaction at a time, and beside that by the number of its transactions.
+    ///
     /// # Errors
     ///
     /// Want of memory, at any growth. The gateway is then as it was, cursors and kept replies included.
@@ -155,8 +159,9 @@ impl Gateway {
         // No effect at run time. The proof reads here that the state is well-formed.
         let _ = &self.tables;
         let crew = Crew::new(rt, workers, gate);
-        let heard = hear(&crew, alloc, burst)?;
+        let keeps_trees = keeps_trees(burst);
+        let heard = hear(&crew, alloc, burst, keeps_trees)?;
         let plan = self.plan(alloc, heard.as_slice())?;
-        self.perform(&crew, alloc, plan)
+        self.perform(&crew.alone_unless(keeps_trees), alloc, plan)
     }
 }

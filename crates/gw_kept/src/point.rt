@@ -87,7 +87,7 @@ impl<'h> Point<'h> {
     {
         match item {
             Item::Request(request) => Point::Request(RequestKey {
-                id: request.id.0,
+                id: request.id().0,
                 mid,
             }),
             Item::Ack(ranges) => Point::Ack(Removal {

@@ -7,6 +7,7 @@ pub mod WordLaws
 pub mod ContextLaws
 pub mod ActionParts
 pub mod Laws
+pub mod PassageLaws
 pub mod ContentsLoop
 pub mod ItemLaws
 pub mod HeaderLaws

@@ -19,6 +19,7 @@ use Rattle.gw_text.specs.declared.token.Token.{Token}
 use Rattle.gw_text.specs.declared.token.Token.TheVariants as token
 use Rattle.gw_desc.specs.Grammar.{SpellsOptionalGroup, SpellsDescriptor}
 use Rattle.gw_desc.specs.declared.descriptor.Descriptor.{Descriptor}
+pub use Rattle.gw_msg.specs.Bounds.{may_be_wild, has_group, priority_digits, priority_max}
 use Rattle.gw_msg.specs.declared.message.Command.{Command}
 use Rattle.gw_msg.specs.declared.message.Action.{Action}
 use Rattle.gw_msg.specs.declared.message.Triple.{Triple}
@@ -59,19 +60,6 @@ SpellsTerm = IsTerm
 abbrev pub SpellsMark : List ℕ → Bool → List ℕ → Type 0
 SpellsMark mark = OptionalIf (IsInAnyCase mark)
 
--- the commands that `W-` may stand in front of: subtractRequest and auditRequest
-abbrev pub may_be_wild : Verb → Bool
-may_be_wild verb.Subtract = true
-may_be_wild verb.AuditValue = true
-may_be_wild verb.AuditCapability = true
-may_be_wild _ = false
-
--- the commands that are not carried out, of which what stands in braces is read as a group (own)
-abbrev pub has_group : Verb → Bool
-has_group verb.AuditCapability = true
-has_group verb.Notify = true
-has_group _ = false
-
 -- how deep groups may lie in a reply (own)
 abbrev pub reply_depth : ℕ
 reply_depth = 16
@@ -98,14 +86,6 @@ SpellsContextId Choose text = IsText (codes "$") text
 SpellsContextId All text = IsText (codes "*") text
 SpellsContextId Null text = IsText (codes "-") text
 SpellsContextId (Num n) text = IsUint32 n.0 text
-
--- the most digits of a priority, as it is sent (own)
-abbrev pub priority_digits : ℕ
-priority_digits = 5
-
--- the greatest priority that may be sent (own)
-abbrev pub priority_max : ℕ
-priority_max = 65535
 
 -- UINT16 of a priority
 abbrev pub IsPriority : ℕ → List ℕ → Type 0

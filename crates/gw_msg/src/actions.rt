@@ -1,7 +1,7 @@
 //! The actions of a transaction and their commands, as they are read.
 
 ghost use Rattle.gw_text.specs.Parts.{Gives};
-ghost use Rattle.gw_msg.specs.Reading.{details_of, command_at, contents_at, action_at};
+ghost use Rattle.gw_msg.specs.ActionReading.{details_of, command_at, contents_at, action_at};
 
 use crate::message::{Action, Command, ContextProp};
 use crate::words::{
@@ -14,7 +14,7 @@ use gw_text::{Cursor, ParseFault, Token};
 use std::alloc::Global;
 
 /// What stands behind a TerminationID: the command's descriptors, or a group, which is read and dropped.
-#[tactic(auto, using(gw_desc::proofs::DescriptorLaws::descriptor_shrinks), unfolding(crate::specs::Reading::details_of))]
+#[tactic(auto, using(gw_desc::proofs::DescriptorLaws::descriptor_shrinks), unfolding(crate::specs::ActionReading::details_of))]
 fn details<'a>(
     alloc: Global,
     cursor: &mut Cursor<'a>,
@@ -32,7 +32,7 @@ fn details<'a>(
 impl<'a> Parse<'a> for Command<'a> {
     ghost read_at = { command_at };
 
-    #[tactic(auto, unfolding(crate::specs::Reading::command_at))]
+    #[tactic(auto, unfolding(crate::specs::ActionReading::command_at))]
     fn read(alloc: Global, cursor: &mut Cursor<'a>) -> Result<Command<'a>, ParseFault> {
         let optional = mark(cursor, b"O-");
         let wild = mark(cursor, b"W-");
@@ -75,7 +75,7 @@ fn contents<'a>(
 impl<'a> Parse<'a> for Action<'a> {
     ghost read_at = { action_at };
 
-    #[tactic(auto, unfolding(crate::specs::Reading::action_at))]
+    #[tactic(auto, unfolding(crate::specs::ActionReading::action_at))]
     fn read(alloc: Global, cursor: &mut Cursor<'a>) -> Result<Action<'a>, ParseFault> {
         let Token::Context = token(cursor)? else {
             return Err(ParseFault::Syntax);

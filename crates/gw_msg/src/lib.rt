@@ -5,6 +5,7 @@ mod actions;
 mod fault;
 mod items;
 mod message;
+mod passage;
 mod properties;
 mod read;
 mod words;
@@ -13,4 +14,5 @@ pub use fault::ReadFault;
 pub use message::{
     AckRange, Action, Command, ContextItem, ContextProp, Item, Message, Request, Triple,
 };
-pub use read::{one_answer, one_message, read_message};
+pub use passage::{Passage, Tree};
+pub use read::{one_answer, one_message, read_message, skim_message};

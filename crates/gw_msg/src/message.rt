@@ -1,5 +1,6 @@
 //! The tree of a message (RFC 3525, section 8 and Annex B.2).
 
+use crate::passage::Passage;
 use gw_base::{CtxRef, Flow, Items, Mid, TermRef, TxId, Verb};
 use gw_desc::Descriptor;
 
@@ -23,7 +24,7 @@ impl Drop for Message<'_> {
 #[derive(Drop)]
 pub enum Item<'a> {
     /// A transaction to be carried out.
-    Request(Request<'a>),
+    Request(Passage<'a>),
     /// Replies that have arrived, by the numbers of their transactions.
     Ack(Items<AckRange>),
     /// A reply, or that one is pending: read, and of no effect.

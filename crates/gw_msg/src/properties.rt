@@ -1,7 +1,7 @@
 //! What an action asks of its context itself, as it is read: its properties, and that they are audited.
 
 ghost use Rattle.gw_text.specs.Parts.{Gives, Finds};
-ghost use Rattle.gw_msg.specs.Reading.{triple_at, context_item_at, priority_at, context_property_at};
+ghost use Rattle.gw_msg.specs.ActionReading.{triple_at, context_item_at, priority_at, context_property_at};
 
 use crate::message::{ContextItem, ContextProp, Triple};
 use crate::words::{context_item, flow, term};
@@ -18,7 +18,7 @@ const PRIORITY_MAX: u32 = 65_535;
 impl<'a> Parse<'a> for Triple {
     ghost read_at = { triple_at };
 
-    #[tactic(auto, unfolding(crate::specs::Reading::triple_at))]
+    #[tactic(auto, unfolding(crate::specs::ActionReading::triple_at))]
     fn read(_alloc: Global, cursor: &mut Cursor<'a>) -> Result<Triple, ParseFault> {
         let a = term(cursor)?;
         sign(cursor, b',')?;
@@ -38,7 +38,7 @@ impl<'a> Parse<'a> for ContextItem {
 }
 
 /// What follows the word `Priority`: its number.
-#[tactic(auto, unfolding(crate::specs::Reading::priority_at))]
+#[tactic(auto, unfolding(crate::specs::ActionReading::priority_at))]
 fn priority(cursor: &mut Cursor<'_>) -> Result<u16, ParseFault>
     ensures { Finds result cursor.new (priority_at cursor.old) }
 {
@@ -50,7 +50,7 @@ fn priority(cursor: &mut Cursor<'_>) -> Result<u16, ParseFault>
 impl<'a> Parse<'a> for ContextProp {
     ghost read_at = { context_property_at };
 
-    #[tactic(auto, using(crate::proofs::ContextLaws::triple_shrinks, crate::proofs::ContextLaws::context_item_shrinks), unfolding(crate::specs::Reading::context_property_at))]
+    #[tactic(auto, using(crate::proofs::ContextLaws::triple_shrinks, crate::proofs::ContextLaws::context_item_shrinks), unfolding(crate::specs::ActionReading::context_property_at))]
     fn read(alloc: Global, cursor: &mut Cursor<'a>) -> Result<ContextProp, ParseFault> {
         match token(cursor)? {
             Token::Priority => Ok(ContextProp::Priority(priority(cursor)?)),

@@ -9,7 +9,7 @@ ghost use Rattle.gw_msg.specs.declared.fault.ReadFault.{ReadFault as Fault};
 ghost use Rattle.gw_msg.specs.declared.fault.ReadFault.TheVariants.{Version, NoMemory};
 
 use crate::fault::ReadFault;
-use crate::items::content;
+use crate::items::{Trees, content};
 use crate::message::Message;
 use gw_text::{Cursor, ParseFault};
 use std::alloc::Global;
@@ -49,14 +49,14 @@ fn header(cursor: &mut Cursor<'_>) -> Result<u32, ParseFault>
 }
 
 #[tactic(auto, unfolding(crate::specs::Reading::message_of))]
-fn answer<'a>(alloc: Global, text: &'a [u8]) -> Result<Message<'a>, ReadFault>
+fn answer<'a>(alloc: Global, text: &'a [u8], trees: Trees) -> Result<Message<'a>, ReadFault>
     ensures { IsAnswer text.now result }
 {
     let mut cursor = Cursor::new(text);
     if header(&mut cursor)? != SPOKEN_VERSION {
         return Err(ReadFault::Version);
     }
-    let message = content(alloc, &mut cursor)?;
+    let message = content(alloc, &mut cursor, trees)?;
     if !cursor.is_empty() {
         return Err(ReadFault::Syntax);
     }
@@ -74,7 +74,20 @@ fn answer<'a>(alloc: Global, text: &'a [u8]) -> Result<Message<'a>, ReadFault>
 pub fn read_message<'a>(alloc: Global, text: &'a [u8]) -> Result<Message<'a>, ReadFault>
     ensures { IsReadingOf text.now result }
 {
-    answer(alloc, text)
+    answer(alloc, text, Trees::Kept)
+}
+
+/// The message that the text spells, as [`read_message`] reads it, without the trees of its requests: of each it is kept where its text
+/// begins. So a message takes some 50 bytes for each of its transactions, however many commands they have. While it is read, the tree
+/// of one transaction is there at a time.
+///
+/// # Errors
+///
+/// As of [`read_message`].
+pub fn skim_message<'a>(alloc: Global, text: &'a [u8]) -> Result<Message<'a>, ReadFault>
+    ensures { IsReadingOf text.now result }
+{
+    answer(alloc, text, Trees::LetGo)
 }
 
 /// A text spells one message at most, and none where its header has another version.

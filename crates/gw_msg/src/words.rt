@@ -7,14 +7,14 @@ ghost use Rattle.gw_text.specs.Parts.{Finds};
 ghost use Rattle.gw_msg.specs.Grammar.{may_be_wild, has_group};
 ghost use Rattle.gw_msg.specs.Words.{verb_of, flow_of, context_item_of, is_context_property_start, is_error_start};
 ghost use Rattle.gw_msg.specs.NameWords.{term_of, mid_of};
-ghost use Rattle.gw_msg.specs.Reading.{mark_at, context_id_at};
+ghost use Rattle.gw_msg.specs.ActionReading.{mark_at, context_id_at};
 
 use crate::message::ContextItem;
 use gw_base::{CtxNum, CtxRef, Flow, Mid, TermRef, Verb};
 use gw_text::{Cursor, ParseFault, Token, token_of};
 
 /// Whether the bytes come next, in any case; they are taken.
-#[tactic(auto, unfolding(crate::specs::Reading::mark_at))]
+#[tactic(auto, unfolding(crate::specs::ActionReading::mark_at))]
 pub fn mark(cursor: &mut Cursor<'_>, bytes: &[u8]) -> bool
     ensures { mark_at bytes.now cursor.old ≡ Some (result, cursor.new) }
 {
@@ -103,7 +103,7 @@ pub fn context_item(cursor: &mut Cursor<'_>) -> Result<ContextItem, ParseFault>
 }
 
 /// The ContextID of an action.
-#[tactic(auto, unfolding(crate::specs::Reading::context_id_at))]
+#[tactic(auto, unfolding(crate::specs::ActionReading::context_id_at))]
 pub fn context_id(cursor: &mut Cursor<'_>) -> Result<CtxRef, ParseFault>
     ensures { Finds result cursor.new (context_id_at cursor.old) }
 {

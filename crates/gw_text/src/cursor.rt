@@ -61,6 +61,13 @@ impl<'a> Cursor<'a> {
         Cursor { rest: text }
     }
 
+    /// The same place, once more.
+    pub fn again(&self) -> Cursor<'a>
+        ensures { result ≡ self.now }
+    {
+        Cursor { rest: self.rest }
+    }
+
     /// Whether nothing is left.
     pub fn is_empty(&self) -> bool
         ensures { IsTrue result ↔ (self.now ≡ []) }
