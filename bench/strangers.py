@@ -41,6 +41,12 @@ def filled(number, name, command, share):
     return transaction(number, in_context(name, [command] * ((room + 1) // (len(command) + 1))))
 
 
+def shortest(number, before, text, behind):
+    """The longest datagram of one transaction, with the shortest header: the text as often as there is room, between the two."""
+    first, last = b"!/1 a T=%d{" % number + before, behind + b"}"
+    return first + listed([text] * ((LONGEST - len(first) - len(last) + 1) // (len(text) + 1))) + last
+
+
 def repeated(name, command, count):
     return transaction(2, in_context(name, [command] * count))
 
@@ -113,7 +119,13 @@ LINES = [
     Line("400 terminations, `Modify=*` under `-`", 400, 0, nothing, lambda share: [filled(2, b"-", b"Modify=*", share)], 3.5, 16),
     Line("400 terminations, `O-Add=*` in a `$` context", 400, 0, nothing, lambda share: [filled(2, b"$", b"O-Add=*", share)], 3.5, 16),
     Line("4 terminations, `Modify=*` under `-`, 256 datagrams", 4, 0, nothing,
-         lambda share: [filled(number, b"-", b"Modify=*", 1) for number in range(2, 2 + 256 // share)], 7.0, 256),
+         lambda share: [filled(number, b"-", b"Modify=*", 1) for number in range(2, 2 + 256 // share)], 7.0, 64),
+    Line("4 terminations, `A=T/1,S=T/1` under `-`, 256 datagrams", 4, 0, nothing,
+         lambda share: [shortest(number, b"C=-{", b"A=T/1,S=T/1", b"}") for number in range(2, 2 + 256 // share)], 10.0, 64, b"Error="),
+    Line("no context, `C=1{AV=*}`, 256 datagrams", 4, 0, nothing,
+         lambda share: [shortest(number, b"", b"C=1{AV=*}", b"") for number in range(2, 2 + 256 // share)], 15.0, 64, b"Error="),
+    Line("4 terminations, empty Events of a Modify, 256 datagrams", 4, 0, nothing,
+         lambda share: [shortest(number, b"C=-{MF=T/1{", b"E", b"}}") for number in range(2, 2 + 256 // share)], 15.0, 64, b"Error="),
     Line("65,535 terminations, `ServiceChange=*` 100 times", 65_535, 0, nothing,
          lambda share: [repeated(b"-", RESTART, 100 // share)], 13.0, 64),
     Line("65,535 terminations, `AuditValue=*{Audit{}}` 1,000 times", 65_535, 0, nothing,
