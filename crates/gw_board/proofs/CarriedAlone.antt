@@ -1,20 +1,17 @@
 -- A place is carried out alone: nothing is open, and every place before it is closed. It comes to what opening it and closing it with its
 -- result comes to, with an original that has the keys alone that were changed since the last place that was a job's.
-use Rattle.std.proofs.Common.{◌≡◌, ℕ, zero, suc, Bool, true, false, cond, not, List, [], ◌∷◌, ◌++◌, take, drop, Option, None, Some, refl, sym, ap, subst, ◌∙◌}
+use Rattle.std.proofs.Common.{◌≡◌, ℕ, zero, suc, Bool, true, false, not, List, [], ◌∷◌, ◌++◌, take, drop, None, Some, refl, sym, ap, subst, ◌∙◌}
 use Rattle.std.specs.Prelude.{◌||◌, ◌&&◌, slice_get, slice_set}
 use Rattle.std.specs.List.{list_any}
 use Rattle.gw_base.specs.declared.key.Key.{Key}
-use Rattle.gw_base.specs.declared.key.Key.TheVariants.{Term, Ctx}
 use Rattle.gw_base.specs.Keys.{has}
 use Rattle.gw_base.proofs.Booleans.{neither}
 use Rattle.gw_reserve.specs.Owned.{AreFreeSlots}
 use Rattle.gw_table.specs.Locality.{KeepsTo}
-use Rattle.gw_table.specs.Maps.{Maps, Outcome, term, ctx}
+use Rattle.gw_table.specs.Maps.{Maps, Outcome}
 use Rattle.gw_table.specs.Parts.{restricted, cut, overlaid}
 use Rattle.gw_table.specs.Stored.{Stored, names_entry, AreReady, KeepReady, NoneIsOut}
 use Rattle.gw_table.specs.WellFormed.{AreWellFormed}
-use Rattle.gw_table.proofs.Lookups.{same_maps}
-use Rattle.gw_table.proofs.PartLookups.{term-restricted, ctx-restricted, term-overlaid, ctx-overlaid}
 use Rattle.gw_board.specs.Alone.{is_unclosed_at, TakesLast, Off, Fresh}
 use Rattle.gw_board.specs.BoardView.{IsOnTheWay, IsKeptIn}
 use Rattle.gw_board.specs.Boards.{Seen, Handed, core_of, asked_of, with_open, with_result, is_closed, is_pending_at, AllClosed, unclosed}

@@ -1,5 +1,4 @@
 use Rattle.std.proofs.Common.{◌≡◌, true, ap, sym, subst, ◌∙◌}
-use Rattle.gw_table.specs.Maps.{Maps}
 use Rattle.gw_table.specs.Originals.{before_all}
 use Rattle.gw_table.specs.Parts.{PartKeys, Parted, Over, list_of, start_of, overlaid}
 use Rattle.gw_table.specs.Stored.{Stored, maps_of, is_ready, KeepReady}

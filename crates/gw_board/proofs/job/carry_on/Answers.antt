@@ -15,7 +15,7 @@ returns-clause-reply c =
     let rules = c.args.manner.now.rules in
     let a : Asked = c.args.asked.now in
     let m : Maps = c.args.draft.now.maps in
-    let request : c.get-request.result.now ≡ a.request = c.get-request.ensures in
+    let request : c.get-request.result.now ≡ a.request = c.get-request.ensures ∙ c.in_ok-tree.ensures in
     let reply : TxReply = (paired_transaction rules a.request (paired a.request a.owned) m).answer in
     let told : c.in_ok-told.told ≡ within (reply_limit c.args.manner.now.mid) reply =
     c.in_ok-told.ensures.answer

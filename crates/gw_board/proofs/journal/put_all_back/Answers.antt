@@ -2,16 +2,11 @@ use Rattle.std.proofs.Common.{◌≡◌, List, [], ◌∷◌, ◌++◌, map, sym
 use Rattle.gw_table.specs.Maps.{Maps}
 use Rattle.gw_table.specs.Parts.{Parted}
 use Rattle.gw_table.specs.Stored.{maps_of, AreReady}
-use Rattle.gw_board.specs.BoardView.{value_of}
-use Rattle.gw_board.specs.Boards.{Seen, core_of}
-use Rattle.gw_board.specs.Fitting.{Each, out}
+use Rattle.gw_board.specs.Fitting.{Each}
 use Rattle.gw_board.specs.Journal.{Original, undone}
-use Rattle.gw_board.specs.Results.{NothingIsOpen}
 use Rattle.gw_board.specs.Seats.{original_of_part}
-use Rattle.gw_board.proofs.Comes.{out_of_none}
-use Rattle.gw_board.proofs.KeptIn.{all_ready, none_out}
+use Rattle.gw_board.proofs.KeptIn.{all_ready}
 use Rattle.gw_board.proofs.Orders.{each_front, each_behind}
-use Rattle.gw_board.proofs.Outs.{cut_none}
 use Rattle.gw_board.proofs.SeatFacts.{one_more_original}
 use Rattle.gw_board.proofs.Steps.{undone-append}
 use Rattle.gw_board.proofs.journal.put_all_back.Goals as goal

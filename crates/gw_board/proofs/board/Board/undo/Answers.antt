@@ -1,5 +1,4 @@
-use Rattle.std.proofs.Common.{◌≡◌, ap, sym, subst, ◌∙◌}
-use Rattle.gw_table.specs.Stored.{maps_of}
+use Rattle.std.proofs.Common.{ap, sym, subst, ◌∙◌}
 use Rattle.gw_board.specs.BoardView.{value_of}
 use Rattle.gw_board.specs.Boards.{Seen, core_of}
 use Rattle.gw_board.specs.Fitting.{out}
