@@ -30,18 +30,14 @@ use Rattle.gw_term.specs.Record.{unset, placed, serviced, tail_of}
 use Rattle.gw_term.specs.Merge.{Media, each, most_properties, property_place, put_property, put_state, put_control, put_part, local_text, is_filled, begun, unnamed, stream_in, is_named_in, media_parts, states_in_part, states_in, parts_in_part, parts_in, merged_properties, merged_stream, merged_tail, tail_after, kept_tail, is_blank_group, merged_media, merged, local_if, filled_in, filled_of, filled_by}
 use Rattle.gw_term.specs.Laws.{IsStreamAfter}
 use Rattle.gw_term.specs.KeptRecords.{IsKeptStream, IsKeptRecord}
-use Rattle.gw_term.proofs.ByField.{by_field}
-use Rattle.gw_term.proofs.PropertyLists.{first_then}
+use Rattle.gw_term.proofs.ByField.{by_field, parts_are}
+use Rattle.gw_term.proofs.Made.{first_then, mapped_from, all_of, carried_over, all_rising}
 
 abbrev P : Type 0
 P = Property (List ℕ)
 
 abbrev AreKept : List P → Type 0
 AreKept = All IsKeptProperty
-
-mapped_from : {S T : Type 0} (first : Option S) (f : S → T) (t : T) → option_map f first ≡ Some t → (s : S) × (first ≡ Some s) × (t ≡ f s)
-mapped_from None f t h = absurd cc
-mapped_from (Some s) f t h = (s, refl, cc)
 
 -- where each step keeps a form, all of them do
 each_keeps : {S X : Type 0} (step : X → S → Option S) (IsForm : S → Type 0) (IsGood : X → Type 0) → ((x : X) (s t : S) → IsGood x → IsForm s → step x s ≡ Some t → IsForm t)
@@ -50,10 +46,6 @@ each_keeps step IsForm IsGood keeps [] s t good form h = let same : s ≡ t = cc
 each_keeps step IsForm IsGood keeps (x ∷ xs) s t good form h =
     let one = first_then (step x s) (each step xs) t h in
     each_keeps step IsForm IsGood keeps xs one.0 t (All-tail IsGood x xs good) (keeps x s one.0 (All-head IsGood x xs good) form one.1) one.2
-
-all_of : {X Y : Type 0} (of : X → List Y) (IsGood : X → Type 0) (IsForm : Y → Type 0) → ((x : X) → IsGood x → All IsForm (of x)) → (xs : List X) → All IsGood xs → All IsForm (flat_map of xs)
-all_of of IsGood IsForm each [] good = All-nil IsForm
-all_of of IsGood IsForm each (x ∷ xs) good = All-append IsForm (of x) (flat_map of xs) (each x (All-head IsGood x xs good)) (all_of of IsGood IsForm each xs (All-tail IsGood x xs good))
 
 -- ---- properties
 
@@ -208,11 +200,9 @@ pub merge_keeps : (rules : Rules) (descriptors : List Descriptor) (old new : Ter
 merge_keeps rules descriptors old new a good form h =
     let f = by_field rules descriptors old new h in
     record {
-      properties = properties_keep descriptors old.properties new.properties good form.properties f.properties;
-      first = stream_keeps rules old.slot 1 descriptors old.first new.first a good form.first f.first;
-      second = stream_keeps rules old.slot 2 descriptors old.second new.second a good form.second f.second;
-      third = stream_keeps rules old.slot 3 descriptors old.third new.third a good form.third f.third;
-      fourth = stream_keeps rules old.slot 4 descriptors old.fourth new.fourth a good form.fourth f.fourth;
+      properties = properties_keep descriptors old.settings.properties new.settings.properties good form.properties f.properties;
+      streams = carried_over (λ _. IsOptional IsKeptStream) (λ number. IsStreamAfter rules old.slot number descriptors) (λ _. IsOptional IsKeptStream)
+          (λ number before after was is. stream_keeps rules old.slot number descriptors before after a good was is) old.settings.streams new.settings.streams form.streams f.streams;
       tails = λ kind. subst (IsOptional IsKeptTail) (sym (f.tails kind)) (tail_keeps kind descriptors (tail_of kind old) good (form.tails kind));
     }
 
@@ -230,34 +220,12 @@ in_filled number (Some m) h = by m.filled
     by true = local_filled number m.stream.local h.local
     by false = All-nil IsKeptFilled
 
-all_filled : (m : Media) → IsOptional IsKeptMerging m.first → IsOptional IsKeptMerging m.second → IsOptional IsKeptMerging m.third → IsOptional IsKeptMerging m.fourth → All IsKeptFilled (filled_of (Some m))
-all_filled m h k l n =
-    All-append IsKeptFilled ((filled_in 1 m.first ++ filled_in 2 m.second) ++ filled_in 3 m.third) (filled_in 4 m.fourth)
-    (All-append IsKeptFilled (filled_in 1 m.first ++ filled_in 2 m.second) (filled_in 3 m.third)
-    (All-append IsKeptFilled (filled_in 1 m.first) (filled_in 2 m.second) (in_filled 1 m.first h) (in_filled 2 m.second k)) (in_filled 3 m.third l))
-    (in_filled 4 m.fourth n)
-
-media_filled : (rules : Rules) (descriptors : List Descriptor) (old : Termination) (m : Media) → IsAddress rules.media → All HasKeptTexts descriptors → IsKeptRecord old → merged_media rules descriptors old ≡ Some m → All IsKeptFilled (filled_of (Some m))
-unfolding merged_media
-media_filled rules descriptors old m a good form h =
-    let s = first_then (merged_properties descriptors old.properties) _ m h in
-    let x = first_then (merged_stream rules old.slot 1 descriptors old.first) _ m s.2 in
-    let y = first_then (merged_stream rules old.slot 2 descriptors old.second) _ m x.2 in
-    let z = first_then (merged_stream rules old.slot 3 descriptors old.third) _ m y.2 in
-    let w = first_then (merged_stream rules old.slot 4 descriptors old.fourth) _ m z.2 in
-    let first : x.0 ≡ m.first = (let whole = w.2 in cc) in
-    let second : y.0 ≡ m.second = (let whole = w.2 in cc) in
-    let third : z.0 ≡ m.third = (let whole = w.2 in cc) in
-    let fourth : w.0 ≡ m.fourth = (let whole = w.2 in cc) in
-    all_filled m
-    (subst (IsOptional IsKeptMerging) first (merging_keeps rules old.slot 1 descriptors old.first x.0 a good form.first x.1))
-    (subst (IsOptional IsKeptMerging) second (merging_keeps rules old.slot 2 descriptors old.second y.0 a good form.second y.1))
-    (subst (IsOptional IsKeptMerging) third (merging_keeps rules old.slot 3 descriptors old.third z.0 a good form.third z.1))
-    (subst (IsOptional IsKeptMerging) fourth (merging_keeps rules old.slot 4 descriptors old.fourth w.0 a good form.fourth w.1))
-
 filled_by_media : (rules : Rules) (descriptors : List Descriptor) (old : Termination) (o : Option Media) → merged_media rules descriptors old ≡ o → IsAddress rules.media → All HasKeptTexts descriptors → IsKeptRecord old → All IsKeptFilled (filled_of o)
 filled_by_media rules descriptors old None is a good form = All-nil IsKeptFilled
-filled_by_media rules descriptors old (Some m) is a good form = media_filled rules descriptors old m a good form is
+filled_by_media rules descriptors old (Some m) is a good form =
+    all_rising filled_in (λ _. IsOptional IsKeptMerging) IsKeptFilled in_filled m.streams
+    (carried_over (λ _. IsOptional IsKeptStream) (λ number before after. merged_stream rules old.slot number descriptors before ≡ Some after) (λ _. IsOptional IsKeptMerging)
+    (λ number before after was. merging_keeps rules old.slot number descriptors before after a good was) old.settings.streams m.streams form.streams (parts_are rules descriptors old m is).streams)
 
 pub fills_keep : (rules : Rules) (descriptors : List Descriptor) (old : Termination) → IsAddress rules.media → All HasKeptTexts descriptors → IsKeptRecord old → All IsKeptFilled (filled_by rules descriptors old)
 unfolding filled_by
@@ -272,24 +240,12 @@ no_tail place state slot DigitMap = tt
 no_tail place state slot EventBuffer = tt
 
 pub nothing_kept : (place : Option CtxNum) (service : Service) (slot : Option ℕ) → IsKeptRecord (unset place service slot)
-nothing_kept place state slot = record { properties = All-nil IsKeptProperty; first = tt; second = tt; third = tt; fourth = tt; tails = no_tail place state slot }
+nothing_kept place state slot = record { properties = All-nil IsKeptProperty; streams = record { first = tt; second = tt; third = tt; fourth = tt }; tails = no_tail place state slot }
 
 -- ---- elsewhere, and in another service state
 
-tail_placed : (r : Termination) (place : Option CtxNum) (kind : KeptKind) → IsOptional IsKeptTail (tail_of kind r) → IsOptional IsKeptTail (tail_of kind (placed r place))
-tail_placed r place Events h = h
-tail_placed r place Signals h = h
-tail_placed r place DigitMap h = h
-tail_placed r place EventBuffer h = h
-
 pub placed_kept : (r : Termination) (place : Option CtxNum) → IsKeptRecord r → IsKeptRecord (placed r place)
-placed_kept r place h = record { properties = h.properties; first = h.first; second = h.second; third = h.third; fourth = h.fourth; tails = λ kind. tail_placed r place kind (h.tails kind) }
-
-tail_serviced : (r : Termination) (state : Service) (kind : KeptKind) → IsOptional IsKeptTail (tail_of kind r) → IsOptional IsKeptTail (tail_of kind (serviced r state))
-tail_serviced r state Events h = h
-tail_serviced r state Signals h = h
-tail_serviced r state DigitMap h = h
-tail_serviced r state EventBuffer h = h
+placed_kept r place h = record { properties = h.properties; streams = h.streams; tails = h.tails }
 
 pub serviced_kept : (r : Termination) (state : Service) → IsKeptRecord r → IsKeptRecord (serviced r state)
-serviced_kept r state h = record { properties = h.properties; first = h.first; second = h.second; third = h.third; fourth = h.fourth; tails = λ kind. tail_serviced r state kind (h.tails kind) }
+serviced_kept r state h = record { properties = h.properties; streams = h.streams; tails = h.tails }

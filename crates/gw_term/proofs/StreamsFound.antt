@@ -24,17 +24,14 @@ use Rattle.gw_term.specs.Record.{tail_of}
 use Rattle.gw_term.specs.Merge.{and_then, each, put_property, put_state, put_control, put_part, local_text, is_filled, begun, unnamed, stream_in, names_stream, is_named_in, media_parts, parts_in_part, parts_in, states_in, last_service, merged_service, merged_properties, merged_stream, merged_tail, kept_tail, merged}
 use Rattle.gw_term.specs.Laws.{IsStreamAfter}
 use Rattle.gw_term.specs.Lookups.{IsListAfter, states_sent, service_of_property, controls_in, locals_in, remotes_in, controls_sent, mode_by, modes_sent, tails_sent, list_in, mode_in, local_in, remote_in, IsStreamFound, IsFoundAfter}
-use Rattle.gw_term.proofs.ByField.{by_field}
-use Rattle.gw_term.proofs.PropertyLists.{first_then, after_puts}
+use Rattle.gw_term.proofs.ByField.{by_field, same_unnamed}
+use Rattle.gw_term.proofs.Made.{first_then, mapped_from, between}
+use Rattle.gw_term.proofs.PropertyLists.{after_puts}
 
 abbrev P : Type 0
 P = Property (List ℕ)
 
 -- ---- lists
-
-mapped_from : {S T : Type 0} (first : Option S) (f : S → T) (t : T) → option_map f first ≡ Some t → (s : S) × (first ≡ Some s) × (t ≡ f s)
-mapped_from None f t h = absurd cc
-mapped_from (Some s) f t h = (s, refl, cc)
 
 last_both : {T : Type 0} (o : Option T) (xs ys : List T) → last_or o (xs ++ ys) ≡ last_or (last_or o xs) ys
 last_both o [] ys = refl
@@ -241,10 +238,6 @@ unnamed_found rules slot number descriptors old named =
       remote = sym (ap (λ (l : List StreamPart). last_or (remote_in old) (flat_map remotes_in l)) none);
     }
 
-same_unnamed : (old : Option Stream) → stream_in (unnamed old) ≡ old
-same_unnamed None = refl
-same_unnamed (Some s) = refl
-
 stream_by : (rules : Rules) (slot : Option ℕ) (number : ℕ) (descriptors : List Descriptor) (old new : Option Stream) (t : Bool) → list_any (is_named_in number) descriptors ≡ t
     → IsStreamAfter rules slot number descriptors old new → IsStreamFound rules slot number descriptors old new
 unfolding merged_stream
@@ -288,10 +281,7 @@ found_after rules descriptors old new h =
     let f = by_field rules descriptors old new h in
     record {
       service = ap (λ (s : Service). Some s) f.service ∙ service_found (flat_map states_in descriptors) old.service;
-      properties = after_puts (states_sent descriptors) old.properties new.properties (states_put (flat_map states_in descriptors) new.properties old.properties f.properties);
-      first = stream_found rules old.slot 1 descriptors old.first new.first f.first;
-      second = stream_found rules old.slot 2 descriptors old.second new.second f.second;
-      third = stream_found rules old.slot 3 descriptors old.third new.third f.third;
-      fourth = stream_found rules old.slot 4 descriptors old.fourth new.fourth f.fourth;
+      properties = after_puts (states_sent descriptors) old.settings.properties new.settings.properties (states_put (flat_map states_in descriptors) new.settings.properties old.settings.properties f.properties);
+      streams = between (λ number. IsStreamAfter rules old.slot number descriptors) (λ number. IsStreamFound rules old.slot number descriptors) (λ number. stream_found rules old.slot number descriptors) old.settings.streams new.settings.streams f.streams;
       tails = λ kind. ap (λ (t : Kept). Some t) (f.tails kind) ∙ tail_found kind descriptors (tail_of kind old);
     }

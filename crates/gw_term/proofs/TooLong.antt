@@ -11,23 +11,11 @@ use Rattle.gw_desc.specs.declared.descriptor.StreamPart.TheVariants as part
 use Rattle.gw_term.specs.declared.record.Stream.{Stream}
 use Rattle.gw_term.specs.declared.record.Termination.{Termination}
 use Rattle.gw_term.specs.declared.streams.Merging.{Merging}
-use Rattle.gw_term.specs.Merge.{and_then, each, put_property, put_state, put_control, put_part, local_text, is_filled, begun, unnamed, is_named_in, parts_in, states_in, merged_properties, merged_stream, merged_media, with_media, merged}
+use Rattle.gw_term.specs.Merge.{and_then, each, each_place, put_property, put_state, put_control, put_part, local_text, is_filled, begun, unnamed, is_named_in, parts_in, states_in, merged_properties, merged_stream, merged_media, with_media, merged}
 use Rattle.gw_term.specs.Lookups.{states_sent, controls_in, controls_sent, list_in, IsTooLong, HasTooLong}
+use Rattle.gw_term.proofs.Made.{none_then, mapped_from, none_mapped, at_some, place_not_made}
 use Rattle.gw_term.proofs.PropertyLists.{P, too_long}
 use Rattle.gw_term.proofs.StreamsFound.{not_service, controls_put}
-
--- what comes first cannot be done, or what follows it
-none_then : {S T : Type 0} (first : Option S) (next : S → Option T) → and_then first next ≡ None → (first ≡ None) ⊎ ((s : S) × (first ≡ Some s) × (next s ≡ None))
-none_then None next h = inl refl
-none_then (Some s) next h = inr (s, refl, h)
-
-none_mapped : {S T : Type 0} (first : Option S) (f : S → T) → option_map f first ≡ None → first ≡ None
-none_mapped None f h = refl
-none_mapped (Some s) f h = absurd cc
-
-some_mapped : {S T : Type 0} (first : Option S) (f : S → T) (t : T) → option_map f first ≡ Some t → (s : S) × (first ≡ Some s) × (t ≡ f s)
-some_mapped None f t h = absurd cc
-some_mapped (Some s) f t h = (s, refl, cc)
 
 -- ---- the termination's list
 
@@ -57,7 +45,7 @@ controls_step p ps false e later s h =
     elim (none_then (option_map (λ list. record s { properties = list }) (put_property p s.properties)) (each put_control ps) (rw e at h)) [
       | inl none ↦ let here : put_property p s.properties ≡ None = none_mapped (put_property p s.properties) (λ list. record s { properties = list }) none in rw (e, here) refl
       | inr mid ↦
-          let one = some_mapped (put_property p s.properties) (λ list. record s { properties = list }) mid.0 mid.1 in
+          let one = mapped_from (put_property p s.properties) (λ list. record s { properties = list }) mid.0 mid.1 in
           let here = one.1 in
           let rest = later (record s { properties = one.0 }) (subst (λ (m : Stream). each put_control ps m ≡ None) one.2 mid.2) in
           rw (e, here) rest
@@ -102,7 +90,7 @@ no_parts rules slot number (part.LocalControl ps ∷ parts) m h =
     ∙ elim (none_then (option_map (λ s. record m { stream = s }) (each put_control ps m.stream)) (each (put_part rules slot number) parts) h) [
       | inl none ↦ none_both (keep ps) (keep more) m.stream.properties (no_controls ps m.stream (none_mapped (each put_control ps m.stream) (λ s. record m { stream = s }) none))
       | inr step ↦
-          let one = some_mapped (each put_control ps m.stream) (λ s. record m { stream = s }) step.0 step.1 in
+          let one = mapped_from (each put_control ps m.stream) (λ s. record m { stream = s }) step.0 step.1 in
           none_later (keep ps) (keep more) m.stream.properties one.0.properties (controls_put ps one.0 m.stream one.1).properties
           (no_parts rules slot number parts (record m { stream = one.0 }) (subst (λ (x : Merging). each (put_part rules slot number) parts x ≡ None) one.2 step.2))
     ]
@@ -130,21 +118,14 @@ states_too_long descriptors old h = too_long (states_sent descriptors) old (no_s
 media_none : (rules : Rules) (descriptors : List Descriptor) (old : Termination) → merged_media rules descriptors old ≡ None → HasTooLong descriptors old
 unfolding merged_media
 media_none rules descriptors old h =
-    elim (none_then (merged_properties descriptors old.properties) _ h) [
-      | inl none ↦ inl (states_too_long descriptors old.properties none)
-      | inr s ↦ elim (none_then (merged_stream rules old.slot 1 descriptors old.first) _ s.2) [
-        | inl none ↦ inr (inl (stream_too_long rules old.slot 1 descriptors old.first none))
-        | inr x ↦ elim (none_then (merged_stream rules old.slot 2 descriptors old.second) _ x.2) [
-          | inl none ↦ inr (inr (inl (stream_too_long rules old.slot 2 descriptors old.second none)))
-          | inr y ↦ elim (none_then (merged_stream rules old.slot 3 descriptors old.third) _ y.2) [
-            | inl none ↦ inr (inr (inr (inl (stream_too_long rules old.slot 3 descriptors old.third none))))
-            | inr z ↦ elim (none_then (merged_stream rules old.slot 4 descriptors old.fourth) _ z.2) [
-              | inl none ↦ inr (inr (inr (inr (stream_too_long rules old.slot 4 descriptors old.fourth none))))
-              | inr w ↦ absurd (let clash = w.2 in cc)
-            ]
-          ]
-        ]
-      ]
+    let f : ℕ → Option Stream → Option (Option Merging) = λ number. merged_stream rules old.slot number descriptors in
+    elim (none_then (merged_properties descriptors old.settings.properties) _ h) [
+      | inl none ↦ inl (states_too_long descriptors old.settings.properties none)
+      | inr s ↦ inr (
+        at_some (λ number stream. f number stream ≡ None) (λ number stream. IsTooLong (controls_sent (flat_map (parts_in number) descriptors)) (list_in stream))
+        (λ number. stream_too_long rules old.slot number descriptors) old.settings.streams
+        (place_not_made f old.settings.streams (elim (none_then (each_place f old.settings.streams) _ s.2) [ inl none ↦ none | inr m ↦ absurd (let clash = m.2 in cc) ]))
+      )
     ]
 
 pub nothing_merged : (rules : Rules) (descriptors : List Descriptor) (old : Termination) → merged rules descriptors old ≡ None → HasTooLong descriptors old

@@ -1,3 +1,5 @@
+pub mod Places
+pub mod Settings
 pub mod Record
 pub mod Merge
 pub mod Audit

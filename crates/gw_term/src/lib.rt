@@ -7,12 +7,16 @@ mod copies;
 mod fault;
 mod laws;
 mod named;
+mod places;
 mod properties;
 mod record;
+mod settings;
 mod streams;
 mod tails;
 
 pub use apply::{Applied, Filled};
 pub use fault::ApplyFault;
 pub use laws::{look_ups_after_a_merge, merges_go_by_field, merges_keep_forms};
+pub use places::{PerKind, PerStream};
 pub use record::{Stream, Termination};
+pub use settings::{Setting, Settings};
