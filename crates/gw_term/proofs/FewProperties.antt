@@ -1,5 +1,5 @@
 -- A merge leaves no list of properties with too many.
-use Rattle.std.proofs.Common.{◌≡◌, ◌≤◌, ℕ, List, length, Option, Some, None, arith}
+use Rattle.std.proofs.Common.{◌≡◌, ◌≤◌, List, length, Option, Some, None, arith}
 use Rattle.gw_base.specs.declared.command_words.Rules.{Rules}
 use Rattle.gw_desc.specs.declared.descriptor.Descriptor.{Descriptor}
 use Rattle.gw_term.specs.declared.record.Stream.{Stream}

@@ -1,6 +1,6 @@
 -- What an Audit tells has its form, where the record's texts have theirs.
-use Rattle.std.proofs.Common.{ℕ, List, [], ◌∷◌, ◌++◌, Option, Some, None}
-use Rattle.std.specs.List.{All, flat_map}
+use Rattle.std.proofs.Common.{ℕ, List, [], ◌∷◌, Option, Some, None}
+use Rattle.std.specs.List.{All}
 use Rattle.std.proofs.lemmas.List.Elements.{All-nil, All-cons, All-append}
 use Rattle.gw_desc.specs.KeptTexts.{IsOptional, IsKeptTail}
 use Rattle.gw_desc.specs.Values.{item_of}

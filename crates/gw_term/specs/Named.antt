@@ -1,5 +1,5 @@
 -- What descriptors name of a termination (own).
-use Rattle.std.specs.Prelude.{ℕ, Bool, true, if◌then◌else◌, List}
+use Rattle.std.specs.Prelude.{Bool, true, if◌then◌else◌, List}
 use Rattle.std.specs.List.{list_any}
 use Rattle.std.specs.Option.{is_some}
 use Rattle.gw_desc.specs.Checks.{is_kept, is_state}

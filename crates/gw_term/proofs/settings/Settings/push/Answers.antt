@@ -1,4 +1,4 @@
-use Rattle.std.proofs.Common.{rules, sym, ap, ◌∙◌}
+use Rattle.std.proofs.Common.{ap, ◌∙◌}
 use Rattle.gw_term.specs.Settings.{with_setting, set_by}
 use Rattle.gw_term.proofs.SettingLists.{set_last}
 use Rattle.gw_term.proofs.settings.Settings.push.Goals as goal
