@@ -4,7 +4,7 @@ ghost use Rattle.std.specs.Prelude.{◌≡◌, ◌≤◌, ◌++◌, IfOk, OnOk};
 ghost use Rattle.gw_term.specs.Audit.{stream_told, media_told, tail_told, item_told, word_told};
 ghost use Rattle.gw_term.specs.Places.{at_number, at_kind, rising};
 
-use crate::copies::{copied_properties, copied_stream, copied_tail};
+use crate::copies::{copied_properties, copied_stream};
 use crate::record::Termination;
 use crate::settings::Settings;
 use gw_base::{Items, NoMemory};
@@ -63,7 +63,7 @@ fn tail_told(alloc: Global, kind: KeptKind, settings: &Settings) -> Result<Reply
     ensures { IfOk result (λ part. part ≡ tail_told kind (at_kind kind settings.now.tails)) }
 {
     match settings.tail(kind) {
-        Some(tail) => Ok(ReplyPart::Kept(kind, copied_tail(alloc, tail)?)),
+        Some(tail) => Ok(ReplyPart::Kept(kind, tail.told(alloc)?)),
         None => Ok(ReplyPart::Bare(AuditItem::Kept(kind))),
     }
 }

@@ -1,22 +1,12 @@
-//! Copies of what is kept: of texts that stand in a datagram, and of texts of a record.
+//! Copies of what is kept: of properties, of streams and of records.
 
 ghost use Rattle.std.specs.Prelude.{◌≡◌, IfOk};
 
 use crate::record::{Stream, Termination};
-use gw_base::{Items, NoMemory, Span};
-use gw_desc::{Property, Sign, Tail};
-use gw_reply::{KeptProperty, KeptTail};
+use gw_base::{Items, NoMemory};
+use gw_desc::{Property, Sign};
+use gw_reply::KeptProperty;
 use std::alloc::{AllocError, Global};
-
-/// A text of its own, if it is there.
-fn owned_if(alloc: Global, text: &Option<Span<'_>>) -> Result<Option<Items<u8>>, AllocError>
-    ensures { IfOk result (λ copy. copy ≡ text.now) }
-{
-    match text {
-        Some(text) => Ok(Some(Items::from_slice(alloc, text.as_bytes())?)),
-        None => Ok(None),
-    }
-}
 
 /// A property with texts of its own: copies of these.
 pub(crate) fn property_of(
@@ -32,24 +22,8 @@ pub(crate) fn property_of(
     Ok(Property { name, sign, value })
 }
 
-/// A tail with texts of its own.
-pub(crate) fn owned_tail(alloc: Global, tail: &Tail<Span<'_>>) -> Result<KeptTail, AllocError>
-    ensures { IfOk result (λ copy. copy ≡ tail.now) }
-{
-    let word = owned_if(alloc, &tail.word)?;
-    let group = owned_if(alloc, &tail.group)?;
-    Ok(Tail {
-        equals: tail.equals,
-        word,
-        group,
-    })
-}
-
 /// A copy of the text, if it is there.
-pub(crate) fn copied_if(
-    alloc: Global,
-    text: &Option<Items<u8>>,
-) -> Result<Option<Items<u8>>, AllocError>
+fn copied_if(alloc: Global, text: &Option<Items<u8>>) -> Result<Option<Items<u8>>, AllocError>
     ensures { IfOk result (λ copy. copy ≡ text.now) }
 {
     match text {
@@ -75,19 +49,6 @@ pub(crate) fn copied_properties(
         )?)?;
     }
     Ok(copy)
-}
-
-/// A copy of the tail.
-pub(crate) fn copied_tail(alloc: Global, tail: &KeptTail) -> Result<KeptTail, AllocError>
-    ensures { IfOk result (λ copy. copy ≡ tail.now) }
-{
-    let word = copied_if(alloc, &tail.word)?;
-    let group = copied_if(alloc, &tail.group)?;
-    Ok(Tail {
-        equals: tail.equals,
-        word,
-        group,
-    })
 }
 
 /// A copy of the stream.

@@ -4,11 +4,12 @@ ghost use Rattle.std.specs.Prelude.{◌≡◌, ◌≤◌, IfOk, OnOk};
 ghost use Rattle.std.specs.Option.{option_copied};
 ghost use Rattle.gw_term.specs.Places.{at_number, at_kind};
 
-use crate::copies::{copied_properties, copied_stream, copied_tail};
+use crate::copies::{copied_properties, copied_stream};
+use crate::held_tail::HeldTail;
 use crate::record::Stream;
 use gw_base::Items;
 use gw_desc::{KeptKind, same_kept};
-use gw_reply::{KeptProperty, KeptTail};
+use gw_reply::KeptProperty;
 use std::alloc::{AllocError, Global};
 use std::marker::Model;
 
@@ -19,7 +20,7 @@ pub enum Setting {
     /// The stream of this number.
     Stream(u8, Stream),
     /// What it keeps of a kind of tails.
-    Tail(KeptKind, KeptTail),
+    Tail(KeptKind, HeldTail),
 }
 
 // By hand, as that of a stream.
@@ -63,7 +64,7 @@ fn copied_setting(alloc: Global, setting: &Setting) -> Result<Setting, AllocErro
             Ok(Setting::Stream(*number, copy))
         }
         Setting::Tail(kind, tail) => {
-            let copy = copied_tail(alloc, tail)?;
+            let copy = tail.copied(alloc)?;
             Ok(Setting::Tail(*kind, copy))
         }
     }
@@ -161,7 +162,7 @@ impl Settings {
     }
 
     /// What it keeps of a kind of tails, if anything.
-    pub(crate) fn tail(&self, kind: KeptKind) -> Option<&KeptTail>
+    pub(crate) fn tail(&self, kind: KeptKind) -> Option<&HeldTail>
         ensures { option_copied result ≡ at_kind kind self.now.tails }
     {
         let mut found = None;

@@ -9,12 +9,12 @@ ghost use Rattle.gw_desc.specs.Checks.{is_kept};
 ghost use Rattle.gw_term.specs.Places.{at_kind, put_kind, of_kinds};
 ghost use Rattle.gw_term.specs.Merge.{has_blank_inside, is_blank_group, kept_tail, merged_tail, tail_after};
 
-use crate::copies::{copied_tail, owned_tail, put};
+use crate::copies::put;
+use crate::held_tail::HeldTail;
 use crate::places::PerKind;
 use crate::settings::{Setting, Settings};
 use gw_base::Span;
 use gw_desc::{Descriptor, KeptKind, Tail, same_kept};
-use gw_reply::KeptTail;
 use gw_text::Cursor;
 use std::alloc::{AllocError, Global};
 
@@ -48,13 +48,13 @@ fn is_blank_group(group: &Option<Span<'_>>) -> bool
 }
 
 /// What is kept of a tail: nothing of one without `=` that has no group, or a blank one.
-fn kept_tail(alloc: Global, tail: &Tail<Span<'_>>) -> Result<Option<KeptTail>, AllocError>
+fn kept_tail(alloc: Global, tail: &Tail<Span<'_>>) -> Result<Option<HeldTail>, AllocError>
     ensures { IfOk result (λ kept. kept ≡ kept_tail tail.now) }
 {
     if !tail.equals && is_blank_group(&tail.group) {
         return Ok(None);
     }
-    Ok(Some(owned_tail(alloc, tail)?))
+    Ok(Some(HeldTail::of(alloc, tail)?))
 }
 
 /// The tail after a descriptor.
@@ -62,7 +62,7 @@ fn put_tail(
     alloc: Global,
     kind: KeptKind,
     descriptor: &Descriptor<'_>,
-    tail: &mut Option<KeptTail>,
+    tail: &mut Option<HeldTail>,
 ) -> Result<(), AllocError>
     ensures { OnOk result (tail.new ≡ tail_after kind descriptor.now tail.old) }
 {
@@ -79,7 +79,7 @@ fn put_tails(
     alloc: Global,
     kind: KeptKind,
     descriptors: &[Descriptor<'_>],
-    tail: &mut Option<KeptTail>,
+    tail: &mut Option<HeldTail>,
 ) -> Result<(), AllocError>
     ensures { OnOk result (tail.new ≡ merged_tail kind descriptors.now tail.old) }
 {
@@ -106,7 +106,7 @@ fn merge_there(
     ensures { OnOk result (new.new ≡ record new.old { tails = put_kind kind (merged_tail kind descriptors.now (at_kind kind old.now.tails)) new.old.tails }) }
 {
     let mut tail = match old.tail(kind) {
-        Some(tail) => Some(copied_tail(alloc, tail)?),
+        Some(tail) => Some(tail.copied(alloc)?),
         None => None,
     };
     if is_named {
