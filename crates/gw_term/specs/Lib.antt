@@ -1,6 +1,6 @@
 pub mod Places
 pub mod Settings
-pub mod Tails
+pub mod HeldTexts
 pub mod Record
 pub mod Merge
 pub mod Audit

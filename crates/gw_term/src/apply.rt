@@ -9,6 +9,7 @@ ghost use Rattle.gw_term.specs.Settings.{nothing_set};
 ghost use Rattle.gw_term.specs.Applies.{IsMergedInto, merging_of};
 
 use crate::fault::ApplyFault;
+use crate::held::HeldProperty;
 use crate::named::Named;
 use crate::properties::{merged_properties, merged_service};
 use crate::record::Termination;
@@ -17,7 +18,7 @@ use crate::streams::{Sent, merge_stream};
 use crate::tails::merge_tails;
 use gw_base::{Held, Items, NoMemory, Rules};
 use gw_desc::Descriptor;
-use gw_reply::{FilledStream, KeptProperty};
+use gw_reply::FilledStream;
 use std::alloc::{AllocError, Global};
 
 /// The streams whose Local was filled, in rising order.
@@ -108,7 +109,7 @@ fn merge_into(
 /// What is set before streams and tails are: properties, if there are any, with room for so many more.
 fn begun(
     alloc: Global,
-    properties: Items<KeptProperty>,
+    properties: Items<HeldProperty>,
     count: usize,
 ) -> Result<Settings, AllocError>
     requires { count ≤ 8 }

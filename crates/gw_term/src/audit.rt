@@ -4,13 +4,28 @@ ghost use Rattle.std.specs.Prelude.{◌≡◌, ◌≤◌, ◌++◌, IfOk, OnOk};
 ghost use Rattle.gw_term.specs.Audit.{stream_told, media_told, tail_told, item_told, word_told};
 ghost use Rattle.gw_term.specs.Places.{at_number, at_kind, rising};
 
-use crate::copies::{copied_properties, copied_stream};
+use crate::copies::copied_if;
+use crate::held::HeldProperty;
 use crate::record::Termination;
 use crate::settings::Settings;
 use gw_base::{Items, NoMemory};
 use gw_desc::{AuditItem, AuditItems, KeptKind, item_of};
-use gw_reply::{AuditReply, MediaReply, ReplyPart, StreamReply};
+use gw_reply::{AuditReply, KeptProperty, MediaReply, ReplyPart, StreamReply};
 use std::alloc::Global;
+
+/// The properties as they are told.
+fn properties_told(
+    alloc: Global,
+    properties: &[HeldProperty],
+) -> Result<Items<KeptProperty>, NoMemory>
+    ensures { IfOk result (λ told. told ≡ properties.now) }
+{
+    let mut told = Items::new(alloc);
+    for property in properties {
+        told.push(property.told(alloc)?)?;
+    }
+    Ok(told)
+}
 
 /// The stream of this number goes last, if it is there.
 fn push_stream(
@@ -26,8 +41,13 @@ fn push_stream(
     let Some(stream) = settings.stream(number) else {
         return Ok(());
     };
-    let copy = copied_stream(alloc, stream)?;
-    streams.push(copy.into_reply(number))?;
+    streams.push(StreamReply {
+        number,
+        mode: stream.mode,
+        properties: properties_told(alloc, stream.properties.as_slice())?,
+        local: copied_if(alloc, &stream.local)?,
+        remote: copied_if(alloc, &stream.remote)?,
+    })?;
     Ok(())
 }
 
@@ -48,7 +68,7 @@ fn push_streams(
 fn media_told(alloc: Global, termination: &Termination) -> Result<MediaReply, NoMemory>
     ensures { IfOk result (λ media. media ≡ media_told termination.now) }
 {
-    let properties = copied_properties(alloc, termination.settings.properties())?;
+    let properties = properties_told(alloc, termination.settings.properties())?;
     let mut streams = Items::new(alloc);
     push_streams(alloc, &termination.settings, &mut streams)?;
     Ok(MediaReply {

@@ -2,28 +2,16 @@
 
 ghost use Rattle.std.specs.Prelude.{◌≡◌, IfOk};
 
+use crate::held::HeldProperty;
 use crate::record::{Stream, Termination};
 use gw_base::{Items, NoMemory};
-use gw_desc::{Property, Sign};
-use gw_reply::KeptProperty;
 use std::alloc::{AllocError, Global};
 
-/// A property with texts of its own: copies of these.
-pub(crate) fn property_of(
-    alloc: Global,
-    name: &[u8],
-    sign: Sign,
-    value: &[u8],
-) -> Result<KeptProperty, AllocError>
-    ensures { IfOk result (λ copy. copy ≡ record { name = name.now; sign = sign; value = value.now }) }
-{
-    let name = Items::from_slice(alloc, name)?;
-    let value = Items::from_slice(alloc, value)?;
-    Ok(Property { name, sign, value })
-}
-
 /// A copy of the text, if it is there.
-fn copied_if(alloc: Global, text: &Option<Items<u8>>) -> Result<Option<Items<u8>>, AllocError>
+pub(crate) fn copied_if(
+    alloc: Global,
+    text: &Option<Items<u8>>,
+) -> Result<Option<Items<u8>>, AllocError>
     ensures { IfOk result (λ copy. copy ≡ text.now) }
 {
     match text {
@@ -35,18 +23,13 @@ fn copied_if(alloc: Global, text: &Option<Items<u8>>) -> Result<Option<Items<u8>
 /// A copy of the properties.
 pub(crate) fn copied_properties(
     alloc: Global,
-    properties: &[KeptProperty],
-) -> Result<Items<KeptProperty>, AllocError>
+    properties: &[HeldProperty],
+) -> Result<Items<HeldProperty>, AllocError>
     ensures { IfOk result (λ copy. copy ≡ properties.now) }
 {
     let mut copy = Items::new(alloc);
     for property in properties {
-        copy.push(property_of(
-            alloc,
-            property.name.as_slice(),
-            property.sign,
-            property.value.as_slice(),
-        )?)?;
+        copy.push(property.copied(alloc)?)?;
     }
     Ok(copy)
 }

@@ -5,7 +5,7 @@ mod apply;
 mod audit;
 mod copies;
 mod fault;
-mod held_tail;
+mod held;
 mod laws;
 mod named;
 mod places;
@@ -17,7 +17,7 @@ mod tails;
 
 pub use apply::{Applied, Filled};
 pub use fault::ApplyFault;
-pub use held_tail::HeldTail;
+pub use held::{HeldProperty, HeldTail};
 pub use laws::{look_ups_after_a_merge, merges_go_by_field, merges_keep_forms};
 pub use places::{PerKind, PerStream};
 pub use record::{Stream, Termination};

@@ -2,10 +2,10 @@
 
 ghost use Rattle.std.specs.Prelude.{◌≡◌};
 
+use crate::held::HeldProperty;
 use crate::settings::Settings;
 use gw_base::{CtxNum, Items, Service};
 use gw_desc::Mode;
-use gw_reply::{KeptProperty, StreamReply};
 use std::alloc::Global;
 
 /// A stream of a termination (RFC 3525, sections 7.1.6 and 7.1.7).
@@ -13,7 +13,7 @@ pub struct Stream {
     /// Its mode.
     pub mode: Mode,
     /// The properties of its LocalControl but Mode: at most 32.
-    pub properties: Items<KeptProperty>,
+    pub properties: Items<HeldProperty>,
     /// Its Local, if there is one.
     pub local: Option<Items<u8>>,
     /// Its Remote, if there is one.
@@ -29,27 +29,6 @@ impl Drop for Stream {
             local: _,
             remote: _,
         } = self;
-    }
-}
-
-impl Stream {
-    /// The stream, as it is told under this number.
-    pub(crate) fn into_reply(self, number: u8) -> StreamReply
-        ensures { result ≡ record { number = number; mode = self.mode; properties = self.properties; local = self.local; remote = self.remote } }
-    {
-        let Stream {
-            mode,
-            properties,
-            local,
-            remote,
-        } = self;
-        StreamReply {
-            number,
-            mode,
-            properties,
-            local,
-            remote,
-        }
     }
 }
 

@@ -5,18 +5,17 @@ ghost use Rattle.std.specs.Option.{option_copied};
 ghost use Rattle.gw_term.specs.Places.{at_number, at_kind};
 
 use crate::copies::{copied_properties, copied_stream};
-use crate::held_tail::HeldTail;
+use crate::held::{HeldProperty, HeldTail};
 use crate::record::Stream;
 use gw_base::Items;
 use gw_desc::{KeptKind, same_kept};
-use gw_reply::KeptProperty;
 use std::alloc::{AllocError, Global};
 use std::marker::Model;
 
 /// What may be set of a termination.
 pub enum Setting {
     /// The properties of its TerminationState but ServiceStates: at most 32.
-    Properties(Items<KeptProperty>),
+    Properties(Items<HeldProperty>),
     /// The stream of this number.
     Stream(u8, Stream),
     /// What it keeps of a kind of tails.
@@ -132,10 +131,10 @@ impl Settings {
     }
 
     /// The properties of its TerminationState but ServiceStates.
-    pub(crate) fn properties(&self) -> &[KeptProperty]
+    pub(crate) fn properties(&self) -> &[HeldProperty]
         ensures { result.now ≡ self.now.properties }
     {
-        let mut found: &[KeptProperty] = &[];
+        let mut found: &[HeldProperty] = &[];
         for setting in &self.list {
             if let Setting::Properties(list) = setting {
                 found = list.as_slice();

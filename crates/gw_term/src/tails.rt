@@ -10,7 +10,7 @@ ghost use Rattle.gw_term.specs.Places.{at_kind, put_kind, of_kinds};
 ghost use Rattle.gw_term.specs.Merge.{has_blank_inside, is_blank_group, kept_tail, merged_tail, tail_after};
 
 use crate::copies::put;
-use crate::held_tail::HeldTail;
+use crate::held::HeldTail;
 use crate::places::PerKind;
 use crate::settings::{Setting, Settings};
 use gw_base::Span;
