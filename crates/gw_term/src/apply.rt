@@ -71,38 +71,29 @@ fn tell(
 fn merge_into(
     alloc: Global,
     sent: &Sent<'_, '_>,
-    named: &Named,
     there: &Named,
     old: &Termination,
     new: &mut Termination,
     filled: &mut Filled,
 ) -> Result<(), ApplyFault>
-    requires named { named.now ≡ named_by sent.now.descriptors.now }
-    requires there { there.now ≡ with_set old.now.settings named.now }
+    requires there { there.now ≡ with_set old.now.settings (named_by sent.now.descriptors.now) }
     requires slot { sent.now.slot ≡ old.now.slot }
     requires rest { merged_properties sent.now.descriptors.now old.now.settings.properties ≡ Some new.old.settings.properties }
     requires fresh { new.old ≡ record (unset old.now.place (merged_service sent.now.descriptors.now old.now.service) old.now.slot) { settings = record nothing_set { properties = new.old.settings.properties } } }
     requires none { filled.old ≡ [] }
     ensures { IsMergedInto sent.now.rules.now sent.now.descriptors.now old.now new.new filled.new result }
 {
-    let (n, t) = (&named.streams, &there.streams);
     let (before, set) = (&old.settings, &mut new.settings);
-    let first = merge_stream(alloc, sent, 1, n.first, t.first, before, set)?;
-    let second = merge_stream(alloc, sent, 2, n.second, t.second, before, set)?;
-    let third = merge_stream(alloc, sent, 3, n.third, t.third, before, set)?;
-    let fourth = merge_stream(alloc, sent, 4, n.fourth, t.fourth, before, set)?;
+    let streams = &there.streams;
+    let first = merge_stream(alloc, sent, 1, streams.first, before, set)?;
+    let second = merge_stream(alloc, sent, 2, streams.second, before, set)?;
+    let third = merge_stream(alloc, sent, 3, streams.third, before, set)?;
+    let fourth = merge_stream(alloc, sent, 4, streams.fourth, before, set)?;
     tell(alloc, 1, first, set, filled)?;
     tell(alloc, 2, second, set, filled)?;
     tell(alloc, 3, third, set, filled)?;
     tell(alloc, 4, fourth, set, filled)?;
-    merge_tails(
-        alloc,
-        &named.tails,
-        &there.tails,
-        sent.descriptors,
-        before,
-        set,
-    )?;
+    merge_tails(alloc, &there.tails, sent.descriptors, before, set)?;
     Ok(())
 }
 
@@ -157,13 +148,14 @@ impl Termination {
     ) -> Result<Applied, ApplyFault>
         ensures { IsMerged rules.now descriptors.now self.now result }
     {
-        let named = Named::by(descriptors);
+        let mut there = Named::by(descriptors);
         let own = self.settings.properties();
-        let properties = merged_properties(alloc, named.states, descriptors, own)?;
-        let there = named.with_set(&self.settings);
+        let properties = merged_properties(alloc, there.states, descriptors, own)?;
+        let service = merged_service(there.states, descriptors, self.service);
+        there.note_set(&self.settings);
         let record = Termination {
             place: self.place,
-            service: merged_service(named.states, descriptors, self.service),
+            service,
             slot: self.slot,
             settings: begun(alloc, properties, there.count())?,
         };
@@ -174,15 +166,7 @@ impl Termination {
             slot: self.slot,
             descriptors,
         };
-        merge_into(
-            alloc,
-            &sent,
-            &named,
-            &there,
-            self,
-            record.get_mut(),
-            &mut filled,
-        )?;
+        merge_into(alloc, &sent, &there, self, record.get_mut(), &mut filled)?;
         Ok(Applied { record, filled })
     }
 

@@ -92,15 +92,13 @@ impl Named {
         }
     }
 
-    /// What is named, and the streams and tails that were set: those that may be there after the descriptors.
-    pub(crate) fn with_set(&self, set: &Settings) -> Named
-        ensures { result ≡ with_set set.now self.now }
+    /// The streams and tails that were set are named too: these and no others may be there after the descriptors.
+    pub(crate) fn note_set(&mut self, set: &Settings)
+        ensures { self.new ≡ with_set set.now self.old }
     {
-        let mut named = *self;
         for setting in set.list() {
-            named.note_setting(setting);
+            self.note_setting(setting);
         }
-        named
     }
 
     /// How many streams and tails are named.

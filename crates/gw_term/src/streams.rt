@@ -1,6 +1,6 @@
 //! Streams: what the parts of a Media do to each.
 
-ghost use Rattle.std.specs.Prelude.{◌≡◌, ◌≤◌, IfOk, OnOk, None};
+ghost use Rattle.std.specs.Prelude.{◌≡◌, ◌≤◌, IfOk, OnOk, None, true};
 ghost use Rattle.std.specs.Option.{is_some, option_copied};
 ghost use Rattle.gw_term.specs.Named.{noted};
 ghost use Rattle.gw_desc.specs.declared.descriptor.StreamPart.TheVariants.{Local};
@@ -221,61 +221,50 @@ fn begun(alloc: Global, old: Option<&Stream>) -> Result<Merging, NoMemory>
     })
 }
 
-/// The stream of this number after the descriptors is set, if there is one then; whether its Local was filled. One that they do not
-/// name is copied. Not inlined, since most streams are neither named nor there.
+/// The stream of this number, which is named or there, after the descriptors is set; whether its Local was filled. Not inlined,
+/// since most streams are neither.
 #[inline(never)]
-#[tactic(auto, unfolding(crate::specs::Merge::merged_stream))]
+#[tactic(auto, using(crate::proofs::StreamsFound::merged_there))]
 fn merge_there(
     alloc: Global,
     sent: &Sent<'_, '_>,
     number: u8,
-    is_named: bool,
     old: &Settings,
     new: &mut Settings,
 ) -> Result<bool, ApplyFault>
     requires first { 1 ≤ number }
     requires last { number ≤ 4 }
-    requires named { is_named ≡ list_any (is_named_in number) sent.now.descriptors.now }
-    requires empty { at_number number new.old.streams ≡ None }
+    requires there { noted (is_some (at_number number old.now.streams)) (list_any (is_named_in number) sent.now.descriptors.now) ≡ true }
     ensures merged { IsStreamMerged result (at_number number new.new.streams) (merged_stream sent.now.rules.now sent.now.slot number sent.now.descriptors.now (at_number number old.now.streams)) }
     ensures rest { OnOk result (new.new ≡ record new.old { streams = put_number number (at_number number new.new.streams) new.old.streams }) }
 {
-    let there = old.stream(number);
-    if is_named {
-        let mut merging = begun(alloc, there)?;
-        put_all(alloc, sent, number, &mut merging)?;
-        let filled = merging.filled;
-        new.push(Setting::Stream(number, merging.into_stream()))?;
-        return Ok(filled);
-    }
-    if let Some(stream) = there {
-        new.push(Setting::Stream(number, copied_stream(alloc, stream)?))?;
-    }
-    Ok(false)
+    let mut merging = begun(alloc, old.stream(number))?;
+    put_all(alloc, sent, number, &mut merging)?;
+    let filled = merging.filled;
+    new.push(Setting::Stream(number, merging.into_stream()))?;
+    Ok(filled)
 }
 
-/// The same, where it is known whether the stream is named or there.
+/// The stream of this number after the descriptors is set, if there is one then; whether its Local was filled.
 #[inline]
 #[tactic(auto, unfolding(crate::specs::Merge::merged_stream))]
 pub(crate) fn merge_stream(
     alloc: Global,
     sent: &Sent<'_, '_>,
     number: u8,
-    is_named: bool,
     is_there: bool,
     old: &Settings,
     new: &mut Settings,
 ) -> Result<bool, ApplyFault>
     requires first { 1 ≤ number }
     requires last { number ≤ 4 }
-    requires named { is_named ≡ list_any (is_named_in number) sent.now.descriptors.now }
-    requires there { is_there ≡ noted (is_some (at_number number old.now.streams)) is_named }
+    requires there { is_there ≡ noted (is_some (at_number number old.now.streams)) (list_any (is_named_in number) sent.now.descriptors.now) }
     requires empty { at_number number new.old.streams ≡ None }
     ensures merged { IsStreamMerged result (at_number number new.new.streams) (merged_stream sent.now.rules.now sent.now.slot number sent.now.descriptors.now (at_number number old.now.streams)) }
     ensures rest { OnOk result (new.new ≡ record new.old { streams = put_number number (at_number number new.new.streams) new.old.streams }) }
 {
     if is_there {
-        return merge_there(alloc, sent, number, is_named, old, new);
+        return merge_there(alloc, sent, number, old, new);
     }
     Ok(false)
 }

@@ -92,26 +92,21 @@ fn put_tails(
 /// The tail of this kind after the descriptors is set, if there is one then. Not inlined, since most tails are neither named nor
 /// there.
 #[inline(never)]
-#[tactic(auto, using(crate::proofs::Naming::tail_stays))]
 fn merge_there(
     alloc: Global,
     kind: KeptKind,
-    is_named: bool,
     descriptors: &[Descriptor<'_>],
     old: &Settings,
     new: &mut Settings,
 ) -> Result<(), AllocError>
-    requires named { is_named ≡ list_any (is_kept kind) descriptors.now }
-    requires empty { at_kind kind new.old.tails ≡ None }
+    requires { at_kind kind new.old.tails ≡ None }
     ensures { OnOk result (new.new ≡ record new.old { tails = put_kind kind (merged_tail kind descriptors.now (at_kind kind old.now.tails)) new.old.tails }) }
 {
     let mut tail = match old.tail(kind) {
         Some(tail) => Some(tail.copied(alloc)?),
         None => None,
     };
-    if is_named {
-        put_tails(alloc, kind, descriptors, &mut tail)?;
-    }
+    put_tails(alloc, kind, descriptors, &mut tail)?;
     if let Some(tail) = tail {
         new.push(Setting::Tail(kind, tail))?;
     }
@@ -124,19 +119,17 @@ fn merge_there(
 fn merge_tail(
     alloc: Global,
     kind: KeptKind,
-    is_named: bool,
     is_there: bool,
     descriptors: &[Descriptor<'_>],
     old: &Settings,
     new: &mut Settings,
 ) -> Result<(), AllocError>
-    requires named { is_named ≡ list_any (is_kept kind) descriptors.now }
-    requires there { is_there ≡ noted (is_some (at_kind kind old.now.tails)) is_named }
+    requires there { is_there ≡ noted (is_some (at_kind kind old.now.tails)) (list_any (is_kept kind) descriptors.now) }
     requires empty { at_kind kind new.old.tails ≡ None }
     ensures { OnOk result (new.new ≡ record new.old { tails = put_kind kind (merged_tail kind descriptors.now (at_kind kind old.now.tails)) new.old.tails }) }
 {
     if is_there {
-        return merge_there(alloc, kind, is_named, descriptors, old, new);
+        return merge_there(alloc, kind, descriptors, old, new);
     }
     Ok(())
 }
@@ -144,36 +137,18 @@ fn merge_tail(
 /// The tails after the descriptors are set, where none are.
 pub(crate) fn merge_tails(
     alloc: Global,
-    named: &PerKind<bool>,
     there: &PerKind<bool>,
     descriptors: &[Descriptor<'_>],
     old: &Settings,
     new: &mut Settings,
 ) -> Result<(), AllocError>
-    requires named { named.now ≡ of_kinds (λ kind. list_any (is_kept kind) descriptors.now) }
-    requires there { there.now ≡ of_kinds (λ kind. noted (is_some (at_kind kind old.now.tails)) (at_kind kind named.now)) }
+    requires there { there.now ≡ of_kinds (λ kind. noted (is_some (at_kind kind old.now.tails)) (list_any (is_kept kind) descriptors.now)) }
     requires empty { new.old.tails ≡ of_kinds (λ _. None) }
     ensures { OnOk result (new.new ≡ record new.old { tails = of_kinds (λ kind. merged_tail kind descriptors.now (at_kind kind old.now.tails)) }) }
 {
-    let (n, t, d) = (named, there, descriptors);
-    merge_tail(alloc, KeptKind::Events, n.events, t.events, d, old, new)?;
-    merge_tail(alloc, KeptKind::Signals, n.signals, t.signals, d, old, new)?;
-    merge_tail(
-        alloc,
-        KeptKind::DigitMap,
-        n.digit_map,
-        t.digit_map,
-        d,
-        old,
-        new,
-    )?;
-    merge_tail(
-        alloc,
-        KeptKind::EventBuffer,
-        n.event_buffer,
-        t.event_buffer,
-        d,
-        old,
-        new,
-    )
+    let (t, d) = (there, descriptors);
+    merge_tail(alloc, KeptKind::Events, t.events, d, old, new)?;
+    merge_tail(alloc, KeptKind::Signals, t.signals, d, old, new)?;
+    merge_tail(alloc, KeptKind::DigitMap, t.digit_map, d, old, new)?;
+    merge_tail(alloc, KeptKind::EventBuffer, t.event_buffer, d, old, new)
 }

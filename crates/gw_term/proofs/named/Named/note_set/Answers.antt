@@ -3,7 +3,7 @@ use Rattle.gw_term.specs.Named.{with_place, with_set}
 use Rattle.gw_term.specs.Settings.{Settings, set_by}
 use Rattle.gw_term.proofs.Naming.{setting_noted}
 use Rattle.gw_term.proofs.SettingLists.{set_more}
-use Rattle.gw_term.proofs.named.Named.with_set.Goals as goal
+use Rattle.gw_term.proofs.named.Named.note_set.Goals as goal
 
 pub loop-setting-preserved : goal.loop-setting-preserved
 loop-setting-preserved c =
