@@ -1,3 +1,4 @@
+pub mod Made
 pub mod Merges
 pub mod ByField
 pub mod FewProperties
@@ -7,3 +8,4 @@ pub mod TooLong
 pub mod KeptMerges
 pub mod KeptAudits
 pub mod Naming
+pub mod SettingLists

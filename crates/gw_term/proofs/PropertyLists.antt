@@ -11,13 +11,10 @@ use Rattle.gw_desc.specs.Twice.{folded, has_same, has_name_twice}
 use Rattle.gw_desc.specs.declared.descriptor.Property.{Property}
 use Rattle.gw_term.specs.Merge.{and_then, each, most_properties, property_place, put_property}
 use Rattle.gw_term.specs.Lookups.{is_of_name, look_up, lower_names, new_names, IsListAfter, IsTooLong}
+use Rattle.gw_term.proofs.Made.{first_then}
 
 abbrev pub P : Type 0
 P = Property (List ℕ)
-
-pub first_then : {S T : Type 0} (first : Option S) (next : S → Option T) (t : T) → and_then first next ≡ Some t → (s : S) × (first ≡ Some s) × (next s ≡ Some t)
-first_then None next t h = absurd cc
-first_then (Some s) next t h = (s, refl, h)
 
 -- ---- names in any case
 
