@@ -240,6 +240,9 @@ def wildcards():
     yield wild("2,000 contexts, `Context=*{Modify=*}`", two, b"C=*{MF=*}", 8, 4_000, b"Error=533")
     yield wild("2,000 contexts, `Context=*{AuditValue=*}`", two, b"C=*{AV=*{AT{}}}", 8, 4_000, b"Error=533")
     yield wild("2,000 contexts, `Context=*` with a Priority", two, b"C=*{PR=3}", 8, 2_000, b"Error=533")
+    yield Kind("2,000 contexts, `Context=*` with another Priority each time", two, asked([b"C=*{PR=%d}" % (n + 1) for n in range(8)]), b"Error=533", 16_000, 4_000)
+    yield Kind("2,000 contexts, `Context=*` with another Priority each time and an Emergency", two,
+               asked([b"C=*{PR=%d,EG}" % (n + 1) for n in range(8)]), b"Error=533", 16_000, 4_000)
     yield wild("2,000 contexts, a wildcard that matches none", two, b"C=*{O-AV=X*{AT{}}}", 8, 2_000, b"Error=533")
     yield wild("no context, `Context=*`", [], b"C=*{S=*}", MOST, 0, b"Error=431")
 
