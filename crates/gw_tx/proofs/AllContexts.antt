@@ -1,6 +1,6 @@
 -- An action without commands in each context: its properties set in all of them at once, and then told, come to the same as in one after
 -- another.
-use Rattle.std.proofs.Common.{nat_eq, ◌≡◌, ℕ, Bool, true, false, cond, List, [], ◌∷◌, map, Option, None, Some, is_some, inl, inr, refl, sym, ap, ◌∙◌}
+use Rattle.std.proofs.Common.{nat_eq, ◌≡◌, ℕ, zero, suc, ◌<◌, Bool, true, false, cond, List, [], ◌∷◌, map, Option, None, Some, is_some, inl, inr, refl, sym, ap, ◌∙◌, length, get_or, arith}
 use Rattle.std.specs.Prelude.{◌||◌, ◌⊎◌, if◌then◌else◌}
 use Rattle.std.specs.List.{list_any}
 use Rattle.std.specs.Option.{option_map}
@@ -25,7 +25,7 @@ use Rattle.gw_table.proofs.AllSettings.{is_numbered, in_numbers, ctx-all_set, te
 use Rattle.gw_table.proofs.Folding.{ended, in_order-none, in_order-more}
 use Rattle.gw_table.proofs.Lookups.{same_maps}
 use Rattle.gw_tx.specs.Properties.{is_topology, with_property, with_property_if, with_properties, set_property, set_properties, context_parts_if, AreSetInAll}
-use Rattle.gw_tx.specs.Transactions.{attempt, commands, in_each, in_all, replied, reply_alone}
+use Rattle.gw_tx.specs.Transactions.{attempt, commands, in_each, in_all, replied, reply_alone, AreThere}
 use Rattle.gw_tx.proofs.SetProperties.{ctx-set, term-all}
 
 -- ---- what a property makes of all contexts
@@ -55,6 +55,21 @@ part_of_all ps keys m n set p = record {
   terms = λ t h. p.terms t (ap (λ o. is_some o) (sym (set.terms t)) ∙ h);
   contexts = λ c h. p.contexts c (sym (ap (λ o. is_some o) (set.contexts c) ∙ some_with ps (ctx m c)) ∙ h);
 }
+
+numbered_at : (ns : List CtxNum) (k : ℕ) (d : CtxNum) → k < length ns → is_numbered (get_or ns k d) ns ≡ true
+numbered_at [] k d l = absurd (omega arith)
+numbered_at (n ∷ ns) zero d l = ap (λ (b : Bool). b || is_numbered n ns) (number_itself n n refl)
+numbered_at (n ∷ ns) (suc k) d l = ap (λ (b : Bool). nat_eq (get_or ns k d).0 n.0 || b) (numbered_at ns k d (omega arith)) ∙ or_true (nat_eq (get_or ns k d).0 n.0)
+  where
+    or_true : (b : Bool) → (b || true) ≡ true
+    or_true true = refl
+    or_true false = refl
+
+-- and none goes
+pub still_there : (ps : List ContextProp) (m n : Maps) → AreSetInAll ps m n → AreThere n (numbers m)
+still_there ps m n set k d l =
+    let q : CtxNum = get_or (numbers m) k d in
+    ap (λ o. is_some o) (set.contexts q) ∙ some_with ps (ctx m q) ∙ sym (in_numbers m q) ∙ numbered_at (numbers m) k d l
 
 -- ---- what stands under a number that is set
 

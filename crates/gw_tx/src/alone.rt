@@ -1,17 +1,18 @@
 //! An action without commands in each context that there is.
 
-ghost use Rattle.std.specs.Prelude.{◌≡◌, ◌∷◌, [], false, map, List, Option, IfOk, OnOk, ℕ};
+ghost use Rattle.std.specs.Prelude.{◌≡◌, ◌∷◌, [], true, map, length, List, Option, IfOk, OnOk, ℕ};
 ghost use Rattle.gw_base.specs.declared.command_words.Rules.{Rules as Kept};
 ghost use Rattle.gw_base.specs.declared.ids.CtxNum.{CtxNum};
+ghost use Rattle.gw_length.specs.declared.telling.Telling.TheVariants.{TooLong};
 ghost use Rattle.gw_length.specs.Tellings.{told_behind};
+ghost use Rattle.gw_msg.specs.declared.message.Action.{Action as Sent};
 ghost use Rattle.gw_reply.specs.Replies.{action_reply_text};
 ghost use Rattle.gw_reserve.specs.Owned.{paired_action};
-ghost use Rattle.gw_table.specs.Maps.{numbers as all_numbers};
+ghost use Rattle.gw_table.specs.Maps.{Maps, numbers as all_numbers};
 ghost use Rattle.gw_table.specs.Parts.{IsPart};
-ghost use Rattle.gw_tx.specs.declared.told.Counted.{Counted as Told};
 ghost use Rattle.gw_tx.specs.Properties.{ArePlain};
 ghost use Rattle.gw_tx.specs.Told.{counted};
-ghost use Rattle.gw_tx.specs.Transactions.{in_all, reply_alone};
+ghost use Rattle.gw_tx.specs.Transactions.{in_all, reply_alone, AreThere};
 
 use crate::setting::set_properties_of_all;
 use crate::telling::{context_parts_if, parts_within};
@@ -22,6 +23,19 @@ use gw_msg::Action;
 use gw_reply::ActionReply;
 use gw_table::Draft;
 use std::alloc::Global;
+
+/// How many bytes the reply in a context has at least, with the comma before it: `,Context={Emergency}`, and the number.
+const LEAST: usize = 20;
+
+/// Whether there is surely no room for the replies in so many contexts.
+fn are_too_long(told: &Telling<ActionReply>, count: usize) -> bool
+    ensures { (a : Sent) (m : Maps) (ns : List CtxNum) → a.commands ≡ [] → AreThere m ns → length ns ≡ count → result ≡ true → told_behind action_reply_text told.now (map (reply_alone a m) ns) ≡ TooLong }
+{
+    match told {
+        Telling::Within(_, room) => room / LEAST < count,
+        Telling::All(_) | Telling::TooLong => false,
+    }
+}
 
 /// Tells the reply in one of the contexts, behind those before it.
 fn tell_alone(
@@ -42,7 +56,8 @@ fn tell_alone(
     })
 }
 
-/// Tells the replies in these contexts, behind those before them. Behind the first that there is no room for, none is looked at.
+/// Tells the replies in these contexts, behind those before them. Behind the first that there is no room for, none is looked at; and none
+/// at all where there is surely no room for so many.
 fn tell_each_alone(
     alloc: Global,
     draft: &Draft<'_>,
@@ -50,8 +65,13 @@ fn tell_each_alone(
     numbers: &[CtxNum],
     told: Telling<ActionReply>,
 ) -> Result<Telling<ActionReply>, NoMemory>
+    requires alone { sent.now.commands ≡ [] }
+    requires there { AreThere draft.now.maps numbers.now }
     ensures { IfOk result (λ all. all ≡ told_behind action_reply_text told (map (reply_alone sent.now draft.now.maps) numbers.now)) }
 {
+    if are_too_long(&told, numbers.len()) {
+        return Ok(Telling::TooLong);
+    }
     let mut told = told;
     for number in numbers {
         if let Telling::TooLong = told {

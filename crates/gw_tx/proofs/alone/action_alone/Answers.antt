@@ -12,9 +12,17 @@ use Rattle.gw_table.proofs.Folding.{ended}
 use Rattle.gw_tx.specs.declared.told.Counted.{Counted}
 use Rattle.gw_tx.specs.Properties.{AreSetInAll}
 use Rattle.gw_tx.specs.Told.{counted}
-use Rattle.gw_tx.specs.Transactions.{in_all, reply_alone}
-use Rattle.gw_tx.proofs.AllContexts.{alone_is}
+use Rattle.gw_tx.specs.Transactions.{in_all, reply_alone, AreThere}
+use Rattle.gw_tx.proofs.AllContexts.{alone_is, still_there}
 use Rattle.gw_tx.proofs.alone.action_alone.Goals as goal
+
+-- the contexts are there still
+pub tell_each_alone-requires-clause-there : goal.tell_each_alone-requires-clause-there
+tell_each_alone-requires-clause-there c =
+    let m : Maps = c.args.draft.now.maps in
+    let all : Maps = c.set_properties_of_all.new.draft.maps in
+    let set : AreSetInAll c.args.sent.now.props m all = subst (λ (ps : List ContextProp). AreSetInAll ps m all) c.as_slice.ensures c.in_ok-set_properties_of_all.ensures.set in
+    subst (λ (ns : List CtxNum). AreThere all ns) (sym c.requires.all) (still_there c.args.sent.now.props m all set)
 
 -- all that it comes to, whatever the action owns
 comes_to : (c : goal.In_ok-tell_each_alone) (rules : Rules) (owned : Option CtxNum) (slots : List (Option ℕ))
