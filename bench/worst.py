@@ -111,8 +111,9 @@ def contexts(count):
     return made([b",".join(actions[place:place + 1_000]) for place in range(0, count, 1_000)])
 
 
-def kept(count):
-    return packed(numbered([b"C=-{AV=T/1{AT{}}}"] * count), 256)
+def kept(count, step=1):
+    """Kept replies, under the numbers from 1 on: one behind another, or each so many behind the one that arrived before it."""
+    return packed([b"T=%d{C=-{AV=T/1{AT{}}}}" % (place * step % count + 1) for place in range(count)], 256)
 
 
 # ---- kinds
@@ -141,7 +142,12 @@ def kept_replies():
     yield Kind("an acknowledgement of all and a request in turn, 4,096 kept", whole, packed(turns), keep=4_096)
     yield Kind("one acknowledgement of the oldest of 4,096 kept", whole, [HEAD + b"K{2}"], keep=4_096)
     yield Kind("one acknowledgement of all of 4,096 kept", whole, [HEAD + b"K{0-4294967295}"], matches=4_096, keep=4_096)
-    yield Kind("one acknowledgement of 128 in the middle of 4,096 kept", whole, [HEAD + b"K{2000-2127}"], matches=128, keep=4_096)
+    for many in (4, 16, 64, 128):
+        yield Kind(f"one acknowledgement of {many} in the middle of 4,096 kept", whole, [HEAD + b"K{2000-%d}" % (1_999 + many)], matches=many, keep=4_096)
+    apart = kept(4_096, 1_201)
+    for many in (16, 64, 128):
+        yield Kind(f"one acknowledgement of {many} of 4,096 kept, which arrived far apart", apart, [HEAD + b"K{2000-%d}" % (1_999 + many)],
+                   matches=many, keep=4_096)
     yield Kind("one request, 4,096 kept", whole, [HEAD + audit % 10_000], keep=4_096)
     yield Kind("repeats of one request, 4,096 kept", whole, packed([audit % 2] * 4_000, 4_000), keep=4_096)
     yield Kind("repeats of one request, 256 datagrams", whole, packed([audit % 2] * 4_096, 16), keep=4_096)
@@ -234,6 +240,9 @@ def wildcards():
     yield wild("2,000 contexts, `Context=*{Modify=*}`", two, b"C=*{MF=*}", 8, 4_000, b"Error=533")
     yield wild("2,000 contexts, `Context=*{AuditValue=*}`", two, b"C=*{AV=*{AT{}}}", 8, 4_000, b"Error=533")
     yield wild("2,000 contexts, `Context=*` with a Priority", two, b"C=*{PR=3}", 8, 2_000, b"Error=533")
+    yield Kind("2,000 contexts, `Context=*` with another Priority each time", two, asked([b"C=*{PR=%d}" % (n + 1) for n in range(8)]), b"Error=533", 16_000, 4_000)
+    yield Kind("2,000 contexts, `Context=*` with another Priority each time and an Emergency", two,
+               asked([b"C=*{PR=%d,EG}" % (n + 1) for n in range(8)]), b"Error=533", 16_000, 4_000)
     yield wild("2,000 contexts, a wildcard that matches none", two, b"C=*{O-AV=X*{AT{}}}", 8, 2_000, b"Error=533")
     yield wild("no context, `Context=*`", [], b"C=*{S=*}", MOST, 0, b"Error=431")
 

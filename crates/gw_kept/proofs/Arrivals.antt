@@ -279,6 +279,19 @@ place_nth keys first numbers i d q a there =
     let same : Some (place_of first (get_or numbers i d)) ≡ Some q = nth_place keys first numbers i (get_or numbers i d) a l (get_or_default numbers i d (get_or numbers i d) l) ∙ there in
     cc
 
+-- the places rise
+pub rising_places : (keys : List (Option RequestKey)) (first : ℕ) (numbers : List ℕ) (i j d : ℕ) → IsArrival keys first numbers → i ≤ j → j < length numbers → place_of first (get_or numbers i d) ≤ place_of first (get_or numbers j d)
+rising_places keys first numbers i j d a le l =
+    let places : List ℕ = taken_places 0 keys in
+    let size : length numbers ≡ length places = arrived keys first numbers a ∙ sym (count_taken 0 keys) in
+    let here : slice_get places i ≡ Some (get_or places i 0) = slice_get-get_or places i 0 (omega (arith, size)) in
+    let next : slice_get places j ≡ Some (get_or places j 0) = slice_get-get_or places j 0 (omega (arith, size)) in
+    let a0 = place_nth keys first numbers i d (get_or places i 0) a here in
+    let a1 = place_nth keys first numbers j d (get_or places j 0) a next in
+    below_or_not i j (place_of first (get_or numbers i d) ≤ place_of first (get_or numbers j d))
+    (λ less. omega (arith, a0, a1, taken_rises 0 keys i j (get_or places i 0) (get_or places j 0) less here next))
+    (λ more. let e : i ≡ j = omega arith in let s : place_of first (get_or numbers i d) ≡ place_of first (get_or numbers j d) = ap (λ (n : ℕ). place_of first (get_or numbers n d)) e in omega (arith, s))
+
 rising : (keys : List (Option RequestKey)) (first : ℕ) (numbers : List ℕ) (place : ℕ) → IsArrival keys first numbers → IsNonDecreasingBy (λ n. ordering_index (nat_cmp (place_of first n) place)) numbers
 rising keys first numbers place a =
     let places : List ℕ = taken_places 0 keys in

@@ -241,6 +241,15 @@ clear_next mid range before row next first numbers start i until end at c le l w
     subst (λ (ns : List ℕ). IsClearing mid range before next first ns start i) (less_by_one numbers i end l within)
     (clear_more mid range before row next first rest start i c' le (is ∙ ap (λ (n : ℕ). set row (place_of first n) None) (sym (still_there numbers i end 0 (omega arith)))))
 
+pub taken_next : (mid : List ℕ) (range : AckRange) (before row : List (Option Entry)) (first : ℕ) (numbers : List ℕ) (start i until end : ℕ) → until ≡ i + 1 → IsClearing mid range before row first (remove_range numbers until end) start until → i < length numbers
+    → IsTaken (keys_in row) (place_of first (get_or numbers i 0))
+taken_next mid range before row first numbers start i until end at c l =
+    let one : i + 1 ≡ suc i = omega arith in
+    let rest : List ℕ = remove_range numbers (suc i) end in
+    let c' : IsClearing mid range before row first rest start (i + 1) =
+    subst (λ (n : ℕ). IsClearing mid range before row first (remove_range numbers n end) start (i + 1)) one (subst (λ (n : ℕ). IsClearing mid range before row first (remove_range numbers n end) start n) at c) in
+    subst (λ (n : ℕ). IsTaken (keys_in row) (place_of first n)) (still_there numbers i end 0 l) (clear_taken mid range before row first rest start i c')
+
 pub clear_begin : (mid : List ℕ) (range : AckRange) (row : List (Option Entry)) (first : ℕ) (numbers : List ℕ) (start end : ℕ) → IsMarked row first numbers mid range (start, end) → end ≤ length numbers → IsClearing mid range row row first (remove_range numbers end end) start end
 clear_begin mid range row first numbers start end m le =
     subst (λ (ns : List ℕ). IsClearing mid range row row first ns start end) (sym (take-append-drop end numbers)) (clear_none mid range row first numbers start end m.order m.span le)

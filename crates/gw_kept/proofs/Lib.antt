@@ -9,6 +9,7 @@ pub mod Orders
 pub mod Spans
 pub mod Forgetting
 pub mod Arrivals
+pub mod Passed
 pub mod Settled
 pub mod Copied
 pub mod Changed

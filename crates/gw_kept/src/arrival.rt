@@ -1,9 +1,10 @@
 //! The kept pairs in order of arrival: which pair has so many before it, and how many are before one.
 
-ghost use Rattle.std.specs.Prelude.{◌≡◌, ◌≤◌, ◌<◌, ◌∷◌, ◌++◌, [], List, Option, Some, None, true, IfOk, drop, length, map, is_some, slice_get, slice_index_or, slice_set};
+ghost use Rattle.std.specs.Prelude.{◌≡◌, ◌≤◌, ◌<◌, ◌∷◌, ◌++◌, [], ℕ, List, Option, Some, None, true, IfOk, drop, length, map, is_some, slice_get, slice_index, slice_index_or, slice_set, take};
 ghost use Rattle.std.specs.VecDeque.{deque_capacity, deque_len};
 ghost use Rattle.gw_kept.specs.declared.entry.RequestKey.{RequestKey as Key};
-ghost use Rattle.gw_kept.specs.Arrival.{taken_places, IsArrival, IsRank, IsThinned};
+ghost use Rattle.std.specs.List.{filter};
+ghost use Rattle.gw_kept.specs.Arrival.{taken_places, AreApart, AreSameApart, IsArrival, IsRank, IsThinned};
 ghost use Rattle.gw_kept.specs.Order.{place_of, IsTaken};
 ghost use Rattle.gw_kept.specs.Rows.{keys_in, most_places, present};
 
@@ -24,6 +25,26 @@ fn is_there(ring: &Ring, first: u16, number: u16) -> bool
     ensures { result ≡ is_some (slice_index_or (keys_in ring.now.items) (place_of first number) None) }
 {
     pair_at(ring, usize::from(number.wrapping_sub(first))).is_some()
+}
+
+/// Brings those numbers forward that stay of the ones from here to before there: in their places pairs stand. Answers behind which
+/// they end then. What is in front is known to stay.
+fn bring_forward(numbers: &mut [u16], ring: &Ring, first: u16, here: usize, there: usize) -> usize
+    requires in_order { here ≤ there }
+    requires within { there ≤ length numbers.old }
+    ensures bound { result ≤ there }
+    ensures long { length numbers.new ≡ length numbers.old }
+    ensures filtered { ((at : ℕ) → at < here → is_some (slice_index_or (keys_in ring.now.items) (place_of first (slice_index numbers.old at)) None) ≡ true) → (take result numbers.new ≡ filter (λ n. is_some (slice_index_or (keys_in ring.now.items) (place_of first n) None)) (take there numbers.old)) × (drop there numbers.new ≡ drop there numbers.old) }
+{
+    let mut left = here;
+    for at in here..there {
+        let number = numbers[at];
+        if is_there(ring, first, number) {
+            numbers[left] = number;
+            left += 1;
+        }
+    }
+    left
 }
 
 impl Arrival {
@@ -147,13 +168,33 @@ impl Arrival {
         self.numbers.clear();
     }
 
-    /// Leaves out each pair in whose place there is a gap by now: one look at every pair.
-    pub fn leave_gaps(&mut self, ring: &Ring)
-        ensures arrival { (keys : List (Option Key)) → IsArrival keys self.old.first self.old.numbers.items → IsThinned keys (keys_in ring.now.items) → IsArrival (keys_in ring.now.items) self.new.first self.new.numbers.items }
+    /// Which pairs, in order of arrival, stand from the one place to the other: those from here to before there. The work is twice as
+    /// many steps as the count of pairs has binary digits.
+    pub fn between(&self, low: usize, high: usize) -> (usize, usize)
+        ensures in_order { result.0 ≤ result.1 }
+        ensures within { result.1 ≤ deque_len self.now.numbers }
+        ensures apart { (keys : List (Option Key)) → IsArrival keys self.now.first self.now.numbers.items → AreApart self.now.first self.now.numbers.items result low high }
+    {
+        let here = self
+            .numbers
+            .partition_point(|number| self.place(*number) < low);
+        let there = self
+            .numbers
+            .partition_point(|number| self.place(*number) <= high);
+        (here, there.max(here))
+    }
+
+    /// Leaves out each pair from here to before there, in order of arrival, in whose place there is a gap by now. The work is one look
+    /// at each of these, and a move of the numbers.
+    pub fn leave_gaps(&mut self, ring: &Ring, here: usize, there: usize)
+        requires in_order { here ≤ there }
+        requires within { there ≤ deque_len self.old.numbers }
+        ensures arrival { (keys : List (Option Key)) (low high : ℕ) → IsArrival keys self.old.first self.old.numbers.items → IsThinned keys (keys_in ring.now.items) → AreApart self.old.first self.old.numbers.items (here, there) low high → AreSameApart keys (keys_in ring.now.items) low high → IsArrival (keys_in ring.now.items) self.new.first self.new.numbers.items }
         ensures room { deque_capacity self.new.numbers ≡ deque_capacity self.old.numbers }
     {
         let first = self.first;
-        self.numbers.retain(|number| is_there(ring, first, *number));
+        let left = bring_forward(self.numbers.make_contiguous(), ring, first, here, there);
+        self.numbers.drain(left..there);
     }
 
     /// Numbers the pairs anew, as they stand when the gaps are closed.

@@ -8,7 +8,7 @@ ghost use Rattle.circular_buffer.specs.Buffer.{buffer};
 ghost use Rattle.gw_msg.specs.declared.message.AckRange.{AckRange as Range};
 ghost use Rattle.gw_kept.specs.declared.entry.RequestKey.{RequestKey as Key};
 ghost use Rattle.gw_kept.specs.Rows.{keys_in, left_of};
-ghost use Rattle.gw_kept.specs.Arrival.{IsArrival};
+ghost use Rattle.gw_kept.specs.Arrival.{AreSameApart, AreWithin, IsArrival};
 ghost use Rattle.gw_kept.specs.Order.{key_cmp, key_there, IsMarked, IsOrder, IsSpan};
 
 use crate::arrival::Arrival;
@@ -18,12 +18,12 @@ use crate::ring::{Ring, let_go};
 use gw_base::Mid;
 use gw_msg::AckRange;
 
-/// So few pairs go one after another.
-const FEW: usize = 4;
+/// So few pairs go one after another, each out of the order too.
+const FEW: usize = 2;
 
-/// More go all at once where they are more than one in so many of those that are kept: a pass over all is less then than to take
-/// out one after another.
-const ONE_IN: usize = 32;
+/// Of more, the order of arrival is passed over from the first to the last of them where it has at most so many for each that goes.
+/// To find each, and to move those behind it, is more work then.
+const PASSED_FOR_EACH: usize = 36;
 
 /// The number that stands here in a queue of these two parts.
 fn number_at(front: &[u16], back: &[u16], at: usize) -> u16
@@ -75,12 +75,28 @@ impl Order {
         (self.start_of(ring, &first), self.end_of(ring, &last))
     }
 
+    /// From which place to which the pairs stand that are in the order from the one place to before the other.
+    fn outermost(&self, start: usize, end: usize) -> (usize, usize)
+        requires within { end ≤ deque_len self.now.numbers }
+        ensures { AreWithin self.now.first self.now.numbers.items start end result.0 result.1 }
+    {
+        let (front, back) = self.numbers.as_slices();
+        let (mut low, mut high) = (usize::MAX, 0usize);
+        for at in start..end {
+            let place = self.place(number_at(front, back, at));
+            low = low.min(place);
+            high = high.max(place);
+        }
+        (low, high)
+    }
+
     /// Lets the pairs go that stand in the order from the one place to before the other: each leaves a gap.
     fn clear(&self, ring: &mut Ring, start: usize, end: usize)
         requires in_order { start ≤ end }
         requires within { end ≤ deque_len self.now.numbers }
         ensures left { (mid : List ℕ) (range : Range) → IsMarked ring.old.items self.now.first self.now.numbers.items mid range (start, end) → ring.new.items ≡ map (left_of mid (range ∷ [])) ring.old.items }
         ensures order { (mid : List ℕ) (range : Range) → IsMarked ring.old.items self.now.first self.now.numbers.items mid range (start, end) → IsOrder (keys_in ring.new.items) self.now.first (remove_range self.now.numbers.items start end) }
+        ensures apart { (low high : ℕ) → AreWithin self.now.first self.now.numbers.items start end low high → AreSameApart ring.old.items ring.new.items low high }
         ensures capacity { ring.new.capacity ≡ ring.old.capacity }
     {
         let (front, back) = self.numbers.as_slices();
@@ -91,8 +107,49 @@ impl Order {
         }
     }
 
-    /// Takes out the pairs that stand in the order from the one place to before the other, all at once. The work is that of passing
-    /// over the numbers a few times.
+    /// Lets the same pairs go, each out of the order of arrival too.
+    fn clear_each(&self, ring: &mut Ring, arrival: &mut Arrival, start: usize, end: usize)
+        requires in_order { start ≤ end }
+        requires within { end ≤ deque_len self.now.numbers }
+        ensures left { (mid : List ℕ) (range : Range) → IsMarked ring.old.items self.now.first self.now.numbers.items mid range (start, end) → ring.new.items ≡ map (left_of mid (range ∷ [])) ring.old.items }
+        ensures order { (mid : List ℕ) (range : Range) → IsMarked ring.old.items self.now.first self.now.numbers.items mid range (start, end) → IsOrder (keys_in ring.new.items) self.now.first (remove_range self.now.numbers.items start end) }
+        ensures arrival { (mid : List ℕ) (range : Range) → IsMarked ring.old.items self.now.first self.now.numbers.items mid range (start, end) → IsArrival (keys_in ring.old.items) arrival.old.first arrival.old.numbers.items → IsArrival (keys_in ring.new.items) arrival.new.first arrival.new.numbers.items }
+        ensures capacity { ring.new.capacity ≡ ring.old.capacity }
+        ensures room { deque_capacity arrival.new.numbers ≡ deque_capacity arrival.old.numbers }
+    {
+        let (front, back) = self.numbers.as_slices();
+        let mut at = end;
+        while start < at {
+            at -= 1;
+            let place = self.place(number_at(front, back, at));
+            let_go(ring, place);
+            arrival.leave(place);
+        }
+    }
+
+    /// Lets the same pairs go, and takes them out of the order of arrival: by one pass from the first to the last of them, or each by
+    /// itself where these are far apart.
+    fn clear_arrived(&self, ring: &mut Ring, arrival: &mut Arrival, start: usize, end: usize)
+        requires in_order { start ≤ end }
+        requires within { end ≤ deque_len self.now.numbers }
+        ensures left { (mid : List ℕ) (range : Range) → IsMarked ring.old.items self.now.first self.now.numbers.items mid range (start, end) → ring.new.items ≡ map (left_of mid (range ∷ [])) ring.old.items }
+        ensures order { (mid : List ℕ) (range : Range) → IsMarked ring.old.items self.now.first self.now.numbers.items mid range (start, end) → IsOrder (keys_in ring.new.items) self.now.first (remove_range self.now.numbers.items start end) }
+        ensures arrival { (mid : List ℕ) (range : Range) → IsMarked ring.old.items self.now.first self.now.numbers.items mid range (start, end) → IsArrival (keys_in ring.old.items) arrival.old.first arrival.old.numbers.items → IsArrival (keys_in ring.new.items) arrival.new.first arrival.new.numbers.items }
+        ensures capacity { ring.new.capacity ≡ ring.old.capacity }
+        ensures room { deque_capacity arrival.new.numbers ≡ deque_capacity arrival.old.numbers }
+    {
+        let (low, high) = self.outermost(start, end);
+        let (here, there) = arrival.between(low, high);
+        if (there - here) / PASSED_FOR_EACH > end - start {
+            self.clear_each(ring, arrival, start, end);
+        } else {
+            self.clear(ring, start, end);
+            arrival.leave_gaps(ring, here, there);
+        }
+    }
+
+    /// Takes out the pairs that stand in the order from the one place to before the other, all at once: one move of the numbers in the
+    /// order, and what `clear_arrived` does.
     fn take_out_all(&mut self, ring: &mut Ring, arrival: &mut Arrival, start: usize, end: usize)
         requires in_order { start ≤ end }
         requires within { end ≤ deque_len self.old.numbers }
@@ -102,18 +159,18 @@ impl Order {
         ensures capacity { ring.new.capacity ≡ ring.old.capacity }
         ensures room { (deque_capacity self.new.numbers ≡ deque_capacity self.old.numbers) × (deque_capacity arrival.new.numbers ≡ deque_capacity arrival.old.numbers) }
     {
-        self.clear(ring, start, end);
         if end - start == self.numbers.len() {
+            self.clear(ring, start, end);
             self.numbers.clear();
             arrival.leave_all();
         } else {
+            self.clear_arrived(ring, arrival, start, end);
             self.numbers.drain(start..end);
-            arrival.leave_gaps(ring);
         }
     }
 
-    /// Takes out each pair of this sender whose number is in the range: all at once where they are many, and else the last in the
-    /// order first, so that few numbers move.
+    /// Takes out each pair of this sender whose number is in the range: all at once, or, where there are no more than two, the last in
+    /// the order first.
     pub fn forget(&mut self, ring: &mut Ring, arrival: &mut Arrival, mid: &Mid, range: &AckRange)
         requires order { IsOrder (keys_in ring.old.items) self.old.first self.old.numbers.items }
         requires arrival { IsArrival (keys_in ring.old.items) arrival.old.first arrival.old.numbers.items }
@@ -123,8 +180,7 @@ impl Order {
         ensures room { (deque_capacity self.new.numbers ≡ deque_capacity self.old.numbers) × (deque_capacity arrival.new.numbers ≡ deque_capacity arrival.old.numbers) }
     {
         let (start, end) = self.span(ring, mid, range);
-        let few = FEW.max(self.numbers.len() / ONE_IN);
-        if few < end.saturating_sub(start) {
+        if FEW < end.saturating_sub(start) {
             self.take_out_all(ring, arrival, start, end);
             return;
         }

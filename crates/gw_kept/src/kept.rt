@@ -68,9 +68,9 @@ impl Kept {
 
     /// Removes each pair of this sender whose number is in one of the ranges, both ends included; the others keep their order.
     /// A range whose first number is above its last has none. It takes no memory. For n ranges and k pairs it costs n log k
-    /// steps, and a constant for each pair that goes: its place stays as a gap. Where a range names more than four of the pairs,
-    /// and more than one in 32, a few passes over the numbers of all come on top: some 32 steps for each that goes. Else each that
-    /// goes costs log k steps and two moves of at most k bytes.
+    /// steps, a few moves of at most k bytes for each range that names some, and a constant for each pair that goes: its place stays
+    /// as a gap. Beside it, all pairs are looked at that arrived between the first and the last of a range; where these are more than 36
+    /// for each that goes, each costs log k steps and a move of at most k bytes instead.
     pub fn forget(&mut self, mid: &Mid, ranges: &[AckRange])
         ensures { self.new ≡ forgotten self.old mid.now ranges.now }
     {

@@ -23,6 +23,7 @@ pub mod Shown
 pub mod Searched
 pub mod Served
 pub mod Settings
+pub mod AllSettings
 pub mod SlotNames
 pub mod Standing
 pub mod Swept

@@ -113,6 +113,11 @@ undone_elsewhere ws m n ts cs = same_maps (undone ws n) (undone ws m)
     (λ q. term-undone ws n q ∙ agree (has (keys_written ws) (Term q)) (term (undone ws no_maps) q) (term n q) (term m q) (ts q) ∙ sym (term-undone ws m q))
     (λ q. ctx-undone ws n q ∙ ap (cond (has (keys_written ws) (Ctx q)) (ctx (undone ws no_maps) q)) (cs q) ∙ sym (ctx-undone ws m q))
 
+pub undone_beside : (ws : List Write) (m n : Maps) → ((q : List ℕ) → term n q ≡ term m q) → ((q : CtxNum) → (has (keys_written ws) (Ctx q) ≡ true) ⊎ (ctx n q ≡ ctx m q)) → undone ws n ≡ undone ws m
+undone_beside ws m n ts cs = same_maps (undone ws n) (undone ws m)
+    (λ q. term-undone ws n q ∙ ap (cond (has (keys_written ws) (Term q)) (term (undone ws no_maps) q)) (ts q) ∙ sym (term-undone ws m q))
+    (λ q. ctx-undone ws n q ∙ agree (has (keys_written ws) (Ctx q)) (ctx (undone ws no_maps) q) (ctx n q) (ctx m q) (cs q) ∙ sym (ctx-undone ws m q))
+
 -- ---- a key that is found among the writes
 
 any_mapped : (p : Key → Bool) (ws : List Write) → list_any (λ w. p (key_written w)) ws ≡ list_any p (keys_written ws)

@@ -1,13 +1,15 @@
 //! Properties of contexts that are set in their places.
 
-ghost use Rattle.std.specs.Prelude.{◌≡◌, true, IfOk, OnOk, OnErr};
+ghost use Rattle.std.specs.Prelude.{◌≡◌, true, All, IfOk, OnOk, OnErr};
+ghost use Rattle.std.specs.Bool.{OnTrue};
 ghost use Rattle.gw_base.specs.declared.key.Key.TheVariants.{Ctx};
 ghost use Rattle.gw_table.specs.Found.{IsFound};
-ghost use Rattle.gw_table.specs.Maps.{ctx};
-ghost use Rattle.gw_table.specs.Originals.{keys_written};
+ghost use Rattle.gw_table.specs.Maps.{ctx, numbers};
+ghost use Rattle.gw_table.specs.Originals.{keys_written, IsInPlace};
 ghost use Rattle.gw_table.specs.Parts.{holds};
-ghost use Rattle.gw_table.specs.Settings.{with_setting, put_setting, set_at, set_place};
-ghost use Rattle.gw_table.specs.Stored.{maps_of, shown};
+ghost use Rattle.gw_table.specs.Settings.{with_setting, put_setting, all_set, set_at, set_place, AreKept, AreSet};
+ghost use Rattle.gw_table.specs.Stored.{maps_of, shown, Stored};
+ghost use Rattle.gw_base.specs.declared.ids.CtxNum.{CtxNum};
 
 use crate::draft::{Draft, Ground};
 use crate::in_place::InPlace;
@@ -37,6 +39,16 @@ fn set(context: &mut Context, setting: Setting)
     match setting {
         Setting::Priority(priority) => context.set_priority(priority),
         Setting::Emergency => context.set_emergency(),
+    }
+}
+
+/// Whether the context is so already.
+pub(crate) fn is_set(context: &Context, setting: Setting) -> bool
+    ensures { OnTrue result (with_setting setting context.now ≡ context.now) }
+{
+    match setting {
+        Setting::Priority(priority) => context.priority() == priority,
+        Setting::Emergency => context.emergency(),
     }
 }
 
@@ -85,6 +97,35 @@ impl Tables {
         };
         site.set(alloc, setting, writes, &Key::Ctx(number))
     }
+
+    /// Notes each context as a copy, but for those that are noted already and those that are so. The work is one pass over the places,
+    /// without a look-up.
+    fn note_settings(
+        &self,
+        alloc: Global,
+        setting: Setting,
+        writes: &mut Vec<Write>,
+    ) -> Result<(), NoMemory>
+        ensures back { (start : Stored) → IsInPlace start self.now writes.old.items → IsInPlace start self.now writes.new.items }
+        ensures kept { OnOk result (AreKept setting writes.new.items self.now) }
+    {
+        for (number, site) in &self.contexts {
+            site.note_setting(alloc, CtxNum(*number), setting, writes)?;
+        }
+        Ok(())
+    }
+
+    /// Sets a property of each context, in its place. What was noted of them stands in the list of writes from an index on, in their
+    /// order. The work is one pass over the places, without a look-up, and it takes no memory.
+    fn set_all_noted(&mut self, setting: Setting, writes: &[Write], first: usize)
+        ensures { AreSet setting self.old self.new }
+    {
+        let mut next = first;
+        self.contexts.retain(move |number, site| {
+            next = site.set_noted(CtxNum(*number), setting, writes, next);
+            true
+        });
+    }
 }
 
 impl InPlace {
@@ -111,6 +152,17 @@ impl InPlace {
         };
         Ok(())
     }
+
+    /// Sets a property of each context. One that is not so already is copied at its first change, since the original is kept.
+    fn set_property_of_all(&mut self, alloc: Global, setting: Setting) -> Result<(), NoMemory>
+        ensures maps { OnOk result (self.new.maps ≡ all_set setting (numbers self.old.maps) self.old.maps) }
+        ensures keys { self.new.keys ≡ self.old.keys }
+    {
+        let first = self.writes.len();
+        self.tables.note_settings(alloc, setting, &mut self.writes)?;
+        self.tables.set_all_noted(setting, &self.writes, first);
+        Ok(())
+    }
 }
 
 impl OverPart<'_> {
@@ -130,6 +182,33 @@ impl OverPart<'_> {
             self.set_ctx(number, Some(context))?;
         }
         Ok(())
+    }
+
+    /// Sets a property of each of these contexts.
+    fn set_property_of_each(
+        &mut self,
+        alloc: Global,
+        numbers: &[CtxNum],
+        setting: Setting,
+    ) -> Result<(), NoMemory>
+        requires { All (λ n. holds self.old.keys (Ctx n) ≡ true) numbers.now }
+        ensures maps { OnOk result (self.new.maps ≡ all_set setting numbers.now self.old.maps) }
+        ensures keys { self.new.keys ≡ self.old.keys }
+    {
+        for number in numbers {
+            self.set_property(alloc, *number, setting)?;
+        }
+        Ok(())
+    }
+
+    /// Sets a property of each context.
+    fn set_property_of_all(&mut self, alloc: Global, setting: Setting) -> Result<(), NoMemory>
+        requires { All (λ n. holds self.old.keys (Ctx n) ≡ true) (numbers self.old.maps) }
+        ensures maps { OnOk result (self.new.maps ≡ all_set setting (numbers self.old.maps) self.old.maps) }
+        ensures keys { self.new.keys ≡ self.old.keys }
+    {
+        let numbers = self.numbers(alloc)?;
+        self.set_property_of_each(alloc, &numbers, setting)
     }
 }
 
@@ -153,6 +232,23 @@ impl Draft<'_> {
         match &mut self.ground {
             Ground::OfPart(ground) => ground.set_property(alloc, number, setting),
             Ground::OfTables(ground) => ground.set_property(alloc, number, setting),
+        }
+    }
+    /// Sets a property of each context that there is. The caller knows that their numbers are among the draft's keys. The work is two
+    /// passes over the tables, without a look-up; or a look-up for each key of the part, and two for each context. Memory is taken for the
+    /// originals of those that are not so already and were not written before.
+    ///
+    /// # Errors
+    ///
+    /// Want of memory. Contexts may then be gone from a draft of a part; one of whole tables is as it was.
+    pub fn set_property_of_all(&mut self, alloc: Global, setting: Setting) -> Result<(), NoMemory>
+        requires { All (λ n. holds self.old.keys (Ctx n) ≡ true) (numbers self.old.maps) }
+        ensures maps { OnOk result (self.new.maps ≡ all_set setting (numbers self.old.maps) self.old.maps) }
+        ensures keys { self.new.keys ≡ self.old.keys }
+    {
+        match &mut self.ground {
+            Ground::OfPart(ground) => ground.set_property_of_all(alloc, setting),
+            Ground::OfTables(ground) => ground.set_property_of_all(alloc, setting),
         }
     }
 }

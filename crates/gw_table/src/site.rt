@@ -9,14 +9,14 @@ ghost use Rattle.gw_table.specs.Joining.{joined_at, left_at};
 ghost use Rattle.gw_table.specs.Maps.{members_of};
 ghost use Rattle.gw_table.specs.Originals.{keys_written};
 ghost use Rattle.gw_table.specs.Served.{IsNoted, MayNote};
-ghost use Rattle.gw_table.specs.Settings.{set_at};
+ghost use Rattle.gw_table.specs.Settings.{set_at, IsKept, MayKeep};
 ghost use Rattle.gw_table.specs.Stored.{shown, served, emptied};
 
 use crate::joining::{join_in_place, leave_in_place};
 use crate::originals::Write;
 use crate::place::{Place, copied, renew, serve, set_in_place};
-use crate::setting::{self, Setting, set_copy};
-use gw_base::{Held, Key, NoMemory, Service, TermName};
+use crate::setting::{self, Setting, is_set, set_copy};
+use gw_base::{CtxNum, Held, Key, NoMemory, Service, TermName};
 use gw_ctx::Context;
 use gw_term::Termination;
 use std::alloc::Global;
@@ -259,6 +259,52 @@ impl Site<Held<Context>> {
         let before = set_copy(&mut self.place, alloc, setting)?;
         self.noted = next_of(writes);
         Ok(Found::Original(before))
+    }
+
+    /// Notes the context that stands here, as a copy, where it is not so already and its key is not noted. The context may then be changed
+    /// in its place.
+    ///
+    /// # Errors
+    ///
+    /// Want of memory. Nothing is noted then.
+    pub(crate) fn note_setting(
+        &self,
+        alloc: Global,
+        number: CtxNum,
+        setting: Setting,
+        writes: &mut Vec<Write>,
+    ) -> Result<(), NoMemory>
+        ensures least { MayKeep number.0 self.now writes.old.items writes.new.items }
+        ensures kept { OnOk result (IsKept setting writes.new.items number.0 self.now) }
+    {
+        let Place::Here(context) = &self.place else {
+            return Ok(());
+        };
+        if is_set(context.get(), setting) || self.is_noted(writes, &Key::Ctx(number)) {
+            return Ok(());
+        }
+        let before = Held::new(alloc, context.get().copy()?)?;
+        writes.push(Write::OfCtx(number, Some(before)))?;
+        Ok(())
+    }
+
+    /// Sets a property of the context that stands here, if there is one, in its place. Where it is noted at this index of a list of
+    /// writes, that is kept for later. Answers the index behind it then, and else this one.
+    pub(crate) fn set_noted(
+        &mut self,
+        number: CtxNum,
+        setting: Setting,
+        writes: &[Write],
+        next: usize,
+    ) -> usize
+        ensures { self.new ≡ set_at setting self.old }
+    {
+        setting::set_in_place(&mut self.place, setting);
+        if !is_at(writes, next, &Key::Ctx(number)) {
+            return next;
+        }
+        self.noted = u32::try_from(next).unwrap_or(u32::MAX);
+        next.saturating_add(1)
     }
 
     /// Lets what stands here be changed in its place: where the key is not noted it becomes a copy of itself, and the original is to be

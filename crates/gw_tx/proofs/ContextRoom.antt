@@ -1,13 +1,18 @@
 -- What is told of a context in the room that there is.
-use Rattle.std.proofs.Common.{◌≡◌, ℕ, ◌-◌, ◌≤◌, ◌<◌, nat_le, suc, Bool, List, [], ◌∷◌, ◌++◌, length, map, codes, arith, length-append, refl, ap, sym}
-use Rattle.std.specs.Prelude.{if◌then◌else◌}
+use Rattle.std.proofs.Common.{◌≡◌, ℕ, ◌-◌, ◌*◌, ◌≤◌, ◌<◌, nat_le, suc, Bool, true, false, List, [], ◌∷◌, ◌++◌, length, map, codes, Option, None, Some, is_some, arith, length-append, refl, ap, sym, subst}
+use Rattle.std.specs.Prelude.{◌==◌, flat_map, if◌then◌else◌}
 use Rattle.std.proofs.lemmas.Bool.{leb-false}
 use Rattle.gw_base.specs.declared.context_words.Link.{Link}
+use Rattle.gw_base.specs.declared.ids.CtxNum.{CtxNum}
+use Rattle.gw_ctx.specs.Contexts.{ContextRecord}
 use Rattle.gw_length.specs.declared.telling.Telling.{Telling}
 use Rattle.gw_length.specs.declared.telling.Telling.TheVariants as telling
 use Rattle.gw_length.specs.Tellings.{told_behind}
 use Rattle.gw_length.proofs.Tellings.{not_le}
+use Rattle.gw_msg.specs.declared.message.Action.{Action}
+use Rattle.gw_msg.specs.declared.message.Command.{Command}
 use Rattle.gw_refusal.specs.declared.at.At.{At}
+use Rattle.gw_refusal.specs.declared.at.At.TheVariants.{Each}
 use Rattle.gw_reply.specs.Lists.{comma_separated, in_braces, later}
 use Rattle.gw_reply.specs.declared.context_parts.ContextPart.{ContextPart}
 use Rattle.gw_reply.specs.declared.context_parts.ContextPart.TheVariants as part
@@ -17,8 +22,10 @@ use Rattle.gw_reply.specs.declared.reply.ActionReply.{ActionReply}
 use Rattle.gw_reply.specs.declared.reply.CommandReply.{CommandReply}
 use Rattle.gw_reply.specs.Replies.{command_reply_text, action_reply_text}
 use Rattle.gw_table.specs.declared.attempts.Attempts.{Attempts}
+use Rattle.gw_table.specs.Maps.{Maps, ctx}
+use Rattle.gw_tx.specs.Properties.{told_items, told_of_item, at_least_priority, context_parts_if}
 use Rattle.gw_tx.specs.Told.{inside}
-use Rattle.gw_tx.specs.Transactions.{action_reply, answered}
+use Rattle.gw_tx.specs.Transactions.{action_reply, answered, reply_alone, AreThere}
 use Rattle.gw_tx.proofs.TooLong.{length-joined, length-braces, is_else}
 
 -- ---- links
@@ -60,3 +67,45 @@ parts_too_long (telling.Within front room) parts a e =
     let all = longer (context_text (answered a.next)) parts (map command_reply_text a.answers) in
     sym (ap (λ (b : Bool). let t : Telling ActionReply = if b then telling.Within (front ++ reply ∷ []) (room - action) else telling.TooLong in t) (not_le action room (omega (arith, more, one, all))))
 parts_too_long telling.TooLong parts a e = refl
+
+-- ---- how long the reply in a context is at least
+
+part_least : (p : ContextPart) → 9 ≤ length (context_part_text p)
+part_least (part.Priority q) = omega arith
+part_least part.Emergency = omega arith
+part_least (part.Topology links) = let inner : List ℕ = comma_separated (map link_text links) in omega (arith, length-braces inner)
+
+from_part : (ctx : List ℕ) (p : ContextPart) (ps : List ContextPart) (replies : List (List ℕ)) → 19 ≤ length (codes "Context=" ++ ctx ++ in_braces (comma_separated (map context_part_text (p ∷ ps) ++ replies)))
+from_part ctx p ps replies =
+    let texts : List (List ℕ) = map context_part_text (p ∷ ps) in
+    let inner : List ℕ = comma_separated (texts ++ replies) in
+    omega (arith, length-append ctx (in_braces inner), length-braces inner, length-joined context_part_text p ps, before_others texts replies, length-append (context_part_text p) (later context_part_text ps), part_least p)
+
+text_least : (ctx : List ℕ) (c : ContextRecord) (ps : List ContextPart) → 19 ≤ length (codes "Context=" ++ ctx ++ in_braces (comma_separated (map context_part_text (at_least_priority c true ps) ++ [])))
+text_least ctx c [] = from_part ctx (part.Priority c.priority) [] []
+text_least ctx c (p ∷ ps) = from_part ctx p ps []
+
+reply_least : (a : Action) (m : Maps) (n : CtxNum) → a.commands ≡ [] → is_some (ctx m n) ≡ true → 19 ≤ length (action_reply_text (reply_alone a m n))
+reply_least a m n none there = by (ctx m n) there
+  where
+    by : (o : Option ContextRecord) → is_some o ≡ true → 19 ≤ length (action_reply_text (action_reply (context_parts_if a o) (record { next = Each n; answers = []; stopped = false })))
+    by None h = absurd cc
+    by (Some c) h =
+        let items : List ContextPart = flat_map (told_of_item c) (told_items a) in
+        subst (λ (b : Bool). 19 ≤ length (action_reply_text (action_reply (at_least_priority c b items) (record { next = Each n; answers = []; stopped = false })))) (sym (ap (λ (l : List Command). length l == 0) none)) (text_least (context_text (answered (Each n))) c items)
+
+replies_least : (a : Action) (m : Maps) (ns : List CtxNum) → a.commands ≡ [] → AreThere m ns → 20 * length ns ≤ length (later action_reply_text (map (reply_alone a m) ns))
+replies_least a m [] none there = omega arith
+replies_least a m (n ∷ ns) none there =
+    omega (
+      arith,
+      reply_least a m n none (there 0 n (omega arith)),
+      length-append (action_reply_text (reply_alone a m n)) (later action_reply_text (map (reply_alone a m) ns)),
+      replies_least a m ns none (λ k d l. there (suc k) d (omega arith)),
+    )
+
+pub no_room : (front : List ActionReply) (room : ℕ) (a : Action) (m : Maps) (ns : List CtxNum) → a.commands ≡ [] → AreThere m ns → room < 20 * length ns → told_behind action_reply_text (telling.Within front room) (map (reply_alone a m) ns) ≡ telling.TooLong
+no_room front room a m ns none there h =
+    let replies : List ActionReply = map (reply_alone a m) ns in
+    let taken : ℕ = length (later action_reply_text replies) in
+    ap (λ (b : Bool). let t : Telling ActionReply = if b then telling.Within (front ++ replies) (room - taken) else telling.TooLong in t) (not_le taken room (omega (arith, h, replies_least a m ns none there)))

@@ -1,3 +1,4 @@
+pub mod AllContexts
 pub mod Asked
 pub mod ContextRoom
 pub mod EachContext

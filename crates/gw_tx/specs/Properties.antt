@@ -244,6 +244,16 @@ abbrev pub set_properties : CtxNum → List ContextProp → Maps → Maps
 set_properties n [] m = m
 set_properties n (p ∷ ps) m = set_properties n ps (set_property n p m)
 
+-- the same of what stands under a number
+abbrev pub with_properties : List ContextProp → Option ContextRecord → Option ContextRecord
+with_properties [] o = o
+with_properties (p ∷ ps) o = with_properties ps (with_property_if p o)
+
+-- in every context, and nothing else is changed
+pub record AreSetInAll (props : List ContextProp) (before after : Maps) : Type 0 where
+  pub contexts : (n : CtxNum) → ctx after n ≡ with_properties props (ctx before n)
+  pub terms : (t : List ℕ) → term after t ≡ term before t
+
 -- ---- what is told of the context
 
 -- the items of the ContextAudit in the order asked; where there is neither that nor a command, the kinds that were set

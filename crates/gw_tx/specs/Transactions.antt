@@ -1,6 +1,6 @@
 -- What an action and a transaction do: left folds with the stop rule (RFC 3525, sections 8.1 and 8.2; the order of errors, and
 -- what a stop under * ends, are own).
-use Rattle.std.specs.Prelude.{ℕ, Bool, true, false, ◌&&◌, ◌||◌, not, if◌then◌else◌, List, [], ◌∷◌, Option, None, Some, Ok, Err}
+use Rattle.std.specs.Prelude.{◌≡◌, ℕ, Bool, true, false, ◌&&◌, ◌||◌, not, if◌then◌else◌, List, [], ◌∷◌, All, Option, None, Some, is_some, Ok, Err}
 use Rattle.gw_base.specs.declared.code.Code.{Code}
 use Rattle.gw_base.specs.declared.code.Code.TheVariants.{UnknownContext, NoContextLeft, NoWildcardMatch}
 use Rattle.gw_base.specs.declared.ids.CtxNum.{CtxNum}
@@ -9,6 +9,7 @@ use Rattle.gw_base.specs.declared.command_words.Rules.{Rules}
 use Rattle.gw_base.specs.declared.command_words.CtxRef.{CtxRef}
 use Rattle.gw_base.specs.declared.command_words.CtxRef.TheVariants as ref
 use Rattle.gw_ctx.specs.Contexts.{ContextRecord}
+use Rattle.gw_msg.specs.declared.message.Action.{Action}
 use Rattle.gw_msg.specs.declared.message.Command.{Command}
 use Rattle.gw_msg.specs.declared.message.ContextProp.{ContextProp}
 use Rattle.gw_msg.specs.declared.message.Request.{Request}
@@ -93,6 +94,14 @@ in_context rules a at n m =
     carried_action (context_parts_if a.sent (ctx ready n)) (commands rules [] at a.commands ready)
 
 -- ---- an action for each context
+
+-- these are numbers of contexts
+abbrev pub AreThere : Maps → List CtxNum → Type 0
+AreThere m ns = All (λ n. is_some (ctx m n) ≡ true) ns
+
+-- the reply of an action without commands in one of the contexts
+abbrev pub reply_alone : Action → Maps → CtxNum → ActionReply
+reply_alone a m n = action_reply (context_parts_if a (ctx m n)) (record { next = Each n; answers = []; stopped = false })
 
 -- in one of the contexts: a stop ends the commands of this context alone, and is remembered
 abbrev pub remembered : Bool → Attempts Unit ActionReply → Attempts Bool ActionReply

@@ -15,6 +15,7 @@ ghost use Rattle.gw_tx.specs.Properties.{is_too_high, ArePlain};
 ghost use Rattle.gw_tx.specs.Told.{counted};
 ghost use Rattle.gw_tx.specs.Transactions.{in_context as done_in_context, in_all, action_for_each};
 
+use crate::alone::action_alone;
 use crate::commands::commands_in;
 use crate::replies::action_error;
 use crate::setting::set_properties;
@@ -132,7 +133,11 @@ pub(crate) fn action_for_each(
     if numbers.is_empty() {
         return action_error(alloc, told, CtxRef::All, Code::NoWildcardMatch);
     }
-    let done = in_all(alloc, rules, draft, slots, sent, &numbers, told)?;
+    let done = if sent.commands.is_empty() {
+        action_alone(alloc, draft, sent, &numbers, told)?
+    } else {
+        in_all(alloc, rules, draft, slots, sent, &numbers, told)?
+    };
     Ok(Counted {
         next: (),
         told: done.told,

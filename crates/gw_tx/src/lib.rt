@@ -2,6 +2,7 @@
 #![tactic(auto)]
 
 mod actions;
+mod alone;
 mod commands;
 mod contexts;
 mod laws;

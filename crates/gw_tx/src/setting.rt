@@ -1,11 +1,11 @@
 //! Properties of contexts that are set.
 
-ghost use Rattle.std.specs.Prelude.{◌≡◌, true, false, OnOk};
+ghost use Rattle.std.specs.Prelude.{◌≡◌, ◌∷◌, [], true, false, OnOk};
 ghost use Rattle.std.specs.List.{list_any};
 ghost use Rattle.gw_base.specs.declared.key.Key.TheVariants.{Ctx};
 ghost use Rattle.gw_msg.specs.declared.message.ContextProp.TheVariants.{Topology};
-ghost use Rattle.gw_table.specs.Parts.{holds};
-ghost use Rattle.gw_tx.specs.Properties.{linked_if, link_of, name_of, linked_by, is_too_high, set_property, set_properties};
+ghost use Rattle.gw_table.specs.Parts.{holds, IsPart};
+ghost use Rattle.gw_tx.specs.Properties.{linked_if, link_of, name_of, linked_by, is_too_high, is_topology, set_property, set_properties, ArePlain, AreSetInAll};
 ghost use Rattle.gw_base.specs.declared.ids.CtxNum.{CtxNum};
 ghost use Rattle.gw_refusal.specs.declared.at.At.TheVariants.{Unmade};
 ghost use Rattle.gw_tx.specs.Transactions.{set_when_made};
@@ -101,6 +101,50 @@ pub(crate) fn set_properties(
 {
     for prop in props {
         set_property(alloc, draft, number, prop)?;
+    }
+    Ok(())
+}
+
+/// Sets one property of every context: a priority or an emergency. What only asks sets nothing. The caller knows that a priority is one
+/// that there is, and that it is no Topology.
+fn set_property_of_all(
+    alloc: Global,
+    draft: &mut Draft<'_>,
+    prop: &ContextProp,
+) -> Result<(), NoMemory>
+    requires part { IsPart draft.old.keys draft.old.maps }
+    requires low { is_too_high prop.now ≡ false }
+    requires unlinked { is_topology prop.now ≡ false }
+    ensures set { OnOk result (AreSetInAll (prop.now ∷ []) draft.old.maps draft.new.maps) }
+    ensures keys { draft.new.keys ≡ draft.old.keys }
+{
+    match prop {
+        ContextProp::Priority(priority) => {
+            draft.set_property_of_all(alloc, Setting::Priority(*priority as u8))
+        }
+        ContextProp::Emergency => draft.set_property_of_all(alloc, Setting::Emergency),
+        ContextProp::Topology(_) | ContextProp::ContextAudit(_) => Ok(()),
+    }
+}
+
+/// Sets what is asked of every context, in the order written. The caller knows that the draft has the entries of its keys alone. The work
+/// is two passes over whole tables for each property that is set.
+///
+/// # Errors
+///
+/// Want of memory. Contexts may then be gone from the draft.
+pub(crate) fn set_properties_of_all(
+    alloc: Global,
+    draft: &mut Draft<'_>,
+    props: &[ContextProp],
+) -> Result<(), NoMemory>
+    requires part { IsPart draft.old.keys draft.old.maps }
+    requires plain { ArePlain props.now }
+    ensures set { OnOk result (AreSetInAll props.now draft.old.maps draft.new.maps) }
+    ensures keys { draft.new.keys ≡ draft.old.keys }
+{
+    for prop in props {
+        set_property_of_all(alloc, draft, prop)?;
     }
     Ok(())
 }

@@ -3,11 +3,13 @@ use Rattle.std.specs.List.{remove_range}
 use Rattle.gw_kept.specs.Order.{place_of, IsOrder}
 use Rattle.gw_kept.specs.Rows.{keys_in}
 use Rattle.gw_kept.proofs.Forgetting.{clear_begin, clear_next, clear_all, clear_order}
+use Rattle.gw_kept.proofs.Passed.{apart_none, apart_more}
 use Rattle.gw_kept.proofs.order.Order.clear.Goals as goal
 
 pub loop-at-init : goal.loop-at-init
 loop-at-init c = record {
   clearing = λ mid range m. clear_begin mid range c.args.ring.now.items c.args.self.now.first c.args.self.now.numbers.items c.args.start c.args.end m (omega (arith, c.requires.within, c.args.self.now.numbers.ok.0));
+  apart = λ low high w. apart_none c.args.ring.now.items low high;
   low = c.requires.in_order;
   high = omega arith;
   capacity = refl;
@@ -29,6 +31,7 @@ loop-at-preserved c =
       clearing = λ mid range m.
           clear_next mid range c.args.ring.now.items row c.let_go.new.ring.items now.first now.numbers.items c.args.start i until c.args.end at (inv.clearing mid range m)
           (omega (arith, c.loop-at-test.true)) (omega (arith, inv.high, at)) size next;
+      apart = λ low high. apart_more c.args.ring.now.items row c.let_go.new.ring.items now.first now.numbers.items i until c.args.end low high at (omega (arith, inv.high, at)) (inv.apart low high) next;
       low = omega (arith, c.loop-at-test.true);
       high = omega (arith, inv.high);
       capacity = ap (λ b. b.capacity) c.let_go.ensures ∙ inv.capacity;
@@ -47,3 +50,8 @@ returns-clause-order c =
     let last : c.loop-at.at ≡ c.args.start = omega (arith, c.loop-at-test.false, c.loop-at.invariant.low) in
     subst (λ (n : ℕ). IsOrder (keys_in c.loop-at.ring.items) now.first (remove_range now.numbers.items n c.args.end)) last
     (clear_order mid range c.args.ring.now.items c.loop-at.ring.items now.first (remove_range now.numbers.items c.loop-at.at c.args.end) c.args.start c.loop-at.at (c.loop-at.invariant.clearing mid range m))
+
+pub returns-clause-apart : goal.returns-clause-apart
+returns-clause-apart c =
+    λ low high w.
+    c.loop-at.invariant.apart low high (λ k le l. w k (omega (arith, c.loop-at.invariant.low, le)) l)

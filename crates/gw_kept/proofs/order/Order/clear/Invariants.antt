@@ -1,6 +1,7 @@
 use Rattle.std.proofs.Common.{◌≡◌, ◌≤◌, ℕ, List}
 use Rattle.std.specs.List.{remove_range}
 use Rattle.gw_msg.specs.declared.message.AckRange.{AckRange}
+use Rattle.gw_kept.specs.Arrival.{AreSameApart, AreWithin}
 use Rattle.gw_kept.specs.Order.{IsMarked}
 use Rattle.gw_kept.proofs.Forgetting.{IsClearing}
 use Rattle.gw_kept.proofs.order.Order.clear.Given as goal
@@ -9,6 +10,7 @@ use Rattle.gw_kept.proofs.order.Order.clear.Given as goal
 abbrev pub invariant-loop-at : goal.invariant-loop-at
 invariant-loop-at l = record {
   clearing : (mid : List ℕ) (range : AckRange) → IsMarked l.fn.ring.items l.self.first l.self.numbers.items mid range (l.start, l.end) → IsClearing mid range l.fn.ring.items l.ring.items l.self.first (remove_range l.self.numbers.items l.at l.end) l.start l.at;
+  apart : (low high : ℕ) → AreWithin l.self.first l.self.numbers.items l.at l.end low high → AreSameApart l.fn.ring.items l.ring.items low high;
   low : l.start ≤ l.at;
   high : l.at ≤ l.end;
   capacity : l.ring.capacity ≡ l.fn.ring.capacity;

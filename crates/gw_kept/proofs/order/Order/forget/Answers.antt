@@ -43,17 +43,17 @@ returns-clause-left c =
     ap (λ xs. buffer xs c.loop-until.ring.capacity) (clear_all mid range before c.loop-until.ring.items now.first now.numbers.items c.span-start.result.0 c.loop-until.until inv.clearing c.loop-until-test.false)
     ∙ ap (λ n. buffer (map (left_of mid (range ∷ [])) before) n) inv.capacity
 
--- what the range names stands from here to before there
-marked : (c : goal.After-take_out_all) → IsMarked c.args.ring.now.items c.args.self.now.first c.args.self.now.numbers.items c.args.mid.now c.args.range.now (c.span-start.result.0, c.span-start.result.1)
-marked c = record { order = c.requires.order; span = c.span-start.ensures.span c.requires.order }
-
-pub returns-then-few-saturating_sub-clause-left : goal.returns-then-few-saturating_sub-clause-left
-returns-then-few-saturating_sub-clause-left c =
-    ap (λ xs. buffer xs c.take_out_all.new.ring.capacity) (c.take_out_all.ensures.left c.args.mid.now c.args.range.now (marked c))
+pub returns-then-saturating_sub-gt-FEW-clause-left : goal.returns-then-saturating_sub-gt-FEW-clause-left
+returns-then-saturating_sub-gt-FEW-clause-left c =
+    let marked : IsMarked c.args.ring.now.items c.args.self.now.first c.args.self.now.numbers.items c.args.mid.now c.args.range.now (c.span-start.result.0, c.span-start.result.1) =
+    record { order = c.requires.order; span = c.span-start.ensures.span c.requires.order } in
+    ap (λ xs. buffer xs c.take_out_all.new.ring.capacity) (c.take_out_all.ensures.left c.args.mid.now c.args.range.now marked)
     ∙ ap (λ n. buffer (map (left_of c.args.mid.now (c.args.range.now ∷ [])) c.args.ring.now.items) n) c.take_out_all.ensures.capacity
 
-pub returns-then-few-saturating_sub-clause-order : goal.returns-then-few-saturating_sub-clause-order
-returns-then-few-saturating_sub-clause-order c = c.take_out_all.ensures.order c.args.mid.now c.args.range.now (marked c)
+pub returns-then-saturating_sub-gt-FEW-clause-order : goal.returns-then-saturating_sub-gt-FEW-clause-order
+returns-then-saturating_sub-gt-FEW-clause-order c =
+    c.take_out_all.ensures.order c.args.mid.now c.args.range.now (record { order = c.requires.order; span = c.span-start.ensures.span c.requires.order })
 
-pub returns-then-few-saturating_sub-clause-arrival : goal.returns-then-few-saturating_sub-clause-arrival
-returns-then-few-saturating_sub-clause-arrival c = c.take_out_all.ensures.arrival c.args.mid.now c.args.range.now (marked c) c.requires.arrival
+pub returns-then-saturating_sub-gt-FEW-clause-arrival : goal.returns-then-saturating_sub-gt-FEW-clause-arrival
+returns-then-saturating_sub-gt-FEW-clause-arrival c =
+    c.take_out_all.ensures.arrival c.args.mid.now c.args.range.now (record { order = c.requires.order; span = c.span-start.ensures.span c.requires.order }) c.requires.arrival

@@ -35,11 +35,4 @@ returns-then-end-start-clause-arrival c =
 
 pub returns-else-end-start-clause-order : goal.returns-else-end-start-clause-order
 returns-else-end-start-clause-order c =
-    λ mid range m. subst (λ (ns : List ℕ). IsOrder (keys_in c.clear.new.ring.items) c.args.self.now.first ns) (sym (c.drop-drain.ensures.items ∙ c.drain.ensures.kept)) (c.clear.ensures.order mid range m)
-
-pub returns-else-end-start-clause-arrival : goal.returns-else-end-start-clause-arrival
-returns-else-end-start-clause-arrival c =
-    λ mid range m a.
-    let row : List (Option Entry) = c.args.ring.now.items in
-    c.leave_gaps.ensures.arrival (keys_in row) a
-    (subst (λ (r : List (Option Entry)). IsThinned (keys_in row) (keys_in r)) (sym (c.clear.ensures.left mid range m)) (left_thins mid range row))
+    λ mid range m. subst (λ (ns : List ℕ). IsOrder (keys_in c.clear_arrived.new.ring.items) c.args.self.now.first ns) (sym (c.drop-drain.ensures.items ∙ c.drain.ensures.kept)) (c.clear_arrived.ensures.order mid range m)
