@@ -35,13 +35,14 @@ fn add_asked<'h, 'a>(
 ) -> Result<(), NoMemory>
     ensures { OnOk result (slots_of asked.new.items ++ slots_left (maps_of tables.now) reservation.new ≡ slots_of asked.old.items ++ slots_left (maps_of tables.now) reservation.old) }
 {
-    let Item::Request(request) = item else {
+    let Item::Request(passage) = item else {
         return Ok(());
     };
-    let owned = reservation.own(alloc, tables, request)?;
+    let tree = passage.tree(alloc)?;
+    let owned = reservation.own(alloc, tables, tree.get())?;
     asked.push(Asked {
         mid,
-        request: Lent::new(request),
+        request: Lent::new(passage),
         owned,
     })?;
     Ok(())

@@ -185,7 +185,10 @@ impl Bench {
             return Err(CaseFault::NoMemory);
         };
         let one = asked.get(place).ok_or(CaseFault::Form)?;
-        let Ok(keys) = footprint(alloc, &self.tables, one.request.get(), &one.owned) else {
+        let Ok(tree) = one.request.tree(alloc) else {
+            return Err(CaseFault::NoMemory);
+        };
+        let Ok(keys) = footprint(alloc, &self.tables, tree.get(), &one.owned) else {
             return Err(CaseFault::NoMemory);
         };
         write_keys(out, keys.list());

@@ -30,7 +30,7 @@ fn request_of<'m, 'a>(message: &'m Message<'a>) -> Option<&'m Request<'a>> {
         return None;
     };
     match item {
-        Item::Request(request) => Some(request),
+        Item::Request(passage) => passage.kept_tree(),
         _ => None,
     }
 }

@@ -4,7 +4,8 @@ use crate::descriptors::write_descriptor;
 use cases_text::Page;
 use gw_base::CtxRef;
 use gw_msg::{
-    AckRange, Action, Command, ContextProp, Item, Message, ReadFault, Request, Triple, read_message,
+    AckRange, Action, Command, ContextProp, Item, Message, Passage, ReadFault, Request, Triple,
+    read_message, skim_message,
 };
 
 fn write_command(out: &mut Page, command: &Command<'_>) {
@@ -96,12 +97,19 @@ fn write_ack(out: &mut Page, ranges: &[AckRange]) {
     }
 }
 
+fn write_passage(out: &mut Page, passage: &Passage<'_>) {
+    match passage.tree(out.alloc()) {
+        Ok(tree) => write_request(out, tree.get()),
+        Err(_) => out.put(b"no memory"),
+    }
+}
+
 fn write_message(out: &mut Page, message: &Message<'_>) {
     out.encoded(message.mid.as_bytes());
     out.put(b": ");
     for item in message.items.as_slice() {
         match item {
-            Item::Request(request) => write_request(out, request),
+            Item::Request(passage) => write_passage(out, passage),
             Item::Ack(ranges) => write_ack(out, ranges.as_slice()),
             Item::Ignored => out.put(b"ignored"),
         }
@@ -109,11 +117,23 @@ fn write_message(out: &mut Page, message: &Message<'_>) {
     }
 }
 
-/// What the text is read as.
+fn write_found(out: &mut Page, found: &Result<Message<'_>, ReadFault>) {
+    match found {
+        Ok(message) => write_message(out, message),
+        Err(fault) => out.shown(fault),
+    }
+}
+
+/// What the text is read as; and what it is read as without trees, if that is anything else.
 fn write_read(out: &mut Page, text: &[u8]) {
-    match read_message(out.alloc(), text) {
-        Ok(message) => write_message(out, &message),
-        Err(fault) => out.shown(&fault),
+    let mut read = Page::new(out.alloc());
+    write_found(&mut read, &read_message(out.alloc(), text));
+    let mut skimmed = Page::new(out.alloc());
+    write_found(&mut skimmed, &skim_message(out.alloc(), text));
+    out.put(read.as_bytes());
+    if skimmed.as_bytes() != read.as_bytes() {
+        out.put(b" without trees: ");
+        out.put(skimmed.as_bytes());
     }
 }
 

@@ -12,6 +12,7 @@ use Rattle.gw_text.specs.Sign.{sign_at}
 use Rattle.gw_text.specs.Reader.{◌>>=◌, number_at, braced_at}
 use Rattle.gw_msg.specs.ActionReading.{action_at, request_tree_at}
 use Rattle.gw_msg.specs.Reading.{request_at}
+use Rattle.gw_msg.specs.Passages.{Begins, IsText, found_or_none, request_from}
 
 abbrev tree_of : ℕ → List Action → Request
 tree_of id actions = record { id = record { 0 = id }; actions = actions }
@@ -42,3 +43,13 @@ item_fails NoMemory new end text h = tt
 
 pub item_reads : (text new : List ℕ) (tree whole : Request) → request_tree_at text ≡ Some (tree, new) → whole ≡ tree → request_at text ≡ Some (item.Request whole, new)
 item_reads text new tree whole h e = item_of_tree text ∙ ap as_item h ∙ ap (λ r. Some (item.Request r, new)) (sym e)
+
+-- the request that is found where it begins
+pub from_its_text : (text : List ℕ) (r : Request) → Begins text r → request_from text ≡ r
+unfolding request_from
+from_its_text text r b = ap found_or_none b.is_read
+
+pub begins_itself : (text : List ℕ) (r : Request) → Begins text r → IsText r.id text
+begins_itself text r b =
+    let e : request_from text ≡ r = from_its_text text r b in
+    record { number = ap (λ (x : Request). x.id) (sym e); begins = record { rest = b.rest; is_read = b.is_read ∙ ap (λ (x : Request). Some (x, b.rest)) (sym e) } }

@@ -1,5 +1,5 @@
 -- What is kept of a request in its message: its tree, or where its text begins (own).
-use Rattle.std.specs.Prelude.{◌≡◌, ℕ, List, Some}
+use Rattle.std.specs.Prelude.{◌≡◌, ℕ, List, [], Option, Some, None}
 use Rattle.gw_base.specs.declared.ids.TxId.{TxId}
 use Rattle.gw_msg.specs.declared.message.Request.{Request}
 use Rattle.gw_msg.specs.declared.passage.Form.{Form}
@@ -8,23 +8,32 @@ use Rattle.gw_msg.specs.declared.passage.Source.{Source}
 use Rattle.gw_msg.specs.declared.passage.Source.TheVariants as source
 use Rattle.gw_msg.specs.ActionReading.{request_tree_at}
 
+-- a request that is read, or one of nothing
+abbrev pub found_or_none : Option (Request × List ℕ) → Request
+found_or_none (Some x) = x.0
+found_or_none None = record { id = record { 0 = 0 }; actions = [] }
+
+-- the request whose text begins so
+unfoldable pub request_from : List ℕ → Request
+request_from text = found_or_none (request_tree_at text)
+
 abbrev pub request_in : Form → Request
 request_in (form.Tree r) = r
-request_in (form.Text id begin tree) = tree.value
+request_in (form.Text id begin) = request_from begin
 
 -- Reading finds the request where its text begins.
 pub record Begins (text : List ℕ) (r : Request) : Type 0 where
   pub rest : List ℕ
   pub is_read : request_tree_at text ≡ Some (r, rest)
 
--- of a text, that is, the request can be read again, and has the number that was kept
-pub record IsText (id : TxId) (begin : List ℕ) (r : Request) : Type 0 where
-  pub number : id ≡ r.id
-  pub begins : Begins begin r
+-- the request can be read again, and has the number that was kept
+pub record IsText (id : TxId) (begin : List ℕ) : Type 0 where
+  pub number : id ≡ (request_from begin).id
+  pub begins : Begins begin (request_from begin)
 
 abbrev pub IsPassage : Form → Type 0
 IsPassage (form.Tree r) = Unit {0}
-IsPassage (form.Text id begin tree) = IsText id begin tree.value
+IsPassage (form.Text id begin) = IsText id begin
 
 -- the tree of a request, lent or its own
 abbrev pub tree_in : Source → Request

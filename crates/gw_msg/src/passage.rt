@@ -1,7 +1,7 @@
 //! A request where it stands in its message.
 
 ghost use Rattle.std.specs.Prelude.{◌≡◌, IfOk, IfSome};
-ghost use Rattle.gw_msg.specs.Passages.{Begins};
+ghost use Rattle.gw_msg.specs.Passages.{Begins, request_from};
 
 use crate::items::request_tree;
 use crate::message::Request;
@@ -9,19 +9,14 @@ use gw_base::{NoMemory, TxId};
 use gw_text::{Cursor, ParseFault};
 use std::alloc::Global;
 use std::marker::Model;
-use std::snapshot::Snapshot;
 
 /// What is kept of a request.
 #[derive(Drop)]
 enum Form<'a> {
     /// Its tree.
     Tree(Request<'a>),
-    /// Its number, and where its text begins, behind its token; the tree, which contracts alone see.
-    Text {
-        id: TxId,
-        begin: Cursor<'a>,
-        tree: Snapshot<Request<'a>>,
-    },
+    /// Its number, and where its text begins, behind its token.
+    Text { id: TxId, begin: Cursor<'a> },
 }
 
 /// A request of a message: its tree, or where it stands in the datagram, from which the tree is read again. Contracts see the request
@@ -61,7 +56,6 @@ impl<'a> Passage<'a> {
             form: Form::Text {
                 id: request.id,
                 begin,
-                tree: Snapshot::of(&request),
             },
         }
     }
@@ -96,22 +90,17 @@ impl<'a> Passage<'a> {
     {
         let source = match &self.form {
             Form::Tree(request) => Source::Lent(request),
-            Form::Text { begin, tree, .. } => Source::Own(read_again(alloc, begin, tree)?),
+            Form::Text { begin, .. } => Source::Own(read_again(alloc, begin)?),
         };
         Ok(Tree { source })
     }
 }
 
 /// The request whose text begins here. The caller knows that one does.
-fn read_again<'a>(
-    alloc: Global,
-    begin: &Cursor<'a>,
-    whole: &Snapshot<Request<'a>>,
-) -> Result<Request<'a>, NoMemory>
-    requires { Begins begin.now whole.now.value }
-    ensures { IfOk result (λ tree. tree ≡ whole.now.value) }
+fn read_again<'a>(alloc: Global, begin: &Cursor<'a>) -> Result<Request<'a>, NoMemory>
+    requires { Begins begin.now (request_from begin.now) }
+    ensures { IfOk result (λ tree. tree ≡ request_from begin.now) }
 {
-    let _ = whole;
     let mut cursor = begin.again();
     match request_tree(alloc, &mut cursor) {
         Ok(request) => Ok(request),
