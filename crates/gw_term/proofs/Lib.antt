@@ -7,3 +7,4 @@ pub mod TooLong
 pub mod KeptMerges
 pub mod KeptAudits
 pub mod Naming
+pub mod Taken
