@@ -61,11 +61,12 @@ second_of : (a b : Bool) → (a && b) ≡ true → b ≡ true
 second_of true b h = h
 second_of false b h = absurd cc
 
-no_audit : (ds : List Descriptor) → are_plain ds ≡ true → find is_audit ds ≡ None
+no_audit : (ds : List Descriptor) → are_plain ds ≡ true → words_in (find is_audit ds) ≡ []
 no_audit [] h = refl
 no_audit (descriptor.Media parts ∷ ds) h = no_audit ds (second_of (is_plain_one (descriptor.Media parts)) (are_plain ds) h)
 no_audit (descriptor.Keep kind tail ∷ ds) h = no_audit ds h
-no_audit (descriptor.Audit words ∷ ds) h = absurd cc
+no_audit (descriptor.Audit [] ∷ ds) h = refl
+no_audit (descriptor.Audit (word ∷ words) ∷ ds) h = absurd cc
 no_audit (descriptor.Services parms ∷ ds) h = no_audit ds h
 no_audit (descriptor.Other text ∷ ds) h = no_audit ds h
 
@@ -192,7 +193,7 @@ module _ (rules : Rules) (c : Command) (merging : IsMerging Null c) where
 
   -- nothing is audited
   audits_none : audited c.descriptors ≡ []
-  audits_none = ap (λ (o : Option Descriptor). words_in o) (no_audit c.descriptors merging.plain)
+  audits_none = no_audit c.descriptors merging.plain
 
   told_none : (r : Termination) → parts_of c.descriptors [] r ≡ []
   unfolding audit_parts

@@ -27,6 +27,7 @@ use Rattle.gw_table.specs.declared.originals.Write.TheVariants.{OfTerm}
 use Rattle.gw_table.specs.declared.place.Place.{Place}
 use Rattle.gw_table.specs.declared.place.Place.TheVariants.{Empty, Here, Out}
 use Rattle.gw_table.specs.declared.reach.Reach.TheVariants.{Free}
+use Rattle.gw_table.specs.Free.{is_free_at}
 use Rattle.gw_table.specs.Maps.{Maps, term, ctx, put_term, names, place_of}
 use Rattle.gw_table.specs.Marking.{AreMarked}
 use Rattle.gw_table.specs.Merged.{Change, put_if, put_changed, all_changed, changed, changed_place, changed_if, changed_at, is_away_at, WasChanged, IsPassed, IsAlike, AreAlike, AreChanged, AreAllNoted}
@@ -131,61 +132,66 @@ module _ (prefix : List ℕ) (f : Change) where
     contexts = refl;
   }
 
-  -- ---- as many are meant as before only where each was changed
+  -- ---- as many are in the null context as before only where each was changed
 
   abbrev pub count : List Named → ℕ
-  count es = length (filter (λ e. is_reached_at Free prefix e.0 e.1) es)
+  count es = length (filter (λ e. is_free_at e.1) es)
 
   abbrev one_if : Bool → ℕ → ℕ
   one_if true n = suc n
   one_if false n = n
 
-  count_more : (e : Named) (es : List Named) → count (e ∷ es) ≡ one_if (meant e.0 e.1) (count es)
-  count_more e es = by (meant e.0 e.1)
+  count_more : (e : Named) (es : List Named) → count (e ∷ es) ≡ one_if (is_free_at e.1) (count es)
+  count_more e es = by (is_free_at e.1)
     where
-      by : (b : Bool) → length (cond b (e ∷ filter (λ e. is_reached_at Free prefix e.0 e.1) es) (filter (λ e. is_reached_at Free prefix e.0 e.1) es)) ≡ one_if b (count es)
+      by : (b : Bool) → length (cond b (e ∷ filter (λ e. is_free_at e.1) es) (filter (λ e. is_free_at e.1) es)) ≡ one_if b (count es)
       by true = refl
       by false = refl
 
   module _ (keeps : (r : Termination) → (changed f r).place ≡ r.place) where
-    -- one is meant as before and was changed, or is not meant any more
+    -- one is where it was, and was changed if it is meant; or it has left the null context
     abbrev Went : List ℕ → Place Termination → Place Termination → Type 0
-    Went t p q = ((meant t q ≡ meant t p) × (q ≡ changed_at prefix f t p)) ⊎ ((meant t p ≡ true) × (meant t q ≡ false))
+    Went t p q = ((is_free_at q ≡ is_free_at p) × (q ≡ changed_at prefix f t p)) ⊎ ((is_free_at p ≡ true) × (is_free_at q ≡ false))
 
-    never : (b : Bool) → (b && false) ≡ false
-    never true = refl
-    never false = refl
-
-    not_free : (t : List ℕ) (q : Place Termination) → is_away_at q ≡ true → meant t q ≡ false
-    not_free t Empty h = refl
-    not_free t Out h = refl
-    not_free t (Here r) h = by r.place h
+    not_free : (q : Place Termination) → is_away_at q ≡ true → is_free_at q ≡ false
+    not_free Empty h = refl
+    not_free Out h = refl
+    not_free (Here r) h = by r.place h
       where
-        by : (o : Option CtxNum) → is_some o ≡ true → (starts_with nat_eq t prefix && is_none o) ≡ false
+        by : (o : Option CtxNum) → is_some o ≡ true → is_none o ≡ false
         by None h = absurd cc
-        by (Some n) h = never (starts_with nat_eq t prefix)
+        by (Some n) h = refl
 
-    still_meant : (t : List ℕ) (p : Place Termination) → meant t (changed_place f p) ≡ meant t p
-    still_meant t Empty = refl
-    still_meant t Out = refl
-    still_meant t (Here r) = ap (λ (o : Option CtxNum). starts_with nat_eq t prefix && is_within Free o) (keeps r)
+    met_free : (t : List ℕ) (p : Place Termination) → meant t p ≡ true → is_free_at p ≡ true
+    met_free t Empty h = absurd cc
+    met_free t Out h = absurd cc
+    met_free t (Here r) h = by (starts_with nat_eq t prefix) (is_none r.place) h
+      where
+        by : (b d : Bool) → (b && d) ≡ true → d ≡ true
+        by true d h = h
+        by false d h = absurd cc
+
+    still_free : (p : Place Termination) → is_free_at (changed_place f p) ≡ is_free_at p
+    still_free Empty = refl
+    still_free Out = refl
+    still_free (Here r) = ap (λ (o : Option CtxNum). is_none o) (keeps r)
 
     went : (t : List ℕ) (p q : Place Termination) → IsPassed prefix f t p q → Went t p q
     went t p q passed = by (meant t p) refl
       where
         by : (b : Bool) → meant t p ≡ b → Went t p q
         by true e = elim (passed.met e) [
-          | inl c ↦ inl (ap (meant t) c ∙ still_meant t p, c ∙ ap (λ (b : Bool). changed_if b f p) (sym e))
-          | inr a ↦ inr (e, not_free t q a)
+          | inl c ↦ inl (ap (λ (x : Place Termination). is_free_at x) c ∙ still_free p, c ∙ ap (λ (b : Bool). changed_if b f p) (sym e))
+          | inr a ↦ inr (met_free t p e, not_free q a)
         ]
-        by false e = inl (ap (meant t) (passed.rest e), passed.rest e ∙ ap (λ (b : Bool). changed_if b f p) (sym e))
+        by false e = inl (ap (λ (x : Place Termination). is_free_at x) (passed.rest e), passed.rest e ∙ ap (λ (b : Bool). changed_if b f p) (sym e))
 
     fewer : (es ks : List Named) → Passed es ks → count ks ≤ count es
     unfolding Passed
     fewer [] ks h = subst (λ (l : List Named). count l ≤ 0) (sym h) (omega arith)
     fewer (e ∷ es) ks h =
         let rest : count h.1 ≤ count es = fewer es h.1 h.3 in
-        subst (λ (n : ℕ). n ≤ count (e ∷ es)) (sym (ap count h.4 ∙ count_more (e.0, h.0) h.1)) (subst (λ (n : ℕ). one_if (meant e.0 h.0) (count h.1) ≤ n) (sym (count_more e es)) (by (went e.0 e.1 h.0 h.2) rest))
+        subst (λ (n : ℕ). n ≤ count (e ∷ es)) (sym (ap count h.4 ∙ count_more (e.0, h.0) h.1)) (subst (λ (n : ℕ). one_if (is_free_at h.0) (count h.1) ≤ n) (sym (count_more e es)) (by (went e.0 e.1 h.0 h.2) rest))
       where
         of : (a b : Bool) (m n : ℕ) → (a ≡ b) ⊎ ((b ≡ true) × (a ≡ false)) → m ≤ n → one_if a m ≤ one_if b n
         of true true m n h k = omega (arith, k)
@@ -194,9 +200,9 @@ module _ (prefix : List ℕ) (f : Change) where
         of true false m n (inl x) k = absurd cc
         of true false m n (inr x) k = absurd (let clash : false ≡ true = x.0 in cc)
 
-        by : Went e.0 e.1 h.0 → count h.1 ≤ count es → one_if (meant e.0 h.0) (count h.1) ≤ one_if (meant e.0 e.1) (count es)
-        by (inl x) k = of (meant e.0 h.0) (meant e.0 e.1) (count h.1) (count es) (inl x.0) k
-        by (inr x) k = of (meant e.0 h.0) (meant e.0 e.1) (count h.1) (count es) (inr x) k
+        by : Went e.0 e.1 h.0 → count h.1 ≤ count es → one_if (is_free_at h.0) (count h.1) ≤ one_if (is_free_at e.1) (count es)
+        by (inl x) k = of (is_free_at h.0) (is_free_at e.1) (count h.1) (count es) (inl x.0) k
+        by (inr x) k = of (is_free_at h.0) (is_free_at e.1) (count h.1) (count es) (inr x) k
 
     pub all_met : (es ks : List Named) → Passed es ks → count ks ≡ count es → ks ≡ map (λ e. (e.0, changed_at prefix f e.0 e.1)) es
     unfolding Passed
@@ -207,9 +213,9 @@ module _ (prefix : List ℕ) (f : Change) where
         same true m k e = omega (arith, e)
         same false m k e = e
 
-        by : (count h.1 ≡ count es → h.1 ≡ map (λ e. (e.0, changed_at prefix f e.0 e.1)) es) → Went e.0 e.1 h.0 → count h.1 ≤ count es → one_if (meant e.0 h.0) (count h.1) ≡ one_if (meant e.0 e.1) (count es) → ks ≡ (e.0, changed_at prefix f e.0 e.1) ∷ map (λ e. (e.0, changed_at prefix f e.0 e.1)) es
+        by : (count h.1 ≡ count es → h.1 ≡ map (λ e. (e.0, changed_at prefix f e.0 e.1)) es) → Went e.0 e.1 h.0 → count h.1 ≤ count es → one_if (is_free_at h.0) (count h.1) ≡ one_if (is_free_at e.1) (count es) → ks ≡ (e.0, changed_at prefix f e.0 e.1) ∷ map (λ e. (e.0, changed_at prefix f e.0 e.1)) es
         by later (inl x) k n =
-            let rest = later (same (meant e.0 e.1) (count h.1) (count es) (ap (λ (b : Bool). one_if b (count h.1)) (sym x.0) ∙ n)) in
+            let rest = later (same (is_free_at e.1) (count h.1) (count es) (ap (λ (b : Bool). one_if b (count h.1)) (sym x.0) ∙ n)) in
             h.4 ∙ (λ i. (e.0, x.1 i) ∷ rest i)
         by later (inr x) k n =
             let off : count h.1 ≡ suc (count es) = ap (λ (b : Bool). one_if b (count h.1)) (sym x.1) ∙ n ∙ ap (λ (b : Bool). one_if b (count es)) x.0 in

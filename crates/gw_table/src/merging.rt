@@ -7,14 +7,16 @@ ghost use Rattle.gw_base.specs.NameLists.{is_in};
 ghost use Rattle.gw_term.specs.Merge.{merged};
 ghost use Rattle.gw_term.specs.Plain.{are_plain};
 ghost use Rattle.gw_table.specs.declared.reach.Reach.TheVariants.{Free};
+ghost use Rattle.gw_table.specs.Free.{is_free_at};
 ghost use Rattle.gw_table.specs.Maps.{term};
 ghost use Rattle.gw_table.specs.Merged.{put_changed, all_changed, WasChanged, IsPassed, AreAlike, AreChanged, AreAllNoted};
 ghost use Rattle.gw_table.specs.Originals.{IsInPlace};
 ghost use Rattle.gw_table.specs.Parts.{holds};
-ghost use Rattle.gw_table.specs.Served.{is_reached_at, reached};
+ghost use Rattle.gw_table.specs.Served.{reached};
 ghost use Rattle.gw_table.specs.Stored.{Stored};
 
 use crate::draft::{Draft, Ground};
+use crate::free::is_free_at;
 use crate::in_place::InPlace;
 use crate::originals::Write;
 use crate::over_part::OverPart;
@@ -72,17 +74,14 @@ fn merge_reached(
     }
 }
 
-/// How many terminations are meant.
-fn count_reached(terms: &BTreeMap<TermName, Site<Held<Termination>>>, prefix: &[u8]) -> usize
-    ensures { result ≡ length (filter (λ e. is_reached_at Free prefix.now e.0 e.1) terms.now.entries) }
+/// How many terminations are in the null context.
+fn count_free(terms: &BTreeMap<TermName, Site<Held<Termination>>>) -> usize
+    ensures { result ≡ length (filter (λ e. is_free_at e.1) terms.now.entries) }
 {
-    terms
-        .iter()
-        .filter(|(name, site)| is_reached_at(Reach::Free, prefix, name, site))
-        .count()
+    terms.iter().filter(|(_, site)| is_free_at(site)).count()
 }
 
-/// Whether as many are meant after a pass as before it.
+/// Whether as many are in the null context after a pass as before it.
 fn unless_fewer(before: usize, after: usize) -> Result<(), NoMemory>
     ensures { OnOk result (after ≡ before) }
 {
@@ -132,7 +131,7 @@ impl Tables {
         ensures alike { AreAlike prefix.now self.old self.new }
         ensures changed { OnOk result (AreChanged prefix.now (merged rules.now descriptors.now) self.old self.new) }
     {
-        let meant = count_reached(&self.terms, prefix);
+        let free = count_free(&self.terms);
         let mut next = first;
         self.terms.retain(
             move |name, site|
@@ -142,7 +141,7 @@ impl Tables {
                 true
             },
         );
-        unless_fewer(meant, count_reached(&self.terms, prefix))
+        unless_fewer(free, count_free(&self.terms))
     }
 }
 

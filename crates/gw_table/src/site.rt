@@ -78,6 +78,13 @@ fn is_at(writes: &[Write], at: usize, key: &Key) -> bool
     at < writes.len() && writes[at].is_of(key)
 }
 
+/// Whether this write is one of the termination of a name.
+fn is_of_term(writes: &[Write], at: usize, name: &TermName) -> bool
+    ensures { OnTrue result (has (keys_written writes.now) (Term name.now) ≡ true) }
+{
+    at < writes.len() && writes[at].is_of_term(name)
+}
+
 impl<T> Site<T> {
     /// A place whose key is not noted.
     pub(crate) fn of(place: Place<T>) -> Site<T>
@@ -219,7 +226,7 @@ impl Site<Held<Termination>> {
     fn pass_noted(&mut self, name: &TermName, writes: &[Write], next: usize) -> usize
         ensures { self.new ≡ self.old }
     {
-        if !is_at(writes, next, &Key::Term(*name)) {
+        if !is_of_term(writes, next, name) {
             return next;
         }
         self.noted = u32::try_from(next).unwrap_or(u32::MAX);
@@ -243,7 +250,7 @@ impl Site<Held<Termination>> {
         let Place::Here(termination) = &self.place else {
             return Ok(());
         };
-        if self.is_noted(writes, &Key::Term(*name)) {
+        if is_of_term(writes, self.noted as usize, name) {
             return Ok(());
         }
         let before = Held::new(alloc, termination.get().copy(alloc)?)?;

@@ -1,6 +1,6 @@
 -- Descriptors that every record takes, and of which nothing is told (own): they send no property but Mode and ServiceStates, so that
--- no list can hold too many; no Local, which might be filled; and no Audit.
-use Rattle.std.specs.Prelude.{ℕ, Bool, true, false, List}
+-- no list can hold too many; no Local, which might be filled; and no Audit but an empty one.
+use Rattle.std.specs.Prelude.{ℕ, ◌==◌, Bool, true, false, List, length}
 use Rattle.std.specs.List.{list_all}
 use Rattle.gw_desc.specs.Values.{is_mode, is_service_states}
 use Rattle.gw_desc.specs.declared.descriptor.Descriptor.{Descriptor}
@@ -24,7 +24,7 @@ is_plain_part (media.TerminationState properties) = list_all (λ p. is_service_s
 
 abbrev pub is_plain_one : Descriptor → Bool
 is_plain_one (descriptor.Media parts) = list_all is_plain_part parts
-is_plain_one (descriptor.Audit words) = false
+is_plain_one (descriptor.Audit words) = length words == 0
 is_plain_one _ = true
 
 abbrev pub are_plain : List Descriptor → Bool

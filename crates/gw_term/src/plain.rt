@@ -68,13 +68,13 @@ fn is_plain_one(descriptor: &Descriptor<'_>) -> bool
 {
     match descriptor {
         Descriptor::Media(parts) => are_plain_parts(parts.as_slice()),
-        Descriptor::Audit(_) => false,
+        Descriptor::Audit(words) => words.is_empty(),
         _ => true,
     }
 }
 
 /// Whether every record takes the descriptors, and nothing is told of them: they send no property but Mode and ServiceStates, no Local
-/// and no Audit. The work is one pass over them.
+/// and no Audit but an empty one. The work is one pass over them.
 pub fn are_plain(descriptors: &[Descriptor<'_>]) -> bool
     ensures { result ≡ are_plain descriptors.now }
 {

@@ -39,5 +39,5 @@ returns-clause-changed c =
     let cells = c.self.inside.contexts.entries in
     on_ok c.unless_fewer.result
     (λ same. subst (λ (s : Stored). AreChanged c.args.prefix.now (change c) s (stored after cells)) c.self.view_is
-    (are_changed c.args.prefix.now (change c) (merge_stays c.args.rules.now c.args.descriptors.now) before after cells (passed c) (sym c.count_reached.ensures ∙ same ∙ c.count_reached-meant.ensures)))
+    (are_changed c.args.prefix.now (change c) (merge_stays c.args.rules.now c.args.descriptors.now) before after cells (passed c) (sym c.count_free.ensures ∙ same ∙ c.count_free-free.ensures)))
     c.unless_fewer.ensures
