@@ -15,6 +15,7 @@ use Rattle.gw_table.specs.Members.{put_service}
 use Rattle.gw_table.proofs.Leaving.{put_term-same}
 use Rattle.gw_term.specs.Audit.{audit_parts}
 use Rattle.gw_term.specs.Merge.{unnamed, stream_in, filled_in, filled_by, merged, merged_media, merged_properties, merged_service, merged_stream}
+use Rattle.gw_term.specs.Places.{numbered, at_number, rising}
 use Rattle.gw_term.specs.Record.{placed}
 use Rattle.gw_term.specs.declared.record.Stream.{Stream}
 use Rattle.gw_term.specs.declared.record.Termination.{Termination}
@@ -41,12 +42,12 @@ not_filled number (Some s) = refl
 -- no descriptor changes nothing
 merged_nothing : (rules : Rules) (r : Termination) → merged rules [] r ≡ Some r
 unfolding merged merged_media merged_properties merged_service merged_stream
-merged_nothing rules r = λ i. Some (record r { first = same_stream r.first i; second = same_stream r.second i; third = same_stream r.third i; fourth = same_stream r.fourth i })
+merged_nothing rules r = λ i. Some (record r { settings = record r.settings { streams = numbered (λ number. same_stream (at_number number r.settings.streams) i) } })
 
 -- and fills none
 filled_nothing : (rules : Rules) (r : Termination) → filled_by rules [] r ≡ []
 unfolding filled_by merged_media merged_properties merged_stream
-filled_nothing rules r = λ i. not_filled 1 r.first i ++ not_filled 2 r.second i ++ not_filled 3 r.third i ++ not_filled 4 r.fourth i
+filled_nothing rules r = λ i. rising (λ number stream. not_filled number stream i) r.settings.streams
 
 pub merging_nothing : (rules : Rules) (descriptors : List Descriptor) (r : Termination) (place : Option CtxNum) (refused : Option Code) → descriptors ≡ []
     → merging rules descriptors r place refused ≡ merged_in [] [] refused (placed r place)

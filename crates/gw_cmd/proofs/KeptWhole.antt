@@ -31,7 +31,7 @@ use Rattle.gw_base.proofs.NamesInLists.{itself}
 known_good : (limit : ℕ) {makes : ℕ → Type 0} (t : List ℕ) (r : Termination) (m : Maps) → AreWellFormed limit m → IsKnown makes t r m → Fits t r.slot × HasFew r
 known_good limit t r m w (Found e) = (w.named t r e, w.modest t r e)
 known_good limit t r m w (Made s i j e a) =
-    subst (λ (x : Termination). Fits t x.slot × HasFew x) (sym j) (i, record { properties = omega arith; first = tt; second = tt; third = tt; fourth = tt })
+    subst (λ (x : Termination). Fits t x.slot × HasFew x) (sym j) (i, record { properties = omega arith; streams = record { first = tt; second = tt; third = tt; fourth = tt } })
 
 rewritten_good : (t : List ℕ) (old new : Termination) → Fits t old.slot × HasFew old → IsRewritten old new → IsGood t (Some new)
 rewritten_good t old new g i r e =
@@ -45,7 +45,7 @@ remains_good t old o g e r is = by old.slot refl (sym e ∙ is)
     by None a h =
         let left : Some (reset old) ≡ Some r = ap (λ (s : Option ℕ). if is_some s then None else Some (reset old)) (sym a) ∙ h in
         let same : reset old ≡ r = cc in
-        (subst (λ (x : Termination). Fits t x.slot) same g.0, subst HasFew same (record { properties = omega arith; first = tt; second = tt; third = tt; fourth = tt }))
+        (subst (λ (x : Termination). Fits t x.slot) same g.0, subst HasFew same (record { properties = omega arith; streams = record { first = tt; second = tt; third = tt; fourth = tt } }))
     by (Some s) a h =
         let none : None ≡ Some r = ap (λ (s : Option ℕ). if is_some s then None else Some (reset old)) (sym a) ∙ h in
         absurd cc

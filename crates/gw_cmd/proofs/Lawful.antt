@@ -74,10 +74,10 @@ move_none full n p h = at (nat_eq p.0 n.0) full refl refl h
 -- ---- merges
 
 few_placed : (r : Termination) (place : Option CtxNum) → HasFew r → HasFew (placed r place)
-few_placed r place f = record { properties = f.properties; first = f.first; second = f.second; third = f.third; fourth = f.fourth }
+few_placed r place f = record { properties = f.properties; streams = f.streams }
 
 pub few_serviced : (s : Service) (r : Termination) → HasFew r → HasFew (serviced r s)
-few_serviced s r f = record { properties = f.properties; first = f.first; second = f.second; third = f.third; fourth = f.fourth }
+few_serviced s r f = record { properties = f.properties; streams = f.streams }
 
 record IsMerged (old : Termination) (place : Option CtxNum) (refused : Option Code) (m : Merged) : Type 0 where
   allowed : refused ≡ None

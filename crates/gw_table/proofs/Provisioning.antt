@@ -113,7 +113,7 @@ new_maps_fit limit names free = record {
 
     modest : (r : Termination) (b : Bool) → if_in b ≡ Some r → HasFew r
     modest r false e = absurd cc
-    modest r true e = let same : provisioned ≡ r = cc in subst HasFew same (record { properties = omega arith; first = tt; second = tt; third = tt; fourth = tt })
+    modest r true e = let same : provisioned ≡ r = cc in subst HasFew same (record { properties = omega arith; streams = record { first = tt; second = tt; third = tt; fourth = tt } })
 
     no_context : (n : CtxNum) → ctx (new_maps names) n ≡ None
     no_context n = get-empty nat_cmp n.0

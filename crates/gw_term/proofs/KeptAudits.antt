@@ -1,6 +1,6 @@
 -- What an Audit tells has its form, where the record's texts have theirs.
-use Rattle.std.proofs.Common.{ℕ, List, [], ◌∷◌, ◌++◌, Option, Some, None}
-use Rattle.std.specs.List.{All, flat_map}
+use Rattle.std.proofs.Common.{ℕ, List, [], ◌∷◌, Option, Some, None}
+use Rattle.std.specs.List.{All}
 use Rattle.std.proofs.lemmas.List.Elements.{All-nil, All-cons, All-append}
 use Rattle.gw_desc.specs.KeptTexts.{IsOptional, IsKeptTail}
 use Rattle.gw_desc.specs.Values.{item_of}
@@ -14,6 +14,7 @@ use Rattle.gw_term.specs.declared.record.Termination.{Termination}
 use Rattle.gw_term.specs.Record.{tail_of}
 use Rattle.gw_term.specs.Audit.{stream_told, streams_told, tail_told, item_told, told_if, word_told, audit_parts}
 use Rattle.gw_term.specs.KeptRecords.{IsKeptStream, IsKeptRecord}
+use Rattle.gw_term.proofs.Made.{all_rising}
 
 stream_kept : (number : ℕ) (s : Option Stream) → IsOptional IsKeptStream s → All IsKeptStreamReply (stream_told number s)
 stream_kept number None h = All-nil IsKeptStreamReply
@@ -22,11 +23,7 @@ stream_kept number (Some s) h =
     (record { properties = h.properties; local = h.local; remote = h.remote }) (All-nil IsKeptStreamReply)
 
 streams_kept : (r : Termination) → IsKeptRecord r → All IsKeptStreamReply (streams_told r)
-streams_kept r h =
-    All-append IsKeptStreamReply ((stream_told 1 r.first ++ stream_told 2 r.second) ++ stream_told 3 r.third) (stream_told 4 r.fourth)
-    (All-append IsKeptStreamReply (stream_told 1 r.first ++ stream_told 2 r.second) (stream_told 3 r.third)
-    (All-append IsKeptStreamReply (stream_told 1 r.first) (stream_told 2 r.second) (stream_kept 1 r.first h.first) (stream_kept 2 r.second h.second)) (stream_kept 3 r.third h.third))
-    (stream_kept 4 r.fourth h.fourth)
+streams_kept r h = all_rising stream_told (λ _. IsOptional IsKeptStream) IsKeptStreamReply stream_kept r.settings.streams h.streams
 
 tail_kept : (kind : KeptKind) (t : Option (Tail (List ℕ))) → IsOptional IsKeptTail t → HasKeptReply (tail_told kind t)
 tail_kept kind None h = tt
@@ -43,10 +40,7 @@ told_kept : (r : Termination) (i : Option AuditItem) → IsKeptRecord r → All 
 told_kept r None h = All-nil HasKeptReply
 told_kept r (Some i) h = All-cons HasKeptReply (item_told r i) [] (item_kept r i h) (All-nil HasKeptReply)
 
-words_kept : (r : Termination) (words : List (List ℕ)) → IsKeptRecord r → All HasKeptReply (flat_map (word_told r) words)
-words_kept r [] h = All-nil HasKeptReply
-words_kept r (w ∷ ws) h = All-append HasKeptReply (word_told r w) (flat_map (word_told r) ws) (told_kept r (item_of w) h) (words_kept r ws h)
-
 pub audits_kept : (words : List (List ℕ)) (r : Termination) → IsKeptRecord r → All HasKeptReply (audit_parts words r)
 unfolding audit_parts
-audits_kept words r h = words_kept r words h
+audits_kept [] r h = All-nil HasKeptReply
+audits_kept (w ∷ ws) r h = All-append HasKeptReply (word_told r w) (audit_parts ws r) (told_kept r (item_of w) h) (audits_kept ws r h)

@@ -1,15 +1,14 @@
 -- What is kept has its form after a merge too.
-use Rattle.std.proofs.Common.{◌≡◌, ℕ, Bool, true, false, not, ◌&&◌, ◌==◌, cond, List, [], ◌∷◌, ◌++◌, length, Option, Some, None, unwrap_or, refl, sym, subst}
+use Rattle.std.proofs.Common.{◌≡◌, ℕ, Bool, true, false, not, ◌&&◌, ◌==◌, cond, List, [], ◌∷◌, ◌++◌, length, map, Option, Some, None, refl, sym, ◌∙◌, subst}
 use Rattle.std.specs.Prelude.{slice_set, nat_lt}
-use Rattle.std.specs.List.{All, list_any, flat_map}
-use Rattle.std.specs.Option.{option_map}
-use Rattle.std.proofs.lemmas.List.Elements.{All-nil, All-cons, All-head, All-tail, All-append, All-set, All-push}
+use Rattle.std.specs.List.{All, filter, flat_map, last_or}
+use Rattle.std.proofs.lemmas.List.Elements.{All-nil, All-cons, All-head, All-tail, All-filter, All-set, All-push}
 use Rattle.gw_base.specs.Addresses.{IsAddress}
 use Rattle.gw_base.specs.declared.ids.CtxNum.{CtxNum}
 use Rattle.gw_base.specs.declared.command_words.Rules.{Rules}
 use Rattle.gw_base.specs.declared.command_words.Service.{Service}
 use Rattle.gw_desc.specs.Checks.{same_kept}
-use Rattle.gw_desc.specs.Values.{is_mode, is_service_states, mode_set_by}
+use Rattle.gw_desc.specs.Values.{is_mode, is_service_states}
 use Rattle.gw_desc.specs.KeptTexts.{IsOptional, IsKeptProperty, IsKeptTail, IsKeptOctets, HasKeptParts, HasKeptMedia, HasKeptTexts}
 use Rattle.gw_desc.specs.declared.descriptor.Descriptor.{Descriptor}
 use Rattle.gw_desc.specs.declared.descriptor.Descriptor.TheVariants as descriptor
@@ -27,21 +26,19 @@ use Rattle.gw_term.specs.declared.record.Stream.{Stream}
 use Rattle.gw_term.specs.declared.record.Termination.{Termination}
 use Rattle.gw_term.specs.declared.streams.Merging.{Merging}
 use Rattle.gw_term.specs.Record.{unset, placed, serviced, tail_of}
-use Rattle.gw_term.specs.Merge.{Media, each, most_properties, property_place, put_property, put_state, put_control, put_part, local_text, is_filled, begun, unnamed, stream_in, is_named_in, media_parts, states_in_part, states_in, parts_in_part, parts_in, merged_properties, merged_stream, merged_tail, tail_after, kept_tail, is_blank_group, merged_media, merged, local_if, filled_in, filled_of, filled_by}
+use Rattle.gw_term.specs.Merge.{Media, each, most_properties, property_place, put_property, local_text, stream_in, media_parts, states_in_part, states_in, parts_in_part, parts_in, merged_properties, merged_stream, merged_tail, tail_after, kept_tail, is_blank_group, merged_media, merged, local_if, filled_in, filled_of, filled_by}
 use Rattle.gw_term.specs.Laws.{IsStreamAfter}
 use Rattle.gw_term.specs.KeptRecords.{IsKeptStream, IsKeptRecord}
-use Rattle.gw_term.proofs.ByField.{by_field}
-use Rattle.gw_term.proofs.PropertyLists.{first_then}
+use Rattle.gw_term.specs.Lookups.{controls_in, locals_in, remotes_in, controls_sent, list_in, local_in, remote_in}
+use Rattle.gw_term.proofs.ByField.{by_field, parts_are}
+use Rattle.gw_term.proofs.Made.{first_then, all_of, carried_over, all_rising}
+use Rattle.gw_term.proofs.StreamsFound.{states_are, stream_made}
 
 abbrev P : Type 0
 P = Property (List ℕ)
 
 abbrev AreKept : List P → Type 0
 AreKept = All IsKeptProperty
-
-mapped_from : {S T : Type 0} (first : Option S) (f : S → T) (t : T) → option_map f first ≡ Some t → (s : S) × (first ≡ Some s) × (t ≡ f s)
-mapped_from None f t h = absurd cc
-mapped_from (Some s) f t h = (s, refl, cc)
 
 -- where each step keeps a form, all of them do
 each_keeps : {S X : Type 0} (step : X → S → Option S) (IsForm : S → Type 0) (IsGood : X → Type 0) → ((x : X) (s t : S) → IsGood x → IsForm s → step x s ≡ Some t → IsForm t)
@@ -51,9 +48,13 @@ each_keeps step IsForm IsGood keeps (x ∷ xs) s t good form h =
     let one = first_then (step x s) (each step xs) t h in
     each_keeps step IsForm IsGood keeps xs one.0 t (All-tail IsGood x xs good) (keeps x s one.0 (All-head IsGood x xs good) form one.1) one.2
 
-all_of : {X Y : Type 0} (of : X → List Y) (IsGood : X → Type 0) (IsForm : Y → Type 0) → ((x : X) → IsGood x → All IsForm (of x)) → (xs : List X) → All IsGood xs → All IsForm (flat_map of xs)
-all_of of IsGood IsForm each [] good = All-nil IsForm
-all_of of IsGood IsForm each (x ∷ xs) good = All-append IsForm (of x) (flat_map of xs) (each x (All-head IsGood x xs good)) (all_of of IsGood IsForm each xs (All-tail IsGood x xs good))
+last_keeps : {T : Type 0} (IsForm : T → Type 0) (old : Option T) (sent : List T) → IsOptional IsForm old → All IsForm sent → IsOptional IsForm (last_or old sent)
+last_keeps IsForm old [] form good = form
+last_keeps IsForm old (t ∷ ts) form good = last_keeps IsForm (Some t) ts (All-head IsForm t ts good) (All-tail IsForm t ts good)
+
+maps_keep : {S T : Type 0} (IsGood : S → Type 0) (IsForm : T → Type 0) (f : S → T) → ((s : S) → IsGood s → IsForm (f s)) → (ss : List S) → All IsGood ss → All IsForm (map f ss)
+maps_keep IsGood IsForm f keeps [] good = All-nil IsForm
+maps_keep IsGood IsForm f keeps (s ∷ ss) good = All-cons IsForm (f s) (map f ss) (keeps s (All-head IsGood s ss good)) (maps_keep IsGood IsForm f keeps ss (All-tail IsGood s ss good))
 
 -- ---- properties
 
@@ -64,13 +65,6 @@ property_keeps p list new good form h = by (nat_lt (property_place p.name list) 
     by true u k = let same : slice_set list (property_place p.name list) p ≡ new = cc in subst AreKept same (All-set IsKeptProperty list (property_place p.name list) p good form)
     by false true k = let same : list ++ p ∷ [] ≡ new = cc in subst AreKept same (All-push IsKeptProperty list p form good)
     by false false k = absurd cc
-
-state_keeps : (p : P) (list new : List P) → IsKeptProperty p → AreKept list → put_state p list ≡ Some new → AreKept new
-state_keeps p list new good form h = by (is_service_states p.name) h
-  where
-    by : (t : Bool) → cond t (Some list) (put_property p list) ≡ Some new → AreKept new
-    by true k = let same : list ≡ new = cc in subst AreKept same form
-    by false k = property_keeps p list new good form k
 
 states_of_part : (p : MediaPart) → HasKeptMedia p → AreKept (states_in_part p)
 states_of_part (media.TerminationState properties) h = h
@@ -90,40 +84,15 @@ states_of d h = all_of states_in_part HasKeptMedia IsKeptProperty states_of_part
 properties_keep : (descriptors : List Descriptor) (old new : List P) → All HasKeptTexts descriptors → AreKept old → merged_properties descriptors old ≡ Some new → AreKept new
 unfolding merged_properties
 properties_keep descriptors old new good form h =
-    each_keeps put_state AreKept IsKeptProperty state_keeps (flat_map states_in descriptors) old new (all_of states_in HasKeptTexts IsKeptProperty states_of descriptors good) form h
+    let sent : List P = flat_map states_in descriptors in
+    each_keeps put_property AreKept IsKeptProperty property_keeps (filter (λ p. not (is_service_states p.name)) sent) old new
+    (All-filter (λ p. not (is_service_states p.name)) IsKeptProperty sent (all_of states_in HasKeptTexts IsKeptProperty states_of descriptors good)) form (sym (states_are sent old) ∙ h)
 
 -- ---- streams
 
-control_keeps : (p : P) (s t : Stream) → IsKeptProperty p → IsKeptStream s → put_control p s ≡ Some t → IsKeptStream t
-control_keeps p s t good form h = by (is_mode p.name) h
-  where
-    by : (b : Bool) → cond b (Some (record s { mode = unwrap_or (mode_set_by p) s.mode })) (option_map (λ list. record s { properties = list }) (put_property p s.properties)) ≡ Some t → IsKeptStream t
-    by true k =
-        let same : record s { mode = unwrap_or (mode_set_by p) s.mode } ≡ t = cc in
-        subst IsKeptStream same (record { properties = form.properties; local = form.local; remote = form.remote })
-    by false k =
-        let one = mapped_from (put_property p s.properties) (λ list. record s { properties = list }) t k in
-        subst IsKeptStream (sym one.2) (record { properties = property_keeps p s.properties one.0 good form.properties one.1; local = form.local; remote = form.remote })
-
-local_keeps : (rules : Rules) (slot : Option ℕ) (number : ℕ) (text : List ℕ) → IsAddress rules.media → IsKeptOctets text → IsKeptOctets (local_text rules slot number text)
-local_keeps rules None number text a k = k
-local_keeps rules (Some slot) number text a k = all_kept rules.media slot number text a k
-
-abbrev IsKeptMerging : Merging → Type 0
-IsKeptMerging m = IsKeptStream m.stream
-
-part_keeps : (rules : Rules) (slot : Option ℕ) (number : ℕ) → IsAddress rules.media → (p : StreamPart) (m n : Merging) → HasKeptParts p → IsKeptMerging m → put_part rules slot number p m ≡ Some n → IsKeptMerging n
-part_keeps rules slot number a (part.Local text) m n good form h =
-    let new : Merging = record { stream = record m.stream { local = Some (local_text rules slot number text) }; filled = is_filled slot text } in
-    let same : new ≡ n = cc in
-    subst IsKeptMerging same (record { properties = form.properties; local = local_keeps rules slot number text a good; remote = form.remote })
-part_keeps rules slot number a (part.Remote text) m n good form h =
-    let new : Merging = record m { stream = record m.stream { remote = Some text } } in
-    let same : new ≡ n = cc in
-    subst IsKeptMerging same (record { properties = form.properties; local = form.local; remote = good })
-part_keeps rules slot number a (part.LocalControl properties) m n good form h =
-    let one = mapped_from (each put_control properties m.stream) (λ s. record m { stream = s }) n h in
-    subst IsKeptMerging (sym one.2) (each_keeps put_control IsKeptStream IsKeptProperty control_keeps properties m.stream one.0 good form one.1)
+local_keeps : (rules : Rules) (slot : Option ℕ) (number : ℕ) → IsAddress rules.media → (text : List ℕ) → IsKeptOctets text → IsKeptOctets (local_text rules slot number text)
+local_keeps rules None number a text k = k
+local_keeps rules (Some slot) number a text k = all_kept rules.media slot number text a k
 
 parts_of_part : (number : ℕ) (p : MediaPart) → HasKeptMedia p → All HasKeptParts (parts_in_part number p)
 parts_of_part number (media.Outside p) h = by (number == 1)
@@ -141,39 +110,49 @@ parts_of_part number (media.TerminationState properties) h = All-nil HasKeptPart
 parts_in_of : (number : ℕ) (d : Descriptor) → HasKeptTexts d → All HasKeptParts (parts_in number d)
 parts_in_of number d h = all_of (parts_in_part number) HasKeptMedia HasKeptParts (parts_of_part number) (media_parts d) (parts_of d h)
 
-begun_kept : (old : Option Stream) → IsOptional IsKeptStream old → IsKeptMerging (begun old)
-begun_kept None h = record { properties = All-nil IsKeptProperty; local = tt; remote = tt }
-begun_kept (Some s) h = h
+controls_of : (p : StreamPart) → HasKeptParts p → AreKept (controls_in p)
+controls_of (part.LocalControl properties) h = h
+controls_of (part.Local text) h = All-nil IsKeptProperty
+controls_of (part.Remote text) h = All-nil IsKeptProperty
 
-unnamed_kept : (old : Option Stream) → IsOptional IsKeptStream old → IsOptional IsKeptMerging (unnamed old)
-unnamed_kept None h = tt
-unnamed_kept (Some s) h = h
+locals_of : (p : StreamPart) → HasKeptParts p → All IsKeptOctets (locals_in p)
+locals_of (part.LocalControl properties) h = All-nil IsKeptOctets
+locals_of (part.Local text) h = All-cons IsKeptOctets text [] h (All-nil IsKeptOctets)
+locals_of (part.Remote text) h = All-nil IsKeptOctets
 
-stream_by : (rules : Rules) (slot : Option ℕ) (number : ℕ) (descriptors : List Descriptor) (old : Option Stream) (m : Option Merging) (t : Bool) → list_any (is_named_in number) descriptors ≡ t
-    → IsAddress rules.media → All HasKeptTexts descriptors → IsOptional IsKeptStream old → merged_stream rules slot number descriptors old ≡ Some m → IsOptional IsKeptMerging m
-unfolding merged_stream
-stream_by rules slot number descriptors old m true named a good form h =
-    let one = mapped_from (each (put_part rules slot number) (flat_map (parts_in number) descriptors) (begun old)) (λ n. Some n) m (rw named at h) in
-    subst (IsOptional IsKeptMerging) (sym one.2)
-    (each_keeps (put_part rules slot number) IsKeptMerging HasKeptParts (part_keeps rules slot number a) (flat_map (parts_in number) descriptors) (begun old) one.0
-    (all_of (parts_in number) HasKeptTexts HasKeptParts (parts_in_of number) descriptors good) (begun_kept old form) one.1)
-stream_by rules slot number descriptors old m false named a good form h =
-    let same : Some (unnamed old) ≡ Some m = rw named at h in
-    let e : unnamed old ≡ m = cc in
-    subst (IsOptional IsKeptMerging) e (unnamed_kept old form)
+remotes_of : (p : StreamPart) → HasKeptParts p → All IsKeptOctets (remotes_in p)
+remotes_of (part.LocalControl properties) h = All-nil IsKeptOctets
+remotes_of (part.Local text) h = All-nil IsKeptOctets
+remotes_of (part.Remote text) h = All-cons IsKeptOctets text [] h (All-nil IsKeptOctets)
 
-merging_keeps : (rules : Rules) (slot : Option ℕ) (number : ℕ) (descriptors : List Descriptor) (old : Option Stream) (m : Option Merging)
-    → IsAddress rules.media → All HasKeptTexts descriptors → IsOptional IsKeptStream old → merged_stream rules slot number descriptors old ≡ Some m → IsOptional IsKeptMerging m
-merging_keeps rules slot number descriptors old m a good form h = stream_by rules slot number descriptors old m (list_any (is_named_in number) descriptors) refl a good form h
+-- what a stream has, there or not
+record IsKeptInside (s : Option Stream) : Type 0 where
+  properties : AreKept (list_in s)
+  local : IsOptional IsKeptOctets (local_in s)
+  remote : IsOptional IsKeptOctets (remote_in s)
 
-stream_of : (m : Option Merging) → IsOptional IsKeptMerging m → IsOptional IsKeptStream (stream_in m)
-stream_of None h = tt
-stream_of (Some m) h = h
+inside : (s : Option Stream) → IsOptional IsKeptStream s → IsKeptInside s
+inside None h = record { properties = All-nil IsKeptProperty; local = tt; remote = tt }
+inside (Some s) h = record { properties = h.properties; local = h.local; remote = h.remote }
+
+outside : (s : Option Stream) → IsKeptInside s → IsOptional IsKeptStream s
+outside None h = tt
+outside (Some s) h = record { properties = h.properties; local = h.local; remote = h.remote }
 
 stream_keeps : (rules : Rules) (slot : Option ℕ) (number : ℕ) (descriptors : List Descriptor) (old new : Option Stream)
     → IsAddress rules.media → All HasKeptTexts descriptors → IsOptional IsKeptStream old → IsStreamAfter rules slot number descriptors old new → IsOptional IsKeptStream new
 stream_keeps rules slot number descriptors old new a good form after =
-    subst (IsOptional IsKeptStream) (sym after.2) (stream_of after.0 (merging_keeps rules slot number descriptors old after.0 a good form after.1))
+    let parts : List StreamPart = flat_map (parts_in number) descriptors in
+    let made = (stream_made rules slot number descriptors old new after).0 in
+    let was = inside old form in
+    let sent : All HasKeptParts parts = all_of (parts_in number) HasKeptTexts HasKeptParts (parts_in_of number) descriptors good in
+    outside new (record {
+      properties = each_keeps put_property AreKept IsKeptProperty property_keeps (controls_sent parts) (list_in old) (list_in new)
+          (All-filter (λ p. not (is_mode p.name)) IsKeptProperty (flat_map controls_in parts) (all_of controls_in HasKeptParts IsKeptProperty controls_of parts sent)) was.properties made.properties;
+      local = subst (IsOptional IsKeptOctets) (sym made.local) (last_keeps IsKeptOctets (local_in old) (map (local_text rules slot number) (flat_map locals_in parts)) was.local
+          (maps_keep IsKeptOctets IsKeptOctets (local_text rules slot number) (local_keeps rules slot number a) (flat_map locals_in parts) (all_of locals_in HasKeptParts IsKeptOctets locals_of parts sent)));
+      remote = subst (IsOptional IsKeptOctets) (sym made.remote) (last_keeps IsKeptOctets (remote_in old) (flat_map remotes_in parts) was.remote (all_of remotes_in HasKeptParts IsKeptOctets remotes_of parts sent));
+    })
 
 -- ---- tails
 
@@ -208,11 +187,9 @@ pub merge_keeps : (rules : Rules) (descriptors : List Descriptor) (old new : Ter
 merge_keeps rules descriptors old new a good form h =
     let f = by_field rules descriptors old new h in
     record {
-      properties = properties_keep descriptors old.properties new.properties good form.properties f.properties;
-      first = stream_keeps rules old.slot 1 descriptors old.first new.first a good form.first f.first;
-      second = stream_keeps rules old.slot 2 descriptors old.second new.second a good form.second f.second;
-      third = stream_keeps rules old.slot 3 descriptors old.third new.third a good form.third f.third;
-      fourth = stream_keeps rules old.slot 4 descriptors old.fourth new.fourth a good form.fourth f.fourth;
+      properties = properties_keep descriptors old.settings.properties new.settings.properties good form.properties f.properties;
+      streams = carried_over (λ _. IsOptional IsKeptStream) (λ number. IsStreamAfter rules old.slot number descriptors) (λ _. IsOptional IsKeptStream)
+          (λ number before after was is. stream_keeps rules old.slot number descriptors before after a good was is) old.settings.streams new.settings.streams form.streams f.streams;
       tails = λ kind. subst (IsOptional IsKeptTail) (sym (f.tails kind)) (tail_keeps kind descriptors (tail_of kind old) good (form.tails kind));
     }
 
@@ -222,7 +199,7 @@ local_filled : (number : ℕ) (local : Option (List ℕ)) → IsOptional IsKeptO
 local_filled number None h = All-nil IsKeptFilled
 local_filled number (Some text) h = All-cons IsKeptFilled (record { number = number; local = text }) [] h (All-nil IsKeptFilled)
 
-in_filled : (number : ℕ) (m : Option Merging) → IsOptional IsKeptMerging m → All IsKeptFilled (filled_in number m)
+in_filled : (number : ℕ) (m : Option Merging) → IsOptional IsKeptStream (stream_in m) → All IsKeptFilled (filled_in number m)
 in_filled number None h = All-nil IsKeptFilled
 in_filled number (Some m) h = by m.filled
   where
@@ -230,34 +207,12 @@ in_filled number (Some m) h = by m.filled
     by true = local_filled number m.stream.local h.local
     by false = All-nil IsKeptFilled
 
-all_filled : (m : Media) → IsOptional IsKeptMerging m.first → IsOptional IsKeptMerging m.second → IsOptional IsKeptMerging m.third → IsOptional IsKeptMerging m.fourth → All IsKeptFilled (filled_of (Some m))
-all_filled m h k l n =
-    All-append IsKeptFilled ((filled_in 1 m.first ++ filled_in 2 m.second) ++ filled_in 3 m.third) (filled_in 4 m.fourth)
-    (All-append IsKeptFilled (filled_in 1 m.first ++ filled_in 2 m.second) (filled_in 3 m.third)
-    (All-append IsKeptFilled (filled_in 1 m.first) (filled_in 2 m.second) (in_filled 1 m.first h) (in_filled 2 m.second k)) (in_filled 3 m.third l))
-    (in_filled 4 m.fourth n)
-
-media_filled : (rules : Rules) (descriptors : List Descriptor) (old : Termination) (m : Media) → IsAddress rules.media → All HasKeptTexts descriptors → IsKeptRecord old → merged_media rules descriptors old ≡ Some m → All IsKeptFilled (filled_of (Some m))
-unfolding merged_media
-media_filled rules descriptors old m a good form h =
-    let s = first_then (merged_properties descriptors old.properties) _ m h in
-    let x = first_then (merged_stream rules old.slot 1 descriptors old.first) _ m s.2 in
-    let y = first_then (merged_stream rules old.slot 2 descriptors old.second) _ m x.2 in
-    let z = first_then (merged_stream rules old.slot 3 descriptors old.third) _ m y.2 in
-    let w = first_then (merged_stream rules old.slot 4 descriptors old.fourth) _ m z.2 in
-    let first : x.0 ≡ m.first = (let whole = w.2 in cc) in
-    let second : y.0 ≡ m.second = (let whole = w.2 in cc) in
-    let third : z.0 ≡ m.third = (let whole = w.2 in cc) in
-    let fourth : w.0 ≡ m.fourth = (let whole = w.2 in cc) in
-    all_filled m
-    (subst (IsOptional IsKeptMerging) first (merging_keeps rules old.slot 1 descriptors old.first x.0 a good form.first x.1))
-    (subst (IsOptional IsKeptMerging) second (merging_keeps rules old.slot 2 descriptors old.second y.0 a good form.second y.1))
-    (subst (IsOptional IsKeptMerging) third (merging_keeps rules old.slot 3 descriptors old.third z.0 a good form.third z.1))
-    (subst (IsOptional IsKeptMerging) fourth (merging_keeps rules old.slot 4 descriptors old.fourth w.0 a good form.fourth w.1))
-
 filled_by_media : (rules : Rules) (descriptors : List Descriptor) (old : Termination) (o : Option Media) → merged_media rules descriptors old ≡ o → IsAddress rules.media → All HasKeptTexts descriptors → IsKeptRecord old → All IsKeptFilled (filled_of o)
 filled_by_media rules descriptors old None is a good form = All-nil IsKeptFilled
-filled_by_media rules descriptors old (Some m) is a good form = media_filled rules descriptors old m a good form is
+filled_by_media rules descriptors old (Some m) is a good form =
+    all_rising filled_in (λ _ after. IsOptional IsKeptStream (stream_in after)) IsKeptFilled in_filled m.streams
+    (carried_over (λ _. IsOptional IsKeptStream) (λ number before after. merged_stream rules old.slot number descriptors before ≡ Some after) (λ _ after. IsOptional IsKeptStream (stream_in after))
+    (λ number before after was made. stream_keeps rules old.slot number descriptors before (stream_in after) a good was (after, made, refl)) old.settings.streams m.streams form.streams (parts_are rules descriptors old m is).streams)
 
 pub fills_keep : (rules : Rules) (descriptors : List Descriptor) (old : Termination) → IsAddress rules.media → All HasKeptTexts descriptors → IsKeptRecord old → All IsKeptFilled (filled_by rules descriptors old)
 unfolding filled_by
@@ -272,24 +227,12 @@ no_tail place state slot DigitMap = tt
 no_tail place state slot EventBuffer = tt
 
 pub nothing_kept : (place : Option CtxNum) (service : Service) (slot : Option ℕ) → IsKeptRecord (unset place service slot)
-nothing_kept place state slot = record { properties = All-nil IsKeptProperty; first = tt; second = tt; third = tt; fourth = tt; tails = no_tail place state slot }
+nothing_kept place state slot = record { properties = All-nil IsKeptProperty; streams = record { first = tt; second = tt; third = tt; fourth = tt }; tails = no_tail place state slot }
 
 -- ---- elsewhere, and in another service state
 
-tail_placed : (r : Termination) (place : Option CtxNum) (kind : KeptKind) → IsOptional IsKeptTail (tail_of kind r) → IsOptional IsKeptTail (tail_of kind (placed r place))
-tail_placed r place Events h = h
-tail_placed r place Signals h = h
-tail_placed r place DigitMap h = h
-tail_placed r place EventBuffer h = h
-
 pub placed_kept : (r : Termination) (place : Option CtxNum) → IsKeptRecord r → IsKeptRecord (placed r place)
-placed_kept r place h = record { properties = h.properties; first = h.first; second = h.second; third = h.third; fourth = h.fourth; tails = λ kind. tail_placed r place kind (h.tails kind) }
-
-tail_serviced : (r : Termination) (state : Service) (kind : KeptKind) → IsOptional IsKeptTail (tail_of kind r) → IsOptional IsKeptTail (tail_of kind (serviced r state))
-tail_serviced r state Events h = h
-tail_serviced r state Signals h = h
-tail_serviced r state DigitMap h = h
-tail_serviced r state EventBuffer h = h
+placed_kept r place h = record { properties = h.properties; streams = h.streams; tails = h.tails }
 
 pub serviced_kept : (r : Termination) (state : Service) → IsKeptRecord r → IsKeptRecord (serviced r state)
-serviced_kept r state h = record { properties = h.properties; first = h.first; second = h.second; third = h.third; fourth = h.fourth; tails = λ kind. tail_serviced r state kind (h.tails kind) }
+serviced_kept r state h = record { properties = h.properties; streams = h.streams; tails = h.tails }

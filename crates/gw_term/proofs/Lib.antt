@@ -1,3 +1,4 @@
+pub mod Made
 pub mod Merges
 pub mod ByField
 pub mod FewProperties
@@ -8,3 +9,4 @@ pub mod KeptMerges
 pub mod KeptAudits
 pub mod Naming
 pub mod Taken
+pub mod SettingLists

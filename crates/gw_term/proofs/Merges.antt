@@ -11,7 +11,7 @@ use Rattle.gw_base.specs.declared.command_words.Service.{Service}
 pub at_place : {T : Type 0} (list : List T) (i : ℕ) (x : T) → i < length list → x ≡ get_or list i x → drop i list ≡ x ∷ drop (i + 1) list
 at_place list i x h is = rw (add-one, drop-cons list i x) (ap (λ y. y ∷ drop (suc i) list) (sym is))
 
-each-append : {S X : Type 0} (step : X → S → Option S) (xs ys : List X) (s : S) → each step (xs ++ ys) s ≡ and_then (each step xs s) (each step ys)
+pub each-append : {S X : Type 0} (step : X → S → Option S) (xs ys : List X) (s : S) → each step (xs ++ ys) s ≡ and_then (each step xs s) (each step ys)
 each-append step [] ys s = refl
 each-append {S} step (x ∷ xs) ys s = by (step x s) (λ t. each-append step xs ys t)
   where

@@ -1,5 +1,5 @@
 -- What descriptors name, from one element to the next.
-use Rattle.std.proofs.Common.{◌≡◌, ℕ, ◌+◌, ◌<◌, ◌||◌, Bool, true, false, List, [], ◌∷◌, length, get_or, take, Option, refl, ap, sym, ◌∙◌}
+use Rattle.std.proofs.Common.{◌≡◌, ℕ, ◌+◌, ◌<◌, ◌==◌, ◌||◌, if◌then◌else◌, Bool, true, false, List, [], ◌∷◌, length, get_or, take, Option, Some, is_some, refl, ap, sym, ◌∙◌}
 use Rattle.std.proofs.lemmas.Bool.{or_parts}
 use Rattle.std.proofs.lemmas.List.Folds.{list_any_more}
 use Rattle.std.specs.List.{flat_map, list_any}
@@ -7,13 +7,16 @@ use Rattle.gw_desc.specs.Checks.{is_state, is_kept, same_kept}
 use Rattle.gw_desc.specs.declared.descriptor.Descriptor.{Descriptor}
 use Rattle.gw_desc.specs.declared.descriptor.Descriptor.TheVariants as descriptor
 use Rattle.gw_desc.specs.declared.descriptor.KeptKind.{KeptKind}
-use Rattle.gw_desc.specs.declared.descriptor.KeptKind.TheVariants.{Events, Signals, DigitMap, EventBuffer}
 use Rattle.gw_desc.specs.declared.descriptor.MediaPart.{MediaPart}
 use Rattle.gw_desc.specs.declared.descriptor.MediaPart.TheVariants as media
 use Rattle.gw_desc.specs.declared.descriptor.Tail.{Tail}
 use Rattle.gw_term.specs.Merge.{is_named_in, media_parts, merged_tail, names_stream, states_in, states_in_part}
-use Rattle.gw_term.specs.Named.{has_states, named_by, noted, with_descriptor, with_part, with_parts}
+use Rattle.gw_term.specs.Named.{has_states, named_by, noted, with_descriptor, with_part, with_parts, with_place, with_set}
+use Rattle.gw_term.specs.Places.{numbered, at_number, of_kinds, at_kind}
+use Rattle.gw_term.specs.Settings.{Settings, with_setting}
 use Rattle.gw_term.specs.declared.named.Named.{Named}
+use Rattle.gw_term.specs.declared.settings.Setting.{Setting}
+use Rattle.gw_term.specs.declared.settings.Setting.TheVariants as setting
 
 -- without a TerminationState no property is named
 none_in : (parts : List MediaPart) → list_any is_state parts ≡ false → flat_map states_in_part parts ≡ []
@@ -64,27 +67,30 @@ found p xs i x h is = noted_one (list_any p (take i xs)) (p x) ∙ sym (one_more
 -- one part more
 pub part_noted : (parts : List MediaPart) (i : ℕ) (part : MediaPart) (n : Named) → i < length parts → part ≡ get_or parts i part
     → with_part part (with_parts (take i parts) n) ≡ with_parts (take (i + 1) parts) n
-part_noted parts i part n h is =
-    rw (
-      grown (names_stream 1) n.first parts i part h is,
-      grown (names_stream 2) n.second parts i part h is,
-      grown (names_stream 3) n.third parts i part h is,
-      grown (names_stream 4) n.fourth parts i part h is,
-      grown is_state n.states parts i part h is,
-    )
+part_noted parts i part n h is = λ j. record n {
+  streams = numbered (λ number. grown (names_stream number) (at_number number n.streams) parts i part h is j);
+  states = grown is_state n.states parts i part h is j;
+}
 
 -- one descriptor more
 pub descriptor_noted : (descriptors : List Descriptor) (i : ℕ) (d : Descriptor) → i < length descriptors → d ≡ get_or descriptors i d
     → with_descriptor d (named_by (take i descriptors)) ≡ named_by (take (i + 1) descriptors)
-descriptor_noted descriptors i d h is =
-    rw (
-      found (is_named_in 1) descriptors i d h is,
-      found (is_named_in 2) descriptors i d h is,
-      found (is_named_in 3) descriptors i d h is,
-      found (is_named_in 4) descriptors i d h is,
-      found has_states descriptors i d h is,
-      found (is_kept Events) descriptors i d h is,
-      found (is_kept Signals) descriptors i d h is,
-      found (is_kept DigitMap) descriptors i d h is,
-      found (is_kept EventBuffer) descriptors i d h is,
-    )
+descriptor_noted descriptors i d h is = λ j. record {
+  streams = numbered (λ number. found (is_named_in number) descriptors i d h is j);
+  states = found has_states descriptors i d h is j;
+  tails = of_kinds (λ kind. found (is_kept kind) descriptors i d h is j);
+}
+
+-- one setting more
+noted_put : {T : Type 0} (b : Bool) (t : T) (o : Option T) (before : Bool) → (if b then true else noted (is_some o) before) ≡ noted (is_some (if b then Some t else o)) before
+noted_put true t o before = refl
+noted_put false t o before = refl
+
+pub setting_noted : (x : Setting) (s : Settings) (n : Named) → with_place x (with_set s n) ≡ with_set (with_setting x s) n
+setting_noted (setting.Properties list) s n = refl
+setting_noted (setting.Stream other stream) s n = λ j. record (with_set s n) {
+  streams = numbered (λ number. noted_put (other == number) stream (at_number number s.streams) (at_number number n.streams) j);
+}
+setting_noted (setting.Tail other tail) s n = λ j. record (with_set s n) {
+  tails = of_kinds (λ kind. noted_put (same_kept kind other) tail (at_kind kind s.tails) (at_kind kind n.tails) j);
+}

@@ -1,5 +1,5 @@
 -- A list of properties after some were put into it, one after the other.
-use Rattle.std.proofs.Common.{◌≡◌, ◌⊎◌, inl, inr, ℕ, zero, suc, ◌+◌, ◌<◌, ◌≤◌, Bool, true, false, not, ◌||◌, cond, List, [], ◌∷◌, ◌++◌, length, map, Option, Some, None, bytes_eq, refl, ap, sym, ◌∙◌, append_assoc, append-nil, arith, length-append, one-add, lt-ltb, ltb-false}
+use Rattle.std.proofs.Common.{◌≡◌, ◌⊎◌, inl, inr, ℕ, zero, suc, ◌+◌, ◌<◌, ◌≤◌, Bool, true, false, not, ◌||◌, cond, List, [], ◌∷◌, ◌++◌, length, map, Option, Some, None, bytes_eq, refl, ap, sym, ◌∙◌, subst, append_assoc, append-nil, arith, length-append, one-add, lt-ltb, ltb-false}
 use Rattle.std.specs.Prelude.{slice_set, nat_lt}
 use Rattle.std.specs.List.{list_any, filter, find, last_or, slice_get}
 use Rattle.std.specs.Option.{option_or}
@@ -11,13 +11,10 @@ use Rattle.gw_desc.specs.Twice.{folded, has_same, has_name_twice}
 use Rattle.gw_desc.specs.declared.descriptor.Property.{Property}
 use Rattle.gw_term.specs.Merge.{and_then, each, most_properties, property_place, put_property}
 use Rattle.gw_term.specs.Lookups.{is_of_name, look_up, lower_names, new_names, IsListAfter, IsTooLong}
+use Rattle.gw_term.proofs.Made.{first_then}
 
 abbrev pub P : Type 0
 P = Property (List ℕ)
-
-pub first_then : {S T : Type 0} (first : Option S) (next : S → Option T) (t : T) → and_then first next ≡ Some t → (s : S) × (first ≡ Some s) × (next s ≡ Some t)
-first_then None next t h = absurd cc
-first_then (Some s) next t h = (s, refl, h)
 
 -- ---- names in any case
 
@@ -109,18 +106,10 @@ place_within p (q ∷ qs) back was same = by (is_of_name p.name q) (place_within
 some_of : (a b : List P) → Some a ≡ Some b → a ≡ b
 some_of a b h = cc
 
-put_there : (p : P) (list new : List P) → put_property p list ≡ Some new → Stands p list → IsReplaced p list new
-put_there p list new h s =
+put_there : (p : P) (list : List P) (s : Stands p list) → put_property p list ≡ Some (s.front ++ p ∷ s.back)
+put_there p list s =
     let within : nat_lt (property_place p.name list) (length list) ≡ true = lt_is (property_place p.name list) (length list) (in_list s.split) in
-    record {
-      front = s.front;
-      was = s.was;
-      back = s.back;
-      split = s.split;
-      is = sym (some_of (slice_set list (property_place p.name list) p) new (rw within at h)) ∙ s.new;
-      same = same_name s.was.name p.name s.same;
-      first = s.first;
-    }
+    rw within (ap Some s.new)
   where
     in_list : list ≡ s.front ++ s.was ∷ s.back → property_place p.name list < length list
     in_list e = rw e (place_within p s.front s.back s.was s.same)
@@ -128,51 +117,39 @@ put_there p list new h s =
     lt_is : (a b : ℕ) → a < b → nat_lt a b ≡ true
     lt_is a b h = grind (arith, lt-ltb)
 
-put_last : (p : P) (list new : List P) → put_property p list ≡ Some new → StandsNot p list → IsAdded p list new
-put_last p list new h s = by (nat_lt (length list) most_properties) refl (rw (s.place, not_below (length list)) at h)
+put_last : (p : P) (list : List P) → StandsNot p list → put_property p list ≡ cond (nat_lt (length list) most_properties) (Some (list ++ p ∷ [])) None
+put_last p list s = rw (s.place, not_below (length list)) refl
   where
     not_below : (n : ℕ) → nat_lt n n ≡ false
     not_below n = grind (arith, ltb-false)
-
-    by : (t : Bool) → nat_lt (length list) most_properties ≡ t → cond t (Some (list ++ p ∷ [])) None ≡ Some new → IsAdded p list new
-    by true e k = record { is = sym (some_of (list ++ p ∷ []) new k); none = s.none; room = ltb-true (length list) most_properties e }
-    by false e k = absurd cc
-
-pub one_put : (p : P) (list new : List P) → put_property p list ≡ Some new → IsOnePut p list new
-one_put p list new h =
-    elim (where_stands p list) [
-      | inl s ↦ inl (put_there p list new h s)
-      | inr s ↦ inr (put_last p list new h s)
-    ]
 
 -- nothing is put where the name is new and the list is full
 pub record IsFull (p : P) (list : List P) : Type 0 where
   pub none : list_any (is_of_name p.name) list ≡ false
   pub full : most_properties ≤ length list
 
-full_there : (p : P) (list : List P) → put_property p list ≡ None → Stands p list → IsFull p list
-full_there p list h s =
-    let within : nat_lt (property_place p.name list) (length list) ≡ true = lt_is (property_place p.name list) (length list) (in_list s.split) in
-    absurd (let clash : Some (slice_set list (property_place p.name list) p) ≡ None = rw within at h in cc)
+-- what is put, or that nothing is
+abbrev IsPut : P → List P → Option (List P) → Type 0
+IsPut p list None = IsFull p list
+IsPut p list (Some new) = IsOnePut p list new
+
+is_put : (p : P) (list : List P) → IsPut p list (put_property p list)
+is_put p list =
+    elim (where_stands p list) [
+      | inl s ↦ subst (IsPut p list) (sym (put_there p list s))
+          (inl (record { front = s.front; was = s.was; back = s.back; split = s.split; is = refl; same = same_name s.was.name p.name s.same; first = s.first }))
+      | inr s ↦ subst (IsPut p list) (sym (put_last p list s)) (last s.none (nat_lt (length list) most_properties) refl)
+    ]
   where
-    in_list : list ≡ s.front ++ s.was ∷ s.back → property_place p.name list < length list
-    in_list e = rw e (place_within p s.front s.back s.was s.same)
+    last : list_any (is_of_name p.name) list ≡ false → (t : Bool) → nat_lt (length list) most_properties ≡ t → IsPut p list (cond t (Some (list ++ p ∷ [])) None)
+    last none true e = inr (record { is = refl; none = none; room = ltb-true (length list) most_properties e })
+    last none false e = record { none = none; full = ltb-false (length list) most_properties e }
 
-    lt_is : (a b : ℕ) → a < b → nat_lt a b ≡ true
-    lt_is a b h = grind (arith, lt-ltb)
+one_put : (p : P) (list new : List P) → put_property p list ≡ Some new → IsOnePut p list new
+one_put p list new h = subst (IsPut p list) h (is_put p list)
 
-full_last : (p : P) (list : List P) → put_property p list ≡ None → StandsNot p list → IsFull p list
-full_last p list h s = by (nat_lt (length list) most_properties) refl (rw (s.place, not_below (length list)) at h)
-  where
-    not_below : (n : ℕ) → nat_lt n n ≡ false
-    not_below n = grind (arith, ltb-false)
-
-    by : (t : Bool) → nat_lt (length list) most_properties ≡ t → cond t (Some (list ++ p ∷ [])) None ≡ None → IsFull p list
-    by true e k = absurd cc
-    by false e k = record { none = s.none; full = ltb-false (length list) most_properties e }
-
-pub is_full : (p : P) (list : List P) → put_property p list ≡ None → IsFull p list
-is_full p list h = elim (where_stands p list) [ inl s ↦ full_there p list h s | inr s ↦ full_last p list h s ]
+is_full : (p : P) (list : List P) → put_property p list ≡ None → IsFull p list
+is_full p list h = subst (IsPut p list) h (is_put p list)
 
 -- ---- what is found then
 

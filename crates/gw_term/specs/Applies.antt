@@ -25,19 +25,6 @@ Becomes (Ok v) new expected = expected ≡ Some new
 Becomes (Err (fault.Code code)) new expected = (code ≡ InsufficientResources) × (expected ≡ None)
 Becomes (Err fault.NoMemory) new expected = Unit {0}
 
--- a record that has no stream yet, or no tail
-pub record HasNoStreams (r : Termination) : Type 0 where
-  pub first : r.first ≡ None
-  pub second : r.second ≡ None
-  pub third : r.third ≡ None
-  pub fourth : r.fourth ≡ None
-
-pub record HasNoTails (r : Termination) : Type 0 where
-  pub events : r.events ≡ None
-  pub signals : r.signals ≡ None
-  pub digit_map : r.digit_map ≡ None
-  pub event_buffer : r.event_buffer ≡ None
-
 -- a stream, with whether its Local was filled
 abbrev pub merging_of : Option Stream → Bool → Option Merging
 merging_of stream filled = option_map (λ s. record { stream = s; filled = filled }) stream

@@ -1,5 +1,5 @@
 -- What a termination answers to an Audit (RFC 3525, section 7.2.5): the items asked for, in the order asked.
-use Rattle.std.specs.Prelude.{ℕ, List, [], ◌∷◌, ◌++◌, Option, Some, None}
+use Rattle.std.specs.Prelude.{ℕ, List, [], ◌∷◌, Option, Some, None}
 use Rattle.std.specs.List.{flat_map}
 use Rattle.gw_desc.specs.Values.{item_of}
 use Rattle.gw_desc.specs.declared.descriptor.KeptKind.{KeptKind}
@@ -12,6 +12,7 @@ use Rattle.gw_reply.specs.declared.parts.StreamReply.{StreamReply}
 use Rattle.gw_reply.specs.declared.parts.MediaReply.{MediaReply}
 use Rattle.gw_term.specs.declared.record.Stream.{Stream}
 use Rattle.gw_term.specs.declared.record.Termination.{Termination}
+use Rattle.gw_term.specs.Places.{rising}
 use Rattle.gw_term.specs.Record.{tail_of}
 
 -- a stream that is there, as it is told
@@ -20,11 +21,11 @@ stream_told number None = []
 stream_told number (Some s) = (record { number = number; mode = s.mode; properties = s.properties; local = s.local; remote = s.remote }) ∷ []
 
 abbrev pub streams_told : Termination → List StreamReply
-streams_told r = stream_told 1 r.first ++ stream_told 2 r.second ++ stream_told 3 r.third ++ stream_told 4 r.fourth
+streams_told r = rising stream_told r.settings.streams
 
 -- the service state, the properties and the streams, rising
 abbrev pub media_told : Termination → MediaReply
-media_told r = record { service = r.service; properties = r.properties; streams = streams_told r }
+media_told r = record { service = r.service; properties = r.settings.properties; streams = streams_told r }
 
 -- a tail that is kept, or the bare word
 abbrev pub tail_told : KeptKind → Option (Tail (List ℕ)) → ReplyPart

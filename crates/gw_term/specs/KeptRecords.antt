@@ -4,6 +4,7 @@ use Rattle.gw_desc.specs.KeptTexts.{IsOptional, IsKeptProperty, IsKeptTail, IsKe
 use Rattle.gw_desc.specs.declared.descriptor.KeptKind.{KeptKind}
 use Rattle.gw_term.specs.declared.record.Stream.{Stream}
 use Rattle.gw_term.specs.declared.record.Termination.{Termination}
+use Rattle.gw_term.specs.Places.{AtEach}
 use Rattle.gw_term.specs.Record.{tail_of}
 
 -- a stream's properties, its Local and its Remote
@@ -14,9 +15,6 @@ pub record IsKeptStream (s : Stream) : Type 0 where
 
 -- a termination's properties, its streams and its tails
 pub record IsKeptRecord (r : Termination) : Type 0 where
-  pub properties : All IsKeptProperty r.properties
-  pub first : IsOptional IsKeptStream r.first
-  pub second : IsOptional IsKeptStream r.second
-  pub third : IsOptional IsKeptStream r.third
-  pub fourth : IsOptional IsKeptStream r.fourth
+  pub properties : All IsKeptProperty r.settings.properties
+  pub streams : AtEach (λ _. IsOptional IsKeptStream) r.settings.streams
   pub tails : (kind : KeptKind) → IsOptional IsKeptTail (tail_of kind r)

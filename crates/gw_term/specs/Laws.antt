@@ -7,6 +7,7 @@ use Rattle.gw_desc.specs.declared.descriptor.KeptKind.{KeptKind}
 use Rattle.gw_term.specs.declared.record.Stream.{Stream}
 use Rattle.gw_term.specs.declared.record.Termination.{Termination}
 use Rattle.gw_term.specs.declared.streams.Merging.{Merging}
+use Rattle.gw_term.specs.Places.{Between}
 use Rattle.gw_term.specs.Record.{tail_of}
 use Rattle.gw_term.specs.Merge.{merged_service, merged_properties, merged_stream, merged_tail, stream_in, is_named_in}
 
@@ -20,11 +21,8 @@ pub record GoesByField (rules : Rules) (descriptors : List Descriptor) (old new 
   pub place : new.place ≡ old.place
   pub slot : new.slot ≡ old.slot
   pub service : new.service ≡ merged_service descriptors old.service
-  pub properties : merged_properties descriptors old.properties ≡ Some new.properties
-  pub first : IsStreamAfter rules old.slot 1 descriptors old.first new.first
-  pub second : IsStreamAfter rules old.slot 2 descriptors old.second new.second
-  pub third : IsStreamAfter rules old.slot 3 descriptors old.third new.third
-  pub fourth : IsStreamAfter rules old.slot 4 descriptors old.fourth new.fourth
+  pub properties : merged_properties descriptors old.settings.properties ≡ Some new.settings.properties
+  pub streams : Between (λ number. IsStreamAfter rules old.slot number descriptors) old.settings.streams new.settings.streams
   pub tails : (kind : KeptKind) → tail_of kind new ≡ merged_tail kind descriptors (tail_of kind old)
 
 -- a stream that no descriptor names
@@ -32,8 +30,8 @@ abbrev pub IsUnnamed : ℕ → List Descriptor → Type 0
 IsUnnamed number descriptors = list_any (is_named_in number) descriptors ≡ false
 
 -- what is not named stays
-pub record KeepsUnnamed (descriptors : List Descriptor) (old new : Termination) : Type 0 where
-  pub first : IsUnnamed 1 descriptors → new.first ≡ old.first
-  pub second : IsUnnamed 2 descriptors → new.second ≡ old.second
-  pub third : IsUnnamed 3 descriptors → new.third ≡ old.third
-  pub fourth : IsUnnamed 4 descriptors → new.fourth ≡ old.fourth
+abbrev pub StaysUnnamed : List Descriptor → ℕ → Option Stream → Option Stream → Type 0
+StaysUnnamed descriptors number old new = IsUnnamed number descriptors → new ≡ old
+
+abbrev pub KeepsUnnamed : List Descriptor → Termination → Termination → Type 0
+KeepsUnnamed descriptors old new = Between (StaysUnnamed descriptors) old.settings.streams new.settings.streams

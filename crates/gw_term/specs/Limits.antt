@@ -3,6 +3,7 @@ use Rattle.std.specs.Prelude.{◌≤◌, length, Option, None, Some}
 use Rattle.gw_term.specs.declared.record.Stream.{Stream}
 use Rattle.gw_term.specs.declared.record.Termination.{Termination}
 use Rattle.gw_term.specs.Merge.{most_properties}
+use Rattle.gw_term.specs.Places.{AtEach}
 
 abbrev pub HasFewIn : Option Stream → Type 0
 HasFewIn None = Unit {0}
@@ -10,8 +11,5 @@ HasFewIn (Some s) = length s.properties ≤ most_properties
 
 -- in no list of properties too many
 pub record HasFew (r : Termination) : Type 0 where
-  pub properties : length r.properties ≤ most_properties
-  pub first : HasFewIn r.first
-  pub second : HasFewIn r.second
-  pub third : HasFewIn r.third
-  pub fourth : HasFewIn r.fourth
+  pub properties : length r.settings.properties ≤ most_properties
+  pub streams : AtEach (λ _. HasFewIn) r.settings.streams

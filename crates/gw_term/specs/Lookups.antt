@@ -19,6 +19,7 @@ use Rattle.gw_desc.specs.declared.values.Mode.{Mode}
 use Rattle.gw_desc.specs.declared.values.Mode.TheVariants.{Inactive}
 use Rattle.gw_term.specs.declared.record.Stream.{Stream}
 use Rattle.gw_term.specs.declared.record.Termination.{Termination}
+use Rattle.gw_term.specs.Places.{AtSome, Between}
 use Rattle.gw_term.specs.Record.{tail_of}
 use Rattle.gw_term.specs.Merge.{most_properties, states_in, parts_in, is_named_in, local_text, kept_tail}
 
@@ -132,11 +133,8 @@ pub record IsStreamFound (rules : Rules) (slot : Option ℕ) (number : ℕ) (des
 -- the termination after the descriptors
 pub record IsFoundAfter (rules : Rules) (descriptors : List Descriptor) (old new : Termination) : Type 0 where
   pub service : Some new.service ≡ last_or (Some old.service) (services_sent descriptors)
-  pub properties : IsListAfter (states_sent descriptors) old.properties new.properties
-  pub first : IsStreamFound rules old.slot 1 descriptors old.first new.first
-  pub second : IsStreamFound rules old.slot 2 descriptors old.second new.second
-  pub third : IsStreamFound rules old.slot 3 descriptors old.third new.third
-  pub fourth : IsStreamFound rules old.slot 4 descriptors old.fourth new.fourth
+  pub properties : IsListAfter (states_sent descriptors) old.settings.properties new.settings.properties
+  pub streams : Between (λ number. IsStreamFound rules old.slot number descriptors) old.settings.streams new.settings.streams
   -- the last tail of a kind; one that is to be removed leaves none
   pub tails : (kind : KeptKind) → Some (tail_of kind new) ≡ last_or (Some (tail_of kind old)) (map kept_tail (tails_sent kind descriptors))
 
@@ -149,8 +147,5 @@ IsTooLong sent old = most_properties < length old + length (new_names (lower_nam
 -- the termination's list would, or that of a stream
 abbrev pub HasTooLong : List Descriptor → Termination → Type 0
 HasTooLong descriptors old =
-    IsTooLong (states_sent descriptors) old.properties
-    ⊎ IsTooLong (controls_sent (flat_map (parts_in 1) descriptors)) (list_in old.first)
-    ⊎ IsTooLong (controls_sent (flat_map (parts_in 2) descriptors)) (list_in old.second)
-    ⊎ IsTooLong (controls_sent (flat_map (parts_in 3) descriptors)) (list_in old.third)
-    ⊎ IsTooLong (controls_sent (flat_map (parts_in 4) descriptors)) (list_in old.fourth)
+    IsTooLong (states_sent descriptors) old.settings.properties
+    ⊎ AtSome (λ number stream. IsTooLong (controls_sent (flat_map (parts_in number) descriptors)) (list_in stream)) old.settings.streams

@@ -13,7 +13,6 @@ use Rattle.gw_desc.specs.Values.{is_mode, is_service_states, mode_set_by, servic
 use Rattle.gw_desc.specs.declared.descriptor.Descriptor.{Descriptor}
 use Rattle.gw_desc.specs.declared.descriptor.Descriptor.TheVariants as descriptor
 use Rattle.gw_desc.specs.declared.descriptor.KeptKind.{KeptKind}
-use Rattle.gw_desc.specs.declared.descriptor.KeptKind.TheVariants.{Events, Signals, DigitMap, EventBuffer}
 use Rattle.gw_desc.specs.declared.descriptor.MediaPart.{MediaPart}
 use Rattle.gw_desc.specs.declared.descriptor.MediaPart.TheVariants as media
 use Rattle.gw_desc.specs.declared.descriptor.StreamPart.{StreamPart}
@@ -24,7 +23,9 @@ use Rattle.gw_reply.specs.declared.parts.FilledStream.{FilledStream}
 use Rattle.gw_term.specs.declared.record.Stream.{Stream}
 use Rattle.gw_term.specs.declared.record.Termination.{Termination}
 use Rattle.gw_term.specs.declared.streams.Merging.{Merging}
+use Rattle.gw_term.specs.Places.{numbered, at_number, rising, of_kinds, at_kind}
 use Rattle.gw_term.specs.Record.{new_stream}
+use Rattle.gw_term.specs.declared.places.PerStream.{PerStream}
 
 -- what follows, if there is a value
 abbrev pub and_then : {S T : Type 0} → Option S → (S → Option T) → Option T
@@ -35,6 +36,12 @@ and_then (Some s) next = next s
 abbrev pub each : {S X : Type 0} → (X → S → Option S) → List X → S → Option S
 each step [] s = Some s
 each step (x ∷ xs) s = and_then (step x s) (each step xs)
+
+-- what is made of each place in turn, unless that of one of them cannot be made
+abbrev pub each_place : {S T : Type 0} → (ℕ → S → Option T) → PerStream S → Option (PerStream T)
+each_place f p =
+    and_then (f 1 p.first) (λ first. and_then (f 2 p.second) (λ second. and_then (f 3 p.third) (λ third. and_then (f 4 p.fourth) (λ fourth.
+    Some (record { first = first; second = second; third = third; fourth = fourth })))))
 
 -- ---- properties
 
@@ -173,20 +180,14 @@ merged_tail kind (d ∷ ds) old = merged_tail kind ds (tail_after kind d old)
 -- what can be too much: the properties, and each stream, after a merge
 pub record Media : Type 0 where
   pub properties : List (Property (List ℕ))
-  pub first : Option Merging
-  pub second : Option Merging
-  pub third : Option Merging
-  pub fourth : Option Merging
+  pub streams : PerStream (Option Merging)
 
 -- these after the descriptors
 unfoldable pub merged_media : Rules → List Descriptor → Termination → Option Media
 merged_media rules descriptors r =
-    and_then (merged_properties descriptors r.properties) (λ properties.
-    and_then (merged_stream rules r.slot 1 descriptors r.first) (λ first.
-    and_then (merged_stream rules r.slot 2 descriptors r.second) (λ second.
-    and_then (merged_stream rules r.slot 3 descriptors r.third) (λ third.
-    and_then (merged_stream rules r.slot 4 descriptors r.fourth) (λ fourth.
-    Some (record { properties = properties; first = first; second = second; third = third; fourth = fourth }))))))
+    and_then (merged_properties descriptors r.settings.properties) (λ properties.
+    and_then (each_place (λ number. merged_stream rules r.slot number descriptors) r.settings.streams) (λ streams.
+    Some (record { properties = properties; streams = streams })))
 
 abbrev pub stream_in : Option Merging → Option Stream
 stream_in m = option_map (λ m. m.stream) m
@@ -196,15 +197,11 @@ with_media descriptors r m = record {
   place = r.place;
   service = merged_service descriptors r.service;
   slot = r.slot;
-  properties = m.properties;
-  first = stream_in m.first;
-  second = stream_in m.second;
-  third = stream_in m.third;
-  fourth = stream_in m.fourth;
-  events = merged_tail Events descriptors r.events;
-  signals = merged_tail Signals descriptors r.signals;
-  digit_map = merged_tail DigitMap descriptors r.digit_map;
-  event_buffer = merged_tail EventBuffer descriptors r.event_buffer;
+  settings = record {
+    properties = m.properties;
+    streams = numbered (λ number. stream_in (at_number number m.streams));
+    tails = of_kinds (λ kind. merged_tail kind descriptors (at_kind kind r.settings.tails));
+  };
 }
 
 -- the termination after the descriptors; none where a list would hold too many properties
@@ -223,7 +220,7 @@ filled_in number (Some m) = if m.filled then local_if number m.stream.local else
 
 abbrev pub filled_of : Option Media → List FilledStream
 filled_of None = []
-filled_of (Some m) = filled_in 1 m.first ++ filled_in 2 m.second ++ filled_in 3 m.third ++ filled_in 4 m.fourth
+filled_of (Some m) = rising filled_in m.streams
 
 -- the streams whose Local was filled, in rising order
 unfoldable pub filled_by : Rules → List Descriptor → Termination → List FilledStream

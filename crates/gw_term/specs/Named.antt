@@ -1,13 +1,16 @@
 -- What descriptors name of a termination (own).
-use Rattle.std.specs.Prelude.{ℕ, ◌==◌, Bool, true, if◌then◌else◌, List}
+use Rattle.std.specs.Prelude.{Bool, true, if◌then◌else◌, List}
 use Rattle.std.specs.List.{list_any}
-use Rattle.gw_desc.specs.Checks.{is_kept, is_state, same_kept}
+use Rattle.std.specs.Option.{is_some}
+use Rattle.gw_desc.specs.Checks.{is_kept, is_state}
 use Rattle.gw_desc.specs.declared.descriptor.Descriptor.{Descriptor}
-use Rattle.gw_desc.specs.declared.descriptor.KeptKind.{KeptKind}
-use Rattle.gw_desc.specs.declared.descriptor.KeptKind.TheVariants.{Events, Signals, DigitMap, EventBuffer}
 use Rattle.gw_desc.specs.declared.descriptor.MediaPart.{MediaPart}
 use Rattle.gw_term.specs.Merge.{is_named_in, media_parts, names_stream}
+use Rattle.gw_term.specs.Places.{numbered, at_number, put_number, of_kinds, at_kind, put_kind}
+use Rattle.gw_term.specs.Settings.{Settings}
 use Rattle.gw_term.specs.declared.named.Named.{Named}
+use Rattle.gw_term.specs.declared.settings.Setting.{Setting}
+use Rattle.gw_term.specs.declared.settings.Setting.TheVariants as setting
 
 -- a TerminationState is in the descriptor
 abbrev pub has_states : Descriptor → Bool
@@ -17,67 +20,44 @@ has_states d = list_any is_state (media_parts d)
 abbrev pub noted : Bool → Bool → Bool
 noted now before = if now then true else before
 
--- what was named, and the stream of a number
-abbrev pub with_stream : ℕ → Named → Named
-with_stream number n = record n {
-  first = noted (number == 1) n.first;
-  second = noted (number == 2) n.second;
-  third = noted (number == 3) n.third;
-  fourth = noted (number == 4) n.fourth;
-}
-
--- what was named, and a kind of tails
-abbrev pub with_kind : KeptKind → Named → Named
-with_kind kind n = record n {
-  events = noted (same_kept Events kind) n.events;
-  signals = noted (same_kept Signals kind) n.signals;
-  digit_map = noted (same_kept DigitMap kind) n.digit_map;
-  event_buffer = noted (same_kept EventBuffer kind) n.event_buffer;
-}
-
 -- what was named, and what a part of a Media names
 abbrev pub with_part : MediaPart → Named → Named
 with_part part n = record n {
-  first = noted (names_stream 1 part) n.first;
-  second = noted (names_stream 2 part) n.second;
-  third = noted (names_stream 3 part) n.third;
-  fourth = noted (names_stream 4 part) n.fourth;
+  streams = numbered (λ number. noted (names_stream number part) (at_number number n.streams));
   states = noted (is_state part) n.states;
 }
 
 abbrev pub with_parts : List MediaPart → Named → Named
 with_parts parts n = record n {
-  first = noted (list_any (names_stream 1) parts) n.first;
-  second = noted (list_any (names_stream 2) parts) n.second;
-  third = noted (list_any (names_stream 3) parts) n.third;
-  fourth = noted (list_any (names_stream 4) parts) n.fourth;
+  streams = numbered (λ number. noted (list_any (names_stream number) parts) (at_number number n.streams));
   states = noted (list_any is_state parts) n.states;
 }
 
 -- what was named, and what a descriptor names
 abbrev pub with_descriptor : Descriptor → Named → Named
 with_descriptor d n = record {
-  first = noted (is_named_in 1 d) n.first;
-  second = noted (is_named_in 2 d) n.second;
-  third = noted (is_named_in 3 d) n.third;
-  fourth = noted (is_named_in 4 d) n.fourth;
+  streams = numbered (λ number. noted (is_named_in number d) (at_number number n.streams));
   states = noted (has_states d) n.states;
-  events = noted (is_kept Events d) n.events;
-  signals = noted (is_kept Signals d) n.signals;
-  digit_map = noted (is_kept DigitMap d) n.digit_map;
-  event_buffer = noted (is_kept EventBuffer d) n.event_buffer;
+  tails = of_kinds (λ kind. noted (is_kept kind d) (at_kind kind n.tails));
+}
+
+-- what was named, and the place of a setting; properties have none here
+abbrev pub with_place : Setting → Named → Named
+with_place (setting.Properties properties) n = n
+with_place (setting.Stream number stream) n = record n { streams = put_number number true n.streams }
+with_place (setting.Tail kind tail) n = record n { tails = put_kind kind true n.tails }
+
+-- what was named, and the streams and tails that were set
+abbrev pub with_set : Settings → Named → Named
+with_set s n = record n {
+  streams = numbered (λ number. noted (is_some (at_number number s.streams)) (at_number number n.streams));
+  tails = of_kinds (λ kind. noted (is_some (at_kind kind s.tails)) (at_kind kind n.tails));
 }
 
 -- what the descriptors name
 abbrev pub named_by : List Descriptor → Named
 named_by descriptors = record {
-  first = list_any (is_named_in 1) descriptors;
-  second = list_any (is_named_in 2) descriptors;
-  third = list_any (is_named_in 3) descriptors;
-  fourth = list_any (is_named_in 4) descriptors;
+  streams = numbered (λ number. list_any (is_named_in number) descriptors);
   states = list_any has_states descriptors;
-  events = list_any (is_kept Events) descriptors;
-  signals = list_any (is_kept Signals) descriptors;
-  digit_map = list_any (is_kept DigitMap) descriptors;
-  event_buffer = list_any (is_kept EventBuffer) descriptors;
+  tails = of_kinds (λ kind. list_any (is_kept kind) descriptors);
 }

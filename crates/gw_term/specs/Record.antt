@@ -4,9 +4,10 @@ use Rattle.gw_base.specs.declared.ids.CtxNum.{CtxNum}
 use Rattle.gw_base.specs.declared.command_words.Service.{Service}
 use Rattle.gw_base.specs.declared.command_words.Service.TheVariants.{InService}
 use Rattle.gw_desc.specs.declared.descriptor.KeptKind.{KeptKind}
-use Rattle.gw_desc.specs.declared.descriptor.KeptKind.TheVariants.{Events, Signals, DigitMap, EventBuffer}
 use Rattle.gw_desc.specs.declared.descriptor.Tail.{Tail}
 use Rattle.gw_desc.specs.declared.values.Mode.TheVariants.{Inactive}
+use Rattle.gw_term.specs.Places.{at_kind}
+use Rattle.gw_term.specs.Settings.{nothing_set}
 use Rattle.gw_term.specs.declared.record.Stream.{Stream}
 use Rattle.gw_term.specs.declared.record.Termination.{Termination}
 
@@ -16,15 +17,7 @@ unset place service slot = record {
   place = place;
   service = service;
   slot = slot;
-  properties = [];
-  first = None;
-  second = None;
-  third = None;
-  fourth = None;
-  events = None;
-  signals = None;
-  digit_map = None;
-  event_buffer = None;
+  settings = nothing_set;
 }
 
 -- a termination that was configured: in the null context and in service
@@ -53,7 +46,4 @@ new_stream = record { mode = Inactive; properties = []; local = None; remote = N
 
 -- the tail that it keeps of a kind
 abbrev pub tail_of : KeptKind → Termination → Option (Tail (List ℕ))
-tail_of Events r = r.events
-tail_of Signals r = r.signals
-tail_of DigitMap r = r.digit_map
-tail_of EventBuffer r = r.event_buffer
+tail_of kind r = at_kind kind r.settings.tails

@@ -119,22 +119,21 @@ abbrev Parts : Type 0
 Parts = (Option CtxNum × (Service × (Option ℕ × List (Property (List ℕ))))) × (Streams × Tails)
 
 abbrev parts_of : Termination → Parts
-parts_of r = ((r.place, (r.service, (r.slot, r.properties))), (((r.first, r.second), (r.third, r.fourth)), ((r.events, r.signals), (r.digit_map, r.event_buffer))))
+parts_of r =
+    let s = r.settings.streams in
+    let t = r.settings.tails in
+    ((r.place, (r.service, (r.slot, r.settings.properties))), (((s.first, s.second), (s.third, s.fourth)), ((t.events, t.signals), (t.digit_map, t.event_buffer))))
 
 abbrev of_parts : Parts → Termination
 of_parts p = record {
   place = p.0.0;
   service = p.0.1.0;
   slot = p.0.1.1.0;
-  properties = p.0.1.1.1;
-  first = p.1.0.0.0;
-  second = p.1.0.0.1;
-  third = p.1.0.1.0;
-  fourth = p.1.0.1.1;
-  events = p.1.1.0.0;
-  signals = p.1.1.0.1;
-  digit_map = p.1.1.1.0;
-  event_buffer = p.1.1.1.1;
+  settings = record {
+    properties = p.0.1.1.1;
+    streams = record { first = p.1.0.0.0; second = p.1.0.0.1; third = p.1.0.1.0; fourth = p.1.0.1.1 };
+    tails = record { events = p.1.1.0.0; signals = p.1.1.0.1; digit_map = p.1.1.1.0; event_buffer = p.1.1.1.1 };
+  };
 }
 
 -- a termination's record

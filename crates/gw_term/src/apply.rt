@@ -1,90 +1,117 @@
 //! What descriptors do to a termination: all of it, or nothing.
 
-ghost use Rattle.std.specs.Prelude.{◌≡◌, ◌++◌, [], OnOk, None, Some, true};
+ghost use Rattle.std.specs.Prelude.{◌≡◌, ◌≤◌, ◌++◌, [], IfOk, OnOk, None, Some, true};
 ghost use Rattle.gw_term.specs.Merge.{filled_in, merged_properties, merged_service};
-ghost use Rattle.gw_term.specs.Named.{named_by};
+ghost use Rattle.gw_term.specs.Named.{named_by, with_set};
+ghost use Rattle.gw_term.specs.Places.{at_number};
 ghost use Rattle.gw_term.specs.Record.{unset};
+ghost use Rattle.gw_term.specs.Settings.{nothing_set};
 ghost use Rattle.gw_term.specs.Applies.{IsMergedInto, merging_of};
 
 use crate::fault::ApplyFault;
+use crate::held::HeldProperty;
 use crate::named::Named;
 use crate::properties::{merged_properties, merged_service};
-use crate::record::{Stream, Termination};
+use crate::record::Termination;
+use crate::settings::{Setting, Settings};
 use crate::streams::{Sent, merge_stream};
 use crate::tails::merge_tails;
 use gw_base::{Held, Items, NoMemory, Rules};
 use gw_desc::Descriptor;
 use gw_reply::FilledStream;
-use std::alloc::Global;
+use std::alloc::{AllocError, Global};
 
 /// The streams whose Local was filled, in rising order.
 pub type Filled = Items<FilledStream>;
 
-/// The stream's Local goes last. Not inlined, since few Locals are filled.
+/// The Local of the stream of this number goes last. Not inlined, since few Locals are filled.
 #[inline(never)]
 fn push_filled(
     alloc: Global,
     number: u8,
-    stream: &Option<Held<Stream>>,
+    settings: &Settings,
     filled: &mut Filled,
 ) -> Result<(), NoMemory>
-    ensures { OnOk result (filled.new ≡ filled.old ++ filled_in number (merging_of stream.now true)) }
+    requires first { 1 ≤ number }
+    requires last { number ≤ 4 }
+    ensures { OnOk result (filled.new ≡ filled.old ++ filled_in number (merging_of (at_number number settings.now.streams) true)) }
 {
-    let Some(stream) = stream else {
+    let Some(stream) = settings.stream(number) else {
         return Ok(());
     };
-    if let Some(text) = &stream.get().local {
+    if let Some(text) = &stream.local {
         let local = Items::from_slice(alloc, text.as_slice())?;
         filled.push(FilledStream { number, local })?;
     }
     Ok(())
 }
 
-/// The stream's Local goes last, if it was filled.
+/// The Local of the stream of this number goes last, if it was filled.
 #[inline]
 fn tell(
     alloc: Global,
     number: u8,
     is_filled: bool,
-    stream: &Option<Held<Stream>>,
+    settings: &Settings,
     filled: &mut Filled,
 ) -> Result<(), NoMemory>
-    ensures { OnOk result (filled.new ≡ filled.old ++ filled_in number (merging_of stream.now is_filled)) }
+    requires first { 1 ≤ number }
+    requires last { number ≤ 4 }
+    ensures { OnOk result (filled.new ≡ filled.old ++ filled_in number (merging_of (at_number number settings.now.streams) is_filled)) }
 {
     if is_filled {
-        return push_filled(alloc, number, stream, filled);
+        return push_filled(alloc, number, settings, filled);
     }
     Ok(())
 }
 
-/// What the descriptors make of the streams and of the tails is put in a record that has none, in which the rest is merged; the
-/// streams whose Local was filled are told in rising order.
+/// What the descriptors make of what was set, beside its properties, is set where nothing but these is; the streams whose Local was
+/// filled are told in rising order.
 #[tactic(auto, unfolding(crate::specs::Merge::merged, crate::specs::Merge::merged_media, crate::specs::Merge::filled_by))]
 fn merge_into(
     alloc: Global,
     sent: &Sent<'_, '_>,
-    named: &Named,
+    there: &Named,
     old: &Termination,
     new: &mut Termination,
     filled: &mut Filled,
 ) -> Result<(), ApplyFault>
-    requires named { named.now ≡ named_by sent.now.descriptors.now }
+    requires there { there.now ≡ with_set old.now.settings (named_by sent.now.descriptors.now) }
     requires slot { sent.now.slot ≡ old.now.slot }
-    requires rest { merged_properties sent.now.descriptors.now old.now.properties ≡ Some new.old.properties }
-    requires fresh { new.old ≡ record (unset old.now.place (merged_service sent.now.descriptors.now old.now.service) old.now.slot) { properties = new.old.properties } }
+    requires rest { merged_properties sent.now.descriptors.now old.now.settings.properties ≡ Some new.old.settings.properties }
+    requires fresh { new.old ≡ record (unset old.now.place (merged_service sent.now.descriptors.now old.now.service) old.now.slot) { settings = record nothing_set { properties = new.old.settings.properties } } }
     requires none { filled.old ≡ [] }
     ensures { IsMergedInto sent.now.rules.now sent.now.descriptors.now old.now new.new filled.new result }
 {
-    let first = merge_stream(alloc, sent, 1, named.first, &old.first, &mut new.first)?;
-    let second = merge_stream(alloc, sent, 2, named.second, &old.second, &mut new.second)?;
-    let third = merge_stream(alloc, sent, 3, named.third, &old.third, &mut new.third)?;
-    let fourth = merge_stream(alloc, sent, 4, named.fourth, &old.fourth, &mut new.fourth)?;
-    tell(alloc, 1, first, &new.first, filled)?;
-    tell(alloc, 2, second, &new.second, filled)?;
-    tell(alloc, 3, third, &new.third, filled)?;
-    tell(alloc, 4, fourth, &new.fourth, filled)?;
-    merge_tails(alloc, named, sent.descriptors, old, new)?;
+    let (before, set) = (&old.settings, &mut new.settings);
+    let streams = &there.streams;
+    let first = merge_stream(alloc, sent, 1, streams.first, before, set)?;
+    let second = merge_stream(alloc, sent, 2, streams.second, before, set)?;
+    let third = merge_stream(alloc, sent, 3, streams.third, before, set)?;
+    let fourth = merge_stream(alloc, sent, 4, streams.fourth, before, set)?;
+    tell(alloc, 1, first, set, filled)?;
+    tell(alloc, 2, second, set, filled)?;
+    tell(alloc, 3, third, set, filled)?;
+    tell(alloc, 4, fourth, set, filled)?;
+    merge_tails(alloc, &there.tails, sent.descriptors, before, set)?;
     Ok(())
+}
+
+/// What is set before streams and tails are: properties, if there are any, with room for so many more.
+fn begun(
+    alloc: Global,
+    properties: Items<HeldProperty>,
+    count: usize,
+) -> Result<Settings, AllocError>
+    requires { count ≤ 8 }
+    ensures { IfOk result (λ settings. settings ≡ record nothing_set { properties = properties }) }
+{
+    if properties.is_empty() {
+        return Settings::with_capacity(alloc, count);
+    }
+    let mut settings = Settings::with_capacity(alloc, count + 1)?;
+    settings.push(Setting::Properties(properties))?;
+    Ok(settings)
 }
 
 /// A record after descriptors.
@@ -121,19 +148,25 @@ impl Termination {
     ) -> Result<Applied, ApplyFault>
         ensures { IsMerged rules.now descriptors.now self.now result }
     {
-        let named = Named::by(descriptors);
-        let own = self.properties.as_slice();
-        let properties = merged_properties(alloc, named.states, descriptors, own)?;
-        let service = merged_service(named.states, descriptors, self.service);
-        let begun = Termination::begun(self.place, service, self.slot, properties);
-        let mut record = Held::new(alloc, begun)?;
+        let mut there = Named::by(descriptors);
+        let own = self.settings.properties();
+        let properties = merged_properties(alloc, there.states, descriptors, own)?;
+        let service = merged_service(there.states, descriptors, self.service);
+        there.note_set(&self.settings);
+        let record = Termination {
+            place: self.place,
+            service,
+            slot: self.slot,
+            settings: begun(alloc, properties, there.count())?,
+        };
+        let mut record = Held::new(alloc, record)?;
         let mut filled = Items::new(alloc);
         let sent = Sent {
             rules,
             slot: self.slot,
             descriptors,
         };
-        merge_into(alloc, &sent, &named, self, record.get_mut(), &mut filled)?;
+        merge_into(alloc, &sent, &there, self, record.get_mut(), &mut filled)?;
         Ok(Applied { record, filled })
     }
 

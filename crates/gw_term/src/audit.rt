@@ -1,52 +1,76 @@
 //! What a termination answers to an Audit.
 
-ghost use Rattle.std.specs.Prelude.{◌≡◌, ◌++◌, IfOk, OnOk};
-ghost use Rattle.gw_term.specs.Audit.{stream_told, streams_told, media_told, tail_told, item_told, word_told};
+ghost use Rattle.std.specs.Prelude.{◌≡◌, ◌≤◌, ◌++◌, IfOk, OnOk};
+ghost use Rattle.gw_term.specs.Audit.{stream_told, media_told, tail_told, item_told, word_told};
+ghost use Rattle.gw_term.specs.Places.{at_number, at_kind, rising};
 
-use crate::copies::{copied_properties, copied_stream, copied_tail};
-use crate::record::{Stream, Termination};
-use gw_base::{Held, Items, NoMemory};
+use crate::copies::copied_if;
+use crate::held::HeldProperty;
+use crate::record::Termination;
+use crate::settings::Settings;
+use gw_base::{Items, NoMemory};
 use gw_desc::{AuditItem, AuditItems, KeptKind, item_of};
-use gw_reply::{AuditReply, KeptTail, MediaReply, ReplyPart, StreamReply};
+use gw_reply::{AuditReply, KeptProperty, MediaReply, ReplyPart, StreamReply};
 use std::alloc::Global;
 
-/// The stream goes last, if it is there.
+/// The properties as they are told.
+fn properties_told(
+    alloc: Global,
+    properties: &[HeldProperty],
+) -> Result<Items<KeptProperty>, NoMemory>
+    ensures { IfOk result (λ told. told ≡ properties.now) }
+{
+    let mut told = Items::new(alloc);
+    for property in properties {
+        told.push(property.told(alloc)?)?;
+    }
+    Ok(told)
+}
+
+/// The stream of this number goes last, if it is there.
 fn push_stream(
     alloc: Global,
     number: u8,
-    stream: &Option<Held<Stream>>,
+    settings: &Settings,
     streams: &mut Items<StreamReply>,
 ) -> Result<(), NoMemory>
-    ensures { OnOk result (streams.new ≡ streams.old ++ stream_told number stream.now) }
+    requires first { 1 ≤ number }
+    requires last { number ≤ 4 }
+    ensures { OnOk result (streams.new ≡ streams.old ++ stream_told number (at_number number settings.now.streams)) }
 {
-    let Some(stream) = stream else {
+    let Some(stream) = settings.stream(number) else {
         return Ok(());
     };
-    let copy = copied_stream(alloc, stream.get())?;
-    streams.push(copy.into_reply(number))?;
+    streams.push(StreamReply {
+        number,
+        mode: stream.mode,
+        properties: properties_told(alloc, stream.properties.as_slice())?,
+        local: copied_if(alloc, &stream.local)?,
+        remote: copied_if(alloc, &stream.remote)?,
+    })?;
     Ok(())
 }
 
 /// The streams that are there go last.
 fn push_streams(
     alloc: Global,
-    termination: &Termination,
+    settings: &Settings,
     streams: &mut Items<StreamReply>,
 ) -> Result<(), NoMemory>
-    ensures { OnOk result (streams.new ≡ streams.old ++ streams_told termination.now) }
+    ensures { OnOk result (streams.new ≡ streams.old ++ rising stream_told settings.now.streams) }
 {
-    push_stream(alloc, 1, &termination.first, streams)?;
-    push_stream(alloc, 2, &termination.second, streams)?;
-    push_stream(alloc, 3, &termination.third, streams)?;
-    push_stream(alloc, 4, &termination.fourth, streams)
+    push_stream(alloc, 1, settings, streams)?;
+    push_stream(alloc, 2, settings, streams)?;
+    push_stream(alloc, 3, settings, streams)?;
+    push_stream(alloc, 4, settings, streams)
 }
 
 fn media_told(alloc: Global, termination: &Termination) -> Result<MediaReply, NoMemory>
     ensures { IfOk result (λ media. media ≡ media_told termination.now) }
 {
-    let properties = copied_properties(alloc, termination.properties.as_slice())?;
+    let properties = properties_told(alloc, termination.settings.properties())?;
     let mut streams = Items::new(alloc);
-    push_streams(alloc, termination, &mut streams)?;
+    push_streams(alloc, &termination.settings, &mut streams)?;
     Ok(MediaReply {
         service: termination.service,
         properties,
@@ -54,16 +78,12 @@ fn media_told(alloc: Global, termination: &Termination) -> Result<MediaReply, No
     })
 }
 
-/// The tail, or the bare word where there is none.
-fn tail_told(
-    alloc: Global,
-    kind: KeptKind,
-    tail: &Option<Held<KeptTail>>,
-) -> Result<ReplyPart, NoMemory>
-    ensures { IfOk result (λ part. part ≡ tail_told kind tail.now) }
+/// The tail of this kind, or the bare word where there is none.
+fn tail_told(alloc: Global, kind: KeptKind, settings: &Settings) -> Result<ReplyPart, NoMemory>
+    ensures { IfOk result (λ part. part ≡ tail_told kind (at_kind kind settings.now.tails)) }
 {
-    match tail {
-        Some(tail) => Ok(ReplyPart::Kept(kind, copied_tail(alloc, tail.get())?)),
+    match settings.tail(kind) {
+        Some(tail) => Ok(ReplyPart::Kept(kind, tail.told(alloc)?)),
         None => Ok(ReplyPart::Bare(AuditItem::Kept(kind))),
     }
 }
@@ -77,20 +97,7 @@ fn item_told(
 {
     match item {
         AuditItem::Media => Ok(ReplyPart::Media(media_told(alloc, termination)?)),
-        AuditItem::Kept(KeptKind::Events) => tail_told(
-            alloc,
-            KeptKind::Events,
-            &termination.events,
-        ),
-        AuditItem::Kept(KeptKind::Signals) => {
-            tail_told(alloc, KeptKind::Signals, &termination.signals)
-        }
-        AuditItem::Kept(KeptKind::DigitMap) => {
-            tail_told(alloc, KeptKind::DigitMap, &termination.digit_map)
-        }
-        AuditItem::Kept(KeptKind::EventBuffer) => {
-            tail_told(alloc, KeptKind::EventBuffer, &termination.event_buffer)
-        }
+        AuditItem::Kept(kind) => tail_told(alloc, kind, &termination.settings),
         AuditItem::Statistics | AuditItem::ObservedEvents | AuditItem::Packages => {
             Ok(ReplyPart::Bare(item))
         }

@@ -1,31 +1,21 @@
 //! What descriptors name of a termination, found in one pass.
 
-ghost use Rattle.std.specs.Prelude.{◌≡◌, []};
-ghost use Rattle.gw_term.specs.Named.{named_by, with_descriptor, with_kind, with_part, with_parts, with_stream};
+ghost use Rattle.std.specs.Prelude.{◌≡◌, ◌≤◌, []};
+ghost use Rattle.gw_term.specs.Named.{named_by, with_descriptor, with_part, with_parts, with_place, with_set};
 
-use gw_desc::{Descriptor, KeptKind, MediaPart};
+use crate::places::{PerKind, PerStream};
+use crate::settings::{Setting, Settings};
+use gw_desc::{Descriptor, MediaPart};
 
 /// What descriptors name.
 #[derive(Clone, Copy)]
 pub(crate) struct Named {
-    /// Stream 1.
-    pub first: bool,
-    /// Stream 2.
-    pub second: bool,
-    /// Stream 3.
-    pub third: bool,
-    /// Stream 4.
-    pub fourth: bool,
+    /// The streams.
+    pub streams: PerStream<bool>,
     /// The properties or the service state: a TerminationState is there.
     pub states: bool,
-    /// Events.
-    pub events: bool,
-    /// Signals.
-    pub signals: bool,
-    /// A DigitMap.
-    pub digit_map: bool,
-    /// An EventBuffer.
-    pub event_buffer: bool,
+    /// The tails.
+    pub tails: PerKind<bool>,
 }
 
 impl Named {
@@ -34,40 +24,19 @@ impl Named {
         ensures { result ≡ named_by [] }
     {
         Named {
-            first: false,
-            second: false,
-            third: false,
-            fourth: false,
+            streams: PerStream {
+                first: false,
+                second: false,
+                third: false,
+                fourth: false,
+            },
             states: false,
-            events: false,
-            signals: false,
-            digit_map: false,
-            event_buffer: false,
-        }
-    }
-
-    /// The stream of this number is named too.
-    fn note_stream(&mut self, number: u16)
-        ensures { self.new ≡ with_stream number self.old }
-    {
-        match number {
-            1 => self.first = true,
-            2 => self.second = true,
-            3 => self.third = true,
-            4 => self.fourth = true,
-            _ => {}
-        }
-    }
-
-    /// Tails of this kind are named too.
-    fn note_kind(&mut self, kind: KeptKind)
-        ensures { self.new ≡ with_kind kind self.old }
-    {
-        match kind {
-            KeptKind::Events => self.events = true,
-            KeptKind::Signals => self.signals = true,
-            KeptKind::DigitMap => self.digit_map = true,
-            KeptKind::EventBuffer => self.event_buffer = true,
+            tails: PerKind {
+                events: false,
+                signals: false,
+                digit_map: false,
+                event_buffer: false,
+            },
         }
     }
 
@@ -76,8 +45,8 @@ impl Named {
         ensures { self.new ≡ with_part part.now self.old }
     {
         match part {
-            MediaPart::Outside(_) => self.first = true,
-            MediaPart::Stream(number, _) => self.note_stream(*number),
+            MediaPart::Outside(_) => self.streams.put(1, true),
+            MediaPart::Stream(number, _) => self.streams.put(*number, true),
             MediaPart::TerminationState(_) => self.states = true,
         }
     }
@@ -96,7 +65,7 @@ impl Named {
     {
         match descriptor {
             Descriptor::Media(parts) => self.note_parts(parts.as_slice()),
-            Descriptor::Keep(kind, _) => self.note_kind(*kind),
+            Descriptor::Keep(kind, _) => self.tails.put(*kind, true),
             _ => {}
         }
     }
@@ -110,5 +79,41 @@ impl Named {
             named.note(descriptor);
         }
         named
+    }
+
+    /// A stream or a tail that was set is named too.
+    fn note_setting(&mut self, setting: &Setting)
+        ensures { self.new ≡ with_place setting.now self.old }
+    {
+        match setting {
+            Setting::Properties(_) => {}
+            Setting::Stream(number, _) => self.streams.put(u16::from(*number), true),
+            Setting::Tail(kind, _) => self.tails.put(*kind, true),
+        }
+    }
+
+    /// The streams and tails that were set are named too: these and no others may be there after the descriptors.
+    pub(crate) fn note_set(&mut self, set: &Settings)
+        ensures { self.new ≡ with_set set.now self.old }
+    {
+        for setting in set.list() {
+            self.note_setting(setting);
+        }
+    }
+
+    /// How many streams and tails are named.
+    pub(crate) fn count(&self) -> usize
+        ensures { result ≤ 8 }
+    {
+        let streams = self.streams;
+        let tails = self.tails;
+        usize::from(streams.first)
+            + usize::from(streams.second)
+            + usize::from(streams.third)
+            + usize::from(streams.fourth)
+            + usize::from(tails.events)
+            + usize::from(tails.signals)
+            + usize::from(tails.digit_map)
+            + usize::from(tails.event_buffer)
     }
 }

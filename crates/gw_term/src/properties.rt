@@ -6,23 +6,23 @@ ghost use Rattle.gw_term.specs.Named.{has_states};
 ghost use Rattle.gw_term.specs.Merge.{property_place, put_property, put_state, service_after, last_service, merged_service, merged_properties, states_in, states_in_part, media_parts, each};
 ghost use Rattle.gw_term.specs.Applies.{Becomes, Yields};
 
-use crate::copies::{copied_properties, property_of};
+use crate::copies::copied_properties;
 use crate::fault::ApplyFault;
+use crate::held::HeldProperty;
 use gw_base::{Code, Items, Service, Span};
 use gw_desc::{Descriptor, MediaPart, Property, is_service_states, service_set_by};
-use gw_reply::KeptProperty;
 use std::alloc::Global;
 
 /// How many properties a list may hold (own to this profile).
 const MOST_PROPERTIES: usize = 32;
 
 /// The place of the property of this name, in any case, or the length of the list.
-fn property_place(name: &[u8], list: &[KeptProperty]) -> usize
+fn property_place(name: &[u8], list: &[HeldProperty]) -> usize
     ensures value { result ≡ property_place name.now list.now }
     ensures within { result ≤ length list.now }
 {
     for (i, property) in list.iter().enumerate() {
-        if property.name.as_slice().eq_ignore_ascii_case(name) {
+        if property.name().eq_ignore_ascii_case(name) {
             return i;
         }
     }
@@ -33,7 +33,7 @@ fn property_place(name: &[u8], list: &[KeptProperty]) -> usize
 pub(crate) fn put_property(
     alloc: Global,
     property: &Property<Span<'_>>,
-    list: &mut Items<KeptProperty>,
+    list: &mut Items<HeldProperty>,
 ) -> Result<(), ApplyFault>
     ensures { Becomes result list.new (put_property property.now list.old) }
 {
@@ -42,7 +42,7 @@ pub(crate) fn put_property(
     if !is_there && list.len() >= MOST_PROPERTIES {
         return Err(ApplyFault::Code(Code::InsufficientResources));
     }
-    let kept = property_of(
+    let kept = HeldProperty::of(
         alloc,
         property.name.as_bytes(),
         property.sign,
@@ -60,7 +60,7 @@ pub(crate) fn put_property(
 fn put_state(
     alloc: Global,
     property: &Property<Span<'_>>,
-    list: &mut Items<KeptProperty>,
+    list: &mut Items<HeldProperty>,
 ) -> Result<(), ApplyFault>
     ensures { Becomes result list.new (put_state property.now list.old) }
 {
@@ -73,7 +73,7 @@ fn put_state(
 fn put_states(
     alloc: Global,
     properties: &[Property<Span<'_>>],
-    list: &mut Items<KeptProperty>,
+    list: &mut Items<HeldProperty>,
 ) -> Result<(), ApplyFault>
     ensures { Becomes result list.new (each put_state properties.now list.old) }
 {
@@ -106,7 +106,7 @@ pub(crate) fn media_parts<'a, 'b>(descriptor: &'b Descriptor<'a>) -> &'b [MediaP
 fn put_states_of(
     alloc: Global,
     parts: &[MediaPart<'_>],
-    list: &mut Items<KeptProperty>,
+    list: &mut Items<HeldProperty>,
 ) -> Result<(), ApplyFault>
     ensures { Becomes result list.new (each put_state (flat_map states_in_part parts.now) list.old) }
 {
@@ -119,7 +119,7 @@ fn put_states_of(
 fn put_all_states(
     alloc: Global,
     descriptors: &[Descriptor<'_>],
-    list: &mut Items<KeptProperty>,
+    list: &mut Items<HeldProperty>,
 ) -> Result<(), ApplyFault>
     ensures { Becomes result list.new (each put_state (flat_map states_in descriptors.now) list.old) }
 {
@@ -135,8 +135,8 @@ pub(crate) fn merged_properties(
     alloc: Global,
     is_named: bool,
     descriptors: &[Descriptor<'_>],
-    old: &[KeptProperty],
-) -> Result<Items<KeptProperty>, ApplyFault>
+    old: &[HeldProperty],
+) -> Result<Items<HeldProperty>, ApplyFault>
     requires { is_named ≡ list_any has_states descriptors.now }
     ensures { Yields result (merged_properties descriptors.now old.now) }
 {

@@ -2,9 +2,10 @@
 
 ghost use Rattle.std.specs.Prelude.{◌≡◌};
 
-use gw_base::{CtxNum, Held, Items, Service};
+use crate::held::HeldProperty;
+use crate::settings::Settings;
+use gw_base::{CtxNum, Items, Service};
 use gw_desc::Mode;
-use gw_reply::{KeptProperty, KeptTail, StreamReply};
 use std::alloc::Global;
 
 /// A stream of a termination (RFC 3525, sections 7.1.6 and 7.1.7).
@@ -12,7 +13,7 @@ pub struct Stream {
     /// Its mode.
     pub mode: Mode,
     /// The properties of its LocalControl but Mode: at most 32.
-    pub properties: Items<KeptProperty>,
+    pub properties: Items<HeldProperty>,
     /// Its Local, if there is one.
     pub local: Option<Items<u8>>,
     /// Its Remote, if there is one.
@@ -31,28 +32,7 @@ impl Drop for Stream {
     }
 }
 
-impl Stream {
-    /// The stream, as it is told under this number.
-    pub(crate) fn into_reply(self, number: u8) -> StreamReply
-        ensures { result ≡ record { number = number; mode = self.mode; properties = self.properties; local = self.local; remote = self.remote } }
-    {
-        let Stream {
-            mode,
-            properties,
-            local,
-            remote,
-        } = self;
-        StreamReply {
-            number,
-            mode,
-            properties,
-            local,
-            remote,
-        }
-    }
-}
-
-/// What is kept of a termination (RFC 3525, section 6.2). Streams and tails lie in blocks of their own: most terminations have few.
+/// What is kept of a termination (RFC 3525, section 6.2).
 pub struct Termination {
     /// The context that it is in, or none for the null context.
     pub place: Option<CtxNum>,
@@ -60,47 +40,19 @@ pub struct Termination {
     pub service: Service,
     /// Its slot, below 4,096, if it is an ephemeral one.
     pub slot: Option<u16>,
-    /// The properties of its TerminationState but ServiceStates: at most 32.
-    pub properties: Items<KeptProperty>,
-    /// Stream 1, if it has one.
-    pub first: Option<Held<Stream>>,
-    /// Stream 2, if it has one.
-    pub second: Option<Held<Stream>>,
-    /// Stream 3, if it has one.
-    pub third: Option<Held<Stream>>,
-    /// Stream 4, if it has one.
-    pub fourth: Option<Held<Stream>>,
-    /// What it keeps of Events, if anything.
-    pub events: Option<Held<KeptTail>>,
-    /// What it keeps of Signals, if anything.
-    pub signals: Option<Held<KeptTail>>,
-    /// What it keeps of a DigitMap, if anything.
-    pub digit_map: Option<Held<KeptTail>>,
-    /// What it keeps of an EventBuffer, if anything.
-    pub event_buffer: Option<Held<KeptTail>>,
+    /// What was set of it: properties, streams and tails.
+    pub settings: Settings,
 }
 
-// As for a stream; and each tail goes by one call more.
+// As for a stream.
 impl Drop for Termination {
     fn drop(self) {
         let Termination {
             place: _,
             service: _,
             slot: _,
-            properties: _,
-            first: _,
-            second: _,
-            third: _,
-            fourth: _,
-            events,
-            signals,
-            digit_map,
-            event_buffer,
+            settings: _,
         } = self;
-        drop(events);
-        drop(signals);
-        drop(digit_map);
-        drop(event_buffer);
     }
 }
 
@@ -116,31 +68,11 @@ impl Termination {
     ) -> Termination
         ensures { result ≡ unset place service slot }
     {
-        Termination::begun(place, service, slot, Items::new(alloc))
-    }
-
-    /// A termination with these properties, and no streams and tails.
-    pub(crate) fn begun(
-        place: Option<CtxNum>,
-        service: Service,
-        slot: Option<u16>,
-        properties: Items<KeptProperty>,
-    ) -> Termination
-        ensures { result ≡ record (unset place service slot) { properties = properties } }
-    {
         Termination {
             place,
             service,
             slot,
-            properties,
-            first: None,
-            second: None,
-            third: None,
-            fourth: None,
-            events: None,
-            signals: None,
-            digit_map: None,
-            event_buffer: None,
+            settings: Settings::new(alloc),
         }
     }
 
@@ -190,7 +122,7 @@ impl Termination {
     pub fn reset(&mut self)
         ensures { self.new ≡ reset self.old }
     {
-        let alloc = self.properties.allocator();
+        let alloc = self.settings.allocator();
         *self = Termination::unset(alloc, None, self.service, self.slot);
     }
 }

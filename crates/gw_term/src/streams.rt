@@ -1,16 +1,20 @@
 //! Streams: what the parts of a Media do to each.
 
-ghost use Rattle.std.specs.Prelude.{◌≡◌, ◌≤◌, IfOk, None, true};
+ghost use Rattle.std.specs.Prelude.{◌≡◌, ◌≤◌, IfOk, OnOk, None, true};
+ghost use Rattle.std.specs.Option.{is_some, option_copied};
+ghost use Rattle.gw_term.specs.Named.{noted};
 ghost use Rattle.gw_desc.specs.declared.descriptor.StreamPart.TheVariants.{Local};
 ghost use Rattle.std.specs.List.{flat_map, list_any};
 ghost use Rattle.gw_term.specs.Merge.{put_control, local_text, is_filled, put_part, begun, parts_in, parts_in_part, is_named_in, merged_stream, each};
 ghost use Rattle.gw_term.specs.Applies.{Becomes, IsStreamMerged};
+ghost use Rattle.gw_term.specs.Places.{at_number, put_number};
 
-use crate::copies::{copied_stream, copy_stream, put};
+use crate::copies::{copied_stream, put};
 use crate::fault::ApplyFault;
 use crate::properties::{media_parts, put_property};
 use crate::record::Stream;
-use gw_base::{Held, Items, NoMemory, Rules, Span};
+use crate::settings::{Setting, Settings};
+use gw_base::{Items, NoMemory, Rules, Span};
 use gw_desc::{
     Descriptor, MediaPart, Mode, Property, StreamPart, fill_local, is_mode, mode_set_by,
 };
@@ -19,7 +23,7 @@ use std::alloc::Global;
 /// A stream while descriptors are merged into it.
 pub(crate) struct Merging {
     /// The stream.
-    pub stream: Held<Stream>,
+    pub stream: Stream,
     /// Whether its Local was filled.
     pub filled: bool,
 }
@@ -36,7 +40,7 @@ impl Drop for Merging {
 
 impl Merging {
     /// The stream, without what was noted of it.
-    pub(crate) fn into_stream(self) -> Held<Stream>
+    pub(crate) fn into_stream(self) -> Stream
         ensures { result ≡ self.stream }
     {
         let Merging { stream, filled: _ } = self;
@@ -97,10 +101,7 @@ fn put_local(
         Some(slot) => fill_local(alloc, text, &sent.rules.media, slot, number)?,
         None => (Vec::from_slice(alloc, text)?, false),
     };
-    put(
-        &mut merging.stream.get_mut().local,
-        Some(Items::from(local)),
-    );
+    put(&mut merging.stream.local, Some(Items::from(local)));
     merging.filled = filled;
     Ok(())
 }
@@ -121,11 +122,11 @@ fn put_part(
         StreamPart::Local(text) => put_local(alloc, sent, number, text.as_bytes(), merging),
         StreamPart::Remote(text) => {
             let remote = Items::from_slice(alloc, text.as_bytes())?;
-            put(&mut merging.stream.get_mut().remote, Some(remote));
+            put(&mut merging.stream.remote, Some(remote));
             Ok(())
         }
         StreamPart::LocalControl(properties) => {
-            put_controls(alloc, properties.as_slice(), merging.stream.get_mut())
+            put_controls(alloc, properties.as_slice(), &mut merging.stream)
         }
     }
 }
@@ -185,7 +186,7 @@ fn put_media(
     Ok(())
 }
 
-fn put_all(
+pub(crate) fn put_all(
     alloc: Global,
     sent: &Sent<'_, '_>,
     number: u8,
@@ -202,11 +203,11 @@ fn put_all(
 }
 
 /// A copy of the stream, or a new one where there was none: in mode Inactive, and nothing else.
-fn begun(alloc: Global, old: &Option<Held<Stream>>) -> Result<Merging, NoMemory>
-    ensures { IfOk result (λ merging. merging ≡ begun old.now) }
+pub(crate) fn begun(alloc: Global, old: Option<&Stream>) -> Result<Merging, NoMemory>
+    ensures { IfOk result (λ merging. merging ≡ begun (option_copied old.entry)) }
 {
     let stream = match old {
-        Some(stream) => copied_stream(alloc, stream.get())?,
+        Some(stream) => copied_stream(alloc, stream)?,
         None => Stream {
             mode: Mode::Inactive,
             properties: Items::new(alloc),
@@ -215,55 +216,55 @@ fn begun(alloc: Global, old: &Option<Held<Stream>>) -> Result<Merging, NoMemory>
         },
     };
     Ok(Merging {
-        stream: Held::new(alloc, stream)?,
+        stream,
         filled: false,
     })
 }
 
-/// The stream of this number, which is named, after the descriptors is put in a place; whether its Local was filled. Not inlined,
-/// since most streams are not named.
+/// The stream of this number, which is named or there, after the descriptors is set; whether its Local was filled. Not inlined,
+/// since most streams are neither.
 #[inline(never)]
-#[tactic(auto, unfolding(crate::specs::Merge::merged_stream))]
-fn merge_named(
+#[tactic(auto, using(crate::proofs::StreamsFound::merged_there))]
+fn merge_there(
     alloc: Global,
     sent: &Sent<'_, '_>,
     number: u8,
-    old: &Option<Held<Stream>>,
-    new: &mut Option<Held<Stream>>,
+    old: &Settings,
+    new: &mut Settings,
 ) -> Result<bool, ApplyFault>
     requires first { 1 ≤ number }
     requires last { number ≤ 4 }
-    requires named { list_any (is_named_in number) sent.now.descriptors.now ≡ true }
-    ensures { IsStreamMerged result new.new (merged_stream sent.now.rules.now sent.now.slot number sent.now.descriptors.now old.now) }
+    requires there { noted (is_some (at_number number old.now.streams)) (list_any (is_named_in number) sent.now.descriptors.now) ≡ true }
+    ensures merged { IsStreamMerged result (at_number number new.new.streams) (merged_stream sent.now.rules.now sent.now.slot number sent.now.descriptors.now (at_number number old.now.streams)) }
+    ensures rest { OnOk result (new.new ≡ record new.old { streams = put_number number (at_number number new.new.streams) new.old.streams }) }
 {
-    let mut merging = begun(alloc, old)?;
+    let mut merging = begun(alloc, old.stream(number))?;
     put_all(alloc, sent, number, &mut merging)?;
     let filled = merging.filled;
-    put(new, Some(merging.into_stream()));
+    new.push(Setting::Stream(number, merging.into_stream()))?;
     Ok(filled)
 }
 
-/// The stream of this number after the descriptors is put in an empty place; whether its Local was filled. One that is not named
-/// is copied, if it is there.
+/// The stream of this number after the descriptors is set, if there is one then; whether its Local was filled.
 #[inline]
 #[tactic(auto, unfolding(crate::specs::Merge::merged_stream))]
 pub(crate) fn merge_stream(
     alloc: Global,
     sent: &Sent<'_, '_>,
     number: u8,
-    is_named: bool,
-    old: &Option<Held<Stream>>,
-    new: &mut Option<Held<Stream>>,
+    is_there: bool,
+    old: &Settings,
+    new: &mut Settings,
 ) -> Result<bool, ApplyFault>
     requires first { 1 ≤ number }
     requires last { number ≤ 4 }
-    requires named { is_named ≡ list_any (is_named_in number) sent.now.descriptors.now }
-    requires empty { new.old ≡ None }
-    ensures { IsStreamMerged result new.new (merged_stream sent.now.rules.now sent.now.slot number sent.now.descriptors.now old.now) }
+    requires there { is_there ≡ noted (is_some (at_number number old.now.streams)) (list_any (is_named_in number) sent.now.descriptors.now) }
+    requires empty { at_number number new.old.streams ≡ None }
+    ensures merged { IsStreamMerged result (at_number number new.new.streams) (merged_stream sent.now.rules.now sent.now.slot number sent.now.descriptors.now (at_number number old.now.streams)) }
+    ensures rest { OnOk result (new.new ≡ record new.old { streams = put_number number (at_number number new.new.streams) new.old.streams }) }
 {
-    if is_named {
-        return merge_named(alloc, sent, number, old, new);
+    if is_there {
+        return merge_there(alloc, sent, number, old, new);
     }
-    copy_stream(alloc, old, new)?;
     Ok(false)
 }

@@ -3,18 +3,18 @@
 ghost use Rattle.std.specs.Prelude.{◌≡◌, bytes_eq, codes, IfOk, OnOk, None};
 ghost use Rattle.gw_text.specs.SpaceScan.{skip};
 ghost use Rattle.std.specs.List.{list_any};
+ghost use Rattle.std.specs.Option.{is_some};
+ghost use Rattle.gw_term.specs.Named.{noted};
 ghost use Rattle.gw_desc.specs.Checks.{is_kept};
-ghost use Rattle.gw_desc.specs.declared.descriptor.KeptKind.TheVariants.{Events, Signals, DigitMap, EventBuffer};
-ghost use Rattle.gw_term.specs.Applies.{HasNoTails};
-ghost use Rattle.gw_term.specs.Named.{named_by};
+ghost use Rattle.gw_term.specs.Places.{at_kind, put_kind, of_kinds};
 ghost use Rattle.gw_term.specs.Merge.{has_blank_inside, is_blank_group, kept_tail, merged_tail, tail_after};
 
-use crate::copies::{copy_tail, owned_tail, put};
-use crate::named::Named;
-use crate::record::Termination;
-use gw_base::{Held, Span};
+use crate::copies::put;
+use crate::held::HeldTail;
+use crate::places::PerKind;
+use crate::settings::{Setting, Settings};
+use gw_base::Span;
 use gw_desc::{Descriptor, KeptKind, Tail, same_kept};
-use gw_reply::KeptTail;
 use gw_text::Cursor;
 use std::alloc::{AllocError, Global};
 
@@ -48,13 +48,13 @@ fn is_blank_group(group: &Option<Span<'_>>) -> bool
 }
 
 /// What is kept of a tail: nothing of one without `=` that has no group, or a blank one.
-fn kept_tail(alloc: Global, tail: &Tail<Span<'_>>) -> Result<Option<Held<KeptTail>>, AllocError>
+fn kept_tail(alloc: Global, tail: &Tail<Span<'_>>) -> Result<Option<HeldTail>, AllocError>
     ensures { IfOk result (λ kept. kept ≡ kept_tail tail.now) }
 {
     if !tail.equals && is_blank_group(&tail.group) {
         return Ok(None);
     }
-    Ok(Some(Held::new(alloc, owned_tail(alloc, tail)?)?))
+    Ok(Some(HeldTail::of(alloc, tail)?))
 }
 
 /// The tail after a descriptor.
@@ -62,7 +62,7 @@ fn put_tail(
     alloc: Global,
     kind: KeptKind,
     descriptor: &Descriptor<'_>,
-    tail: &mut Option<Held<KeptTail>>,
+    tail: &mut Option<HeldTail>,
 ) -> Result<(), AllocError>
     ensures { OnOk result (tail.new ≡ tail_after kind descriptor.now tail.old) }
 {
@@ -74,89 +74,81 @@ fn put_tail(
     Ok(())
 }
 
-/// The tail of this kind after the descriptors, one of which names it, is put in an empty place. Not inlined, since most tails are
-/// not named.
-#[inline(never)]
-fn merge_named(
+/// The tail after descriptors.
+pub(crate) fn put_tails(
     alloc: Global,
     kind: KeptKind,
     descriptors: &[Descriptor<'_>],
-    old: &Option<Held<KeptTail>>,
-    new: &mut Option<Held<KeptTail>>,
+    tail: &mut Option<HeldTail>,
 ) -> Result<(), AllocError>
-    requires { new.old ≡ None }
-    ensures { OnOk result (new.new ≡ merged_tail kind descriptors.now old.now) }
+    ensures { OnOk result (tail.new ≡ merged_tail kind descriptors.now tail.old) }
 {
-    copy_tail(alloc, old, new)?;
     for descriptor in descriptors {
-        put_tail(alloc, kind, descriptor, new)?;
+        put_tail(alloc, kind, descriptor, tail)?;
     }
     Ok(())
 }
 
-/// The tail of this kind after the descriptors is put in an empty place. One that is not named is copied, if it is there.
+/// The tail of this kind after the descriptors is set, if there is one then. Not inlined, since most tails are neither named nor
+/// there.
+#[inline(never)]
+fn merge_there(
+    alloc: Global,
+    kind: KeptKind,
+    descriptors: &[Descriptor<'_>],
+    old: &Settings,
+    new: &mut Settings,
+) -> Result<(), AllocError>
+    requires { at_kind kind new.old.tails ≡ None }
+    ensures { OnOk result (new.new ≡ record new.old { tails = put_kind kind (merged_tail kind descriptors.now (at_kind kind old.now.tails)) new.old.tails }) }
+{
+    let mut tail = match old.tail(kind) {
+        Some(tail) => Some(tail.copied(alloc)?),
+        None => None,
+    };
+    put_tails(alloc, kind, descriptors, &mut tail)?;
+    if let Some(tail) = tail {
+        new.push(Setting::Tail(kind, tail))?;
+    }
+    Ok(())
+}
+
+/// The same, where it is known whether the tail is named or there.
 #[inline]
 #[tactic(auto, using(crate::proofs::Naming::tail_stays))]
 fn merge_tail(
     alloc: Global,
     kind: KeptKind,
-    is_named: bool,
+    is_there: bool,
     descriptors: &[Descriptor<'_>],
-    old: &Option<Held<KeptTail>>,
-    new: &mut Option<Held<KeptTail>>,
+    old: &Settings,
+    new: &mut Settings,
 ) -> Result<(), AllocError>
-    requires named { is_named ≡ list_any (is_kept kind) descriptors.now }
-    requires empty { new.old ≡ None }
-    ensures { OnOk result (new.new ≡ merged_tail kind descriptors.now old.now) }
+    requires there { is_there ≡ noted (is_some (at_kind kind old.now.tails)) (list_any (is_kept kind) descriptors.now) }
+    requires empty { at_kind kind new.old.tails ≡ None }
+    ensures { OnOk result (new.new ≡ record new.old { tails = put_kind kind (merged_tail kind descriptors.now (at_kind kind old.now.tails)) new.old.tails }) }
 {
-    if is_named {
-        return merge_named(alloc, kind, descriptors, old, new);
+    if is_there {
+        return merge_there(alloc, kind, descriptors, old, new);
     }
-    copy_tail(alloc, old, new)
+    Ok(())
 }
 
-/// The tails after the descriptors are put in a record that has none.
+/// The tails after the descriptors are set, where none are.
 pub(crate) fn merge_tails(
     alloc: Global,
-    named: &Named,
+    there: &PerKind<bool>,
     descriptors: &[Descriptor<'_>],
-    old: &Termination,
-    new: &mut Termination,
+    old: &Settings,
+    new: &mut Settings,
 ) -> Result<(), AllocError>
-    requires named { named.now ≡ named_by descriptors.now }
-    requires empty { HasNoTails new.old }
-    ensures { OnOk result (new.new ≡ record new.old { events = merged_tail Events descriptors.now old.now.events; signals = merged_tail Signals descriptors.now old.now.signals; digit_map = merged_tail DigitMap descriptors.now old.now.digit_map; event_buffer = merged_tail EventBuffer descriptors.now old.now.event_buffer }) }
+    requires there { there.now ≡ of_kinds (λ kind. noted (is_some (at_kind kind old.now.tails)) (list_any (is_kept kind) descriptors.now)) }
+    requires empty { new.old.tails ≡ of_kinds (λ _. None) }
+    ensures { OnOk result (new.new ≡ record new.old { tails = of_kinds (λ kind. merged_tail kind descriptors.now (at_kind kind old.now.tails)) }) }
 {
-    merge_tail(
-        alloc,
-        KeptKind::Events,
-        named.events,
-        descriptors,
-        &old.events,
-        &mut new.events,
-    )?;
-    merge_tail(
-        alloc,
-        KeptKind::Signals,
-        named.signals,
-        descriptors,
-        &old.signals,
-        &mut new.signals,
-    )?;
-    merge_tail(
-        alloc,
-        KeptKind::DigitMap,
-        named.digit_map,
-        descriptors,
-        &old.digit_map,
-        &mut new.digit_map,
-    )?;
-    merge_tail(
-        alloc,
-        KeptKind::EventBuffer,
-        named.event_buffer,
-        descriptors,
-        &old.event_buffer,
-        &mut new.event_buffer,
-    )
+    let (t, d) = (there, descriptors);
+    merge_tail(alloc, KeptKind::Events, t.events, d, old, new)?;
+    merge_tail(alloc, KeptKind::Signals, t.signals, d, old, new)?;
+    merge_tail(alloc, KeptKind::DigitMap, t.digit_map, d, old, new)?;
+    merge_tail(alloc, KeptKind::EventBuffer, t.event_buffer, d, old, new)
 }

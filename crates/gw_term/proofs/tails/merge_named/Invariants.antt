@@ -1,7 +1,0 @@
-use Rattle.std.proofs.Common.{◌≡◌, drop}
-use Rattle.gw_term.specs.Merge.{merged_tail}
-use Rattle.gw_term.proofs.tails.merge_named.Given as goal
-
--- what is left does the rest
-abbrev pub invariant-loop-descriptor : goal.invariant-loop-descriptor
-invariant-loop-descriptor l = merged_tail l.kind l.descriptors l.old ≡ merged_tail l.kind (drop l.descriptor-index l.descriptors) l.new

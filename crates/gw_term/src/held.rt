@@ -1,0 +1,177 @@
+//! What is kept of a property and of a tail, with the texts of each in one block.
+
+ghost use Rattle.std.specs.Prelude.{◌≡◌, ◌++◌, if◌then◌else◌, IfOk, None, Some};
+ghost use Rattle.gw_term.specs.HeldTexts.{text_of};
+
+use gw_base::{Items, Span};
+use gw_desc::{Property, Sign, Tail};
+use gw_reply::{KeptProperty, KeptTail};
+use std::alloc::{AllocError, Global};
+use std::marker::Model;
+
+/// The two texts, the one behind the other, with no room for more.
+fn joined(alloc: Global, first: &[u8], second: &[u8]) -> Result<Vec<u8>, AllocError>
+    ensures { IfOk result (λ texts. texts.items ≡ first.now ++ second.now) }
+{
+    let mut texts = Vec::with_capacity(alloc, first.len() + second.len())?;
+    texts.extend_from_slice(first)?;
+    texts.extend_from_slice(second)?;
+    Ok(texts)
+}
+
+/// A property that is kept: its name and its value stand in one block, the name first. Contracts see the property.
+#[derive(Drop)]
+pub struct HeldProperty {
+    sign: Sign,
+    texts: Vec<u8>,
+    /// How long the name is: where the value begins.
+    split: usize,
+}
+
+impl Model for HeldProperty {
+    ghost use Rattle.std.specs.Prelude.{◌≤◌, ℕ, List, length};
+    ghost use Rattle.gw_desc.specs.declared.descriptor.Property.{Property as PropertyOf};
+    ghost use Rattle.gw_term.specs.HeldTexts.{split_property};
+
+    ghost Value = { PropertyOf (List ℕ) };
+
+    ghost view = { λ p. split_property p.sign p.split p.texts.items };
+
+    ghost invariant = { λ p. p.split ≤ length p.texts.items };
+}
+
+impl HeldProperty {
+    /// A property with copies of these texts.
+    pub(crate) fn of(
+        alloc: Global,
+        name: &[u8],
+        sign: Sign,
+        value: &[u8],
+    ) -> Result<HeldProperty, AllocError>
+        ensures { IfOk result (λ held. held ≡ record { name = name.now; sign = sign; value = value.now }) }
+    {
+        Ok(HeldProperty {
+            sign,
+            texts: joined(alloc, name, value)?,
+            split: name.len(),
+        })
+    }
+
+    /// Its name.
+    pub(crate) fn name(&self) -> &[u8]
+        ensures { result.now ≡ self.now.name }
+    {
+        &self.texts[..self.split]
+    }
+
+    /// A copy of the property.
+    pub(crate) fn copied(&self, alloc: Global) -> Result<HeldProperty, AllocError>
+        ensures { IfOk result (λ copy. copy ≡ self.now) }
+    {
+        Ok(HeldProperty {
+            sign: self.sign,
+            texts: Vec::from_slice(alloc, self.texts.as_slice())?,
+            split: self.split,
+        })
+    }
+
+    /// The property as it is told, with copies of its texts.
+    pub(crate) fn told(&self, alloc: Global) -> Result<KeptProperty, AllocError>
+        ensures { IfOk result (λ told. told ≡ self.now) }
+    {
+        let (name, value) = self.texts.split_at(self.split);
+        let name = Items::from_slice(alloc, name)?;
+        let value = Items::from_slice(alloc, value)?;
+        Ok(Property {
+            name,
+            sign: self.sign,
+            value,
+        })
+    }
+}
+
+/// A tail that is kept: its word and its group stand in one block, the word first. Contracts see the tail.
+#[derive(Drop)]
+pub struct HeldTail {
+    equals: bool,
+    has_word: bool,
+    has_group: bool,
+    texts: Vec<u8>,
+    /// How long the word is: where the group begins.
+    split: usize,
+}
+
+impl Model for HeldTail {
+    ghost use Rattle.std.specs.Prelude.{◌≤◌, ℕ, List, length};
+    ghost use Rattle.gw_desc.specs.declared.descriptor.Tail.{Tail as TailOf};
+    ghost use Rattle.gw_term.specs.HeldTexts.{split_tail};
+
+    ghost Value = { TailOf (List ℕ) };
+
+    ghost view = { λ t. split_tail t.equals t.has_word t.has_group t.split t.texts.items };
+
+    ghost invariant = { λ t. t.split ≤ length t.texts.items };
+}
+
+/// The text, or none.
+fn text_of<'a>(text: &Option<Span<'a>>) -> &'a [u8]
+    ensures { result.now ≡ text_of text.now }
+{
+    match text {
+        Some(text) => text.as_bytes(),
+        None => &[],
+    }
+}
+
+/// A text of its own, if it is there.
+fn kept_if(alloc: Global, is_there: bool, text: &[u8]) -> Result<Option<Items<u8>>, AllocError>
+    ensures { IfOk result (λ kept. kept ≡ (if is_there then Some text.now else None)) }
+{
+    if is_there {
+        Ok(Some(Items::from_slice(alloc, text)?))
+    } else {
+        Ok(None)
+    }
+}
+
+impl HeldTail {
+    /// The tail, with copies of its texts.
+    pub(crate) fn of(alloc: Global, tail: &Tail<Span<'_>>) -> Result<HeldTail, AllocError>
+        ensures { IfOk result (λ held. held ≡ tail.now) }
+    {
+        let word = text_of(&tail.word);
+        let texts = joined(alloc, word, text_of(&tail.group))?;
+        Ok(HeldTail {
+            equals: tail.equals,
+            has_word: tail.word.is_some(),
+            has_group: tail.group.is_some(),
+            texts,
+            split: word.len(),
+        })
+    }
+
+    /// A copy of the tail.
+    pub(crate) fn copied(&self, alloc: Global) -> Result<HeldTail, AllocError>
+        ensures { IfOk result (λ copy. copy ≡ self.now) }
+    {
+        Ok(HeldTail {
+            equals: self.equals,
+            has_word: self.has_word,
+            has_group: self.has_group,
+            texts: Vec::from_slice(alloc, self.texts.as_slice())?,
+            split: self.split,
+        })
+    }
+
+    /// The tail as it is told, with copies of its texts.
+    pub(crate) fn told(&self, alloc: Global) -> Result<KeptTail, AllocError>
+        ensures { IfOk result (λ told. told ≡ self.now) }
+    {
+        let (word, group) = self.texts.split_at(self.split);
+        Ok(Tail {
+            equals: self.equals,
+            word: kept_if(alloc, self.has_word, word)?,
+            group: kept_if(alloc, self.has_group, group)?,
+        })
+    }
+}
