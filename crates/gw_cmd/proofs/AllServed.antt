@@ -1,46 +1,80 @@
--- A ServiceChange of all terminations of the null context that match: what comes of it.
-use Rattle.std.proofs.Common.{◌≡◌, ℕ, nat_eq, Bool, true, false, cond, List, [], ◌∷◌, map, Option, None, Result, bytes_eq, refl, sym, ap, ◌∙◌}
-use Rattle.std.specs.Prelude.{◌&&◌}
-use Rattle.std.specs.List.{filter, starts_with}
+-- A ServiceChange or a Modify of all terminations of the null context that match: what comes of it.
+use Rattle.std.proofs.Common.{◌≡◌, ◌==◌, eqb-true, arith, length, ℕ, nat_eq, Bool, true, false, cond, List, [], ◌∷◌, ◌++◌, map, Option, None, Some, Result, Ok, bytes_eq, refl, sym, ap, ◌∙◌}
+use Rattle.std.specs.Prelude.{◌&&◌, ◌||◌, if◌then◌else◌}
+use Rattle.std.specs.List.{filter, find, list_any, starts_with}
 use Rattle.std.specs.Option.{option_map, unwrap_or}
 use Rattle.gw_base.specs.declared.code.Code.{Code}
 use Rattle.gw_base.specs.declared.command_words.Rules.{Rules}
 use Rattle.gw_base.specs.declared.command_words.Service.{Service}
 use Rattle.gw_base.specs.declared.command_words.Verb.{Verb}
-use Rattle.gw_base.specs.declared.command_words.Verb.TheVariants.{ServiceChange}
+use Rattle.gw_base.specs.declared.command_words.Verb.TheVariants.{Modify, ServiceChange}
 use Rattle.gw_base.specs.declared.key.Key.TheVariants.{Term}
 use Rattle.gw_base.specs.declared.term_ref.TermRef.{TermRef}
 use Rattle.gw_base.specs.declared.term_ref.TermRef.TheVariants.{Root, All, Under, Choose, Name, Other}
 use Rattle.gw_base.specs.NameLists.{is_in}
 use Rattle.gw_base.proofs.NamesInLists.{or_left, or_right, itself}
+use Rattle.gw_desc.specs.Checks.{is_asking, is_audit}
+use Rattle.gw_desc.specs.declared.descriptor.Descriptor.{Descriptor}
+use Rattle.gw_desc.specs.declared.descriptor.Descriptor.TheVariants as descriptor
+use Rattle.gw_desc.specs.declared.values.AuditItem.TheVariants as item
 use Rattle.gw_msg.specs.declared.message.Command.{Command}
+use Rattle.gw_reply.specs.declared.parts.FilledStream.{FilledStream}
 use Rattle.gw_reply.specs.declared.parts.ReplyPart.{ReplyPart}
+use Rattle.gw_reply.specs.declared.parts.ReplyPart.TheVariants as part
 use Rattle.gw_reply.specs.declared.reply.CommandReply.{CommandReply}
 use Rattle.gw_term.specs.declared.record.Termination.{Termination}
-use Rattle.gw_term.specs.Record.{serviced}
+use Rattle.gw_term.specs.Audit.{audit_parts}
+use Rattle.gw_term.specs.Merge.{merged}
+use Rattle.gw_term.specs.Plain.{are_plain, is_plain_one}
+use Rattle.gw_term.specs.Record.{placed, serviced}
+use Rattle.gw_term.proofs.Taken.{plain_merged, plain_fills_none, merge_stays}
 use Rattle.gw_table.specs.declared.attempts.Attempts.{Attempts}
 use Rattle.gw_table.specs.declared.reach.Reach.TheVariants.{Every, Free}
 use Rattle.gw_table.specs.Folds.{attempts_behind, in_order}
-use Rattle.gw_table.specs.Maps.{Maps, Outcome, term, names, is_free}
+use Rattle.gw_table.specs.Maps.{Maps, Outcome, term, put_term, names, is_free}
+use Rattle.gw_table.specs.Merged.{put_if, put_changed, all_changed, changed}
 use Rattle.gw_table.specs.Members.{put_service}
 use Rattle.gw_table.specs.Parts.{PartKeys, holds, Holds}
 use Rattle.gw_table.specs.Served.{is_reached, reached, all_serviced}
 use Rattle.gw_table.proofs.Folding.{ended, in_order-more, in_order-none}
+use Rattle.gw_table.proofs.Merged.{term-put_changed}
 use Rattle.gw_table.proofs.Served.{term-put_service}
 use Rattle.gw_refusal.specs.declared.at.At.TheVariants.{Null}
-use Rattle.gw_refusal.specs.Asked.{is_add, is_wildcard, matches, service_asked}
+use Rattle.gw_refusal.specs.Asked.{is_add, is_wildcard, matches, service_asked, audited, words_in}
 use Rattle.gw_refusal.specs.Forms.{refusal_by_form}
 use Rattle.gw_refusal.specs.Targets.{those_in, source, matched, targets_of, targets}
+use Rattle.gw_cmd.specs.declared.change.Merged.{Merged}
 use Rattle.gw_cmd.specs.declared.outcome.CmdOutcome.{CmdOutcome}
+use Rattle.gw_cmd.specs.declared.serving.ForAll.{ForAll}
+use Rattle.gw_cmd.specs.declared.serving.ForAll.TheVariants.{Serve, Merge}
 use Rattle.gw_cmd.specs.Commands.{reply, outcome_told, on_target, on_targets, unless_refused, carried, allowed}
-use Rattle.gw_cmd.specs.Effects.{after_service, on_found}
+use Rattle.gw_cmd.specs.Effects.{after_service, on_found, on_name, on_record, done, decided_in_null, becomes, merging as merging_done, merging_to, merged_in, parts_of, refusal_elsewhere}
 use Rattle.gw_cmd.specs.Idle.{idle_answer, idle_reply}
 use Rattle.gw_cmd.specs.Keys.{command_keys}
 use Rattle.gw_cmd.specs.Refusals.{refusal_by_tables}
-use Rattle.gw_cmd.specs.Serving.{prefix_of, IsServing}
+use Rattle.gw_cmd.specs.Serving.{prefix_of, all_after, IsServing, IsMerging, IsForAll}
 use Rattle.gw_cmd.proofs.AsItIs.{service_done}
 use Rattle.gw_cmd.proofs.LeftAlone.{StandsIn, free_one, stands_here, carried_on}
 use Rattle.gw_cmd.proofs.Ready.{in_filter, is_named, ready}
+
+second_of : (a b : Bool) → (a && b) ≡ true → b ≡ true
+second_of true b h = h
+second_of false b h = absurd cc
+
+first_of : (a b : Bool) → (a && b) ≡ true → a ≡ true
+first_of true b h = refl
+first_of false b h = absurd cc
+
+no_audit : (ds : List Descriptor) → are_plain ds ≡ true → words_in (find is_audit ds) ≡ []
+no_audit [] h = refl
+no_audit (descriptor.Media parts ∷ ds) h = no_audit ds (second_of (is_plain_one (descriptor.Media parts)) (are_plain ds) h)
+no_audit (descriptor.Keep kind tail ∷ ds) h = no_audit ds h
+no_audit (descriptor.Audit [] ∷ ds) h = refl
+no_audit (descriptor.Audit (word ∷ words) ∷ ds) h =
+    let none : length (word ∷ words) ≡ 0 = eqb-true (length (word ∷ words)) 0 (first_of (length (word ∷ words) == 0) (are_plain ds) h) in
+    absurd (omega (arith, none))
+no_audit (descriptor.Services parms ∷ ds) h = no_audit ds h
+no_audit (descriptor.Other text ∷ ds) h = no_audit ds h
 
 -- ---- whom it is for
 
@@ -70,13 +104,13 @@ matched_free Choose m w = absurd cc
 matched_free (Name t) m w = absurd cc
 matched_free (Other text) m w = absurd cc
 
-module _ (c : Command) (s : Service) (m : Maps) (serving : IsServing Null c s) where
+module _ (c : Command) (m : Maps) (wildcard : is_wildcard c.term ≡ true) (stays : is_add c.verb ≡ false) where
   pub targets_are : targets Null c m ≡ reached Free (prefix_of c.term) m
   unfolding matched
   targets_are =
-      by c.term serving.wildcard
-      ∙ ap (λ (v : Verb). filter (matches c.term) (those_in (cond (is_add v) None None) m)) serving.verb
-      ∙ matched_free c.term m serving.wildcard
+      by c.term wildcard
+      ∙ ap (λ (b : Bool). filter (matches c.term) (those_in (cond b None None) m)) stays
+      ∙ matched_free c.term m wildcard
     where
       by : (r : TermRef) → is_wildcard r ≡ true → targets_of r Null c m ≡ filter (matches c.term) (those_in (source Null c) m)
       by All w = refl
@@ -87,15 +121,15 @@ module _ (c : Command) (s : Service) (m : Maps) (serving : IsServing Null c s) w
       by (Other x) w = absurd cc
 
   -- their keys
-  pub keys_of_targets : (keys : PartKeys) (slot : Option ℕ) → Holds keys (command_keys Null slot c m) → refusal_by_form Null c ≡ None → refusal_by_tables Null slot c m ≡ None
+  keys_of : (keys : PartKeys) (slot : Option ℕ) → Holds keys (command_keys Null slot c m) → refusal_by_form Null c ≡ None → refusal_by_tables Null slot c m ≡ None
       → (t : List ℕ) → is_in t (reached Free (prefix_of c.term) m) ≡ true → holds keys (Term t) ≡ true
-  keys_of_targets keys slot covered form none t h =
+  keys_of keys slot covered form none t h =
       (ready keys Null slot c m covered form none).targets t (ap (λ (l : List (List ℕ)). is_in t l) targets_are ∙ h)
       (sym (is_named m t) ∙ in_filter (is_reached Free (prefix_of c.term) m) (names m) t h)
 
   each_free : (t : List ℕ) → is_in t (targets Null c m) ≡ true → StandsIn None t m
   unfolding matched
-  each_free t h = free_one t m (in_free (sym (ap (λ (l : List (List ℕ)). is_in t l) (targets_in c.term serving.wildcard)) ∙ h))
+  each_free t h = free_one t m (in_free (sym (ap (λ (l : List (List ℕ)). is_in t l) (targets_in c.term wildcard)) ∙ h))
     where
       targets_in : (r : TermRef) → is_wildcard r ≡ true → targets_of r Null c m ≡ matched Null c m
       targets_in All w = refl
@@ -106,46 +140,133 @@ module _ (c : Command) (s : Service) (m : Maps) (serving : IsServing Null c s) w
       targets_in (Other x) w = absurd cc
 
       in_free : is_in t (matched Null c m) ≡ true → is_in t (filter (is_free m) (names m)) ≡ true
-      in_free h = ap (λ (v : Verb). is_in t (those_in (cond (is_add v) None None) m)) (sym serving.verb) ∙ in_filter (matches c.term) (those_in (source Null c) m) t h
+      in_free h = ap (λ (b : Bool). is_in t (those_in (cond b None None) m)) (sym stays) ∙ in_filter (matches c.term) (those_in (source Null c) m) t h
 
 -- ---- one after another
 
-module _ (rules : Rules) (c : Command) (s : Service) (serving : IsServing Null c s) where
-  -- the reply of each, whatever the maps are
-  bare : (t : List ℕ) (x y : Maps) → idle_reply c x t ≡ idle_reply c y t
-  bare t x y = by c.verb serving.verb
-    where
-      by : (v : Verb) → v ≡ ServiceChange → reply c (Name t) (idle_answer v c.descriptors (term x t)) ≡ reply c (Name t) (idle_answer v c.descriptors (term y t))
-      by v e = ap (λ (w : Verb). reply c (Name t) (idle_answer w c.descriptors (term x t))) e ∙ sym (ap (λ (w : Verb). reply c (Name t) (idle_answer w c.descriptors (term y t))) e)
+-- the reply of each, whatever the maps are
+bare : (c : Command) (v : Verb) (t : List ℕ) (x : Maps) → c.verb ≡ v → idle_reply c x t ≡ reply c (Name t) (idle_answer v c.descriptors (term x t))
+bare c v t x e = ap (λ (w : Verb). reply c (Name t) (idle_answer w c.descriptors (term x t))) e
 
-  one_served : (t : List ℕ) (m x : Maps) → StandsIn None t m → on_target rules Null c tt t m ≡ ended (put_service s t m (term m t)) tt (idle_reply c x t ∷ []) false
+module _ (rules : Rules) (c : Command) (put : List ℕ → Maps → Maps)
+    (one : (t : List ℕ) (m x : Maps) → StandsIn None t m → on_target rules Null c tt t m ≡ ended (put t m) tt (idle_reply c x t ∷ []) false)
+    (still : (t q : List ℕ) (m : Maps) → StandsIn None q m → StandsIn None q (put t m)) where
+  all_put : List (List ℕ) → Maps → Maps
+  all_put [] m = m
+  all_put (t ∷ ts) m = all_put ts (put t m)
+
+  all_done : (ts : List (List ℕ)) (m x : Maps) → ((t : List ℕ) → is_in t ts ≡ true → StandsIn None t m) → on_targets rules Null c ts m ≡ ended (all_put ts m) tt (map (idle_reply c x) ts) false
+  unfolding all_put
+  all_done [] m x stands = in_order-none (on_target rules Null c) tt m
+  all_done (t ∷ ts) m x stands =
+      in_order-more (on_target rules Null c) tt t ts m
+      ∙ ap (λ (o : Outcome (Attempts Unit CommandReply)). attempts_behind o.answer.answers (in_order (on_target rules Null c) tt ts o.maps)) (one t m x (stands t (or_left (bytes_eq t t) (is_in t ts) (itself t))))
+      ∙ ap (λ (o : Outcome (Attempts Unit CommandReply)). attempts_behind (idle_reply c x t ∷ []) o)
+      (all_done ts (put t m) x (λ q h. still t q m (stands q (or_right (bytes_eq q t) (is_in q ts) h))))
+
+-- ---- a ServiceChange
+
+module _ (rules : Rules) (c : Command) (s : Service) (serving : IsServing Null c s) where
+  abbrev serve : List ℕ → Maps → Maps
+  serve t m = put_service s t m (term m t)
+
+  one_served : (t : List ℕ) (m x : Maps) → StandsIn None t m → on_target rules Null c tt t m ≡ ended (serve t m) tt (idle_reply c x t ∷ []) false
   one_served t m x stands =
       let r : Termination = stands.0 in
       let done = ap (λ (o : Option Termination). on_found rules None c t o m) stands.1 ∙ service_done rules None c t r m serving.verb stands.1
       ∙ ap (λ (o : Option Code). after_service o (unwrap_or (service_asked c.descriptors) r.service) t m) (stands_here None r.place stands.2)
       ∙ ap (λ (o : Option Service). after_service None (unwrap_or o r.service) t m) serving.asked in
       ap (λ (o : Outcome (Result (List ReplyPart) Code)). ended o.maps tt (reply c (Name t) o.answer ∷ []) false) done
-      ∙ ap (λ (v : Verb). ended (put_service s t m (term m t)) tt (reply c (Name t) (idle_answer v c.descriptors (term x t)) ∷ []) false) (sym serving.verb)
+      ∙ ap (λ (a : CommandReply). ended (serve t m) tt (a ∷ []) false) (sym (bare c ServiceChange t x serving.verb))
 
-  still_stands : (t q : List ℕ) (m : Maps) → StandsIn None q m → StandsIn None q (put_service s t m (term m t))
-  still_stands t q m stands = by (bytes_eq q t) (term-put_service s t m q)
+  still_served : (t q : List ℕ) (m : Maps) → StandsIn None q m → StandsIn None q (serve t m)
+  still_served t q m stands = by (bytes_eq q t) (term-put_service s t m q)
     where
-      by : (b : Bool) → term (put_service s t m (term m t)) q ≡ cond b (option_map (λ r. serviced r s) (term m q)) (term m q) → StandsIn None q (put_service s t m (term m t))
+      by : (b : Bool) → term (serve t m) q ≡ cond b (option_map (λ r. serviced r s) (term m q)) (term m q) → StandsIn None q (serve t m)
       by true e = (serviced stands.0 s, e ∙ ap (λ (o : Option Termination). option_map (λ r. serviced r s) o) stands.1, stands.2)
       by false e = (stands.0, e ∙ stands.1, stands.2)
 
-  pub all_served : (ts : List (List ℕ)) (m x : Maps) → ((t : List ℕ) → is_in t ts ≡ true → StandsIn None t m) → on_targets rules Null c ts m ≡ ended (all_serviced s ts m) tt (map (idle_reply c x) ts) false
-  all_served [] m x stands = in_order-none (on_target rules Null c) tt m
-  all_served (t ∷ ts) m x stands =
-      in_order-more (on_target rules Null c) tt t ts m
-      ∙ ap (λ (o : Outcome (Attempts Unit CommandReply)). attempts_behind o.answer.answers (in_order (on_target rules Null c) tt ts o.maps)) (one_served t m x (stands t (or_left (bytes_eq t t) (is_in t ts) (itself t))))
-      ∙ ap (λ (o : Outcome (Attempts Unit CommandReply)). attempts_behind (idle_reply c x t ∷ []) o)
-      (all_served ts (put_service s t m (term m t)) x (λ q h. still_stands t q m (stands q (or_right (bytes_eq q t) (is_in q ts) h))))
+  as_served : (ts : List (List ℕ)) (m : Maps) → all_put rules c serve one_served still_served ts m ≡ all_serviced s ts m
+  unfolding all_put
+  as_served [] m = refl
+  as_served (t ∷ ts) m = as_served ts (serve t m)
 
-  -- each target has the service state, and its reply
-  pub served_carried : (slot : Option ℕ) (m x : Maps) → refusal_by_tables Null slot c m ≡ None
-      → allowed rules Null slot c m ≡ record { maps = all_serviced s (reached Free (prefix_of c.term) m) m; answer = outcome_told Null c (map (idle_reply c x) (targets Null c m)) }
-  served_carried slot m x h =
-      ap (λ (o : Option Code). unless_refused o Null c m (carried rules Null slot c m c.term)) h ∙ carried_on Null slot c m rules c.term serving.wildcard
-      ∙ ap (λ (o : Outcome (Attempts Unit CommandReply)). let y : Outcome CmdOutcome = record { maps = o.maps; answer = outcome_told Null c o.answer.answers } in y) (all_served (targets Null c m) m x (each_free c s m serving))
-      ∙ ap (λ (l : List (List ℕ)). let y : Outcome CmdOutcome = record { maps = all_serviced s l m; answer = outcome_told Null c (map (idle_reply c x) (targets Null c m)) } in y) (targets_are c s m serving)
+-- ---- a Modify whose descriptors every record takes
+
+module _ (rules : Rules) (c : Command) (merging : IsMerging Null c) where
+  abbrev merge : List ℕ → Maps → Maps
+  merge t m = put_changed (merged rules c.descriptors) t m (term m t)
+
+  -- nothing is audited
+  audits_none : audited c.descriptors ≡ []
+  audits_none = no_audit c.descriptors merging.plain
+
+  told_none : (r : Termination) → parts_of c.descriptors [] r ≡ []
+  unfolding audit_parts
+  told_none r = (λ i. (if list_any (is_asking item.Media) (audits_none i) || true then [] else part.Filled [] ∷ []) ++ audit_parts (audits_none i) r)
+
+  merging_is : (r new : Termination) → r.place ≡ None → merged rules c.descriptors r ≡ Some new → merging_done rules c.descriptors r None (refusal_elsewhere None r.place) ≡ Ok (record { record_after = new; parts = [] })
+  unfolding merging_done
+  merging_is r new there is =
+      ap (λ (o : Option Code). merging_to rules c.descriptors r None o (merged rules c.descriptors r)) (stands_here None r.place there)
+      ∙ ap (λ (o : Option Termination). merging_to rules c.descriptors r None None o) is
+      ∙ ap (λ (l : List FilledStream). merged_in c.descriptors l None (placed new None)) (plain_fills_none rules c.descriptors r merging.plain)
+      ∙ (λ i. Ok (let x : Merged = record { record_after = placed new (sym here i); parts = told_none (placed new None) i } in x))
+    where
+      here : new.place ≡ None
+      here = sym (ap (λ (o : Option Termination). (unwrap_or o r).place) is) ∙ merge_stays rules c.descriptors r ∙ there
+
+  one_merged : (t : List ℕ) (m x : Maps) → StandsIn None t m → on_target rules Null c tt t m ≡ ended (merge t m) tt (idle_reply c x t ∷ []) false
+  unfolding on_record
+  one_merged t m x stands =
+      let r : Termination = stands.0 in
+      let new = plain_merged rules c.descriptors r merging.plain in
+      let changed : Outcome (Result (List ReplyPart) Code) = record { maps = put_term m t (Some new.0); answer = Ok [] } in
+      let found : on_name rules None c t m ≡ changed = ap (λ (o : Option Termination). on_found rules None c t o m) stands.1
+      ∙ ap (λ (v : Verb). done t m (decided_in_null rules v c.descriptors r)) merging.verb
+      ∙ ap (λ (y : Result Merged Code). done t m (becomes y)) (merging_is r new.0 stands.2 new.1) in
+      let maps : put_term m t (Some new.0) ≡ merge t m = ap (λ (o : Option Termination). put_if t m o) (sym new.1) ∙ ap (λ (o : Option Termination). put_changed (merged rules c.descriptors) t m o) (sym stands.1) in
+      ap (λ (o : Outcome (Result (List ReplyPart) Code)). ended o.maps tt (reply c (Name t) o.answer ∷ []) false) found
+      ∙ (λ i. ended (maps i) tt (sym (bare c Modify t x merging.verb) i ∷ []) false)
+
+  still_merged : (t q : List ℕ) (m : Maps) → StandsIn None q m → StandsIn None q (merge t m)
+  still_merged t q m stands = by (bytes_eq q t) (term-put_changed f t m q)
+    where
+      f : Termination → Option Termination
+      f = merged rules c.descriptors
+
+      by : (b : Bool) → term (merge t m) q ≡ cond b (option_map (changed f) (term m q)) (term m q) → StandsIn None q (merge t m)
+      by true e = (changed f stands.0, e ∙ ap (λ (o : Option Termination). option_map (changed f) o) stands.1, merge_stays rules c.descriptors stands.0 ∙ stands.2)
+      by false e = (stands.0, e ∙ stands.1, stands.2)
+
+  as_merged : (ts : List (List ℕ)) (m : Maps) → all_put rules c merge one_merged still_merged ts m ≡ all_changed (merged rules c.descriptors) ts m
+  unfolding all_put
+  as_merged [] m = refl
+  as_merged (t ∷ ts) m = as_merged ts (merge t m)
+
+-- ---- either
+
+module _ (rules : Rules) (c : Command) where
+  pub is_wild : (a : ForAll) → IsForAll Null c a → is_wildcard c.term ≡ true
+  is_wild (Serve s) h = h.wildcard
+  is_wild Merge h = h.wildcard
+
+  is_no_add : (a : ForAll) → IsForAll Null c a → is_add c.verb ≡ false
+  is_no_add (Serve s) h = ap (λ (v : Verb). is_add v) h.verb
+  is_no_add Merge h = ap (λ (v : Verb). is_add v) h.verb
+
+  all_met : (a : ForAll) → IsForAll Null c a → (ts : List (List ℕ)) (m x : Maps) → ((t : List ℕ) → is_in t ts ≡ true → StandsIn None t m) → on_targets rules Null c ts m ≡ ended (all_after rules c a ts m) tt (map (idle_reply c x) ts) false
+  all_met (Serve s) h ts m x stands = all_done rules c (serve rules c s h) (one_served rules c s h) (still_served rules c s h) ts m x stands ∙ ap (λ (y : Maps). ended y tt (map (idle_reply c x) ts) false) (as_served rules c s h ts m)
+  all_met Merge h ts m x stands = all_done rules c (merge rules c h) (one_merged rules c h) (still_merged rules c h) ts m x stands ∙ ap (λ (y : Maps). ended y tt (map (idle_reply c x) ts) false) (as_merged rules c h ts m)
+
+  -- each target is as it is to be, and has its reply
+  pub all_carried : (a : ForAll) → IsForAll Null c a → (slot : Option ℕ) (m x : Maps) → refusal_by_tables Null slot c m ≡ None
+      → allowed rules Null slot c m ≡ record { maps = all_after rules c a (reached Free (prefix_of c.term) m) m; answer = outcome_told Null c (map (idle_reply c x) (targets Null c m)) }
+  all_carried a h slot m x none =
+      ap (λ (o : Option Code). unless_refused o Null c m (carried rules Null slot c m c.term)) none ∙ carried_on Null slot c m rules c.term (is_wild a h)
+      ∙ ap (λ (o : Outcome (Attempts Unit CommandReply)). let y : Outcome CmdOutcome = record { maps = o.maps; answer = outcome_told Null c o.answer.answers } in y) (all_met a h (targets Null c m) m x (each_free c m (is_wild a h) (is_no_add a h)))
+      ∙ ap (λ (l : List (List ℕ)). let y : Outcome CmdOutcome = record { maps = all_after rules c a l m; answer = outcome_told Null c (map (idle_reply c x) (targets Null c m)) } in y) (targets_are c m (is_wild a h) (is_no_add a h))
+
+  pub keys_of_targets : (a : ForAll) → IsForAll Null c a → (m : Maps) (keys : PartKeys) (slot : Option ℕ) → Holds keys (command_keys Null slot c m) → refusal_by_form Null c ≡ None → refusal_by_tables Null slot c m ≡ None
+      → (t : List ℕ) → is_in t (reached Free (prefix_of c.term) m) ≡ true → holds keys (Term t) ≡ true
+  keys_of_targets a h m keys slot = keys_of c m (is_wild a h) (is_no_add a h) keys slot

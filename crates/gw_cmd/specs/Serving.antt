@@ -1,13 +1,21 @@
--- A ServiceChange of all terminations of the null context that match (RFC 3525, section 7.2.8).
+-- A ServiceChange or a Modify of all terminations of the null context that match (RFC 3525, sections 7.2.2 and 7.2.8).
 use Rattle.std.specs.Prelude.{◌≡◌, ℕ, true, List, [], Some}
+use Rattle.gw_base.specs.declared.command_words.Rules.{Rules}
 use Rattle.gw_base.specs.declared.command_words.Service.{Service}
-use Rattle.gw_base.specs.declared.command_words.Verb.TheVariants.{ServiceChange}
+use Rattle.gw_base.specs.declared.command_words.Verb.TheVariants.{Modify, ServiceChange}
 use Rattle.gw_base.specs.declared.term_ref.TermRef.{TermRef}
 use Rattle.gw_base.specs.declared.term_ref.TermRef.TheVariants.{Under}
 use Rattle.gw_msg.specs.declared.message.Command.{Command}
+use Rattle.gw_term.specs.Merge.{merged}
+use Rattle.gw_term.specs.Plain.{are_plain}
+use Rattle.gw_table.specs.Maps.{Maps}
+use Rattle.gw_table.specs.Merged.{all_changed}
+use Rattle.gw_table.specs.Served.{all_serviced}
 use Rattle.gw_refusal.specs.declared.at.At.{At}
 use Rattle.gw_refusal.specs.declared.at.At.TheVariants.{Null}
 use Rattle.gw_refusal.specs.Asked.{is_wildcard, service_asked}
+use Rattle.gw_cmd.specs.declared.serving.ForAll.{ForAll}
+use Rattle.gw_cmd.specs.declared.serving.ForAll.TheVariants.{Serve, Merge}
 
 -- how the names begin that a wildcard matches
 abbrev pub prefix_of : TermRef → List ℕ
@@ -20,3 +28,19 @@ pub record IsServing (at : At) (c : Command) (s : Service) : Type 0 where
   pub verb : c.verb ≡ ServiceChange
   pub wildcard : is_wildcard c.term ≡ true
   pub asked : service_asked c.descriptors ≡ Some s
+
+-- one that merges descriptors that every record takes into each that it matches, all of them in the null context
+pub record IsMerging (at : At) (c : Command) : Type 0 where
+  pub null : at ≡ Null
+  pub verb : c.verb ≡ Modify
+  pub wildcard : is_wildcard c.term ≡ true
+  pub plain : are_plain c.descriptors ≡ true
+
+abbrev pub IsForAll : At → Command → ForAll → Type 0
+IsForAll at c (Serve s) = IsServing at c s
+IsForAll at c Merge = IsMerging at c
+
+-- these terminations after it, one after another
+abbrev pub all_after : Rules → Command → ForAll → List (List ℕ) → Maps → Maps
+all_after rules c (Serve s) ts m = all_serviced s ts m
+all_after rules c Merge ts m = all_changed (merged rules c.descriptors) ts m

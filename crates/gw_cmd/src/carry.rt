@@ -26,7 +26,7 @@ use crate::outcome::{CmdOutcome, CmdTold, Seen};
 use crate::refusal::Refusal;
 use crate::replies::{code_of, has_one_reply, one, outcome_of, outcome_of_all, refused, reply};
 use crate::root::{every_serviced, root_parts};
-use crate::serving::{on_all_free, service_for_all};
+use crate::serving::{for_all, on_all_free};
 use crate::tables::{has_ended, is_some, refusal_by_tables, wrong_with};
 use gw_base::{Code, Items, NoMemory, Rules, TermName, TermRef, Verb};
 use gw_length::Telling;
@@ -260,7 +260,8 @@ fn with_targets(
 
 /// Carries one command out as [`command`] does, and tells its replies behind those before it. Where they are too long, none is kept,
 /// and the command is carried out all the same. One that leaves each of its targets as it is ends there, and begun behind the limit it
-/// costs as little as with `W-`; so does a ServiceChange of what matches in the null context, which names nothing then.
+/// costs as little as with `W-`; so does a ServiceChange of what matches in the null context, and a Modify of it whose descriptors every
+/// record takes, which name nothing then.
 ///
 /// # Errors
 ///
@@ -291,8 +292,8 @@ pub fn command_told(
     if is_idle(rules, draft, at, command) {
         return on_idle(alloc, rules, draft, at, slot, command, told);
     }
-    if let Some(service) = service_for_all(at, command) {
-        return on_all_free(alloc, draft, slot, command, service, told);
+    if let Some(for_all) = for_all(at, command) {
+        return on_all_free(alloc, rules, draft, slot, command, for_all, told);
     }
     let named = targets(alloc, draft, at, command)?;
     with_targets(alloc, rules, draft, at, slot, command, &named, told)
@@ -303,7 +304,9 @@ pub fn command_told(
 /// context, of its descriptors and of the termination's record; a wildcard one pass of the members, or, in the null context
 /// and of an Add, of all names, and its matches. With `W-` an AuditValue, a Modify without descriptors and an Add without them into a
 /// full context cost that pass up to the first match, since each target stays as it is; in an action for each context they do so where
-/// the draft is of whole tables. A ServiceChange of what matches in the null context looks nothing up, and with `W-` it names nothing.
+/// the draft is of whole tables. A ServiceChange of what matches in the null context looks nothing up, and with `W-` it names nothing; nor
+/// does a Modify of it that sends no property but Mode and ServiceStates, no Local and no Audit but an
+/// empty one.
 ///
 /// The caller knows that the tables are sound, that the draft has the command's keys, and that no termination has the name of
 /// the slot.

@@ -13,6 +13,7 @@ pub mod LaidCells
 pub mod Leaving
 pub mod Localities
 pub mod Lookups
+pub mod Merged
 pub mod Moved
 pub mod PartLookups
 pub mod Picked

@@ -198,7 +198,7 @@ same_service r s e = ap (λ (x : Service). Here (serviced r x)) (sym e)
 
 -- ---- one after another in the maps
 
-in_filtered : (p : List ℕ → Bool) (l : List (List ℕ)) (q : List ℕ) → is_in q (filter p l) ≡ (is_in q l && p q)
+pub in_filtered : (p : List ℕ → Bool) (l : List (List ℕ)) (q : List ℕ) → is_in q (filter p l) ≡ (is_in q l && p q)
 in_filtered p [] q = refl
 in_filtered p (x ∷ xs) q = by (p x) refl (bytes_eq q x) refl (in_filtered p xs q)
   where
@@ -218,7 +218,7 @@ any_alike : {X : Type 0} (p q : X → Bool) (l : List X) → ((x : X) → p x �
 any_alike p q [] h = refl
 any_alike p q (x ∷ xs) h = ap (λ (b : Bool). b || list_any p xs) (h x) ∙ ap (λ (b : Bool). q x || b) (any_alike p q xs h)
 
-in_names : (m : Maps) (t : List ℕ) → is_in t (names m) ≡ is_some (term m t)
+pub in_names : (m : Maps) (t : List ℕ) → is_in t (names m) ≡ is_some (term m t)
 in_names m t = sym (any_alike (λ q. eq_by_cmp name_cmp t q) (bytes_eq t) (names m) (name_test t)) ∙ sym (contains_key-keys m.terms t)
 
 module _ (s : Service) where

@@ -11,6 +11,7 @@ pub mod Locality
 pub mod Maps
 pub mod Marking
 pub mod Members
+pub mod Merged
 pub mod Originals
 pub mod Parts
 pub mod Reserved

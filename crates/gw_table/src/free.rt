@@ -17,7 +17,7 @@ use gw_term::Termination;
 use std::alloc::Global;
 
 /// Whether a termination of the null context stands in a place.
-fn is_free_at(site: &Site<Held<Termination>>) -> bool
+pub(crate) fn is_free_at(site: &Site<Held<Termination>>) -> bool
     ensures { result ≡ is_free_at site.now }
 {
     match site.place() {

@@ -13,6 +13,7 @@ mod key_order;
 mod keys;
 mod laws;
 mod marked;
+mod merging;
 mod moves;
 mod originals;
 mod over_part;

@@ -1,6 +1,7 @@
 //! What stood at keys of tables before they were written, and the way back.
 
 ghost use Rattle.std.specs.Prelude.{◌≡◌, true, false, []};
+ghost use Rattle.gw_base.specs.declared.key.Key.TheVariants.{Term};
 ghost use Rattle.gw_base.specs.Keys.{same_key};
 ghost use Rattle.gw_table.specs.Maps.{no_maps};
 ghost use Rattle.gw_table.specs.Originals.{key_written, keys_written, without_write, undone};
@@ -43,6 +44,18 @@ impl Write {
             (Write::OfTerm(own, _), Key::Term(name)) => own == name,
             (Write::OfCtx(own, _), Key::Ctx(number)) => own.0 == number.0,
             _ => false,
+        }
+    }
+}
+
+impl Write {
+    /// Whether it is one of the termination of this name.
+    pub(crate) fn is_of_term(&self, name: &TermName) -> bool
+        ensures { result ≡ same_key (Term name.now) (key_written self.now) }
+    {
+        match self {
+            Write::OfTerm(own, _) => own == name,
+            Write::OfCtx(_, _) => false,
         }
     }
 }

@@ -108,7 +108,7 @@ impl<'t> OverPart<'t> {
     }
 
     /// Takes the termination of a name out, to be changed and set again: a copy, where it is the part's.
-    fn take_term(
+    pub(crate) fn take_term(
         &mut self,
         alloc: Global,
         name: &TermName,

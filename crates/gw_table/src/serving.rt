@@ -118,7 +118,12 @@ impl OverPart<'_> {
     }
 
     /// The names of those that are meant, in order.
-    fn reached(&self, alloc: Global, reach: Reach, prefix: &[u8]) -> Result<Vec<TermName>, NoMemory>
+    pub(crate) fn reached(
+        &self,
+        alloc: Global,
+        reach: Reach,
+        prefix: &[u8],
+    ) -> Result<Vec<TermName>, NoMemory>
         ensures { IfOk result (λ list. list.items ≡ reached reach prefix.now self.now.maps) }
     {
         let mut named = self.names(alloc)?;

@@ -2,22 +2,28 @@
 
 ghost use Rattle.std.specs.Prelude.{◌≡◌, ◌<◌, true, false, length, Some, is_some, IfOk, OnOk, OnErr, option_copied};
 ghost use Rattle.std.specs.Bool.{OnTrue};
+ghost use Rattle.gw_base.specs.declared.key.Key.TheVariants.{Term};
 ghost use Rattle.gw_base.specs.Keys.{has};
 ghost use Rattle.gw_base.specs.NameLists.{is_in};
+ghost use Rattle.gw_term.specs.Merge.{merged};
+ghost use Rattle.gw_term.specs.Plain.{are_plain};
 ghost use Rattle.gw_table.specs.Found.{IsFound, original_of};
 ghost use Rattle.gw_table.specs.Joining.{joined_at, left_at};
 ghost use Rattle.gw_table.specs.Maps.{members_of};
+ghost use Rattle.gw_table.specs.Merged.{WasChanged};
 ghost use Rattle.gw_table.specs.Originals.{keys_written};
 ghost use Rattle.gw_table.specs.Served.{IsNoted, MayNote};
 ghost use Rattle.gw_table.specs.Settings.{set_at, IsKept, MayKeep};
 ghost use Rattle.gw_table.specs.Stored.{shown, served, emptied};
 
 use crate::joining::{join_in_place, leave_in_place};
+use crate::merging::merge_in_place;
 use crate::originals::Write;
 use crate::place::{Place, copied, renew, serve, set_in_place};
 use crate::setting::{self, Setting, is_set, set_copy};
-use gw_base::{CtxNum, Held, Key, NoMemory, Service, TermName};
+use gw_base::{CtxNum, Held, Key, NoMemory, Rules, Service, TermName};
 use gw_ctx::Context;
+use gw_desc::Descriptor;
 use gw_term::Termination;
 use std::alloc::Global;
 use std::marker::Model;
@@ -70,6 +76,13 @@ fn is_at(writes: &[Write], at: usize, key: &Key) -> bool
     ensures { OnTrue result (has (keys_written writes.now) key.now ≡ true) }
 {
     at < writes.len() && writes[at].is_of(key)
+}
+
+/// Whether this write is one of the termination of a name.
+fn is_of_term(writes: &[Write], at: usize, name: &TermName) -> bool
+    ensures { OnTrue result (has (keys_written writes.now) (Term name.now) ≡ true) }
+{
+    at < writes.len() && writes[at].is_of_term(name)
 }
 
 impl<T> Site<T> {
@@ -187,12 +200,10 @@ impl Site<Held<Termination>> {
         let Place::Here(termination) = &self.place else {
             return Ok(());
         };
-        if termination.get().service() == service || self.is_noted(writes, &Key::Term(*name)) {
+        if termination.get().service() == service {
             return Ok(());
         }
-        let before = Held::new(alloc, termination.get().copy(alloc)?)?;
-        writes.push(Write::OfTerm(*name, Some(before)))?;
-        Ok(())
+        self.note_original(alloc, name, writes)
     }
 
     /// The termination that stands here has another service state, if there is one. It is changed in its place. Where it is noted at
@@ -207,11 +218,63 @@ impl Site<Held<Termination>> {
         ensures { self.new ≡ served service self.old }
     {
         set_in_place(&mut self.place, service);
-        if !is_at(writes, next, &Key::Term(*name)) {
+        self.pass_noted(name, writes, next)
+    }
+
+    /// Where the name is noted at this index of a list of writes, that is kept for later. Answers the index behind it then, and else this
+    /// one. Nothing else changes.
+    fn pass_noted(&mut self, name: &TermName, writes: &[Write], next: usize) -> usize
+        ensures { self.new ≡ self.old }
+    {
+        if !is_of_term(writes, next, name) {
             return next;
         }
         self.noted = u32::try_from(next).unwrap_or(u32::MAX);
         next.saturating_add(1)
+    }
+
+    /// Notes the termination that stands here, as a copy, unless its key is noted. The termination may then be changed in its place.
+    ///
+    /// # Errors
+    ///
+    /// Want of memory. Nothing is noted then.
+    pub(crate) fn note_original(
+        &self,
+        alloc: Global,
+        name: &TermName,
+        writes: &mut Vec<Write>,
+    ) -> Result<(), NoMemory>
+        ensures least { MayNote name.now self.now writes.old.items writes.new.items }
+        ensures noted { OnOk result (is_some (shown (Some self.now)) ≡ true → has (keys_written writes.new.items) (Term name.now) ≡ true) }
+    {
+        let Place::Here(termination) = &self.place else {
+            return Ok(());
+        };
+        if is_of_term(writes, self.noted as usize, name) {
+            return Ok(());
+        }
+        let before = Held::new(alloc, termination.get().copy(alloc)?)?;
+        writes.push(Write::OfTerm(*name, Some(before)))?;
+        Ok(())
+    }
+
+    /// The descriptors are merged into the termination that stands here, in its place, if there is one; one for which memory is refused
+    /// leaves the null context. Where it is noted at this index of a list of writes, that is kept for later. Answers the index behind it
+    /// then, and else this one. The caller knows that every record takes the descriptors.
+    pub(crate) fn merge_noted(
+        &mut self,
+        alloc: Global,
+        rules: &Rules,
+        descriptors: &[Descriptor<'_>],
+        name: &TermName,
+        writes: &[Write],
+        next: usize,
+    ) -> usize
+        requires { are_plain descriptors.now ≡ true }
+        ensures { WasChanged (merged rules.now descriptors.now) self.old self.new }
+    {
+        merge_in_place(&mut self.place, alloc, rules, descriptors);
+        self.pass_noted(name, writes, next)
     }
 }
 

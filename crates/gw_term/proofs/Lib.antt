@@ -8,4 +8,5 @@ pub mod TooLong
 pub mod KeptMerges
 pub mod KeptAudits
 pub mod Naming
+pub mod Taken
 pub mod SettingLists

@@ -11,3 +11,4 @@ pub mod Limits
 pub mod Lookups
 pub mod KeptRecords
 pub mod Named
+pub mod Plain

@@ -38,7 +38,7 @@ impl Drop for Setting {
 /// or not.
 #[derive(Drop)]
 pub struct Settings {
-    list: Vec<Setting>,
+    pub(crate) list: Vec<Setting>,
 }
 
 impl Model for Settings {

@@ -186,7 +186,7 @@ fn put_media(
     Ok(())
 }
 
-fn put_all(
+pub(crate) fn put_all(
     alloc: Global,
     sent: &Sent<'_, '_>,
     number: u8,
@@ -203,7 +203,7 @@ fn put_all(
 }
 
 /// A copy of the stream, or a new one where there was none: in mode Inactive, and nothing else.
-fn begun(alloc: Global, old: Option<&Stream>) -> Result<Merging, NoMemory>
+pub(crate) fn begun(alloc: Global, old: Option<&Stream>) -> Result<Merging, NoMemory>
     ensures { IfOk result (λ merging. merging ≡ begun (option_copied old.entry)) }
 {
     let stream = match old {

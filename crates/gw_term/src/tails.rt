@@ -75,7 +75,7 @@ fn put_tail(
 }
 
 /// The tail after descriptors.
-fn put_tails(
+pub(crate) fn put_tails(
     alloc: Global,
     kind: KeptKind,
     descriptors: &[Descriptor<'_>],

@@ -1,11 +1,15 @@
-use Rattle.std.proofs.Common.{Some, List, ap, ◌∙◌, inl}
-use Rattle.gw_base.specs.declared.key.Key.TheVariants.{Term}
-use Rattle.gw_base.specs.Keys.{has}
-use Rattle.gw_table.specs.declared.originals.Write.{Write}
-use Rattle.gw_table.specs.declared.originals.Write.TheVariants.{OfTerm}
-use Rattle.gw_table.specs.Originals.{keys_written}
-use Rattle.gw_table.proofs.Undone.{last_written}
+use Rattle.std.proofs.Common.{◌≡◌, Result, Ok, Err, Some, true, is_some, inl, sym, ap, ◌∙◌}
+use Rattle.std.specs.Result.{OnOk}
+use Rattle.gw_term.specs.declared.record.Termination.{Termination}
+use Rattle.gw_table.specs.declared.place.Place.{Place}
+use Rattle.gw_table.specs.Stored.{shown}
 use Rattle.gw_table.proofs.site.Site+Held+Termination.note.Goals as goal
 
+on_ok : {X E P Q : Type 0} (r : Result X E) → (P → Q) → OnOk r P → OnOk r Q
+on_ok (Ok x) f p = f p
+on_ok (Err e) f p = tt
+
 pub returns-clause-noted : goal.returns-clause-noted
-returns-clause-noted c = inl (ap (λ (l : List Write). has (keys_written l) (Term c.args.name.now)) c.in_ok-push.ensures.items ∙ last_written c.args.writes.now.items (OfTerm c.args.name.now (Some c.in_ok-before.before)))
+returns-clause-noted c =
+    let here : is_some (shown (Some c.args.self.now)) ≡ true = ap (λ (p : Place Termination). is_some (shown (Some p))) (sym c.self.view_is ∙ c.in-Here.is) in
+    on_ok c.note_original.result (λ noted. inl (noted here)) c.note_original.ensures.noted

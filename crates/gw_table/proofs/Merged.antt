@@ -1,0 +1,424 @@
+-- Descriptors that are merged into many terminations at once: what it comes to, and that the way back leads to where it led before.
+use Rattle.std.proofs.Common.{nat_eq, ◌≡◌, ℕ, zero, suc, ◌≤◌, Bool, true, false, T, cond, List, [], ◌∷◌, map, length, bytes_eq, Option, None, Some, is_some, inl, inr, refl, sym, ap, subst, ◌∙◌, arith}
+use Rattle.std.specs.Prelude.{◌&&◌, ◌||◌, ◌⊎◌}
+use Rattle.std.specs.BTreeMap.{is_at}
+use Rattle.std.specs.Cmp.Lexicographic.{nat_list_cmp_total}
+use Rattle.std.specs.FinMap as finite
+use Rattle.std.specs.FinMap.{is_sorted, entries_sorted}
+use Rattle.std.specs.FinMap.Entries.{below_all}
+use Rattle.std.specs.List.{filter, starts_with}
+use Rattle.std.specs.Map.{lookup}
+use Rattle.std.specs.Map.Calls.{RetainsPairs}
+use Rattle.std.specs.Option.{option_map, is_none, unwrap_or}
+use Rattle.std.specs.Ordering.{is_eq, is_lt}
+use Rattle.std.specs.declared.cmp.Ordering.{Ordering}
+use Rattle.std.specs.declared.cmp.Ordering.TheVariants.{Less, Equal, Greater}
+use Rattle.gw_base.specs.declared.ids.CtxNum.{CtxNum}
+use Rattle.gw_base.specs.declared.key.Key.{Key}
+use Rattle.gw_base.specs.declared.key.Key.TheVariants.{Term, Ctx, Whole}
+use Rattle.gw_base.specs.Keys.{has}
+use Rattle.gw_base.specs.NameLists.{name_cmp, is_in, NoDoubles}
+use Rattle.gw_base.proofs.NameTests.{name_test, same_name}
+use Rattle.gw_base.proofs.Views.{seen}
+use Rattle.gw_term.specs.declared.record.Termination.{Termination}
+use Rattle.gw_ctx.specs.Contexts.{ContextRecord}
+use Rattle.gw_table.specs.declared.originals.Write.{Write}
+use Rattle.gw_table.specs.declared.originals.Write.TheVariants.{OfTerm}
+use Rattle.gw_table.specs.declared.place.Place.{Place}
+use Rattle.gw_table.specs.declared.place.Place.TheVariants.{Empty, Here, Out}
+use Rattle.gw_table.specs.declared.reach.Reach.TheVariants.{Free}
+use Rattle.gw_table.specs.Free.{is_free_at}
+use Rattle.gw_table.specs.Maps.{Maps, term, ctx, put_term, names, place_of}
+use Rattle.gw_table.specs.Marking.{AreMarked}
+use Rattle.gw_table.specs.Merged.{Change, put_if, put_changed, all_changed, changed, changed_place, changed_if, changed_at, is_away_at, WasChanged, IsPassed, IsAlike, AreAlike, AreChanged, AreAllNoted}
+use Rattle.gw_table.specs.Originals.{keys_written, IsInPlace}
+use Rattle.gw_table.specs.Reserved.{slot_name}
+use Rattle.gw_table.specs.Served.{is_within, is_reached, reached, is_reached_at, MayNote}
+use Rattle.gw_table.specs.Stored.{Stored, stored, shown, has_left, maps_of, is_ready, is_out}
+use Rattle.gw_table.proofs.Exchanged.{term_seen}
+use Rattle.gw_table.proofs.Lookups.{term-put_term, ctx-put_term, same_maps}
+use Rattle.gw_table.proofs.Places.{term-maps_of, ctx-maps_of}
+use Rattle.gw_table.proofs.Served.{got_passed, in_filtered, in_names}
+use Rattle.gw_table.proofs.Undone.{undone_elsewhere, written_before}
+
+abbrev Named : Type 0
+Named = List ℕ × Place Termination
+
+-- ---- no name stands twice among those of the tables
+
+below : (x y : List ℕ) → T (is_lt (name_cmp x y)) → bytes_eq x y ≡ false
+below x y h = sym (name_test x y) ∙ by (name_cmp x y) h
+  where
+    by : (o : Ordering) → T (is_lt o) → is_eq o ≡ false
+    by Less h = refl
+    by Equal h = absurd h
+    by Greater h = absurd h
+
+first_of : (a b : Bool) → T (a && b) → T a
+first_of true b h = tt
+first_of false b h = absurd h
+
+second_of : (a b : Bool) → T (a && b) → T b
+second_of true b h = h
+second_of false b h = absurd h
+
+once : (es : List (List ℕ × Termination)) → T (is_sorted name_cmp es) → NoDoubles (map (λ e. e.0) es)
+once [] h = tt
+once (e ∷ es) h = (above es (first_of _ _ h), once es (second_of _ _ h))
+  where
+    above : (fs : List (List ℕ × Termination)) → T (below_all name_cmp e.0 fs) → is_in e.0 (map (λ f. f.0) fs) ≡ false
+    above [] h = refl
+    above (f ∷ fs) h = let apart = below e.0 f.0 (first_of _ _ h) in rw apart (above fs (second_of _ _ h))
+
+filtered_once : (p : List ℕ → Bool) (l : List (List ℕ)) → NoDoubles l → NoDoubles (filter p l)
+filtered_once p [] d = tt
+filtered_once p (x ∷ xs) d = by (p x) (filtered_once p xs d.1)
+  where
+    none : is_in x (filter p xs) ≡ false
+    none = in_filtered p xs x ∙ ap (λ (b : Bool). b && p x) d.0
+
+    by : (b : Bool) → NoDoubles (filter p xs) → NoDoubles (cond b (x ∷ filter p xs) (filter p xs))
+    by true rest = (none, rest)
+    by false rest = rest
+
+pub reached_once : (prefix : List ℕ) (m : Maps) → NoDoubles (reached Free prefix m)
+reached_once prefix m = filtered_once (is_reached Free prefix m) (names m) (once (finite.entries m.terms) (entries_sorted m.terms))
+
+-- ---- what stands in a place after a pass
+
+module _ (prefix : List ℕ) (f : Change) where
+  abbrev meant : List ℕ → Place Termination → Bool
+  meant t p = is_reached_at Free prefix t p
+
+  stands : (t : List ℕ) (p q : Place Termination) → meant t p ≡ true → WasChanged f p q → is_some (shown (Some q)) ≡ true
+  stands t Empty q h w = absurd cc
+  stands t Out q h w = absurd cc
+  stands t (Here r) q h (inl e) = ap (λ (x : Place Termination). is_some (shown (Some x))) e
+  stands t (Here r) Empty h (inr e) = absurd cc
+  stands t (Here r) (Here x) h (inr e) = refl
+  stands t (Here r) Out h (inr e) = absurd cc
+
+  alike_one : (t : List ℕ) (p q : Place Termination) → IsPassed prefix f t p q → IsAlike prefix t (Some p) (Some q)
+  alike_one t p q passed = (q, refl, passed.rest, λ h. stands t p q h (passed.met h))
+
+  -- ---- place after place
+
+  pub Passed : List Named → List Named → Type 0
+  Passed [] ks = ks ≡ []
+  Passed (e ∷ es) ks = (q : Place Termination) × (rest : List Named) × IsPassed prefix f e.0 e.1 q × Passed es rest × (ks ≡ (e.0, q) ∷ rest)
+
+  module _ {F : Type 0} (R : F → List ℕ → Place Termination → Bool → Place Termination → F → Type 0) (I : F → Type 0) (step : (s : F) (k : List ℕ) (v : Place Termination) (b : Bool) (w : Place Termination) (s' : F) → I s → R s k v b w s' → (b ≡ true) × IsPassed prefix f k v w × I s') where
+    pub passed_by : (s : F) (es kept : List Named) → I s → RetainsPairs R s es kept → Passed es kept
+    unfolding Passed
+    passed_by s [] kept i ran = ran
+    passed_by s (e ∷ es) kept i ran =
+        let one = step s e.0 e.1 ran.0 ran.1 ran.2 i ran.4 in
+        (ran.1, ran.3, one.1, passed_by ran.2 es ran.3 one.2 ran.5, ran.6 ∙ ap (λ (b : Bool). cond b ((e.0, ran.1) ∷ ran.3) ran.3) one.0)
+
+  alike_at : (es ks : List Named) → Passed es ks → (t : List ℕ) → IsAlike prefix t (lookup (is_at (name_cmp t)) es) (lookup (is_at (name_cmp t)) ks)
+  unfolding Passed
+  alike_at [] ks h t = ap (λ (l : List Named). lookup (is_at (name_cmp t)) l) h
+  alike_at (e ∷ es) ks h t =
+      subst (λ (l : List Named). IsAlike prefix t (lookup (is_at (name_cmp t)) (e ∷ es)) (lookup (is_at (name_cmp t)) l)) (sym h.4) (by (alike_at es h.1 h.3 t) (is_at (name_cmp t) e.0) refl)
+    where
+      by : IsAlike prefix t (lookup (is_at (name_cmp t)) es) (lookup (is_at (name_cmp t)) h.1) → (b : Bool) → is_at (name_cmp t) e.0 ≡ b → IsAlike prefix t (cond b (Some e.1) (lookup (is_at (name_cmp t)) es)) (cond b (Some h.0) (lookup (is_at (name_cmp t)) h.1))
+      by later true is = subst (λ (x : List ℕ). IsAlike prefix x (Some e.1) (Some h.0)) (sym (same_name t e.0 (sym (name_test t e.0) ∙ is))) (alike_one e.0 e.1 h.0 h.2)
+      by later false is = later
+
+  pub are_alike : (es ks : List Named) (cs : List (ℕ × Place ContextRecord)) → Passed es ks → AreAlike prefix (stored es cs) (stored ks cs)
+  are_alike es ks cs h = record {
+    terms = λ t. subst (λ (o : Option (Place Termination)). IsAlike prefix t o (finite.get (stored ks cs).terms t)) (sym (seen nat_list_cmp_total es t))
+        (subst (λ (o : Option (Place Termination)). IsAlike prefix t (lookup (is_at (name_cmp t)) es) o) (sym (seen nat_list_cmp_total ks t)) (alike_at es ks h t));
+    contexts = refl;
+  }
+
+  -- ---- as many are in the null context as before only where each was changed
+
+  abbrev pub count : List Named → ℕ
+  count es = length (filter (λ e. is_free_at e.1) es)
+
+  abbrev one_if : Bool → ℕ → ℕ
+  one_if true n = suc n
+  one_if false n = n
+
+  count_more : (e : Named) (es : List Named) → count (e ∷ es) ≡ one_if (is_free_at e.1) (count es)
+  count_more e es = by (is_free_at e.1)
+    where
+      by : (b : Bool) → length (cond b (e ∷ filter (λ e. is_free_at e.1) es) (filter (λ e. is_free_at e.1) es)) ≡ one_if b (count es)
+      by true = refl
+      by false = refl
+
+  module _ (keeps : (r : Termination) → (changed f r).place ≡ r.place) where
+    -- one is where it was, and was changed if it is meant; or it has left the null context
+    abbrev Went : List ℕ → Place Termination → Place Termination → Type 0
+    Went t p q = ((is_free_at q ≡ is_free_at p) × (q ≡ changed_at prefix f t p)) ⊎ ((is_free_at p ≡ true) × (is_free_at q ≡ false))
+
+    not_free : (q : Place Termination) → is_away_at q ≡ true → is_free_at q ≡ false
+    not_free Empty h = refl
+    not_free Out h = refl
+    not_free (Here r) h = by r.place h
+      where
+        by : (o : Option CtxNum) → is_some o ≡ true → is_none o ≡ false
+        by None h = absurd cc
+        by (Some n) h = refl
+
+    met_free : (t : List ℕ) (p : Place Termination) → meant t p ≡ true → is_free_at p ≡ true
+    met_free t Empty h = absurd cc
+    met_free t Out h = absurd cc
+    met_free t (Here r) h = by (starts_with nat_eq t prefix) (is_none r.place) h
+      where
+        by : (b d : Bool) → (b && d) ≡ true → d ≡ true
+        by true d h = h
+        by false d h = absurd cc
+
+    still_free : (p : Place Termination) → is_free_at (changed_place f p) ≡ is_free_at p
+    still_free Empty = refl
+    still_free Out = refl
+    still_free (Here r) = ap (λ (o : Option CtxNum). is_none o) (keeps r)
+
+    went : (t : List ℕ) (p q : Place Termination) → IsPassed prefix f t p q → Went t p q
+    went t p q passed = by (meant t p) refl
+      where
+        by : (b : Bool) → meant t p ≡ b → Went t p q
+        by true e = elim (passed.met e) [
+          | inl c ↦ inl (ap (λ (x : Place Termination). is_free_at x) c ∙ still_free p, c ∙ ap (λ (b : Bool). changed_if b f p) (sym e))
+          | inr a ↦ inr (met_free t p e, not_free q a)
+        ]
+        by false e = inl (ap (λ (x : Place Termination). is_free_at x) (passed.rest e), passed.rest e ∙ ap (λ (b : Bool). changed_if b f p) (sym e))
+
+    fewer : (es ks : List Named) → Passed es ks → count ks ≤ count es
+    unfolding Passed
+    fewer [] ks h = subst (λ (l : List Named). count l ≤ 0) (sym h) (omega arith)
+    fewer (e ∷ es) ks h =
+        let rest : count h.1 ≤ count es = fewer es h.1 h.3 in
+        subst (λ (n : ℕ). n ≤ count (e ∷ es)) (sym (ap count h.4 ∙ count_more (e.0, h.0) h.1)) (subst (λ (n : ℕ). one_if (is_free_at h.0) (count h.1) ≤ n) (sym (count_more e es)) (by (went e.0 e.1 h.0 h.2) rest))
+      where
+        of : (a b : Bool) (m n : ℕ) → (a ≡ b) ⊎ ((b ≡ true) × (a ≡ false)) → m ≤ n → one_if a m ≤ one_if b n
+        of true true m n h k = omega (arith, k)
+        of false false m n h k = k
+        of false true m n h k = omega (arith, k)
+        of true false m n (inl x) k = absurd cc
+        of true false m n (inr x) k = absurd (let clash : false ≡ true = x.0 in cc)
+
+        by : Went e.0 e.1 h.0 → count h.1 ≤ count es → one_if (is_free_at h.0) (count h.1) ≤ one_if (is_free_at e.1) (count es)
+        by (inl x) k = of (is_free_at h.0) (is_free_at e.1) (count h.1) (count es) (inl x.0) k
+        by (inr x) k = of (is_free_at h.0) (is_free_at e.1) (count h.1) (count es) (inr x) k
+
+    pub all_met : (es ks : List Named) → Passed es ks → count ks ≡ count es → ks ≡ map (λ e. (e.0, changed_at prefix f e.0 e.1)) es
+    unfolding Passed
+    all_met [] ks h n = h
+    all_met (e ∷ es) ks h n = by (all_met es h.1 h.3) (went e.0 e.1 h.0 h.2) (fewer es h.1 h.3) (sym (ap count h.4 ∙ count_more (e.0, h.0) h.1) ∙ n ∙ count_more e es)
+      where
+        same : (b : Bool) (m k : ℕ) → one_if b m ≡ one_if b k → m ≡ k
+        same true m k e = omega (arith, e)
+        same false m k e = e
+
+        by : (count h.1 ≡ count es → h.1 ≡ map (λ e. (e.0, changed_at prefix f e.0 e.1)) es) → Went e.0 e.1 h.0 → count h.1 ≤ count es → one_if (is_free_at h.0) (count h.1) ≡ one_if (is_free_at e.1) (count es) → ks ≡ (e.0, changed_at prefix f e.0 e.1) ∷ map (λ e. (e.0, changed_at prefix f e.0 e.1)) es
+        by later (inl x) k n =
+            let rest = later (same (is_free_at e.1) (count h.1) (count es) (ap (λ (b : Bool). one_if b (count h.1)) (sym x.0) ∙ n)) in
+            h.4 ∙ (λ i. (e.0, x.1 i) ∷ rest i)
+        by later (inr x) k n =
+            let off : count h.1 ≡ suc (count es) = ap (λ (b : Bool). one_if b (count h.1)) (sym x.1) ∙ n ∙ ap (λ (b : Bool). one_if b (count es)) x.0 in
+            absurd (omega (arith, k, off))
+
+    pub are_changed : (es ks : List Named) (cs : List (ℕ × Place ContextRecord)) → Passed es ks → count ks ≡ count es → AreChanged prefix f (stored es cs) (stored ks cs)
+    are_changed es ks cs h n = record { terms = λ t. got_passed (changed_at prefix f) es ks t (all_met es ks h n); contexts = refl }
+
+-- ---- what stays
+
+module _ (prefix : List ℕ) where
+  abbrev is_met : List ℕ → Place Termination → Bool
+  is_met t p = is_reached_at Free prefix t p
+
+  still_stands : (t : List ℕ) (o new : Option (Place Termination)) → IsAlike prefix t o new → is_some (shown new) ≡ is_some (shown o)
+  still_stands t None new h = ap (λ o. is_some (shown o)) h
+  still_stands t (Some p) new h = ap (λ o. is_some (shown o)) h.1 ∙ by (is_met t p) refl
+    where
+      here : (p : Place Termination) → is_met t p ≡ true → is_some (shown (Some p)) ≡ true
+      here Empty e = absurd cc
+      here Out e = absurd cc
+      here (Here r) e = refl
+
+      by : (b : Bool) → is_met t p ≡ b → is_some (shown (Some h.0)) ≡ is_some (shown (Some p))
+      by true e = h.3 e ∙ sym (here p e)
+      by false e = ap (λ (x : Place Termination). is_some (shown (Some x))) (h.2 e)
+
+  still_out : (t : List ℕ) (o new : Option (Place Termination)) → IsAlike prefix t o new → has_left new ≡ has_left o
+  still_out t None new h = ap (λ o. has_left o) h
+  still_out t (Some p) new h = ap (λ o. has_left o) h.1 ∙ by (is_met t p) refl
+    where
+      here : (p : Place Termination) → is_some (shown (Some p)) ≡ true → has_left (Some p) ≡ false
+      here Empty e = refl
+      here (Here r) e = refl
+      here Out e = absurd cc
+
+      within : (p : Place Termination) → is_met t p ≡ true → has_left (Some p) ≡ false
+      within Empty e = refl
+      within (Here r) e = refl
+      within Out e = absurd cc
+
+      by : (b : Bool) → is_met t p ≡ b → has_left (Some h.0) ≡ has_left (Some p)
+      by true e = here h.0 (h.3 e) ∙ sym (within p e)
+      by false e = ap (λ (x : Place Termination). has_left (Some x)) (h.2 e)
+
+  still_ready : (t : List ℕ) (o new : Option (Place Termination)) → IsAlike prefix t o new → is_some new ≡ is_some o
+  still_ready t None new h = ap (λ o. is_some o) h
+  still_ready t (Some p) new h = ap (λ o. is_some o) h.1
+
+  module _ (a b : Stored) (h : AreAlike prefix a b) where
+    same_ctx : (n : CtxNum) → ctx (maps_of b) n ≡ ctx (maps_of a) n
+    same_ctx n = ctx-maps_of b n ∙ ap (λ m. shown (finite.get m n.0)) h.contexts ∙ sym (ctx-maps_of a n)
+
+    -- each entry that stood still does
+    pub marked_alike : (numbers slots : List ℕ) → AreMarked numbers slots (maps_of a) → AreMarked numbers slots (maps_of b)
+    marked_alike numbers slots marked = record {
+      contexts = λ n e. ap (λ o. is_some o) (same_ctx (record { 0 = n })) ∙ marked.contexts n e;
+      terms = λ k l e. ap (λ o. is_some o) (term-maps_of b (slot_name k)) ∙ still_stands (slot_name k) (finite.get a.terms (slot_name k)) (finite.get b.terms (slot_name k)) (h.terms (slot_name k))
+          ∙ sym (ap (λ o. is_some o) (term-maps_of a (slot_name k))) ∙ marked.terms k l e;
+    }
+
+    ready_alike : (k : Key) → is_ready b k ≡ is_ready a k
+    ready_alike (Term t) = still_ready t (finite.get a.terms t) (finite.get b.terms t) (h.terms t)
+    ready_alike (Ctx n) = ap (λ m. is_some (finite.get m n.0)) h.contexts
+    ready_alike Whole = refl
+
+    out_alike : (k : Key) → is_out b k ≡ is_out a k
+    out_alike (Term t) = still_out t (finite.get a.terms t) (finite.get b.terms t) (h.terms t)
+    out_alike (Ctx n) = ap (λ m. has_left (finite.get m n.0)) h.contexts
+    out_alike Whole = refl
+
+    noted_or_same : (ws : List Write) → AreAllNoted prefix ws a → (q : List ℕ) → (has (keys_written ws) (Term q) ≡ true) ⊎ (term (maps_of b) q ≡ term (maps_of a) q)
+    noted_or_same ws noted q = by (finite.get a.terms q) refl (h.terms q)
+      where
+        same : (o : Option (Place Termination)) → finite.get a.terms q ≡ o → shown (finite.get b.terms q) ≡ shown o → term (maps_of b) q ≡ term (maps_of a) q
+        same o e f = term-maps_of b q ∙ f ∙ sym (ap (λ o. shown o) e) ∙ sym (term-maps_of a q)
+
+        at : (p : Place Termination) → finite.get a.terms q ≡ Some p → IsAlike prefix q (Some p) (finite.get b.terms q) → (r : Bool) → is_met q p ≡ r → (has (keys_written ws) (Term q) ≡ true) ⊎ (term (maps_of b) q ≡ term (maps_of a) q)
+        at p e l true is = inl (noted q p e is)
+        at p e l false is = inr (same (Some p) e (ap (λ o. shown o) l.1 ∙ ap (λ (x : Place Termination). shown (Some x)) (l.2 is)))
+
+        by : (o : Option (Place Termination)) → finite.get a.terms q ≡ o → IsAlike prefix q o (finite.get b.terms q) → (has (keys_written ws) (Term q) ≡ true) ⊎ (term (maps_of b) q ≡ term (maps_of a) q)
+        by None e l = inr (same None e (ap (λ o. shown o) l))
+        by (Some p) e l = at p e l (is_met q p) refl
+
+    pub alike_in_place : (start : Stored) (ws : List Write) → IsInPlace start a ws → AreAllNoted prefix ws a → IsInPlace start b ws
+    alike_in_place start ws i noted = record {
+      here = λ k. out_alike k ∙ i.here k;
+      back = undone_elsewhere ws (maps_of a) (maps_of b) (noted_or_same ws noted) same_ctx ∙ i.back;
+      places = λ k e. ready_alike k ∙ i.places k e;
+      kept = λ k e. ready_alike k ∙ i.kept k e;
+    }
+
+-- ---- one after another in the maps
+
+module _ (f : Change) where
+  abbrev after : Option Termination → Option Termination
+  after o = option_map (changed f) o
+
+  term-put_if : (t : List ℕ) (m : Maps) (r : Termination) (o : Option Termination) (q : List ℕ) → term m t ≡ Some r → term (put_if t m o) q ≡ cond (bytes_eq q t) (Some (unwrap_or o r)) (term m q)
+  term-put_if t m r None q e = by (bytes_eq q t) refl
+    where
+      by : (b : Bool) → bytes_eq q t ≡ b → term m q ≡ cond b (Some r) (term m q)
+      by true is = ap (term m) (same_name q t is) ∙ e
+      by false is = refl
+  term-put_if t m r (Some x) q e = term-put_term m t (Some x) q
+
+  pub term-put_changed : (t : List ℕ) (m : Maps) (q : List ℕ) → term (put_changed f t m (term m t)) q ≡ cond (bytes_eq q t) (after (term m q)) (term m q)
+  term-put_changed t m q = by (term m t) refl (bytes_eq q t) refl
+    where
+      by : (o : Option Termination) → term m t ≡ o → (b : Bool) → bytes_eq q t ≡ b → term (put_changed f t m o) q ≡ cond b (after (term m q)) (term m q)
+      by None e true is = let none : term m q ≡ None = ap (term m) (same_name q t is) ∙ e in none ∙ sym (ap (λ (o : Option Termination). after o) none)
+      by None e false is = refl
+      by (Some r) e true is =
+          let there : term m q ≡ Some r = ap (term m) (same_name q t is) ∙ e in
+          term-put_if t m r (f r) q e ∙ ap (λ (b : Bool). cond b (Some (changed f r)) (term m q)) is ∙ sym (ap (λ (o : Option Termination). after o) there)
+      by (Some r) e false is = term-put_if t m r (f r) q e ∙ ap (λ (b : Bool). cond b (Some (changed f r)) (term m q)) is
+
+  ctx-put_if : (t : List ℕ) (m : Maps) (o : Option Termination) (n : CtxNum) → ctx (put_if t m o) n ≡ ctx m n
+  ctx-put_if t m None n = refl
+  ctx-put_if t m (Some r) n = ctx-put_term m t (Some r) n
+
+  pub ctx-put_changed : (t : List ℕ) (m : Maps) (o : Option Termination) (n : CtxNum) → ctx (put_changed f t m o) n ≡ ctx m n
+  ctx-put_changed t m None n = refl
+  ctx-put_changed t m (Some r) n = ctx-put_if t m (f r) n
+
+  pub term-all_changed : (ts : List (List ℕ)) (m : Maps) (q : List ℕ) → NoDoubles ts → term (all_changed f ts m) q ≡ cond (is_in q ts) (after (term m q)) (term m q)
+  term-all_changed [] m q d = refl
+  term-all_changed (t ∷ ts) m q d =
+      term-all_changed ts (put_changed f t m (term m t)) q d.1
+      ∙ ap (λ (o : Option Termination). cond (is_in q ts) (after o) o) (term-put_changed t m q)
+      ∙ by (bytes_eq q t) refl (is_in q ts) refl
+    where
+      by : (b : Bool) → bytes_eq q t ≡ b → (h : Bool) → is_in q ts ≡ h → cond h (after (cond b (after (term m q)) (term m q))) (cond b (after (term m q)) (term m q)) ≡ cond (b || h) (after (term m q)) (term m q)
+      by true e true g = absurd (let clash : true ≡ false = sym g ∙ ap (λ (x : List ℕ). is_in x ts) (same_name q t e) ∙ d.0 in cc)
+      by true e false g = refl
+      by false e h g = refl
+
+  pub ctx-all_changed : (ts : List (List ℕ)) (m : Maps) (n : CtxNum) → ctx (all_changed f ts m) n ≡ ctx m n
+  ctx-all_changed [] m n = refl
+  ctx-all_changed (t ∷ ts) m n = ctx-all_changed ts (put_changed f t m (term m t)) n ∙ ctx-put_changed t m (term m t) n
+
+  either_way : (r : Termination) (x : Bool) → shown (Some (changed_if x f (Here r))) ≡ cond x (Some (changed f r)) (Some r)
+  either_way r true = refl
+  either_way r false = refl
+
+  nothing_at : (p : Place Termination) (x : Bool) → shown (Some p) ≡ None → shown (Some (changed_if x f p)) ≡ None
+  nothing_at Empty true h = refl
+  nothing_at Empty false h = refl
+  nothing_at Out true h = refl
+  nothing_at Out false h = refl
+  nothing_at (Here r) x h = absurd cc
+
+  shows : (prefix q : List ℕ) (o : Option (Place Termination)) → shown (option_map (changed_at prefix f q) o) ≡ cond (is_some (shown o) && (starts_with nat_eq q prefix && is_within Free (place_of (shown o)))) (after (shown o)) (shown o)
+  shows prefix q None = refl
+  shows prefix q (Some Empty) = refl
+  shows prefix q (Some (Here r)) = either_way r (starts_with nat_eq q prefix && is_within Free r.place)
+  shows prefix q (Some Out) = refl
+
+  shows_entry : (prefix q : List ℕ) (o : Option (Place Termination)) (e : Option Termination) → e ≡ shown o
+      → shown (option_map (changed_at prefix f q) o) ≡ cond (is_some e && (starts_with nat_eq q prefix && is_within Free (place_of e))) (after e) e
+  shows_entry prefix q o e is =
+      shows prefix q o ∙ ap (λ (x : Option Termination). cond (is_some x && (starts_with nat_eq q prefix && is_within Free (place_of x))) (after x) x) (sym is)
+
+  -- changed in their places they are what they are one after another
+  pub maps_changed : (prefix : List ℕ) (a b : Stored) → AreChanged prefix f a b → maps_of b ≡ all_changed f (reached Free prefix (maps_of a)) (maps_of a)
+  maps_changed prefix a b h = same_maps (maps_of b) (all_changed f (reached Free prefix (maps_of a)) (maps_of a))
+      (λ q. term-maps_of b q ∙ ap (λ o. shown o) (h.terms q) ∙ shows_entry prefix q (finite.get a.terms q) (term (maps_of a) q) (term-maps_of a q)
+      ∙ sym (term-all_changed (reached Free prefix (maps_of a)) (maps_of a) q (reached_once prefix (maps_of a))
+      ∙ ap (λ (x : Bool). cond x (after (term (maps_of a) q)) (term (maps_of a) q)) (in_filtered (is_reached Free prefix (maps_of a)) (names (maps_of a)) q ∙ ap (λ (x : Bool). x && is_reached Free prefix (maps_of a) q) (in_names (maps_of a) q))))
+      (λ n. ctx-maps_of b n ∙ ap (λ m. shown (finite.get m n.0)) h.contexts ∙ sym (ctx-maps_of a n) ∙ sym (ctx-all_changed (reached Free prefix (maps_of a)) (maps_of a) n))
+
+-- ---- what is noted
+
+-- where a termination is meant, one stands
+pub meant_here : (prefix t : List ℕ) (p : Place Termination) → is_reached_at Free prefix t p ≡ true → is_some (shown (Some p)) ≡ true
+meant_here prefix t Empty h = absurd cc
+meant_here prefix t (Here r) h = refl
+meant_here prefix t Out h = absurd cc
+
+module _ (prefix : List ℕ) where
+  -- each that is meant is noted, or among the rest
+  abbrev pub NotedBut : (all rest : List Named) → List Write → Type 0
+  NotedBut all rest ws = (t : List ℕ) (p : Place Termination) → lookup (is_at (name_cmp t)) all ≡ Some p → is_reached_at Free prefix t p ≡ true → (lookup (is_at (name_cmp t)) rest ≡ Some p) ⊎ (has (keys_written ws) (Term t) ≡ true)
+
+  pub one_more_noted : (all rest left : List Named) (e : Named) (ws vs : List Write) → rest ≡ e ∷ left → (is_reached_at Free prefix e.0 e.1 ≡ true → has (keys_written vs) (Term e.0) ≡ true) → ((q : List ℕ) → has (keys_written ws) (Term q) ≡ true → has (keys_written vs) (Term q) ≡ true) → NotedBut all rest ws → NotedBut all left vs
+  one_more_noted all rest left e ws vs is here kept so_far t p found meant = elim (so_far t p found meant) [
+    | inl h ↦ by (is_at (name_cmp t) e.0) refl (sym (ap (λ (l : List Named). lookup (is_at (name_cmp t)) l) is) ∙ h)
+    | inr n ↦ inr (kept t n)
+  ]
+    where
+      by : (b : Bool) → is_at (name_cmp t) e.0 ≡ b → cond b (Some e.1) (lookup (is_at (name_cmp t)) left) ≡ Some p → (lookup (is_at (name_cmp t)) left ≡ Some p) ⊎ (has (keys_written vs) (Term t) ≡ true)
+      by true f h =
+          let name : t ≡ e.0 = same_name t e.0 (sym (name_test t e.0) ∙ f) in
+          let place : e.1 ≡ p = cc in
+          inr (ap (λ (x : List ℕ). has (keys_written vs) (Term x)) name ∙ here ((λ i. is_reached_at Free prefix (sym name i) (place i)) ∙ meant))
+      by false f h = inl h
+
+  pub all_noted : (es rest : List Named) (cs : List (ℕ × Place ContextRecord)) (now : Stored) (ws : List Write) → stored es cs ≡ now → rest ≡ [] → NotedBut es rest ws → AreAllNoted prefix ws now
+  all_noted es rest cs now ws is over noted t p stands meant =
+      elim (noted t p (term_seen es cs now t is ∙ stands) meant) [ inl h ↦ absurd (let clash : None ≡ Some p = sym (ap (λ (l : List Named). lookup (is_at (name_cmp t)) l) over) ∙ h in cc) | inr n ↦ n ]
+
+-- what is noted stays so
+pub still_noted : (ws vs : List Write) (t q : List ℕ) (p : Place Termination) → MayNote t p ws vs → has (keys_written ws) (Term q) ≡ true → has (keys_written vs) (Term q) ≡ true
+still_noted ws vs t q p (inl e) h = ap (λ (l : List Write). has (keys_written l) (Term q)) e ∙ h
+still_noted ws vs t q p (inr e) h = ap (λ (l : List Write). has (keys_written l) (Term q)) e ∙ written_before ws (OfTerm t (shown (Some p))) (Term q) h

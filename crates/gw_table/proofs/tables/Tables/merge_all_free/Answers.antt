@@ -1,0 +1,43 @@
+use Rattle.std.proofs.Common.{◌≡◌, Result, Ok, Err, refl, sym, ap, subst, ◌∙◌, rules}
+use Rattle.std.specs.Result.{OnOk}
+use Rattle.gw_term.specs.Merge.{merged}
+use Rattle.gw_term.proofs.Taken.{merge_stays}
+use Rattle.gw_table.specs.Merged.{Change, AreAlike, AreChanged}
+use Rattle.gw_table.specs.Stored.{Stored, stored}
+use Rattle.gw_table.specs.contracts.tables.fn.Tables.merge_all_free.retain as closure
+use Rattle.gw_table.proofs.Merged.{Passed, passed_by, are_alike, are_changed, marked_alike}
+use Rattle.gw_table.proofs.tables.Tables.merge_all_free.Goals as goal
+
+abbrev change : goal.After-unless_fewer → Change
+change c = merged c.args.rules.now c.args.descriptors.now
+
+-- each place was passed
+passed : (c : goal.After-unless_fewer) → Passed c.args.prefix.now (change c) c.self.inside.terms.entries c.retain.new.self.entries
+passed c =
+    passed_by c.args.prefix.now (change c) _ (λ f. let l = closure.captures f in (l.prefix.now ≡ c.args.prefix.now) × (l.rules.now ≡ c.args.rules.now) × (l.descriptors.now ≡ c.args.descriptors.now))
+    (λ f k v b w g i t. search rules) _ c.self.inside.terms.entries c.retain.new.self.entries (refl, refl, refl) c.retain.ensures.filtered
+
+alike : (c : goal.After-unless_fewer) → AreAlike c.args.prefix.now (stored c.self.inside.terms.entries c.self.inside.contexts.entries) (stored c.retain.new.self.entries c.self.inside.contexts.entries)
+alike c = are_alike c.args.prefix.now (change c) c.self.inside.terms.entries c.retain.new.self.entries c.self.inside.contexts.entries (passed c)
+
+pub invariant_of-self : goal.invariant_of-self
+invariant_of-self c =
+    marked_alike c.args.prefix.now (stored c.self.inside.terms.entries c.self.inside.contexts.entries) (stored c.retain.new.self.entries c.self.inside.contexts.entries)
+    (alike c) c.self.inside.numbers c.self.inside.slots c.self.invariant
+
+pub returns-clause-alike : goal.returns-clause-alike
+returns-clause-alike c = subst (λ (s : Stored). AreAlike c.args.prefix.now s (stored c.retain.new.self.entries c.self.inside.contexts.entries)) c.self.view_is (alike c)
+
+on_ok : {X E P Q : Type 0} (r : Result X E) → (P → Q) → OnOk r P → OnOk r Q
+on_ok (Ok x) f p = f p
+on_ok (Err e) f p = tt
+
+pub returns-clause-changed : goal.returns-clause-changed
+returns-clause-changed c =
+    let before = c.self.inside.terms.entries in
+    let after = c.retain.new.self.entries in
+    let cells = c.self.inside.contexts.entries in
+    on_ok c.unless_fewer.result
+    (λ same. subst (λ (s : Stored). AreChanged c.args.prefix.now (change c) s (stored after cells)) c.self.view_is
+    (are_changed c.args.prefix.now (change c) (merge_stays c.args.rules.now c.args.descriptors.now) before after cells (passed c) (sym c.count_free.ensures ∙ same ∙ c.count_free-free.ensures)))
+    c.unless_fewer.ensures

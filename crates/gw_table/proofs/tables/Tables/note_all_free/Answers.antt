@@ -1,0 +1,52 @@
+use Rattle.std.proofs.Common.{◌≡◌, List, Some, sym, ap, subst, ◌∙◌, inl}
+use Rattle.std.specs.BTreeMap.{is_at}
+use Rattle.std.specs.FinMap as finite
+use Rattle.std.specs.List.{AllByRecursion}
+use Rattle.std.specs.Map.{lookup}
+use Rattle.gw_base.specs.NameLists.{name_cmp}
+use Rattle.gw_table.specs.Stored.{stored}
+use Rattle.gw_table.proofs.FreeNames.{Named, each_found}
+use Rattle.gw_table.proofs.Served.{may_note, stands_next, stand_behind}
+use Rattle.gw_table.proofs.Merged.{meant_here, still_noted, one_more_noted, all_noted}
+use Rattle.gw_table.proofs.tables.Tables.note_all_free.Goals as goal
+
+pub loop-name-init : goal.loop-name-init
+loop-name-init c = record {
+  back = λ start i. i;
+  noted = λ t p h r. inl h;
+  left = subst (λ (l : List Named). AllByRecursion (λ e. lookup (is_at (name_cmp e.0)) l ≡ Some e.1) l) (sym c.into_iter-name-iterator.ensures.into_iter_gives.0) (each_found c.self.inside.terms.entries c.into_iter-name-iterator.ensures.into_iter_gives.5);
+}
+
+pub loop-name-preserved-in-Continue-1 : goal.loop-name-preserved-in-Continue-1
+loop-name-preserved-in-Continue-1 c =
+    let stands : finite.get c.args.self.now.terms c.in-Some.name.now ≡ Some c.in-Some.site.now =
+    stands_next c.into_iter-name-iterator.result c.loop-name.name-iterator c.next.new.self (c.in-Some.name.now, c.in-Some.site.now) c.self.inside.contexts.entries c.args.self.now
+    (ap (λ (l : List Named). stored l c.self.inside.contexts.entries) c.into_iter-name-iterator.ensures.into_iter_gives.0 ∙ c.self.view_is) c.in-Some.ensures.steps c.loop-name.invariant.left in
+    record {
+      back = λ start i. may_note start c.args.self.now c.loop-name.writes.items c.note_original.new.writes.items c.in-Some.name.now c.in-Some.site.now stands c.in_ok-note_original.ensures.least (c.loop-name.invariant.back start i);
+      noted = one_more_noted c.args.prefix.now c.into_iter-name-iterator.result c.loop-name.name-iterator c.next.new.self (c.in-Some.name.now, c.in-Some.site.now) c.loop-name.writes.items c.note_original.new.writes.items c.in-Some.ensures.steps
+          (λ h. c.in_ok-note_original.ensures.noted (meant_here c.args.prefix.now c.in-Some.name.now c.in-Some.site.now h)) (λ q. still_noted c.loop-name.writes.items c.note_original.new.writes.items c.in-Some.name.now q c.in-Some.site.now c.in_ok-note_original.ensures.least) c.loop-name.invariant.noted;
+      left = stand_behind c.into_iter-name-iterator.result c.loop-name.name-iterator c.next.new.self (c.in-Some.name.now, c.in-Some.site.now) c.in-Some.ensures.steps c.loop-name.invariant.left;
+    }
+
+pub loop-name-preserved : goal.loop-name-preserved
+loop-name-preserved c = record {
+  back = c.loop-name.invariant.back;
+  noted = one_more_noted c.args.prefix.now c.into_iter-name-iterator.result c.loop-name.name-iterator c.next.new.self (c.in-Some.name.now, c.in-Some.site.now) c.loop-name.writes.items c.loop-name.writes.items c.in-Some.ensures.steps
+      (λ h. absurd cc) (λ q n. n) c.loop-name.invariant.noted;
+  left = stand_behind c.into_iter-name-iterator.result c.loop-name.name-iterator c.next.new.self (c.in-Some.name.now, c.in-Some.site.now) c.in-Some.ensures.steps c.loop-name.invariant.left;
+}
+
+pub returns : goal.returns
+returns c = record {
+  back = c.loop-name.invariant.back;
+  noted = all_noted c.args.prefix.now c.into_iter-name-iterator.result c.loop-name.name-iterator c.self.inside.contexts.entries c.args.self.now c.loop-name.writes.items
+      (ap (λ (l : List Named). stored l c.self.inside.contexts.entries) c.into_iter-name-iterator.ensures.into_iter_gives.0 ∙ c.self.view_is) c.in-None.ensures.steps.0 c.loop-name.invariant.noted;
+}
+
+pub returns-in_err-note_original-clause-back : goal.returns-in_err-note_original-clause-back
+returns-in_err-note_original-clause-back c start i =
+    let stands : finite.get c.args.self.now.terms c.in-Some.name.now ≡ Some c.in-Some.site.now =
+    stands_next c.into_iter-name-iterator.result c.loop-name.name-iterator c.next.new.self (c.in-Some.name.now, c.in-Some.site.now) c.self.inside.contexts.entries c.args.self.now
+    (ap (λ (l : List Named). stored l c.self.inside.contexts.entries) c.into_iter-name-iterator.ensures.into_iter_gives.0 ∙ c.self.view_is) c.in-Some.ensures.steps c.loop-name.invariant.left in
+    may_note start c.args.self.now c.loop-name.writes.items c.note_original.new.writes.items c.in-Some.name.now c.in-Some.site.now stands c.in_err-note_original.ensures.least (c.loop-name.invariant.back start i)

@@ -1,0 +1,87 @@
+-- Descriptors that are merged into many terminations at once (RFC 3525, section 7.2.2), and what is noted of them for the way back (own).
+use Rattle.std.specs.Prelude.{◌≡◌, ℕ, ◌⊎◌, Bool, true, false, List, [], ◌∷◌, Option, None, Some}
+use Rattle.std.specs.Option.{option_map, is_some, unwrap_or}
+use Rattle.std.specs.FinMap as finite
+use Rattle.gw_base.specs.declared.key.Key.TheVariants.{Term}
+use Rattle.gw_base.specs.Keys.{has}
+use Rattle.gw_term.specs.declared.record.Termination.{Termination}
+use Rattle.gw_table.specs.declared.originals.Write.{Write}
+use Rattle.gw_table.specs.declared.place.Place.{Place}
+use Rattle.gw_table.specs.declared.place.Place.TheVariants.{Empty, Here, Out}
+use Rattle.gw_table.specs.declared.reach.Reach.TheVariants.{Free}
+use Rattle.gw_table.specs.Maps.{Maps, term, put_term}
+use Rattle.gw_table.specs.Originals.{keys_written}
+use Rattle.gw_table.specs.Served.{is_reached_at}
+use Rattle.gw_table.specs.Stored.{Stored, shown}
+
+-- what becomes of a record, or none where it stays
+abbrev pub Change : Type 0
+Change = Termination → Option Termination
+
+-- ---- in the maps
+
+abbrev pub put_if : List ℕ → Maps → Option Termination → Maps
+put_if t m None = m
+put_if t m (Some r) = put_term m t (Some r)
+
+-- the termination of a name after a change
+abbrev pub put_changed : Change → List ℕ → Maps → Option Termination → Maps
+put_changed f t m None = m
+put_changed f t m (Some r) = put_if t m (f r)
+
+-- each of these after the change, one after another
+abbrev pub all_changed : Change → List (List ℕ) → Maps → Maps
+all_changed f [] m = m
+all_changed f (t ∷ ts) m = all_changed f ts (put_changed f t m (term m t))
+
+-- ---- in their places
+
+abbrev pub changed : Change → Termination → Termination
+changed f r = unwrap_or (f r) r
+
+abbrev pub changed_place : Change → Place Termination → Place Termination
+changed_place f Empty = Empty
+changed_place f (Here r) = Here (changed f r)
+changed_place f Out = Out
+
+abbrev pub changed_if : Bool → Change → Place Termination → Place Termination
+changed_if true f p = changed_place f p
+changed_if false f p = p
+
+abbrev pub changed_at : List ℕ → Change → List ℕ → Place Termination → Place Termination
+changed_at prefix f t p = changed_if (is_reached_at Free prefix t p) f p
+
+-- a termination that is in some context stands there
+abbrev pub is_away_at : Place Termination → Bool
+is_away_at Empty = false
+is_away_at (Here r) = is_some r.place
+is_away_at Out = false
+
+-- what stood there was changed; or memory was refused, and it has left the null context, by which it is missed
+abbrev pub WasChanged : Change → Place Termination → Place Termination → Type 0
+WasChanged f p q = (q ≡ changed_place f p) ⊎ (is_away_at q ≡ true)
+
+-- so it is with what is meant, and all else stays
+pub record IsPassed (prefix : List ℕ) (f : Change) (t : List ℕ) (p q : Place Termination) : Type 0 where
+  pub met : is_reached_at Free prefix t p ≡ true → WasChanged f p q
+  pub rest : is_reached_at Free prefix t p ≡ false → q ≡ p
+
+-- the places are as they were, but for terminations that are meant
+abbrev pub IsAlike : List ℕ → List ℕ → Option (Place Termination) → Option (Place Termination) → Type 0
+IsAlike prefix t None new = new ≡ None
+IsAlike prefix t (Some p) new = (q : Place Termination) × (new ≡ Some q) × (is_reached_at Free prefix t p ≡ false → q ≡ p) × (is_reached_at Free prefix t p ≡ true → is_some (shown (Some q)) ≡ true)
+
+pub record AreAlike (prefix : List ℕ) (a b : Stored) : Type 0 where
+  pub terms : (t : List ℕ) → IsAlike prefix t (finite.get a.terms t) (finite.get b.terms t)
+  pub contexts : b.contexts ≡ a.contexts
+
+-- all that are meant after the change: `b` is `a` after it
+pub record AreChanged (prefix : List ℕ) (f : Change) (a b : Stored) : Type 0 where
+  pub terms : (t : List ℕ) → finite.get b.terms t ≡ option_map (changed_at prefix f t) (finite.get a.terms t)
+  pub contexts : b.contexts ≡ a.contexts
+
+-- ---- the way back
+
+-- each that is meant is noted
+abbrev pub AreAllNoted : List ℕ → List Write → Stored → Type 0
+AreAllNoted prefix writes now = (t : List ℕ) (p : Place Termination) → finite.get now.terms t ≡ Some p → is_reached_at Free prefix t p ≡ true → has (keys_written writes) (Term t) ≡ true

@@ -1,0 +1,254 @@
+//! Descriptors that are merged into many terminations at once.
+
+ghost use Rattle.std.specs.Prelude.{◌≡◌, ℕ, nat_eq, true, length, List, OnOk};
+ghost use Rattle.std.specs.List.{filter};
+ghost use Rattle.gw_base.specs.declared.key.Key.TheVariants.{Term};
+ghost use Rattle.gw_base.specs.NameLists.{is_in};
+ghost use Rattle.gw_term.specs.Merge.{merged};
+ghost use Rattle.gw_term.specs.Plain.{are_plain};
+ghost use Rattle.gw_table.specs.declared.reach.Reach.TheVariants.{Free};
+ghost use Rattle.gw_table.specs.Free.{is_free_at};
+ghost use Rattle.gw_table.specs.Maps.{term};
+ghost use Rattle.gw_table.specs.Merged.{put_changed, all_changed, WasChanged, IsPassed, AreAlike, AreChanged, AreAllNoted};
+ghost use Rattle.gw_table.specs.Originals.{IsInPlace};
+ghost use Rattle.gw_table.specs.Parts.{holds};
+ghost use Rattle.gw_table.specs.Served.{reached};
+ghost use Rattle.gw_table.specs.Stored.{Stored};
+
+use crate::draft::{Draft, Ground};
+use crate::free::is_free_at;
+use crate::in_place::InPlace;
+use crate::originals::Write;
+use crate::over_part::OverPart;
+use crate::place::Place;
+use crate::reach::{Reach, is_reached_at};
+use crate::site::Site;
+use crate::tables::Tables;
+use gw_base::{CtxNum, Held, NoMemory, Rules, TermName};
+use gw_desc::Descriptor;
+use gw_term::Termination;
+use std::alloc::Global;
+use std::collections::BTreeMap;
+
+/// The termination that stands in a place becomes what the descriptors make of it. One for which memory is refused leaves the null
+/// context: what a pass over the places met is known afterwards by what stands in them alone.
+pub(crate) fn merge_in_place(
+    place: &mut Place<Held<Termination>>,
+    alloc: Global,
+    rules: &Rules,
+    descriptors: &[Descriptor<'_>],
+)
+    requires { are_plain descriptors.now ≡ true }
+    ensures { WasChanged (merged rules.now descriptors.now) place.old place.new }
+{
+    if let Place::Here(termination) = place {
+        if termination
+            .get_mut()
+            .merge_plain(alloc, rules, descriptors)
+            .is_err()
+        {
+            termination.get_mut().set_place(Some(CtxNum(0)));
+        }
+    }
+}
+
+/// Merges the descriptors into the termination in a place, where it is meant. Answers at which index of the list of writes the next
+/// that is noted will be found.
+fn merge_reached(
+    alloc: Global,
+    prefix: &[u8],
+    rules: &Rules,
+    descriptors: &[Descriptor<'_>],
+    name: &TermName,
+    site: &mut Site<Held<Termination>>,
+    writes: &[Write],
+    next: usize,
+) -> usize
+    requires { are_plain descriptors.now ≡ true }
+    ensures { IsPassed prefix.now (merged rules.now descriptors.now) name.now site.old site.new }
+{
+    if is_reached_at(Reach::Free, prefix, name, site) {
+        site.merge_noted(alloc, rules, descriptors, name, writes, next)
+    } else {
+        next
+    }
+}
+
+/// How many terminations are in the null context.
+fn count_free(terms: &BTreeMap<TermName, Site<Held<Termination>>>) -> usize
+    ensures { result ≡ length (filter (λ e. is_free_at e.1) terms.now.entries) }
+{
+    terms.iter().filter(|(_, site)| is_free_at(site)).count()
+}
+
+/// Whether as many are in the null context after a pass as before it.
+fn unless_fewer(before: usize, after: usize) -> Result<(), NoMemory>
+    ensures { OnOk result (after ≡ before) }
+{
+    if after == before {
+        Ok(())
+    } else {
+        Err(NoMemory)
+    }
+}
+
+impl Tables {
+    /// Notes what stands at the names of those that are meant, as copies, but for those that are noted already. The work is one pass over
+    /// the places, without a look-up.
+    fn note_all_free(
+        &self,
+        alloc: Global,
+        prefix: &[u8],
+        writes: &mut Vec<Write>,
+    ) -> Result<(), NoMemory>
+        ensures back { (start : Stored) → IsInPlace start self.now writes.old.items → IsInPlace start self.now writes.new.items }
+        ensures noted { OnOk result (AreAllNoted prefix.now writes.new.items self.now) }
+    {
+        for (name, site) in &self.terms {
+            if is_reached_at(Reach::Free, prefix, name, site) {
+                site.note_original(alloc, name, writes)?;
+            }
+        }
+        Ok(())
+    }
+
+    /// Merges the descriptors into those that are meant, each in its place. What was noted of them stands in the list of writes from an
+    /// index on, in their order. The work is three passes over the places, without a look-up.
+    ///
+    /// # Errors
+    ///
+    /// Want of memory. Terminations may then be in another context; which stand, and all that were not meant, is as it was.
+    fn merge_all_free(
+        &mut self,
+        alloc: Global,
+        prefix: &[u8],
+        rules: &Rules,
+        descriptors: &[Descriptor<'_>],
+        writes: &[Write],
+        first: usize,
+    ) -> Result<(), NoMemory>
+        requires { are_plain descriptors.now ≡ true }
+        ensures alike { AreAlike prefix.now self.old self.new }
+        ensures changed { OnOk result (AreChanged prefix.now (merged rules.now descriptors.now) self.old self.new) }
+    {
+        let free = count_free(&self.terms);
+        let mut next = first;
+        self.terms.retain(
+            move |name, site|
+                requires { are_plain descriptors.now ≡ true }
+            {
+                next = merge_reached(alloc, prefix, rules, descriptors, name, site, writes, next);
+                true
+            },
+        );
+        unless_fewer(free, count_free(&self.terms))
+    }
+}
+
+impl InPlace {
+    /// The descriptors are merged into those that are meant. One that was not written before is copied first, since the original is kept.
+    fn merge_all_free(
+        &mut self,
+        alloc: Global,
+        prefix: &[u8],
+        rules: &Rules,
+        descriptors: &[Descriptor<'_>],
+    ) -> Result<(), NoMemory>
+        requires { are_plain descriptors.now ≡ true }
+        ensures maps { OnOk result (self.new.maps ≡ all_changed (merged rules.now descriptors.now) (reached Free prefix.now self.old.maps) self.old.maps) }
+        ensures keys { self.new.keys ≡ self.old.keys }
+    {
+        let first = self.writes.len();
+        self.tables.note_all_free(alloc, prefix, &mut self.writes)?;
+        self.tables
+            .merge_all_free(alloc, prefix, rules, descriptors, &self.writes, first)
+    }
+}
+
+impl OverPart<'_> {
+    /// The descriptors are merged into the termination of a name, if there is one.
+    fn merge_term(
+        &mut self,
+        alloc: Global,
+        rules: &Rules,
+        descriptors: &[Descriptor<'_>],
+        name: &TermName,
+    ) -> Result<(), NoMemory>
+        requires plain { are_plain descriptors.now ≡ true }
+        requires key { holds self.old.keys (Term name.now) ≡ true }
+        ensures maps { OnOk result (self.new.maps ≡ put_changed (merged rules.now descriptors.now) name.now self.old.maps (term self.old.maps name.now)) }
+        ensures keys { self.new.keys ≡ self.old.keys }
+    {
+        if let Some(mut termination) = self.take_term(alloc, name)? {
+            termination
+                .get_mut()
+                .merge_plain(alloc, rules, descriptors)?;
+            self.set_term(*name, Some(termination))?;
+        }
+        Ok(())
+    }
+
+    /// The descriptors are merged into the terminations of these names.
+    fn merge_each(
+        &mut self,
+        alloc: Global,
+        rules: &Rules,
+        descriptors: &[Descriptor<'_>],
+        named: &[TermName],
+    ) -> Result<(), NoMemory>
+        requires plain { are_plain descriptors.now ≡ true }
+        requires term_keys { (t : List ℕ) → is_in t named.now ≡ true → holds self.old.keys (Term t) ≡ true }
+        ensures maps { OnOk result (self.new.maps ≡ all_changed (merged rules.now descriptors.now) named.now self.old.maps) }
+        ensures keys { self.new.keys ≡ self.old.keys }
+    {
+        for name in named {
+            self.merge_term(alloc, rules, descriptors, name)?;
+        }
+        Ok(())
+    }
+
+    /// The descriptors are merged into those that are meant.
+    fn merge_all_free(
+        &mut self,
+        alloc: Global,
+        prefix: &[u8],
+        rules: &Rules,
+        descriptors: &[Descriptor<'_>],
+    ) -> Result<(), NoMemory>
+        requires plain { are_plain descriptors.now ≡ true }
+        requires term_keys { (t : List ℕ) → is_in t (reached Free prefix.now self.old.maps) ≡ true → holds self.old.keys (Term t) ≡ true }
+        ensures maps { OnOk result (self.new.maps ≡ all_changed (merged rules.now descriptors.now) (reached Free prefix.now self.old.maps) self.old.maps) }
+        ensures keys { self.new.keys ≡ self.old.keys }
+    {
+        let named = self.reached(alloc, Reach::Free, prefix)?;
+        self.merge_each(alloc, rules, descriptors, &named)
+    }
+}
+
+impl Draft<'_> {
+    /// The descriptors are merged into those terminations of the null context whose names begin so. The caller knows that every record
+    /// takes them, and that the names are among the draft's keys. The work is four passes over the tables, without a look-up, and the
+    /// merges; or a look-up for each key of the part, and two for each that is meant. Memory is taken for the originals of those that
+    /// were not written before, as copies, and for what is new in the records.
+    ///
+    /// # Errors
+    ///
+    /// Want of memory. Terminations may then be elsewhere, and gone from a draft of a part.
+    pub fn merge_all_free(
+        &mut self,
+        alloc: Global,
+        prefix: &[u8],
+        rules: &Rules,
+        descriptors: &[Descriptor<'_>],
+    ) -> Result<(), NoMemory>
+        requires plain { are_plain descriptors.now ≡ true }
+        requires term_keys { (t : List ℕ) → is_in t (reached Free prefix.now self.old.maps) ≡ true → holds self.old.keys (Term t) ≡ true }
+        ensures maps { OnOk result (self.new.maps ≡ all_changed (merged rules.now descriptors.now) (reached Free prefix.now self.old.maps) self.old.maps) }
+        ensures keys { self.new.keys ≡ self.old.keys }
+    {
+        match &mut self.ground {
+            Ground::OfPart(ground) => ground.merge_all_free(alloc, prefix, rules, descriptors),
+            Ground::OfTables(ground) => ground.merge_all_free(alloc, prefix, rules, descriptors),
+        }
+    }
+}

@@ -1,0 +1,343 @@
+-- Every record takes plain descriptors, and nothing is filled.
+use Rattle.std.proofs.Common.{◌≡◌, ℕ, zero, suc, ◌≤◌, ◌==◌, eqb-true, arith, Bool, true, false, not, List, [], ◌∷◌, ◌++◌, map, Option, Some, None, is_some, refl, ap, sym, ◌∙◌, subst}
+use Rattle.std.specs.Prelude.{◌&&◌, ◌||◌, if◌then◌else◌}
+use Rattle.std.specs.List.{list_all, list_any, filter, flat_map}
+use Rattle.std.specs.Option.{option_map, unwrap_or}
+use Rattle.gw_base.specs.declared.command_words.Rules.{Rules}
+use Rattle.gw_desc.specs.Values.{is_mode, is_service_states, mode_set_by}
+use Rattle.gw_desc.specs.Checks.{is_kept, same_kept}
+use Rattle.gw_desc.specs.declared.descriptor.Descriptor.{Descriptor}
+use Rattle.gw_desc.specs.declared.descriptor.Descriptor.TheVariants as descriptor
+use Rattle.gw_desc.specs.declared.descriptor.KeptKind.{KeptKind}
+use Rattle.gw_desc.specs.declared.descriptor.KeptKind.TheVariants.{Events, Signals, DigitMap, EventBuffer}
+use Rattle.gw_desc.specs.declared.descriptor.MediaPart.{MediaPart}
+use Rattle.gw_desc.specs.declared.descriptor.MediaPart.TheVariants as media
+use Rattle.gw_desc.specs.declared.descriptor.Property.{Property}
+use Rattle.gw_desc.specs.declared.descriptor.StreamPart.{StreamPart}
+use Rattle.gw_desc.specs.declared.descriptor.StreamPart.TheVariants as part
+use Rattle.gw_desc.specs.declared.descriptor.Tail.{Tail}
+use Rattle.gw_reply.specs.declared.parts.FilledStream.{FilledStream}
+use Rattle.gw_term.specs.declared.record.Stream.{Stream}
+use Rattle.gw_term.specs.declared.record.Termination.{Termination}
+use Rattle.gw_term.specs.declared.streams.Merging.{Merging}
+use Rattle.gw_term.proofs.Naming.{tail_stays}
+use Rattle.gw_term.specs.Places.{at_kind, put_kind, of_kinds}
+use Rattle.gw_term.specs.declared.places.PerKind.{PerKind}
+use Rattle.gw_term.specs.declared.places.PerStream.{PerStream}
+use Rattle.gw_term.specs.Merge.{Media, and_then, each, put_state, put_control, put_part, begun, unnamed, is_named_in, names_stream, media_parts, parts_in, parts_in_part, states_in, states_in_part, merged_properties, merged_stream, merged_media, with_media, merged, filled_in, filled_of, filled_by, stream_in, merged_service, merged_tail, tail_after}
+use Rattle.gw_term.specs.declared.settings.Setting.{Setting}
+use Rattle.gw_term.specs.declared.settings.Setting.TheVariants as setting
+use Rattle.gw_term.specs.Plain.{is_plain_stream, is_plain_part, is_plain_one, are_plain, setting_after, with_stream_after, with_streams_after, stream_or_none, is_tail_of, with_tail_after, with_tails_after}
+use Rattle.gw_term.specs.Settings.{Settings, nothing_set, with_setting, with_settings, set_by}
+
+abbrev P : Type 0
+P = Property (List ℕ)
+
+both_of : (a b : Bool) → (a && b) ≡ true → (a ≡ true) × (b ≡ true)
+both_of true b h = (refl, h)
+both_of false b h = absurd cc
+
+two : (a b : Bool) → a ≡ true → b ≡ true → (a && b) ≡ true
+two a b h k = (λ i. h i && b) ∙ k
+
+all_both : {X : Type 0} (p : X → Bool) (xs ys : List X) → list_all p xs ≡ true → list_all p ys ≡ true → list_all p (xs ++ ys) ≡ true
+all_both p [] ys h k = k
+all_both p (x ∷ xs) ys h k = let a = both_of (p x) (list_all p xs) h in two (p x) (list_all p (xs ++ ys)) a.0 (all_both p xs ys a.1 k)
+
+-- what is said of each part is said of what it is made of
+all_in : {X Y : Type 0} (p : X → Bool) (q : Y → Bool) (f : X → List Y) → ((x : X) → p x ≡ true → list_all q (f x) ≡ true) → (xs : List X) → list_all p xs ≡ true → list_all q (flat_map f xs) ≡ true
+all_in p q f each [] h = refl
+all_in p q f each (x ∷ xs) h = let a = both_of (p x) (list_all p xs) h in all_both q (f x) (flat_map f xs) (each x a.0) (all_in p q f each xs a.1)
+
+-- steps that can each be done, and keep to something, can be done one after another
+module _ {S X : Type 0} (step : X → S → Option S) (ok : X → Bool) (I : S → Type 0) (one : (x : X) (s : S) → ok x ≡ true → I s → (t : S) × (step x s ≡ Some t) × I t) where
+  each_done : (xs : List X) (s : S) → list_all ok xs ≡ true → I s → (t : S) × (each step xs s ≡ Some t) × I t
+  each_done [] s h i = (s, refl, i)
+  each_done (x ∷ xs) s h i =
+      let a = both_of (ok x) (list_all ok xs) h in
+      let now = one x s a.0 i in
+      let later = each_done xs now.0 a.1 now.2 in
+      (later.0, ap (λ (o : Option S). and_then o (each step xs)) now.1 ∙ later.1, later.2)
+
+-- ---- the termination's list
+
+state_put : (was : List P) (p : P) (list : List P) → is_service_states p.name ≡ true → list ≡ was → (t : List P) × (put_state p list ≡ Some t) × (t ≡ was)
+state_put was p list h i = (list, (rw h refl), i)
+
+plain_states : (m : MediaPart) → is_plain_part m ≡ true → list_all (λ (p : P). is_service_states p.name) (states_in_part m) ≡ true
+plain_states (media.Outside p) h = refl
+plain_states (media.Stream number parts) h = refl
+plain_states (media.TerminationState properties) h = h
+
+plain_states_in : (d : Descriptor) → is_plain_one d ≡ true → list_all (λ (p : P). is_service_states p.name) (states_in d) ≡ true
+plain_states_in (descriptor.Media parts) h = all_in is_plain_part (λ (p : P). is_service_states p.name) states_in_part plain_states parts h
+plain_states_in (descriptor.Keep kind tail) h = refl
+plain_states_in (descriptor.Audit words) h = refl
+plain_states_in (descriptor.Services parms) h = refl
+plain_states_in (descriptor.Other text) h = refl
+
+properties_merged : (ds : List Descriptor) (list : List P) → are_plain ds ≡ true → merged_properties ds list ≡ Some list
+unfolding merged_properties
+properties_merged ds list h =
+    let done = each_done put_state (λ (p : P). is_service_states p.name) (λ l. l ≡ list) (state_put list) (flat_map states_in ds) list (all_in is_plain_one (λ (p : P). is_service_states p.name) states_in plain_states_in ds h) refl in
+    done.1 ∙ ap (λ (l : List P). Some l) done.2
+
+-- ---- a stream
+
+control_put : (p : P) (s : Stream) → is_mode p.name ≡ true → Unit {0} → (t : Stream) × (put_control p s ≡ Some t) × Unit {0}
+control_put p s h i = (record s { mode = unwrap_or (mode_set_by p) s.mode }, (rw h refl), tt)
+
+part_put : (rules : Rules) (slot : Option ℕ) (number : ℕ) (p : StreamPart) (m : Merging) → is_plain_stream p ≡ true → m.filled ≡ false → (t : Merging) × (put_part rules slot number p m ≡ Some t) × (t.filled ≡ false)
+part_put rules slot number (part.Local text) m h i = absurd cc
+part_put rules slot number (part.Remote text) m h i = (record m { stream = record m.stream { remote = Some text } }, refl, i)
+part_put rules slot number (part.LocalControl properties) m h i =
+    let done = each_done put_control (λ (p : P). is_mode p.name) (λ s. Unit {0}) control_put properties m.stream h tt in
+    (record m { stream = done.0 }, ap (λ (o : Option Stream). option_map (λ s. record m { stream = s }) o) done.1, i)
+
+plain_parts : (number : ℕ) (m : MediaPart) → is_plain_part m ≡ true → list_all is_plain_stream (parts_in_part number m) ≡ true
+plain_parts number (media.Outside p) h = by (names_stream number (media.Outside p))
+  where
+    by : (b : Bool) → list_all is_plain_stream (if b then p ∷ [] else []) ≡ true
+    by true = two (is_plain_stream p) true h refl
+    by false = refl
+plain_parts number (media.Stream other parts) h = by (names_stream number (media.Stream other parts))
+  where
+    by : (b : Bool) → list_all is_plain_stream (if b then parts else []) ≡ true
+    by true = h
+    by false = refl
+plain_parts number (media.TerminationState properties) h = refl
+
+plain_parts_in : (number : ℕ) (d : Descriptor) → is_plain_one d ≡ true → list_all is_plain_stream (parts_in number d) ≡ true
+plain_parts_in number (descriptor.Media parts) h = all_in is_plain_part is_plain_stream (parts_in_part number) (plain_parts number) parts h
+plain_parts_in number (descriptor.Keep kind tail) h = refl
+plain_parts_in number (descriptor.Audit words) h = refl
+plain_parts_in number (descriptor.Services parms) h = refl
+plain_parts_in number (descriptor.Other text) h = refl
+
+stream_merged : (rules : Rules) (slot : Option ℕ) (number : ℕ) (ds : List Descriptor) (old : Option Stream) → are_plain ds ≡ true → (t : Option Merging) × (merged_stream rules slot number ds old ≡ Some t) × (filled_in number t ≡ [])
+unfolding merged_stream
+stream_merged rules slot number ds old h = by (list_any (is_named_in number) ds) refl
+  where
+    none : (m : Merging) → m.filled ≡ false → filled_in number (Some m) ≡ []
+    none m e = rw e refl
+
+    not_named : (o : Option Stream) → filled_in number (unnamed o) ≡ []
+    not_named None = refl
+    not_named (Some s) = refl
+
+    by : (b : Bool) → list_any (is_named_in number) ds ≡ b → (t : Option Merging) × (merged_stream rules slot number ds old ≡ Some t) × (filled_in number t ≡ [])
+    by true e =
+        let done = each_done (put_part rules slot number) is_plain_stream (λ m. m.filled ≡ false) (part_put rules slot number) (flat_map (parts_in number) ds) (begun old) (all_in is_plain_one is_plain_stream (parts_in number) (plain_parts_in number) ds h) refl in
+        (Some done.0, (rw e (ap (λ (o : Option Merging). option_map (λ m. Some m) o) done.1)), none done.0 done.2)
+    by false e = (unnamed old, (rw e refl), not_named old)
+
+-- ---- the whole
+
+media_merged : (rules : Rules) (ds : List Descriptor) (r : Termination) → are_plain ds ≡ true → (m : Media) × (merged_media rules ds r ≡ Some m) × (filled_of (Some m) ≡ [])
+unfolding merged_media
+media_merged rules ds r h =
+    let p = properties_merged ds r.settings.properties h in
+    let a = stream_merged rules r.slot 1 ds r.settings.streams.first h in
+    let b = stream_merged rules r.slot 2 ds r.settings.streams.second h in
+    let c = stream_merged rules r.slot 3 ds r.settings.streams.third h in
+    let d = stream_merged rules r.slot 4 ds r.settings.streams.fourth h in (
+      record { properties = r.settings.properties; streams = record { first = a.0; second = b.0; third = c.0; fourth = d.0 } },
+      (λ i. and_then (p i) (λ properties. and_then (and_then (a.1 i) (λ first. and_then (b.1 i) (λ second. and_then (c.1 i) (λ third. and_then (d.1 i) (λ fourth.
+          Some (let x : PerStream (Option Merging) = record { first = first; second = second; third = third; fourth = fourth } in x)))))) (λ streams.
+          Some (let x : Media = record { properties = properties; streams = streams } in x)))),
+      (λ i. a.2 i ++ b.2 i ++ c.2 i ++ d.2 i),
+    )
+
+pub plain_merged : (rules : Rules) (ds : List Descriptor) (r : Termination) → are_plain ds ≡ true → (new : Termination) × (merged rules ds r ≡ Some new)
+unfolding merged
+plain_merged rules ds r h = let m = media_merged rules ds r h in (with_media ds r m.0, ap (λ (o : Option Media). option_map (with_media ds r) o) m.1)
+
+pub plain_fills_none : (rules : Rules) (ds : List Descriptor) (r : Termination) → are_plain ds ≡ true → filled_by rules ds r ≡ []
+unfolding filled_by
+plain_fills_none rules ds r h = let m = media_merged rules ds r h in ap (λ (o : Option Media). filled_of o) m.1 ∙ m.2
+
+-- after any merge the termination is where it was
+pub merge_stays : (rules : Rules) (ds : List Descriptor) (r : Termination) → (unwrap_or (merged rules ds r) r).place ≡ r.place
+unfolding merged
+merge_stays rules ds r = by (merged_media rules ds r)
+  where
+    by : (m : Option Media) → (unwrap_or (option_map (with_media ds r) m) r).place ≡ r.place
+    by None = refl
+    by (Some m) = refl
+
+-- ---- where it lies
+
+-- the streams, the tails and the service state are all that changes
+pub merged_here : (rules : Rules) (ds : List Descriptor) (r : Termination) → are_plain ds ≡ true
+    → merged rules ds r ≡ Some (record r { service = merged_service ds r.service; settings = with_tails_after ds (with_streams_after (stream_or_none rules r.slot) ds r.settings) })
+unfolding merged merged_media
+merged_here rules ds r h =
+    let s : PerStream (Option Stream) = r.settings.streams in
+    let t : PerKind (Option (Tail (List ℕ))) = r.settings.tails in
+    let a = stream_merged rules r.slot 1 ds s.first h in
+    let b = stream_merged rules r.slot 2 ds s.second h in
+    let c = stream_merged rules r.slot 3 ds s.third h in
+    let d = stream_merged rules r.slot 4 ds s.fourth h in
+    (λ i. option_map (with_media ds r) (and_then (properties_merged ds r.settings.properties h i) (λ properties. and_then (and_then (a.1 i) (λ first. and_then (b.1 i) (λ second. and_then (c.1 i) (λ third. and_then (d.1 i) (λ fourth.
+    Some (let x : PerStream (Option Merging) = record { first = first; second = second; third = third; fourth = fourth } in x)))))) (λ streams.
+    Some (let x : Media = record { properties = properties; streams = streams } in x)))))
+    ∙ (λ i. Some (record r {
+      service = merged_service ds r.service;
+      settings = (let x : Settings = record {
+        properties = r.settings.properties;
+        streams = (let y : PerStream (Option Stream) = record { first = one 1 s.first a.0 a.1 i; second = one 2 s.second b.0 b.1 i; third = one 3 s.third c.0 c.1 i; fourth = one 4 s.fourth d.0 d.1 i } in y);
+        tails = of_kinds (λ kind. merged_tail kind ds (at_kind kind t));
+      } in x);
+    }))
+  where
+    one : (number : ℕ) (old : Option Stream) (m : Option Merging) → merged_stream rules r.slot number ds old ≡ Some m → stream_in m ≡ stream_or_none rules r.slot number ds old
+    one number old m e = sym (ap (λ (o : Option (Option Merging)). unwrap_or (option_map stream_in o) old) e)
+
+-- the last tail of a kind decides alone
+pub named_tail : (kind : KeptKind) (ds : List Descriptor) (x y : Option (Tail (List ℕ))) → list_any (is_kept kind) ds ≡ true → merged_tail kind ds x ≡ merged_tail kind ds y
+named_tail kind [] x y h = absurd cc
+named_tail kind (descriptor.Keep other tail ∷ ds) x y h = by (named_tail kind ds x y) (same_kept kind other) refl h
+  where
+    by : (list_any (is_kept kind) ds ≡ true → merged_tail kind ds x ≡ merged_tail kind ds y) → (b : Bool) → same_kept kind other ≡ b → (b || list_any (is_kept kind) ds) ≡ true → merged_tail kind ds (tail_after kind (descriptor.Keep other tail) x) ≡ merged_tail kind ds (tail_after kind (descriptor.Keep other tail) y)
+    by later true e h = rw e refl
+    by later false e h = rw e (later h)
+named_tail kind (descriptor.Media parts ∷ ds) x y h = named_tail kind ds x y h
+named_tail kind (descriptor.Audit words ∷ ds) x y h = named_tail kind ds x y h
+named_tail kind (descriptor.Services parms ∷ ds) x y h = named_tail kind ds x y h
+named_tail kind (descriptor.Other word ∷ ds) x y h = named_tail kind ds x y h
+
+-- ---- without the tails of a kind
+
+abbrev without_kind : KeptKind → Settings → Settings
+without_kind kind s = record s { tails = put_kind kind None s.tails }
+
+gone_one : (kind : KeptKind) (x : Setting) (s : Settings) → is_tail_of kind x ≡ true → without_kind kind (with_setting x s) ≡ without_kind kind s
+gone_one kind (setting.Properties list) s h = absurd cc
+gone_one kind (setting.Stream number x) s h = absurd cc
+gone_one Events (setting.Tail Events x) s h = refl
+gone_one Signals (setting.Tail Signals x) s h = refl
+gone_one DigitMap (setting.Tail DigitMap x) s h = refl
+gone_one EventBuffer (setting.Tail EventBuffer x) s h = refl
+gone_one kind (setting.Tail other x) s h = absurd cc
+
+kept_one : (kind : KeptKind) (x : Setting) (s : Settings) → is_tail_of kind x ≡ false → without_kind kind (with_setting x s) ≡ with_setting x (without_kind kind s)
+kept_one Events (setting.Properties list) s h = refl
+kept_one Signals (setting.Properties list) s h = refl
+kept_one DigitMap (setting.Properties list) s h = refl
+kept_one EventBuffer (setting.Properties list) s h = refl
+kept_one Events (setting.Stream number x) s h = refl
+kept_one Signals (setting.Stream number x) s h = refl
+kept_one DigitMap (setting.Stream number x) s h = refl
+kept_one EventBuffer (setting.Stream number x) s h = refl
+kept_one Events (setting.Tail Signals x) s h = refl
+kept_one Events (setting.Tail DigitMap x) s h = refl
+kept_one Events (setting.Tail EventBuffer x) s h = refl
+kept_one Signals (setting.Tail Events x) s h = refl
+kept_one Signals (setting.Tail DigitMap x) s h = refl
+kept_one Signals (setting.Tail EventBuffer x) s h = refl
+kept_one DigitMap (setting.Tail Events x) s h = refl
+kept_one DigitMap (setting.Tail Signals x) s h = refl
+kept_one DigitMap (setting.Tail EventBuffer x) s h = refl
+kept_one EventBuffer (setting.Tail Events x) s h = refl
+kept_one EventBuffer (setting.Tail Signals x) s h = refl
+kept_one EventBuffer (setting.Tail DigitMap x) s h = refl
+kept_one kind (setting.Tail other x) s h = absurd cc
+
+all_gone : (kind : KeptKind) (xs : List Setting) (s : Settings) → with_settings (filter (λ x. not (is_tail_of kind x)) xs) (without_kind kind s) ≡ without_kind kind (with_settings xs s)
+all_gone kind [] s = refl
+all_gone kind (x ∷ xs) s = by (is_tail_of kind x) refl (all_gone kind xs (with_setting x s))
+  where
+    rest : List Setting
+    rest = filter (λ x. not (is_tail_of kind x)) xs
+
+    by : (b : Bool) → is_tail_of kind x ≡ b → with_settings rest (without_kind kind (with_setting x s)) ≡ without_kind kind (with_settings xs (with_setting x s))
+        → with_settings (if not b then x ∷ rest else rest) (without_kind kind s) ≡ without_kind kind (with_settings xs (with_setting x s))
+    by true e h = ap (with_settings rest) (sym (gone_one kind x s e)) ∙ h
+    by false e h = ap (with_settings rest) (sym (kept_one kind x s e)) ∙ h
+
+none_of : (kind : KeptKind) → without_kind kind nothing_set ≡ nothing_set
+none_of Events = refl
+none_of Signals = refl
+none_of DigitMap = refl
+none_of EventBuffer = refl
+
+-- what is left sets what was set, but the tail of that kind
+pub tails_gone : (kind : KeptKind) (xs : List Setting) → set_by (filter (λ x. not (is_tail_of kind x)) xs) ≡ record (set_by xs) { tails = put_kind kind None (set_by xs).tails }
+tails_gone kind xs = ap (with_settings (filter (λ x. not (is_tail_of kind x)) xs)) (sym (none_of kind)) ∙ all_gone kind xs nothing_set
+
+-- one tail in the place of another
+pub put_again : (kind : KeptKind) (o x : Option (Tail (List ℕ))) (s : Settings) → put_kind kind x (put_kind kind o s.tails) ≡ put_kind kind x s.tails
+put_again Events o x s = refl
+put_again Signals o x s = refl
+put_again DigitMap o x s = refl
+put_again EventBuffer o x s = refl
+
+-- a tail of a kind that is not named stays in its place
+pub kind_stays : (kind : KeptKind) (ds : List Descriptor) (s : Settings) → list_any (is_kept kind) ds ≡ false → s ≡ with_tail_after kind ds s
+kind_stays kind ds s h = by kind (sym (tail_stays kind ds (at_kind kind s.tails) h))
+  where
+    by : (kind : KeptKind) → at_kind kind s.tails ≡ merged_tail kind ds (at_kind kind s.tails) → s ≡ with_tail_after kind ds s
+    by Events e = ap (λ (o : Option (Tail (List ℕ))). record s { tails = put_kind Events o s.tails }) e
+    by Signals e = ap (λ (o : Option (Tail (List ℕ))). record s { tails = put_kind Signals o s.tails }) e
+    by DigitMap e = ap (λ (o : Option (Tail (List ℕ))). record s { tails = put_kind DigitMap o s.tails }) e
+    by EventBuffer e = ap (λ (o : Option (Tail (List ℕ))). record s { tails = put_kind EventBuffer o s.tails }) e
+
+-- ---- in the place of what was set
+
+module _ (f : Stream → Stream) where
+  abbrev after : ℕ → Settings → Settings
+  after number s = with_stream_after (λ old. option_map f old) number s
+
+  off : (b : Bool) (x : Stream) (o : Option Stream) → b ≡ false → (if b then Some x else option_map f o) ≡ option_map f (if b then Some x else o)
+  off true x o e = absurd cc
+  off false x o e = refl
+
+  after_one : (number : ℕ) → 1 ≤ number → number ≤ 4 → (x : Setting) (s : Settings) → with_setting (setting_after f number x) (after number s) ≡ after number (with_setting x s)
+  after_one zero h k x s = absurd (omega (arith, h))
+  after_one (suc (suc (suc (suc (suc n))))) h k x s = absurd (omega (arith, k))
+  after_one number h k (setting.Properties list) s = refl
+  after_one number h k (setting.Tail kind tail) s = refl
+  after_one (suc zero) h k (setting.Stream other x) s = by (other == 1) refl
+    where
+      by : (b : Bool) → (other == 1) ≡ b → with_setting (setting_after f 1 (setting.Stream other x)) (after 1 s) ≡ after 1 (with_setting (setting.Stream other x) s)
+      by true e = subst (λ (o : ℕ). with_setting (setting_after f 1 (setting.Stream o x)) (after 1 s) ≡ after 1 (with_setting (setting.Stream o x) s)) (sym (eqb-true other 1 e)) refl
+      by false e =
+          ap (λ (y : Setting). with_setting y (after 1 s)) (ap (λ (b : Bool). if b then setting.Stream other (f x) else setting.Stream other x) e)
+          ∙ (λ i. let streams : PerStream (Option Stream) = record { first = off (other == 1) x s.streams.first e i; second = if other == 2 then Some x else s.streams.second; third = if other == 3 then Some x else s.streams.third; fourth = if other == 4 then Some x else s.streams.fourth } in record s { streams = streams })
+  after_one (suc (suc zero)) h k (setting.Stream other x) s = by (other == 2) refl
+    where
+      by : (b : Bool) → (other == 2) ≡ b → with_setting (setting_after f 2 (setting.Stream other x)) (after 2 s) ≡ after 2 (with_setting (setting.Stream other x) s)
+      by true e = subst (λ (o : ℕ). with_setting (setting_after f 2 (setting.Stream o x)) (after 2 s) ≡ after 2 (with_setting (setting.Stream o x) s)) (sym (eqb-true other 2 e)) refl
+      by false e =
+          ap (λ (y : Setting). with_setting y (after 2 s)) (ap (λ (b : Bool). if b then setting.Stream other (f x) else setting.Stream other x) e)
+          ∙ (λ i. let streams : PerStream (Option Stream) = record { first = if other == 1 then Some x else s.streams.first; second = off (other == 2) x s.streams.second e i; third = if other == 3 then Some x else s.streams.third; fourth = if other == 4 then Some x else s.streams.fourth } in record s { streams = streams })
+  after_one (suc (suc (suc zero))) h k (setting.Stream other x) s = by (other == 3) refl
+    where
+      by : (b : Bool) → (other == 3) ≡ b → with_setting (setting_after f 3 (setting.Stream other x)) (after 3 s) ≡ after 3 (with_setting (setting.Stream other x) s)
+      by true e = subst (λ (o : ℕ). with_setting (setting_after f 3 (setting.Stream o x)) (after 3 s) ≡ after 3 (with_setting (setting.Stream o x) s)) (sym (eqb-true other 3 e)) refl
+      by false e =
+          ap (λ (y : Setting). with_setting y (after 3 s)) (ap (λ (b : Bool). if b then setting.Stream other (f x) else setting.Stream other x) e)
+          ∙ (λ i. let streams : PerStream (Option Stream) = record { first = if other == 1 then Some x else s.streams.first; second = if other == 2 then Some x else s.streams.second; third = off (other == 3) x s.streams.third e i; fourth = if other == 4 then Some x else s.streams.fourth } in record s { streams = streams })
+  after_one (suc (suc (suc (suc zero)))) h k (setting.Stream other x) s = by (other == 4) refl
+    where
+      by : (b : Bool) → (other == 4) ≡ b → with_setting (setting_after f 4 (setting.Stream other x)) (after 4 s) ≡ after 4 (with_setting (setting.Stream other x) s)
+      by true e = subst (λ (o : ℕ). with_setting (setting_after f 4 (setting.Stream o x)) (after 4 s) ≡ after 4 (with_setting (setting.Stream o x) s)) (sym (eqb-true other 4 e)) refl
+      by false e =
+          ap (λ (y : Setting). with_setting y (after 4 s)) (ap (λ (b : Bool). if b then setting.Stream other (f x) else setting.Stream other x) e)
+          ∙ (λ i. let streams : PerStream (Option Stream) = record { first = if other == 1 then Some x else s.streams.first; second = if other == 2 then Some x else s.streams.second; third = if other == 3 then Some x else s.streams.third; fourth = off (other == 4) x s.streams.fourth e i } in record s { streams = streams })
+
+  after_all : (number : ℕ) → 1 ≤ number → number ≤ 4 → (xs : List Setting) (s : Settings) → with_settings (map (setting_after f number) xs) (after number s) ≡ after number (with_settings xs s)
+  after_all number h k [] s = refl
+  after_all number h k (x ∷ xs) s = ap (with_settings (map (setting_after f number) xs)) (after_one number h k x s) ∙ after_all number h k xs (with_setting x s)
+
+  after_none : (number : ℕ) → 1 ≤ number → number ≤ 4 → after number nothing_set ≡ nothing_set
+  after_none zero h k = absurd (omega (arith, h))
+  after_none (suc zero) h k = refl
+  after_none (suc (suc zero)) h k = refl
+  after_none (suc (suc (suc zero))) h k = refl
+  after_none (suc (suc (suc (suc zero)))) h k = refl
+  after_none (suc (suc (suc (suc (suc n))))) h k = absurd (omega (arith, k))
+
+  -- where each stream of a number was changed, the stream of that number is
+  pub set_after : (number : ℕ) → 1 ≤ number → number ≤ 4 → (xs : List Setting) → set_by (map (setting_after f number) xs) ≡ after number (set_by xs)
+  set_after number h k xs = ap (with_settings (map (setting_after f number) xs)) (sym (after_none number h k)) ∙ after_all number h k xs nothing_set

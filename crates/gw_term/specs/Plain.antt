@@ -1,0 +1,83 @@
+-- Descriptors that every record takes, and of which nothing is told (own): they send no property but Mode and ServiceStates, so that
+-- no list can hold too many; no Local, which might be filled; and no Audit but an empty one.
+use Rattle.std.specs.Prelude.{ℕ, ◌==◌, if◌then◌else◌, Bool, true, false, List, length, Option}
+use Rattle.std.specs.List.{flat_map, list_all}
+use Rattle.std.specs.Option.{option_map, unwrap_or}
+use Rattle.gw_base.specs.declared.command_words.Rules.{Rules}
+use Rattle.gw_desc.specs.Values.{is_mode, is_service_states}
+use Rattle.gw_desc.specs.declared.descriptor.Descriptor.{Descriptor}
+use Rattle.gw_desc.specs.declared.descriptor.Descriptor.TheVariants as descriptor
+use Rattle.gw_desc.specs.Checks.{same_kept}
+use Rattle.gw_desc.specs.declared.descriptor.KeptKind.{KeptKind}
+use Rattle.gw_desc.specs.declared.descriptor.KeptKind.TheVariants.{Events, Signals, DigitMap, EventBuffer}
+use Rattle.gw_desc.specs.declared.descriptor.MediaPart.{MediaPart}
+use Rattle.gw_desc.specs.declared.descriptor.MediaPart.TheVariants as media
+use Rattle.gw_desc.specs.declared.descriptor.StreamPart.{StreamPart}
+use Rattle.gw_desc.specs.declared.descriptor.StreamPart.TheVariants as part
+use Rattle.gw_term.specs.declared.record.Stream.{Stream}
+use Rattle.gw_term.specs.declared.settings.Setting.{Setting}
+use Rattle.gw_term.specs.declared.settings.Setting.TheVariants as setting
+use Rattle.gw_term.specs.Merge.{each, parts_in, put_part, merged_stream, merged_tail, stream_in}
+use Rattle.gw_term.specs.Places.{at_number, put_number, at_kind, put_kind}
+use Rattle.gw_term.specs.Settings.{Settings}
+
+-- a part of a stream: a Remote, or a LocalControl that sends modes alone
+abbrev pub is_plain_stream : StreamPart → Bool
+is_plain_stream (part.Local text) = false
+is_plain_stream (part.Remote text) = true
+is_plain_stream (part.LocalControl properties) = list_all (λ p. is_mode p.name) properties
+
+-- a part of a Media: such a one, or a TerminationState that sends service states alone
+abbrev pub is_plain_part : MediaPart → Bool
+is_plain_part (media.Outside p) = is_plain_stream p
+is_plain_part (media.Stream number parts) = list_all is_plain_stream parts
+is_plain_part (media.TerminationState properties) = list_all (λ p. is_service_states p.name) properties
+
+abbrev pub is_plain_one : Descriptor → Bool
+is_plain_one (descriptor.Media parts) = list_all is_plain_part parts
+is_plain_one (descriptor.Audit words) = length words == 0
+is_plain_one _ = true
+
+abbrev pub are_plain : List Descriptor → Bool
+are_plain descriptors = list_all is_plain_one descriptors
+
+-- ---- a merge in the place of a stream
+
+-- what the descriptors make of a stream that they name
+abbrev pub stream_after : Rules → Option ℕ → ℕ → List Descriptor → Stream → Stream
+stream_after rules slot number descriptors s =
+    unwrap_or (option_map (λ m. m.stream) (each (put_part rules slot number) (flat_map (parts_in number) descriptors) (record { stream = s; filled = false }))) s
+
+-- a setting after that: a stream of this number, and no other
+abbrev pub setting_after : (Stream → Stream) → ℕ → Setting → Setting
+setting_after f number (setting.Properties list) = setting.Properties list
+setting_after f number (setting.Stream other s) = if other == number then setting.Stream other (f s) else setting.Stream other s
+setting_after f number (setting.Tail kind tail) = setting.Tail kind tail
+
+-- what was set, with this of the stream of a number
+abbrev pub with_stream_after : (Option Stream → Option Stream) → ℕ → Settings → Settings
+with_stream_after f number s = record s { streams = put_number number (f (at_number number s.streams)) s.streams }
+
+-- a stream, or none, after a merge; as it was where there is no merge
+abbrev pub stream_or_none : Rules → Option ℕ → ℕ → List Descriptor → Option Stream → Option Stream
+stream_or_none rules slot number descriptors old = unwrap_or (option_map stream_in (merged_stream rules slot number descriptors old)) old
+
+-- the same of each of the four
+abbrev pub with_streams_after : (ℕ → List Descriptor → Option Stream → Option Stream) → List Descriptor → Settings → Settings
+with_streams_after f descriptors s =
+    with_stream_after (f 4 descriptors) 4 (with_stream_after (f 3 descriptors) 3 (with_stream_after (f 2 descriptors) 2 (with_stream_after (f 1 descriptors) 1 s)))
+
+-- ---- a merge in the place of a tail
+
+abbrev pub is_tail_of : KeptKind → Setting → Bool
+is_tail_of kind (setting.Properties list) = false
+is_tail_of kind (setting.Stream number s) = false
+is_tail_of kind (setting.Tail other tail) = same_kept kind other
+
+-- what was set, with the tail of a kind after the descriptors
+abbrev pub with_tail_after : KeptKind → List Descriptor → Settings → Settings
+with_tail_after kind descriptors s = record s { tails = put_kind kind (merged_tail kind descriptors (at_kind kind s.tails)) s.tails }
+
+-- the same of each of the four
+abbrev pub with_tails_after : List Descriptor → Settings → Settings
+with_tails_after descriptors s = with_tail_after EventBuffer descriptors (with_tail_after DigitMap descriptors (with_tail_after Signals descriptors (with_tail_after Events descriptors s)))

@@ -1,0 +1,355 @@
+//! Descriptors that every record takes, and their merge where the record lies.
+
+ghost use Rattle.std.specs.Prelude.{◌≡◌, ◌≤◌, true, map, None, Some, OnOk};
+ghost use Rattle.std.specs.List.{list_all, list_any};
+ghost use Rattle.std.specs.Option.{option_map};
+ghost use Rattle.gw_desc.specs.Checks.{is_kept};
+ghost use Rattle.gw_desc.specs.Values.{is_mode, is_service_states};
+ghost use Rattle.gw_term.specs.Merge.{is_named_in, merged};
+ghost use Rattle.gw_term.specs.Places.{at_number, numbered, of_kinds};
+ghost use Rattle.gw_term.specs.Plain.{is_plain_stream, is_plain_part, is_plain_one, are_plain, stream_after, setting_after, with_stream_after, stream_or_none, with_streams_after, is_tail_of, with_tail_after, with_tails_after};
+
+use crate::copies::put;
+use crate::fault::ApplyFault;
+use crate::named::Named;
+use crate::places::{PerKind, PerStream};
+use crate::properties::merged_service;
+use crate::record::{Stream, Termination};
+use crate::settings::{Setting, Settings};
+use crate::streams::{Merging, Sent, begun, put_all};
+use crate::tails::put_tails;
+use gw_base::{Items, NoMemory, Rules, Span};
+use gw_desc::{
+    Descriptor, KeptKind, MediaPart, Property, StreamPart, is_mode, is_service_states, same_kept,
+};
+use std::alloc::{AllocError, Global};
+use std::mem;
+
+/// Whether all of them are modes.
+fn are_modes(properties: &[Property<Span<'_>>]) -> bool
+    ensures { result ≡ list_all (λ p. is_mode p.name) properties.now }
+{
+    properties
+        .iter()
+        .all(|property| is_mode(property.name.as_bytes()))
+}
+
+/// Whether all of them are service states.
+fn are_services(properties: &[Property<Span<'_>>]) -> bool
+    ensures { result ≡ list_all (λ p. is_service_states p.name) properties.now }
+{
+    properties
+        .iter()
+        .all(|property| is_service_states(property.name.as_bytes()))
+}
+
+fn is_plain_stream(part: &StreamPart<'_>) -> bool
+    ensures { result ≡ is_plain_stream part.now }
+{
+    match part {
+        StreamPart::Local(_) => false,
+        StreamPart::Remote(_) => true,
+        StreamPart::LocalControl(properties) => are_modes(properties.as_slice()),
+    }
+}
+
+fn are_plain_streams(parts: &[StreamPart<'_>]) -> bool
+    ensures { result ≡ list_all is_plain_stream parts.now }
+{
+    parts.iter().all(is_plain_stream)
+}
+
+fn is_plain_part(part: &MediaPart<'_>) -> bool
+    ensures { result ≡ is_plain_part part.now }
+{
+    match part {
+        MediaPart::Outside(part) => is_plain_stream(part),
+        MediaPart::Stream(_, parts) => are_plain_streams(parts.as_slice()),
+        MediaPart::TerminationState(properties) => are_services(properties.as_slice()),
+    }
+}
+
+fn are_plain_parts(parts: &[MediaPart<'_>]) -> bool
+    ensures { result ≡ list_all is_plain_part parts.now }
+{
+    parts.iter().all(is_plain_part)
+}
+
+fn is_plain_one(descriptor: &Descriptor<'_>) -> bool
+    ensures { result ≡ is_plain_one descriptor.now }
+{
+    match descriptor {
+        Descriptor::Media(parts) => are_plain_parts(parts.as_slice()),
+        Descriptor::Audit(words) => words.is_empty(),
+        _ => true,
+    }
+}
+
+/// Whether every record takes the descriptors, and nothing is told of them: they send no property but Mode and ServiceStates, no Local
+/// and no Audit but an empty one. The work is one pass over them.
+pub fn are_plain(descriptors: &[Descriptor<'_>]) -> bool
+    ensures { result ≡ are_plain descriptors.now }
+{
+    descriptors.iter().all(is_plain_one)
+}
+
+/// Whether a setting is a tail of this kind.
+fn is_tail_of(kind: KeptKind, setting: &Setting) -> bool
+    ensures { result ≡ is_tail_of kind setting.now }
+{
+    match setting {
+        Setting::Tail(other, _) => same_kept(kind, *other),
+        _ => false,
+    }
+}
+
+/// A stream of this number, which the descriptors name, becomes what it is after them, where it lies.
+fn merge_stream(
+    alloc: Global,
+    sent: &Sent<'_, '_>,
+    number: u8,
+    stream: &mut Stream,
+) -> Result<(), ApplyFault>
+    requires first { 1 ≤ number }
+    requires last { number ≤ 4 }
+    ensures { OnOk result (stream.new ≡ stream_after sent.now.rules.now sent.now.slot number sent.now.descriptors.now stream.old) }
+{
+    let none = Stream {
+        mode: stream.mode,
+        properties: Items::new(alloc),
+        local: None,
+        remote: None,
+    };
+    let mut merging = Merging {
+        stream: mem::replace(stream, none),
+        filled: false,
+    };
+    put_all(alloc, sent, number, &mut merging)?;
+    put(stream, merging.into_stream());
+    Ok(())
+}
+
+/// So does a setting, if it is a stream of this number.
+fn merge_setting(
+    alloc: Global,
+    sent: &Sent<'_, '_>,
+    number: u8,
+    setting: &mut Setting,
+) -> Result<(), ApplyFault>
+    requires first { 1 ≤ number }
+    requires last { number ≤ 4 }
+    ensures { OnOk result (setting.new ≡ setting_after (stream_after sent.now.rules.now sent.now.slot number sent.now.descriptors.now) number setting.old) }
+{
+    if let Setting::Stream(other, stream) = setting {
+        if *other == number {
+            return merge_stream(alloc, sent, number, stream);
+        }
+    }
+    Ok(())
+}
+
+/// So does each of these.
+fn merge_settings(
+    alloc: Global,
+    sent: &Sent<'_, '_>,
+    number: u8,
+    settings: &mut [Setting],
+) -> Result<(), ApplyFault>
+    requires first { 1 ≤ number }
+    requires last { number ≤ 4 }
+    ensures { OnOk result (settings.new ≡ map (setting_after (stream_after sent.now.rules.now sent.now.slot number sent.now.descriptors.now) number) settings.old) }
+{
+    for setting in settings.iter_mut() {
+        merge_setting(alloc, sent, number, setting)?;
+    }
+    Ok(())
+}
+
+impl Settings {
+    /// A stream of this number, which is there and which the descriptors name, becomes what it is after them.
+    fn merge_there(
+        &mut self,
+        alloc: Global,
+        sent: &Sent<'_, '_>,
+        number: u8,
+    ) -> Result<(), ApplyFault>
+        requires first { 1 ≤ number }
+        requires last { number ≤ 4 }
+        ensures { OnOk result (self.new ≡ with_stream_after (λ old. option_map (stream_after sent.now.rules.now sent.now.slot number sent.now.descriptors.now) old) number self.old) }
+    {
+        merge_settings(alloc, sent, number, &mut self.list)
+    }
+
+    /// A stream of this number, which is not there and which the descriptors name, comes into being.
+    #[tactic(auto, unfolding(crate::specs::Merge::merged_stream))]
+    fn merge_new(
+        &mut self,
+        alloc: Global,
+        sent: &Sent<'_, '_>,
+        number: u8,
+    ) -> Result<(), ApplyFault>
+        requires first { 1 ≤ number }
+        requires last { number ≤ 4 }
+        requires named { list_any (is_named_in number) sent.now.descriptors.now ≡ true }
+        requires empty { at_number number self.old.streams ≡ None }
+        ensures { OnOk result (self.new ≡ with_stream_after (stream_or_none sent.now.rules.now sent.now.slot number sent.now.descriptors.now) number self.old) }
+    {
+        let mut merging = begun(alloc, None)?;
+        put_all(alloc, sent, number, &mut merging)?;
+        self.push(Setting::Stream(number, merging.into_stream()))?;
+        Ok(())
+    }
+
+    /// The stream of this number, which the descriptors name, becomes what it is after them. Not inlined, since most streams are not
+    /// named.
+    #[inline(never)]
+    #[tactic(auto, unfolding(crate::specs::Merge::merged_stream))]
+    fn merge_named(
+        &mut self,
+        alloc: Global,
+        sent: &Sent<'_, '_>,
+        number: u8,
+    ) -> Result<(), ApplyFault>
+        requires first { 1 ≤ number }
+        requires last { number ≤ 4 }
+        requires named { list_any (is_named_in number) sent.now.descriptors.now ≡ true }
+        ensures { OnOk result (self.new ≡ with_stream_after (stream_or_none sent.now.rules.now sent.now.slot number sent.now.descriptors.now) number self.old) }
+    {
+        match self.stream(number) {
+            Some(_) => self.merge_there(alloc, sent, number),
+            None => self.merge_new(alloc, sent, number),
+        }
+    }
+
+    /// The stream of this number becomes what it is after the descriptors.
+    #[inline]
+    #[tactic(auto, unfolding(crate::specs::Merge::merged_stream))]
+    fn merge_number(
+        &mut self,
+        alloc: Global,
+        sent: &Sent<'_, '_>,
+        number: u8,
+        is_named: bool,
+    ) -> Result<(), ApplyFault>
+        requires first { 1 ≤ number }
+        requires last { number ≤ 4 }
+        requires named { is_named ≡ list_any (is_named_in number) sent.now.descriptors.now }
+        ensures { OnOk result (self.new ≡ with_stream_after (stream_or_none sent.now.rules.now sent.now.slot number sent.now.descriptors.now) number self.old) }
+    {
+        if is_named {
+            return self.merge_named(alloc, sent, number);
+        }
+        Ok(())
+    }
+
+    /// Each stream becomes what it is after the descriptors.
+    fn merge_streams(
+        &mut self,
+        alloc: Global,
+        sent: &Sent<'_, '_>,
+        named: &PerStream<bool>,
+    ) -> Result<(), ApplyFault>
+        requires { named.now ≡ numbered (λ number. list_any (is_named_in number) sent.now.descriptors.now) }
+        ensures { OnOk result (self.new ≡ with_streams_after (stream_or_none sent.now.rules.now sent.now.slot) sent.now.descriptors.now self.old) }
+    {
+        self.merge_number(alloc, sent, 1, named.first)?;
+        self.merge_number(alloc, sent, 2, named.second)?;
+        self.merge_number(alloc, sent, 3, named.third)?;
+        self.merge_number(alloc, sent, 4, named.fourth)
+    }
+
+    /// The tail of this kind, which the descriptors name, becomes what it is after them: the last of that kind tells it alone. Not
+    /// inlined, as that of a stream.
+    #[inline(never)]
+    fn merge_named_kind(
+        &mut self,
+        alloc: Global,
+        kind: KeptKind,
+        descriptors: &[Descriptor<'_>],
+    ) -> Result<(), AllocError>
+        requires { list_any (is_kept kind) descriptors.now ≡ true }
+        ensures { OnOk result (self.new ≡ with_tail_after kind descriptors.now self.old) }
+    {
+        let mut tail = None;
+        put_tails(alloc, kind, descriptors, &mut tail)?;
+        self.list.retain(|setting| !is_tail_of(kind, setting));
+        if let Some(tail) = tail {
+            self.push(Setting::Tail(kind, tail))?;
+        }
+        Ok(())
+    }
+
+    /// The tail of this kind becomes what it is after the descriptors.
+    #[inline]
+    fn merge_kind(
+        &mut self,
+        alloc: Global,
+        kind: KeptKind,
+        is_named: bool,
+        descriptors: &[Descriptor<'_>],
+    ) -> Result<(), AllocError>
+        requires named { is_named ≡ list_any (is_kept kind) descriptors.now }
+        ensures { OnOk result (self.new ≡ with_tail_after kind descriptors.now self.old) }
+    {
+        if is_named {
+            return self.merge_named_kind(alloc, kind, descriptors);
+        }
+        Ok(())
+    }
+
+    /// Each tail becomes what it is after the descriptors.
+    fn merge_kinds(
+        &mut self,
+        alloc: Global,
+        named: &PerKind<bool>,
+        descriptors: &[Descriptor<'_>],
+    ) -> Result<(), AllocError>
+        requires { named.now ≡ of_kinds (λ kind. list_any (is_kept kind) descriptors.now) }
+        ensures { OnOk result (self.new ≡ with_tails_after descriptors.now self.old) }
+    {
+        self.merge_kind(alloc, KeptKind::Events, named.events, descriptors)?;
+        self.merge_kind(alloc, KeptKind::Signals, named.signals, descriptors)?;
+        self.merge_kind(alloc, KeptKind::DigitMap, named.digit_map, descriptors)?;
+        self.merge_kind(
+            alloc,
+            KeptKind::EventBuffer,
+            named.event_buffer,
+            descriptors,
+        )
+    }
+}
+
+impl Termination {
+    /// The termination becomes its record after the descriptors, as [`Termination::merged`] tells it, where it lies: what they do not
+    /// name is not copied. The caller knows that every record takes them.
+    ///
+    /// # Errors
+    ///
+    /// Want of memory. Nothing is known then of what is kept of the termination.
+    pub fn merge_plain(
+        &mut self,
+        alloc: Global,
+        rules: &Rules,
+        descriptors: &[Descriptor<'_>],
+    ) -> Result<(), NoMemory>
+        requires { are_plain descriptors.now ≡ true }
+        ensures { OnOk result (merged rules.now descriptors.now self.old ≡ Some self.new) }
+    {
+        let named = Named::by(descriptors);
+        let sent = Sent {
+            rules,
+            slot: self.slot,
+            descriptors,
+        };
+        let settings = &mut self.settings;
+        if settings
+            .merge_streams(alloc, &sent, &named.streams)
+            .is_err()
+        {
+            return Err(NoMemory);
+        }
+        settings.merge_kinds(alloc, &named.tails, descriptors)?;
+        self.service = merged_service(named.states, descriptors, self.service);
+        Ok(())
+    }
+}
