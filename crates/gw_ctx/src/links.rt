@@ -48,16 +48,6 @@ fn link_at(names: &[TermName], pair: Pair) -> Link
     }
 }
 
-/// The same items. Where there are none, it takes no memory.
-fn copied<T: Copy>(alloc: Global, items: &[T]) -> Result<Vec<T>, AllocError>
-    ensures { IfOk result (λ copy. copy.items ≡ items.now) }
-{
-    if items.is_empty() {
-        return Ok(Vec::new(alloc));
-    }
-    Vec::from_slice(alloc, items)
-}
-
 impl Links {
     /// No links, which take no memory.
     pub(crate) fn new(alloc: Global) -> Self
@@ -151,8 +141,8 @@ impl Links {
     {
         let alloc = *self.names.allocator();
         Ok(Links {
-            names: copied(alloc, &self.names)?,
-            pairs: copied(alloc, &self.pairs)?,
+            names: Vec::from_slice(alloc, self.names.as_slice())?,
+            pairs: Vec::from_slice(alloc, self.pairs.as_slice())?,
         })
     }
 
