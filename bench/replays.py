@@ -231,7 +231,7 @@ def records(folder):
         ("two Adds with Media and a Local to fill, beyond reading", two_adds(folder), 22_000),
         ("AuditValue=* under - with Media, a termination", of_all(folder, 200, MEDIA, AUDIT_ALL), 2_500),
         ("ServiceChange of ROOT, a termination", of_all(folder, 200, None, RESTART), 1_300),
-        ("bytes for 65,535 bare terminations", memory(folder, 65_535) - memory(folder, 1), 30_000_000),
+        ("bytes for 65,535 bare terminations", memory(folder, 65_535) - memory(folder, 1), 20_000_000),
     ]
     print("| What | instructions, or bytes | at most |\n|---|---|---|")
     for name, found, limit in lines:

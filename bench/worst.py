@@ -223,6 +223,13 @@ def wild(name, before, action, times, matches, answer=b"", terms=4_000):
 def wildcards():
     full, two = made([context(1, 64)]), contexts(2_000)
     yield wild("4,000 terminations, `Modify=*` with a LocalControl", [], b"C=-{MF=*%s}" % MODE, 8, 4_000, b"Error=533")
+    modes = [b"C=-{MF=*{M{O{MO=%s}}}}" % mode for mode in (b"SR", b"IN") * 4]
+    yield Kind("4,000 terminations, `Modify=*` with another Mode each time", [], asked(modes), b"Error=533", 8 * 4_000, 4_000)
+    yield wild("4,000 terminations, one `Modify=*` with a LocalControl", [], b"C=-{MF=*%s}" % MODE, 1, 4_000, b"Error=533")
+    yield wild("4,000 terminations, `Modify=*` of a property", [], b"C=-{MF=*{M{O{a=1}}}}", 8, 4_000, b"Error=533")
+    yield wild("4,000 terminations, `Modify=*` with a Local", [], b"C=-{MF=*{M{L{v=0}}}}", 8, 4_000, b"Error=533")
+    yield wild("4,000 terminations, `Modify=*` with a Remote", [], b"C=-{MF=*{M{R{v=0}}}}", 8, 4_000, b"Error=533")
+    yield wild("4,000 terminations, `Modify=*` with Events", [], b"C=-{MF=*{E=1{al/on}}}", 8, 4_000, b"Error=533")
     yield wild("98 KB each of 64, `Modify=*` of a property", strangers.members(), b"C=1{MF=*{M{O{a=1}}}}", 64, 64, terms=64)
     yield wild("`Modify=*` with a LocalControl in a context of 64", full, b"C=1{MF=*%s}" % MODE, 256, 64)
     yield wild("4,000 terminations, `W-AuditValue=*`", [], b"C=-{W-AV=*{AT{}}}", 8, 4_000)
@@ -240,6 +247,9 @@ def wildcards():
     yield wild("2,000 contexts, `Context=*{Modify=*}`", two, b"C=*{MF=*}", 8, 4_000, b"Error=533")
     yield wild("2,000 contexts, `Context=*{AuditValue=*}`", two, b"C=*{AV=*{AT{}}}", 8, 4_000, b"Error=533")
     yield wild("2,000 contexts, `Context=*` with a Priority", two, b"C=*{PR=3}", 8, 2_000, b"Error=533")
+    yield wild("2,000 contexts, one `Context=*` with a Priority", two, b"C=*{PR=3}", 1, 2_000, b"Error=533")
+    yield wild("700 contexts, `Context=*` with a Priority", contexts(700), b"C=*{PR=3}", 8, 700, b"Error=533")
+    yield wild("2,000 contexts, `Context=*` with a Priority and an audit of none", two, b"C=*{PR=3,O-AV=X*{AT{}}}", 8, 2_000, b"Error=533")
     yield Kind("2,000 contexts, `Context=*` with another Priority each time", two, asked([b"C=*{PR=%d}" % (n + 1) for n in range(8)]), b"Error=533", 16_000, 4_000)
     yield Kind("2,000 contexts, `Context=*` with another Priority each time and an Emergency", two,
                asked([b"C=*{PR=%d,EG}" % (n + 1) for n in range(8)]), b"Error=533", 16_000, 4_000)
