@@ -7,7 +7,7 @@ the best of three. The typical transactions are those of every day, in pairs: tw
 fill, and a Subtract of both.
 
 `--rates` measures 20,000 of them in bursts of 1, 16 and 256 datagrams, with 4 and with 400 terminations, and 200,000.
-`--tables` measures one transaction as the tables grow, the copy that each burst makes of them apart.
+`--tables` measures one transaction as the tables grow.
 `--bursts` measures new transactions and repeats in bursts of 64 and of 1,024, with 4,096 kept replies.
 `--samples` measures transactions of every kind of a call (two Adds, a Modify and a Subtract, each with what it is sent with) among 1,000
 terminations and 4,096 kept replies, in bursts of 1, 16 and 256.
@@ -108,14 +108,13 @@ def rates(folder):
 
 
 def tables(folder):
-    print("| Terminations | instructions for a transaction | the copy for a burst |")
-    print("|---|---|---|")
-    for terms in (4, 400, 40_000):
+    print("| Terminations | instructions for a transaction |")
+    print("|---|---|")
+    for terms in (4, 400, 20_000, 40_000):
         conf = config(folder, terms, slots=0)
-        moves = [b"Transaction=%d{Context=${Add=T/1,Subtract=T/1}}" % number for number in range(1, 257)]
-        few, many = instructions(conf, bursts(moves[:128], 256)), instructions(conf, bursts(moves, 256))
-        twice = instructions(conf, bursts(moves[:128], 64))
-        print(f"| {terms:,} | {(many - few) / 128:,.0f} | {twice - few:,.0f} |")
+        moves = [b"Transaction=%d{Context=${Add=T/1,Subtract=T/1}}" % number for number in range(1, 4_097)]
+        few, many = instructions(conf, bursts(moves[:1_024], 256)), instructions(conf, bursts(moves, 256))
+        print(f"| {terms:,} | {(many - few) / 3_072:,.0f} |")
 
 
 def repeats(folder):
