@@ -152,6 +152,14 @@ impl Context {
         self.emergency = true;
     }
 
+    /// Sets both properties: the priority, and whether the context is marked as an emergency.
+    pub fn set_properties(&mut self, priority: u8, emergency: bool)
+        ensures { self.new ≡ prioritized priority (marked emergency self.old) }
+    {
+        self.priority = priority;
+        self.emergency = emergency;
+    }
+
     /// How media flow between two names from now on: the link of the pair, in either order, goes, and this one goes last, unless it
     /// is both ways. The work is one pass of the names that are linked, and one of the links.
     ///

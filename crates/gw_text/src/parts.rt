@@ -1,6 +1,6 @@
 //! Parts of a message that are read from a text, alone or in lists. After a fault nothing is said of the cursor.
 
-ghost use Rattle.std.specs.Prelude.{◌≡◌, ℕ, List, Option, Some, None, MatchResult};
+ghost use Rattle.std.specs.Prelude.{◌≡◌, ◌++◌, ◌∷◌, [], ℕ, List, Option, Some, None, MatchResult, OnOk};
 ghost use Rattle.gw_text.specs.Sign.{sign_at};
 ghost use Rattle.gw_text.specs.Reader.{word_as, word_read, list_at, closed_list_at, braced_at, optional_at, braced_or_empty_at, items_at};
 ghost use Rattle.gw_text.specs.Tokens.{token_of};
@@ -10,7 +10,7 @@ use crate::cursor::Cursor;
 use crate::fault::ParseFault;
 use crate::token::{Token, token_of};
 use gw_base::{Items, Span};
-use std::alloc::Global;
+use std::alloc::{AllocError, Global};
 
 /// A part of a message.
 pub trait Parse<'a>: Drop {
@@ -75,6 +75,22 @@ impl<'a> Parse<'a> for Span<'a> {
     }
 }
 
+/// The part goes behind those before it.
+fn put<T: Drop>(parts: &mut Vec<T>, part: T) -> Result<(), AllocError>
+    ensures { OnOk result (parts.new.items ≡ parts.old.items ++ part ∷ []) }
+{
+    parts.push(part)?;
+    Ok(())
+}
+
+/// The part goes last, and no room is left behind it: most lists have one part, which then takes a block of its own size.
+fn put_last<T: Drop>(parts: &mut Vec<T>, part: T) -> Result<(), AllocError>
+    ensures { OnOk result (parts.new.items ≡ parts.old.items ++ part ∷ []) }
+{
+    parts.reserve_exact(1)?;
+    put(parts, part)
+}
+
 /// Reads one part or more, with commas between them. Each part is read once.
 ///
 /// # Errors
@@ -87,13 +103,14 @@ pub fn list<'a, T: Parse<'a>>(
     requires { Shrinks T.read_at }
     ensures { Gives result cursor.new (list_at T.read_at cursor.old) }
 {
-    let mut parts = Items::new(alloc);
+    let mut parts = Vec::new(alloc);
     loop {
         let part = T::read(alloc, cursor)?;
-        parts.push(part)?;
         if !cursor.sign(b',') {
-            return Ok(parts);
+            put_last(&mut parts, part)?;
+            return Ok(Items::from(parts));
         }
+        put(&mut parts, part)?;
     }
 }
 
@@ -179,13 +196,14 @@ pub fn items<'a, T: Parse<'a>>(
     requires { ShrinksMore T.read_at }
     ensures { Gives result cursor.new (items_at T.read_at cursor.old) }
 {
-    let mut parts = Items::new(alloc);
+    let mut parts = Vec::new(alloc);
     loop {
         let part = T::read(alloc, cursor)?;
-        parts.push(part)?;
         cursor.lwsp();
         if cursor.is_empty() {
-            return Ok(parts);
+            put_last(&mut parts, part)?;
+            return Ok(Items::from(parts));
         }
+        put(&mut parts, part)?;
     }
 }

@@ -1,4 +1,4 @@
-use Rattle.std.proofs.Common.{◌≡◌, true, false, refl}
+use Rattle.std.proofs.Common.{◌≡◌, ◌∙◌, true, false, refl}
 use Rattle.std.proofs.lemmas.Result.{err_from_is_err_and}
 use Rattle.gw_text.specs.Reader.{items_at}
 use Rattle.gw_text.proofs.PartLoops.{items_loop_fails, items_loop_ends, items_loop_goes_on}
@@ -7,14 +7,14 @@ use Rattle.gw_text.proofs.parts.items.Goals as goal
 pub returns-in_err-part : goal.returns-in_err-part
 returns-in_err-part g c =
     let p = err_from_is_err_and c.from_residual.result c.from_residual.ensures.1 in
-    rw (p.1, p.2) (items_loop_fails g.T.Parse.read_at c.in_err-part.field-0.0 c.loop-parts.parts c.loop-parts.cursor c.read.new.cursor c.read.new.cursor (items_at g.T.Parse.read_at c.args.cursor.now) c.in_err-part.ensures c.loop-parts.invariant)
+    rw (p.1, p.2) (items_loop_fails g.T.Parse.read_at c.in_err-part.field-0.0 c.loop-parts.parts.items c.loop-parts.cursor c.read.new.cursor c.read.new.cursor (items_at g.T.Parse.read_at c.args.cursor.now) c.in_err-part.ensures c.loop-parts.invariant)
 
 pub returns-then-is_empty : goal.returns-then-is_empty
 returns-then-is_empty g c =
-    rw c.in_ok-push.ensures.ok
-    (items_loop_ends g.T.Parse.read_at c.loop-parts.parts c.loop-parts.cursor c.in_ok-part.part c.read.new.cursor c.lwsp.result.now c.lwsp.new.self (items_at g.T.Parse.read_at c.args.cursor.now) c.in_ok-part.ensures c.lwsp.ensures.exact (c.if-is_empty.ensures.0 refl) c.loop-parts.invariant)
+    rw (c.from.ensures ∙ c.in_ok-put_last.ensures)
+    (items_loop_ends g.T.Parse.read_at c.loop-parts.parts.items c.loop-parts.cursor c.in_ok-part.part c.read.new.cursor c.lwsp.result.now c.lwsp.new.self (items_at g.T.Parse.read_at c.args.cursor.now) c.in_ok-part.ensures c.lwsp.ensures.exact (c.if-is_empty.ensures.0 refl) c.loop-parts.invariant)
 
 pub loop-parts-preserved : goal.loop-parts-preserved
 loop-parts-preserved g c =
-    rw c.in_ok-push.ensures.ok
-    (items_loop_goes_on g.T.Parse.read_at c.requires c.loop-parts.parts c.loop-parts.cursor c.in_ok-part.part c.read.new.cursor c.lwsp.result.now c.lwsp.new.self (items_at g.T.Parse.read_at c.args.cursor.now) c.in_ok-part.ensures c.lwsp.ensures.exact (λ n. let e : false ≡ true = c.if-is_empty.ensures.1 n in absurd cc) c.loop-parts.invariant)
+    rw c.in_ok-put.ensures
+    (items_loop_goes_on g.T.Parse.read_at c.requires c.loop-parts.parts.items c.loop-parts.cursor c.in_ok-part.part c.read.new.cursor c.lwsp.result.now c.lwsp.new.self (items_at g.T.Parse.read_at c.args.cursor.now) c.in_ok-part.ensures c.lwsp.ensures.exact (λ n. let e : false ≡ true = c.if-is_empty.ensures.1 n in absurd cc) c.loop-parts.invariant)

@@ -5,7 +5,7 @@ use Rattle.gw_text.proofs.parts.items.Given as goal
 
 -- what was read before, and what is still read, are all the items
 abbrev pub invariant-loop-parts : goal.invariant-loop-parts
-invariant-loop-parts g l = with_front l.parts (items_at g.T.Parse.read_at l.cursor) ≡ items_at g.T.Parse.read_at l.fn.cursor
+invariant-loop-parts g l = with_front l.parts.items (items_at g.T.Parse.read_at l.cursor) ≡ items_at g.T.Parse.read_at l.fn.cursor
 
 abbrev pub decreases-loop-parts : goal.decreases-loop-parts
 decreases-loop-parts g l = length l.cursor
