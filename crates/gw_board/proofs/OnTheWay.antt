@@ -19,7 +19,7 @@ use Rattle.gw_board.specs.Carried.{Asked, done, carried}
 use Rattle.gw_board.specs.Core.{Place, Job, Core, pending, open_with, closed_with, MayOpen, after_open, drawn, after_draw, after_close, after_return}
 use Rattle.gw_board.specs.Fitting.{FitsTogether}
 use Rattle.gw_board.specs.Jobs.{IsJob}
-use Rattle.gw_board.specs.Journal.{undone}
+use Rattle.gw_board.specs.Journal.{Laid, undone}
 use Rattle.gw_board.specs.Results.{carried_on, slots_of}
 use Rattle.gw_board.proofs.Closing.{job_here}
 use Rattle.gw_board.proofs.Comes.{result_kept}
@@ -121,7 +121,7 @@ module _ (b : Seen) (w : IsOnTheWay b) (i : ℕ) (a : Asked) where
     closed_as r = record b {
       maps = (after_close s i a j (done r a j.part)).maps;
       places = (after_close s i a j (done r a j.part)).places;
-      originals = b.originals ++ record { keys = j.keys; part = j.part } ∷ [];
+      originals = b.originals ++ record { keys = j.keys; way = Laid j.part } ∷ [];
     }
 
     -- it is drawn, and then closed with what that gave
@@ -133,7 +133,7 @@ module _ (b : Seen) (w : IsOnTheWay b) (i : ℕ) (a : Asked) where
         let l1 : Leaves manner s s1 w.fits [] = draw_leaves manner s w.fits i a j e 0 in
         let e1 : slice_get s1.places i ≡ Some (open_with a (drawn manner a j)) = set_here b.places i (open_with a j) (open_with a (drawn manner a j)) e in
         let s2 : Core = after_close s1 i a (drawn manner a j) o in
-        let l2 : Leaves manner s1 s2 l1.kept (record { keys = j.keys; part = j.part } ∷ []) = close_leaves manner s1 l1.kept i a (drawn manner a j) e1 o refl in
+        let l2 : Leaves manner s1 s2 l1.kept (record { keys = j.keys; way = Laid j.part } ∷ []) = close_leaves manner s1 l1.kept i a (drawn manner a j) e1 o refl in
         let same : c.places ≡ s2.places = sym (set_twice b.places i (open_with a (drawn manner a j)) (closed_with a o.answer)) in
         let asked : asked_of c.places ≡ asked_of b.places = asked-set b.places i (open_with a j) (closed_with a o.answer) e refl in
         record {
@@ -143,7 +143,7 @@ module _ (b : Seen) (w : IsOnTheWay b) (i : ℕ) (a : Asked) where
               ap (λ (l : List Place). carried_on manner l l2.kept.whole) same
               ∙ l2.same ∙ l1.same ∙ w.outcome
               ∙ still c.places asked;
-          back = undone-append b.originals (record { keys = j.keys; part = j.part } ∷ []) l2.kept.whole ∙ ap (undone b.originals) (l2.back ∙ l1.back) ∙ w.back;
+          back = undone-append b.originals (record { keys = j.keys; way = Laid j.part } ∷ []) l2.kept.whole ∙ ap (undone b.originals) (l2.back ∙ l1.back) ∙ w.back;
         }
 
     close_way_as : (r : Manner) → r ≡ manner → IsOnTheWay (closed_as r)

@@ -4,13 +4,11 @@ use Rattle.std.specs.Prelude.{slice_get, slice_set}
 use Rattle.std.specs.List.{list_any}
 use Rattle.gw_base.proofs.Booleans.{neither}
 use Rattle.gw_board.specs.Texts.{Text}
-use Rattle.gw_table.specs.Parts.{Parted}
 use Rattle.gw_board.proofs.Alike.{take-map, get-take, below-take}
 use Rattle.gw_board.specs.Boards.{asked_of, is_closed, AllClosed, unclosed}
 use Rattle.gw_board.specs.Carried.{Asked}
 use Rattle.gw_board.specs.Core.{Standing, Closed, Place, pending}
-use Rattle.gw_board.specs.Journal.{Original}
-use Rattle.gw_board.specs.Seats.{standing_of, place_of, original_of_part}
+use Rattle.gw_board.specs.Seats.{standing_of, place_of}
 use Rattle.gw_board.specs.declared.seat.Stage.{Stage}
 use Rattle.gw_board.specs.declared.seat.Stage.TheVariants as stage
 use Rattle.gw_board.specs.declared.seat.Seat.{Seat}
@@ -50,10 +48,6 @@ pub length-take-within : {X : Type 0} (xs : List X) (e : ℕ) → e ≤ length x
 length-take-within xs zero l = refl
 length-take-within [] (suc e) l = absurd (omega arith)
 length-take-within (x ∷ xs) (suc e) l = let h : length (take e xs) ≡ e = length-take-within xs e (omega arith) in omega (arith, h)
-
-pub one_more_original : (parts : List Parted) (p : Parted) → map original_of_part (parts ++ p ∷ []) ≡ map original_of_part parts ++ original_of_part p ∷ []
-one_more_original [] p = refl
-one_more_original (q ∷ qs) p = ap (λ (l : List Original). original_of_part q ∷ l) (one_more_original qs p)
 
 -- ---- how many are not closed
 

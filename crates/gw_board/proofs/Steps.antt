@@ -11,7 +11,7 @@ use Rattle.gw_table.specs.WellFormed.{AreWellFormed}
 use Rattle.gw_foot.specs.OwnsUnused.{OwnOthers}
 use Rattle.gw_board.specs.Carried.{Asked, keys_of, done}
 use Rattle.gw_board.specs.Core.{Standing, Pending, Opened, Closed, Place, Job, Core, pending, open_with, closed_with, start, meets_any, MayOpen, after_open, drawn, after_draw, after_close, after_return, Event, Open, Draw, Close, Return, Events, none, more}
-use Rattle.gw_board.specs.Journal.{Original, original_of, journal, undone}
+use Rattle.gw_board.specs.Journal.{Original, Laid, led, original_of, journal, undone}
 use Rattle.gw_board.specs.Results.{carried_at, carried_on, slots_of}
 use Rattle.gw_board.proofs.Closing.{job_here, drawn_stand, back_stand, back_maps, closed_stand, closed_answer, closed_maps, closed_back}
 use Rattle.gw_board.proofs.FirstOfAll.{MayWait, Waits, goes_first}
@@ -152,7 +152,7 @@ module _ (manner : Manner) (s : Core) (k : FitsTogether manner s) (i : ℕ) (a :
       same = alike (open_with a j) e (pending a) (λ n. refl);
     }
 
-    pub close_leaves : (o : Outcome Text) → j.result ≡ Some o → Leaves manner s (after_close s i a j o) k (record { keys = j.keys; part = j.part } ∷ [])
+    pub close_leaves : (o : Outcome Text) → j.result ≡ Some o → Leaves manner s (after_close s i a j o) k (record { keys = j.keys; way = Laid j.part } ∷ [])
     close_leaves o d = record {
       kept = made_of manner (after_close s i a j o) (done manner a m).maps (before ++ closed_with a o.answer ∷ after) (well_after manner a m k.well (job_here manner m a j before after here_stand).0)
           (there (open_with a j) e (closed_with a o.answer))
@@ -168,12 +168,12 @@ module _ (manner : Manner) (s : Core) (k : FitsTogether manner s) (i : ℕ) (a :
 pub step_leaves : (manner : Manner) (s t : Core) (k : FitsTogether manner s) (e : Event manner s t) → Leaves manner s t k (original_of e)
 step_leaves manner s t k (Open i a keys o e) = subst (λ u. Leaves manner s u k []) (sym e) (open_leaves manner s k i a keys o)
 step_leaves manner s t k (Draw worker i a j d e) = subst (λ u. Leaves manner s u k []) (sym e) (draw_leaves manner s k i a j d.stands worker)
-step_leaves manner s t k (Close i a j o c e) = subst (λ u. Leaves manner s u k (record { keys = j.keys; part = j.part } ∷ [])) (sym e) (close_leaves manner s k i a j c.stands o c.drawn)
+step_leaves manner s t k (Close i a j o c e) = subst (λ u. Leaves manner s u k (record { keys = j.keys; way = Laid j.part } ∷ [])) (sym e) (close_leaves manner s k i a j c.stands o c.drawn)
 step_leaves manner s t k (Return i a j r e) = subst (λ u. Leaves manner s u k []) (sym e) (return_leaves manner s k i a j r.stands)
 
 pub undone-append : (front later : List Original) (m : Maps) → undone (front ++ later) m ≡ undone front (undone later m)
 undone-append [] later m = refl
-undone-append (o ∷ os) later m = ap (overlaid o.keys o.part) (undone-append os later m)
+undone-append (o ∷ os) later m = ap (led o) (undone-append os later m)
 
 pub steps_leave : (manner : Manner) (s t : Core) (k : FitsTogether manner s) (es : Events manner s t) → Leaves manner s t k (journal es)
 steps_leave manner s t k none = record { kept = k; back = refl; same = refl }

@@ -1,12 +1,13 @@
 -- Places that are carried out one after another (own): the first that is not closed, and what carrying its request out comes to.
 use Rattle.std.specs.Prelude.{◌≡◌, ℕ, Bool, true, false, not, List, [], ◌∷◌, ◌++◌, take, slice_get, Option, None, Some}
 use Rattle.gw_board.specs.declared.manner.Manner.{Manner}
-use Rattle.gw_table.specs.Parts.{Parted, list_of, overlaid}
+use Rattle.gw_table.specs.declared.originals.Write.{Write}
+use Rattle.gw_table.specs.Originals.{keys_written, undone as taken}
 use Rattle.gw_table.specs.Stored.{Stored, maps_of, AreReady, KeepReady, NoneIsOut}
 use Rattle.gw_board.specs.Boards.{is_closed, AllClosed}
 use Rattle.gw_board.specs.Carried.{Asked, done}
 use Rattle.gw_board.specs.Core.{Place}
-use Rattle.gw_board.specs.Journal.{Original}
+use Rattle.gw_board.specs.Journal.{Original, no_original}
 use Rattle.gw_board.specs.Texts.{Text}
 
 -- there is a place, and it is not closed
@@ -28,23 +29,23 @@ FindsFirst places (Some i) = IsFirstUnclosed places i
 
 -- They have its maps, the text is that of its reply, and the originals lead back to where the earlier ones led. What was prepared is so
 -- still, and so are their keys.
-pub record WasCarried (manner : Manner) (a : Asked) (before : Stored) (earlier : Parted) (after : Stored) (originals : Parted) (text : Text) : Type 0 where
+pub record WasCarried (manner : Manner) (a : Asked) (before : Stored) (earlier : List Write) (after : Stored) (originals : List Write) (text : Text) : Type 0 where
   pub maps : maps_of after ≡ (done manner a (maps_of before)).maps
   pub reply : text ≡ (done manner a (maps_of before)).answer
   pub here : NoneIsOut after
   pub kept : KeepReady before after
-  pub ready : AreReady (list_of originals.keys) after
-  pub back : overlaid (list_of originals.keys) originals.maps (maps_of after) ≡ overlaid (list_of earlier.keys) earlier.maps (maps_of before)
+  pub ready : AreReady (keys_written originals) after
+  pub back : taken originals (maps_of after) ≡ taken earlier (maps_of before)
 
 -- they are as they were before the earlier changes, but for places without an entry
-pub record AreAsBegun (before : Stored) (earlier : Parted) (after : Stored) : Type 0 where
-  pub maps : maps_of after ≡ overlaid (list_of earlier.keys) earlier.maps (maps_of before)
+pub record AreAsBegun (before : Stored) (earlier : List Write) (after : Stored) : Type 0 where
+  pub maps : maps_of after ≡ taken earlier (maps_of before)
   pub here : NoneIsOut after
   pub kept : KeepReady before after
 
 -- ---- originals that are gone on with
 
--- the last original was taken off the journal; or the journal is as it was, and the original is one of no key
+-- the last original was taken off the journal; or the journal is as it was, and the original is that of no change
 pub data TakesLast (before after : List Original) (last : Original) : Type 0 where
   Off : before ≡ after ++ last ∷ [] → TakesLast before after last
-  Fresh : after ≡ before → last.keys ≡ [] → TakesLast before after last
+  Fresh : after ≡ before → last ≡ no_original → TakesLast before after last

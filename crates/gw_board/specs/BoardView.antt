@@ -11,7 +11,7 @@ use Rattle.gw_board.specs.Carried.{carried}
 use Rattle.gw_board.specs.Fitting.{Each, out, FitsTogether}
 use Rattle.gw_board.specs.Journal.{undone}
 use Rattle.gw_board.specs.Results.{carried_on, slots_of}
-use Rattle.gw_board.specs.Seats.{place_of, original_of_part}
+use Rattle.gw_board.specs.Seats.{place_of}
 
 abbrev pub value_of : Inside → Seen
 value_of a = record {
@@ -19,7 +19,7 @@ value_of a = record {
   begun = maps_of a.start.value;
   maps = maps_of a.tables;
   places = map place_of a.seats.items;
-  originals = map original_of_part a.originals.items;
+  originals = a.originals.items;
 }
 
 -- the maps that it was given are well-formed, and what the requests own is unused in them
@@ -28,7 +28,7 @@ pub record IsBegun (b : Seen) : Type 0 where
   pub unused : AreUnused b.begun [] (slots_of (asked_of b.places))
 
 -- There are whole maps from which what is out is missing; carrying out on them what is not closed comes to what the requests come to
--- on the maps that the board was given; and the originals, laid over them, give those maps.
+-- on the maps that the board was given; and the originals lead from them back to those maps.
 pub record IsOnTheWay (b : Seen) : Type 0 where
   pub begun : IsBegun b
   pub fits : FitsTogether b.manner (core_of b)

@@ -8,7 +8,7 @@ use Rattle.gw_table.specs.Maps.{Maps, Outcome}
 use Rattle.gw_table.specs.Parts.{restricted}
 use Rattle.gw_board.specs.Carried.{Asked, keys_of, done, carried}
 use Rattle.gw_board.specs.Core.{Standing, Pending, Opened, Closed, Place, Job, Core, pending, open_with, meets_at, meets_any, MayOpen, after_open, after_close, after_return}
-use Rattle.gw_board.specs.Journal.{Original}
+use Rattle.gw_board.specs.Journal.{Original, Laid}
 use Rattle.gw_board.specs.Results.{result_of}
 use Rattle.gw_board.specs.Waves.{is_pending}
 
@@ -96,7 +96,7 @@ pub record IsFirstMet (b : Seen) (i j : ℕ) : Type 0 where
 -- ---- to close a place
 
 abbrev pub original_in : Handed → Original
-original_in h = record { keys = h.keys; part = h.part }
+original_in h = record { keys = h.keys; way = Laid h.part }
 
 -- with its result: the reply stands at the place, and the original is the journal's last
 abbrev pub with_result : Seen → Handed → Seen

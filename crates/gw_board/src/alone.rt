@@ -2,7 +2,7 @@
 
 ghost use Rattle.std.specs.Prelude.{◌≡◌, ◌+◌, true, take, IfErr, IfOk, IfSome, OnErr, OnOk, slice_get};
 ghost use Rattle.gw_reserve.specs.Owned.{AreFreeSlots};
-ghost use Rattle.gw_table.specs.Parts.{list_of};
+ghost use Rattle.gw_table.specs.Originals.{keys_written};
 ghost use Rattle.gw_table.specs.Stored.{maps_of, AreReady, NoneIsOut};
 ghost use Rattle.gw_table.specs.WellFormed.{AreWellFormed};
 ghost use Rattle.gw_board.specs.Alone.{FindsFirst, WasCarried, AreAsBegun};
@@ -47,7 +47,7 @@ fn carry_in_place(
 ) -> Result<Left, Tables>
     requires whole { AreWellFormed manner.now.rules.members (maps_of tables) }
     requires here { NoneIsOut tables }
-    requires ready { AreReady (list_of earlier.keys) tables }
+    requires ready { AreReady (keys_written earlier) tables }
     requires unused { AreFreeSlots (maps_of tables) asked.now.owned.slots }
     ensures ok { IfOk result (λ left. WasCarried manner.now asked.now tables earlier left.tables left.originals left.text) }
     ensures err { IfErr result (AreAsBegun tables earlier) }

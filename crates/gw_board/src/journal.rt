@@ -1,11 +1,11 @@
 //! The journal: the originals of the places that are closed with a result, in the order of closing.
 
-ghost use Rattle.std.specs.Prelude.{◌≡◌, ◌≤◌, [], map, vec_len, vec_capacity};
+ghost use Rattle.std.specs.Prelude.{◌≡◌, ◌≤◌, [], vec_len, vec_capacity};
 ghost use Rattle.gw_table.specs.Stored.{maps_of, AreReady, NoneIsOut};
 ghost use Rattle.gw_board.specs.Alone.{TakesLast};
 ghost use Rattle.gw_board.specs.Fitting.{Each};
 ghost use Rattle.gw_board.specs.Journal.{undone};
-ghost use Rattle.gw_board.specs.Seats.{original_of_part};
+ghost use Rattle.gw_board.specs.Seats.{original_of_writes};
 
 use crate::original::Original;
 use gw_table::{Originals, Tables};
@@ -14,7 +14,7 @@ use std::alloc::Global;
 /// Takes the originals of the places that were carried out alone last off the journal, to go on with them. Where the last place was a
 /// job's, or there is none, they are those of no change.
 pub(crate) fn last_alone(alloc: Global, originals: &mut Vec<Original>) -> Originals
-    ensures last { TakesLast (map original_of_part originals.old.items) (map original_of_part originals.new.items) (original_of_part result) }
+    ensures last { TakesLast originals.old.items originals.new.items (original_of_writes result) }
     ensures len { vec_len originals.new ≤ vec_len originals.old }
     ensures capacity { vec_capacity originals.old ≤ vec_capacity originals.new }
 {
@@ -35,8 +35,8 @@ pub(crate) fn last_alone(alloc: Global, originals: &mut Vec<Original>) -> Origin
 /// Puts all originals back, the last one first. The caller knows that nothing is out, and that each of their keys has a place.
 pub(crate) fn put_all_back(tables: &mut Tables, originals: &mut Vec<Original>)
     requires here { NoneIsOut tables.old }
-    requires ready { Each (λ o. AreReady o.keys tables.old) (map original_of_part originals.old.items) }
-    ensures maps { maps_of tables.new ≡ undone (map original_of_part originals.old.items) (maps_of tables.old) }
+    requires ready { Each (λ o. AreReady o.keys tables.old) originals.old.items }
+    ensures maps { maps_of tables.new ≡ undone originals.old.items (maps_of tables.old) }
     ensures here { NoneIsOut tables.new }
     ensures none { originals.new.items ≡ [] }
     ensures capacity { vec_capacity originals.new ≡ vec_capacity originals.old }

@@ -1,7 +1,8 @@
 //! What stood in the tables before a place was closed with its result.
 
 ghost use Rattle.std.specs.Prelude.{◌≡◌, IfOk, IfErr};
-ghost use Rattle.gw_table.specs.Parts.{list_of, overlaid};
+ghost use Rattle.gw_board.specs.Journal.{led};
+ghost use Rattle.gw_board.specs.Seats.{original_of_part, original_of_writes};
 ghost use Rattle.gw_table.specs.Stored.{maps_of, AreReady, AreIn, AreAsReady, AreAsOut, NoneIsOut};
 
 use gw_table::{Originals, Part, Tables};
@@ -16,27 +17,25 @@ pub(crate) enum Stood {
     OfWrites(Originals),
 }
 
-/// What stood at the keys of a place, which contracts see as a part.
+/// What stood at the keys of a place, which contracts see as a way back.
 #[derive(Drop)]
 pub(crate) struct Original {
     stood: Stood,
 }
 
 impl Model for Original {
-    ghost use Rattle.gw_table.specs.Parts.{Parted, coded_part};
-    ghost use Rattle.gw_board.specs.Stood.{stood_part};
+    ghost use Rattle.gw_board.specs.Journal.{Original as Way};
+    ghost use Rattle.gw_board.specs.Stood.{stood_original};
 
-    ghost Value = { Parted };
+    ghost Value = { Way };
 
-    ghost coded = { coded_part };
-
-    ghost view = { λ a. stood_part a.stood };
+    ghost view = { λ a. stood_original a.stood };
 }
 
 impl Original {
     /// Of a place that was open.
     pub(crate) fn of_job(part: Part) -> Original
-        ensures { result ≡ part }
+        ensures { result ≡ original_of_part part }
     {
         Original {
             stood: Stood::OfJob(part),
@@ -45,7 +44,7 @@ impl Original {
 
     /// Of a place that was carried out alone.
     pub(crate) fn of_writes(originals: Originals) -> Original
-        ensures { result ≡ originals }
+        ensures { result ≡ original_of_writes originals }
     {
         Original {
             stood: Stood::OfWrites(originals),
@@ -54,7 +53,7 @@ impl Original {
 
     /// What writes found, where the place was carried out alone; else it comes back.
     pub(crate) fn into_writes(self) -> Result<Originals, Original>
-        ensures ok { IfOk result (λ originals. originals ≡ self) }
+        ensures ok { IfOk result (λ originals. original_of_writes originals ≡ self) }
         ensures err { IfErr result (λ original. original ≡ self) }
     {
         let Original { stood } = self;
@@ -64,11 +63,11 @@ impl Original {
         }
     }
 
-    /// Puts it in place of what is in the tables. The caller knows that its keys have places and none is out. A key takes one look-up.
+    /// Leads the tables back. The caller knows that its keys have places and none is out. A key takes one look-up.
     pub(crate) fn put_back(self, tables: &mut Tables)
-        requires ready { AreReady (list_of self.keys) tables.old }
-        requires here { AreIn (list_of self.keys) tables.old }
-        ensures maps { maps_of tables.new ≡ overlaid (list_of self.keys) self.maps (maps_of tables.old) }
+        requires ready { AreReady self.keys tables.old }
+        requires here { AreIn self.keys tables.old }
+        ensures maps { maps_of tables.new ≡ led self (maps_of tables.old) }
         ensures out { AreAsOut tables.old tables.new }
         ensures ready { AreAsReady tables.old tables.new }
     {

@@ -156,7 +156,7 @@ impl Context {
     pub fn set_properties(&mut self, priority: u8, emergency: bool)
         ensures { self.new ≡ prioritized priority (marked emergency self.old) }
     {
-        self.priority = priority;
+        self.set_priority(priority);
         self.emergency = emergency;
     }
 

@@ -51,6 +51,7 @@ pub(crate) fn request_tree<'a>(
 }
 
 /// A transaction, behind its token. Where its tree is not kept, it is read again from here.
+#[inline(always)]
 #[tactic(auto, unfolding(crate::specs::Reading::request_at))]
 fn request<'a>(alloc: Global, cursor: &mut Cursor<'a>, trees: Trees) -> Result<Item<'a>, ParseFault>
     ensures { Gives result cursor.new (request_at cursor.old) }
@@ -120,6 +121,7 @@ fn ack<'a>(alloc: Global, cursor: &mut Cursor<'a>) -> Result<Item<'a>, ParseFaul
 }
 
 /// A part of the body: its token, and what is behind it.
+#[inline(always)]
 #[tactic(auto, unfolding(crate::specs::Reading::item_at))]
 fn item<'a>(alloc: Global, cursor: &mut Cursor<'a>, trees: Trees) -> Result<Item<'a>, ParseFault>
     ensures { Gives result cursor.new (item_at cursor.old) }

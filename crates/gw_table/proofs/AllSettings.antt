@@ -20,22 +20,23 @@ use Rattle.gw_base.proofs.Views.{seen}
 use Rattle.gw_term.specs.declared.record.Termination.{Termination}
 use Rattle.gw_ctx.specs.Contexts.{ContextRecord}
 use Rattle.gw_table.specs.declared.originals.Write.{Write}
-use Rattle.gw_table.specs.declared.originals.Write.TheVariants.{OfCtx}
+use Rattle.gw_table.specs.declared.originals.Write.TheVariants.{OfProperties}
 use Rattle.gw_table.specs.declared.place.Place.{Place}
 use Rattle.gw_table.specs.declared.place.Place.TheVariants.{Empty, Here, Out}
 use Rattle.gw_table.specs.declared.setting.Setting.{Setting}
-use Rattle.gw_table.specs.declared.setting.Setting.TheVariants.{Priority, Emergency}
 use Rattle.gw_table.specs.Maps.{Maps, term, ctx, number, numbers}
 use Rattle.gw_table.specs.Marking.{AreMarked}
-use Rattle.gw_table.specs.Originals.{keys_written, IsInPlace}
+use Rattle.gw_table.specs.KeptSettings.{IsKept, MayKeep, AreKept}
+use Rattle.gw_table.specs.Originals.{keys_written, has_properties, IsInPlace}
 use Rattle.gw_table.specs.Reserved.{slot_name}
-use Rattle.gw_table.specs.Settings.{with_setting, put_setting, all_set, set_at, AreSet, IsKept, MayKeep, AreKept}
+use Rattle.gw_table.specs.Settings.{with_setting, put_setting, all_set, set_at, AreSet}
 use Rattle.gw_table.specs.Stored.{Stored, stored, shown, has_left, maps_of, is_ready, is_out}
 use Rattle.gw_table.proofs.Exchanged.{ctx_seen}
-use Rattle.gw_table.proofs.InPlace.{wrote_ctx}
-use Rattle.gw_table.proofs.Lookups.{ctx-put_ctx, term-put_ctx, same_maps}
-use Rattle.gw_table.proofs.Places.{term-maps_of, ctx-maps_of, same_ctx_place}
-use Rattle.gw_table.proofs.Undone.{undone_beside, written_before}
+use Rattle.gw_table.proofs.InPlace.{noted_properties}
+use Rattle.gw_table.proofs.Lookups.{same_maps}
+use Rattle.gw_table.proofs.Places.{term-maps_of, ctx-maps_of}
+use Rattle.gw_table.proofs.SettingLookups.{with_it, twice, ctx-put_setting, term-put_setting}
+use Rattle.gw_table.proofs.Undone.{settled, settled_so, undone_beside, written_before, properties_before}
 
 abbrev pub Numbered : Type 0
 Numbered = ℕ × Place ContextRecord
@@ -104,15 +105,22 @@ module _ (x : Setting) where
     out_set (Term t) = ap (λ m. has_left (finite.get m t)) h.terms
     out_set Whole = refl
 
-    kept_or_same : (ws : List Write) → AreKept x ws a → (q : CtxNum) → (has (keys_written ws) (Ctx q) ≡ true) ⊎ (ctx (maps_of b) q ≡ ctx (maps_of a) q)
+    shows_set : (q : CtxNum) → ctx (maps_of b) q ≡ option_map (with_setting x) (ctx (maps_of a) q)
+    shows_set q = ctx-maps_of b q ∙ ap (λ o. shown o) (h.contexts q.0) ∙ shows (finite.get a.contexts q.0) ∙ ap (λ (o : Option ContextRecord). option_map (with_setting x) o) (sym (ctx-maps_of a q))
+
+    kept_or_same : (ws : List Write) → AreKept x ws a → (q : CtxNum) → (has (keys_written ws) (Ctx q) ≡ true) ⊎ (settled ws q (ctx (maps_of b) q) ≡ settled ws q (ctx (maps_of a) q))
     kept_or_same ws kept q = by (finite.get a.contexts q.0) refl
       where
-        same : (o : Option (Place ContextRecord)) → finite.get a.contexts q.0 ≡ o → shown (option_map (set_at x) o) ≡ shown o → ctx (maps_of b) q ≡ ctx (maps_of a) q
-        same o e f = ctx-maps_of b q ∙ ap (λ o. shown o) (h.contexts q.0 ∙ ap (λ o. option_map (set_at x) o) e) ∙ f ∙ sym (ap (λ o. shown o) e) ∙ sym (ctx-maps_of a q)
+        same : (o : Option (Place ContextRecord)) → finite.get a.contexts q.0 ≡ o → shown (option_map (set_at x) o) ≡ shown o → settled ws q (ctx (maps_of b) q) ≡ settled ws q (ctx (maps_of a) q)
+        same o e f = ap (settled ws q) (ctx-maps_of b q ∙ ap (λ o. shown o) (h.contexts q.0 ∙ ap (λ o. option_map (set_at x) o) e) ∙ f ∙ sym (ap (λ o. shown o) e) ∙ sym (ctx-maps_of a q))
 
-        by : (o : Option (Place ContextRecord)) → finite.get a.contexts q.0 ≡ o → (has (keys_written ws) (Ctx q) ≡ true) ⊎ (ctx (maps_of b) q ≡ ctx (maps_of a) q)
+        by : (o : Option (Place ContextRecord)) → finite.get a.contexts q.0 ≡ o → (has (keys_written ws) (Ctx q) ≡ true) ⊎ (settled ws q (ctx (maps_of b) q) ≡ settled ws q (ctx (maps_of a) q))
         by None e = inr (same None e refl)
-        by (Some p) e = elim (kept q.0 p e) [ inl noted ↦ inl noted | inr so ↦ inr (same (Some p) e (ap (λ (y : Place ContextRecord). shown (Some y)) so)) ]
+        by (Some p) e = elim (kept q.0 p e) [
+          | inl noted ↦ inl noted
+          | inr (inl so) ↦ inr (same (Some p) e (ap (λ (y : Place ContextRecord). shown (Some y)) so))
+          | inr (inr in_part) ↦ inr (ap (settled ws q) (shows_set q) ∙ settled_so ws q x (ctx (maps_of a) q) in_part)
+        ]
 
     pub set_in_place : (start : Stored) (ws : List Write) → IsInPlace start a ws → AreKept x ws a → IsInPlace start b ws
     set_in_place start ws i kept = record {
@@ -124,20 +132,19 @@ module _ (x : Setting) where
 
 -- ---- what is noted
 
--- what stands in a place may be noted, whatever was before
+-- the properties of what stands in a place may be noted, whatever was before
 pub may_keep : (start now : Stored) (ws vs : List Write) (n : ℕ) (p : Place ContextRecord) → finite.get now.contexts n ≡ Some p → MayKeep n p ws vs → IsInPlace start now ws → IsInPlace start now vs
 may_keep start now ws vs n p stands (inl e) i = subst (λ (l : List Write). IsInPlace start now l) (sym e) i
-may_keep start now ws vs n p stands (inr e) i =
-    let left : has_left (Some p) ≡ false = ap (λ o. has_left o) (sym stands) ∙ i.here (Ctx (number n)) in
+may_keep start now ws vs n p stands (inr (c, here, e)) i =
     subst (λ (l : List Write). IsInPlace start now l) (sym e)
-    (subst (λ (s : Stored). IsInPlace start s (ws ++ OfCtx (number n) (shown (Some p)) ∷ [])) (same_ctx_place now (number n) p stands)
-    (wrote_ctx start now ws i (number n) p (shown (Some p)) left (ap (λ o. shown o) (sym stands) ∙ sym (ctx-maps_of now (number n)))))
+    (noted_properties start now ws i (number n) c (ctx-maps_of now (number n) ∙ ap (λ o. shown o) (stands ∙ ap (λ (y : Place ContextRecord). Some y) here)))
 
 -- what is noted stays so
 pub kept_before : (x : Setting) (ws vs : List Write) (n q : ℕ) (p r : Place ContextRecord) → MayKeep n p ws vs → IsKept x ws q r → IsKept x vs q r
 kept_before x ws vs n q p r (inl e) h = subst (λ (l : List Write). IsKept x l q r) (sym e) h
-kept_before x ws vs n q p r (inr e) (inl h) = inl (ap (λ (l : List Write). has (keys_written l) (Ctx (number q))) e ∙ written_before ws (OfCtx (number n) (shown (Some p))) (Ctx (number q)) h)
-kept_before x ws vs n q p r (inr e) (inr h) = inr h
+kept_before x ws vs n q p r (inr (c, here, e)) (inl h) = inl (ap (λ (l : List Write). has (keys_written l) (Ctx (number q))) e ∙ written_before ws (OfProperties (number n) c.priority c.emergency) (Ctx (number q)) h)
+kept_before x ws vs n q p r (inr more) (inr (inl h)) = inr (inl h)
+kept_before x ws vs n q p r (inr (c, here, e)) (inr (inr h)) = inr (inr (ap (has_properties (number q)) e ∙ properties_before ws (OfProperties (number n) c.priority c.emergency) (number q) h))
 
 -- ---- place after place
 
@@ -200,58 +207,32 @@ pub in_numbers : (m : Maps) (q : CtxNum) → is_numbered q (numbers m) ≡ is_so
 in_numbers m q = any_number q.0 (finite.keys m.contexts) ∙ sym (contains_key-keys m.contexts q.0)
 
 module _ (x : Setting) where
-  abbrev with_it : Option ContextRecord → Option ContextRecord
-  with_it o = option_map (with_setting x) o
-
-  again : (y : Setting) (c : ContextRecord) → with_setting y (with_setting y c) ≡ with_setting y c
-  again (Priority p) c = refl
-  again Emergency c = refl
-
-  twice : (o : Option ContextRecord) → with_it (with_it o) ≡ with_it o
-  twice None = refl
-  twice (Some c) = ap (λ (d : ContextRecord). Some d) (again x c)
-
-  pub ctx-put_setting : (n : CtxNum) (m : Maps) (q : CtxNum) → ctx (put_setting x n m (ctx m n)) q ≡ cond (nat_eq q.0 n.0) (with_it (ctx m q)) (ctx m q)
-  ctx-put_setting n m q = by (ctx m n) refl (nat_eq q.0 n.0) refl
-    where
-      by : (o : Option ContextRecord) → ctx m n ≡ o → (b : Bool) → nat_eq q.0 n.0 ≡ b → ctx (put_setting x n m o) q ≡ cond b (with_it (ctx m q)) (ctx m q)
-      by None e true f = let none : ctx m q ≡ None = ap (ctx m) (same_number q n f) ∙ e in none ∙ sym (ap (λ (o : Option ContextRecord). with_it o) none)
-      by None e false f = refl
-      by (Some c) e true f =
-          let there : ctx m q ≡ Some c = ap (ctx m) (same_number q n f) ∙ e in
-          ctx-put_ctx m n (Some (with_setting x c)) q ∙ ap (λ (b : Bool). cond b (Some (with_setting x c)) (ctx m q)) f ∙ sym (ap (λ (o : Option ContextRecord). with_it o) there)
-      by (Some c) e false f = ctx-put_ctx m n (Some (with_setting x c)) q ∙ ap (λ (b : Bool). cond b (Some (with_setting x c)) (ctx m q)) f
-
-  term-put_setting : (n : CtxNum) (m : Maps) (o : Option ContextRecord) (t : List ℕ) → term (put_setting x n m o) t ≡ term m t
-  term-put_setting n m None t = refl
-  term-put_setting n m (Some c) t = term-put_ctx m n (Some (with_setting x c)) t
-
-  one_or_later : (b h : Bool) (o : Option ContextRecord) → cond h (with_it (cond b (with_it o) o)) (cond b (with_it o) o) ≡ cond (b || h) (with_it o) o
-  one_or_later true true o = twice o
+  one_or_later : (b h : Bool) (o : Option ContextRecord) → cond h (with_it x (cond b (with_it x o) o)) (cond b (with_it x o) o) ≡ cond (b || h) (with_it x o) o
+  one_or_later true true o = twice x o
   one_or_later true false o = refl
   one_or_later false h o = refl
 
-  ctx-each_set : (ns : List CtxNum) (m : Maps) (q : CtxNum) → ctx (all_set x ns m) q ≡ cond (is_numbered q ns) (with_it (ctx m q)) (ctx m q)
+  ctx-each_set : (ns : List CtxNum) (m : Maps) (q : CtxNum) → ctx (all_set x ns m) q ≡ cond (is_numbered q ns) (with_it x (ctx m q)) (ctx m q)
   ctx-each_set [] m q = refl
   ctx-each_set (n ∷ ns) m q =
       ctx-each_set ns (put_setting x n m (ctx m n)) q
-      ∙ ap (λ (o : Option ContextRecord). cond (is_numbered q ns) (with_it o) o) (ctx-put_setting n m q)
+      ∙ ap (λ (o : Option ContextRecord). cond (is_numbered q ns) (with_it x o) o) (ctx-put_setting x n m q)
       ∙ one_or_later (nat_eq q.0 n.0) (is_numbered q ns) (ctx m q)
 
   pub term-all_set : (ns : List CtxNum) (m : Maps) (t : List ℕ) → term (all_set x ns m) t ≡ term m t
   term-all_set [] m t = refl
-  term-all_set (n ∷ ns) m t = term-all_set ns (put_setting x n m (ctx m n)) t ∙ term-put_setting n m (ctx m n) t
+  term-all_set (n ∷ ns) m t = term-all_set ns (put_setting x n m (ctx m n)) t ∙ term-put_setting x n m (ctx m n) t
 
-  there_or_none : (o : Option ContextRecord) → cond (is_some o) (with_it o) o ≡ with_it o
+  there_or_none : (o : Option ContextRecord) → cond (is_some o) (with_it x o) o ≡ with_it x o
   there_or_none None = refl
   there_or_none (Some c) = refl
 
   -- every context is so
   pub ctx-all_set : (m : Maps) (q : CtxNum) → ctx (all_set x (numbers m) m) q ≡ option_map (with_setting x) (ctx m q)
-  ctx-all_set m q = ctx-each_set (numbers m) m q ∙ ap (λ (b : Bool). cond b (with_it (ctx m q)) (ctx m q)) (in_numbers m q) ∙ there_or_none (ctx m q)
+  ctx-all_set m q = ctx-each_set (numbers m) m q ∙ ap (λ (b : Bool). cond b (with_it x (ctx m q)) (ctx m q)) (in_numbers m q) ∙ there_or_none (ctx m q)
 
   -- set in their places they are what they are one after another
   pub maps_set : (a b : Stored) → AreSet x a b → maps_of b ≡ all_set x (numbers (maps_of a)) (maps_of a)
   maps_set a b h = same_maps (maps_of b) (all_set x (numbers (maps_of a)) (maps_of a))
       (λ t. same_term x a b h t ∙ sym (term-all_set (numbers (maps_of a)) (maps_of a) t))
-      (λ q. ctx-maps_of b q ∙ ap (λ o. shown o) (h.contexts q.0) ∙ shows x (finite.get a.contexts q.0) ∙ ap (λ (o : Option ContextRecord). with_it o) (sym (ctx-maps_of a q)) ∙ sym (ctx-all_set (maps_of a) q))
+      (λ q. ctx-maps_of b q ∙ ap (λ o. shown o) (h.contexts q.0) ∙ shows x (finite.get a.contexts q.0) ∙ ap (λ (o : Option ContextRecord). with_it x o) (sym (ctx-maps_of a q)) ∙ sym (ctx-all_set (maps_of a) q))

@@ -1,6 +1,6 @@
 -- Tables that are changed in place, with one more write.
-use Rattle.std.proofs.Common.{nat_eq, ◌≡◌, ℕ, Bool, true, false, cond, List, [], ◌∷◌, ◌++◌, bytes_eq, Option, None, Some, is_some, refl, sym, ap, subst, ◌∙◌}
-use Rattle.std.specs.Prelude.{◌||◌}
+use Rattle.std.proofs.Common.{nat_eq, ◌≡◌, ℕ, Bool, true, false, cond, List, [], ◌∷◌, ◌++◌, bytes_eq, Option, None, Some, is_some, inl, inr, refl, sym, ap, subst, ◌∙◌}
+use Rattle.std.specs.Prelude.{◌||◌, ◌⊎◌}
 use Rattle.std.specs.FinMap as finite
 use Rattle.gw_base.specs.declared.command_words.Service.{Service}
 use Rattle.gw_base.specs.declared.ids.CtxNum.{CtxNum}
@@ -11,22 +11,29 @@ use Rattle.gw_term.specs.declared.record.Termination.{Termination}
 use Rattle.gw_term.specs.Record.{serviced}
 use Rattle.gw_ctx.specs.Contexts.{ContextRecord}
 use Rattle.gw_table.specs.declared.originals.Write.{Write}
-use Rattle.gw_table.specs.declared.originals.Write.TheVariants.{OfTerm, OfCtx}
+use Rattle.gw_table.specs.declared.originals.Write.TheVariants.{OfTerm, OfCtx, OfProperties}
+use Rattle.gw_table.specs.declared.setting.Setting.{Setting}
+use Rattle.gw_table.specs.declared.setting.Setting.TheVariants.{Both}
 use Rattle.gw_table.specs.declared.place.Place.{Place}
-use Rattle.gw_table.specs.declared.place.Place.TheVariants.{Empty, Here}
+use Rattle.gw_table.specs.declared.place.Place.TheVariants.{Empty, Here, Out}
 use Rattle.gw_table.specs.declared.site.Found.{Found}
 use Rattle.gw_table.specs.declared.site.Found.TheVariants.{Noted, Original}
 use Rattle.gw_table.specs.Found.{IsFound, original_of}
-use Rattle.gw_table.specs.Maps.{Maps, term, ctx, put_term, put_ctx, no_maps}
+use Rattle.gw_table.specs.KeptSettings.{IsKept}
+use Rattle.gw_table.specs.Maps.{Maps, term, ctx, put_term, put_ctx}
 use Rattle.gw_table.specs.Members.{put_service}
-use Rattle.gw_table.specs.Originals.{keys_written, undone, begun_at, before_all, IsInPlace}
-use Rattle.gw_table.specs.Parts.{Parted, list_of, overlaid}
+use Rattle.gw_table.specs.Originals.{keys_written, without_write, undone, begun_by, before_all, has_properties, IsInPlace}
+use Rattle.gw_table.specs.Settings.{with_setting, put_setting, set_at, set_place}
 use Rattle.gw_table.specs.Stored.{Stored, shown, placed, has_left, maps_of, is_ready, put_term_place, put_ctx_place, with_service, without_ctx, NoneIsOut, AreReady, KeepReady}
 use Rattle.gw_table.proofs.Leaving.{put_ctx-same}
 use Rattle.gw_table.proofs.Moved.{has-pushed}
+use Rattle.gw_base.proofs.NameTests.{same_number}
 use Rattle.gw_base.proofs.NamesInLists.{or_left, or_right}
-use Rattle.gw_table.proofs.Places.{got_term, got_ctx, maps-put_term_place, maps-put_ctx_place, shown_placed, in-put_term, in-put_ctx}
-use Rattle.gw_table.proofs.Undone.{undone_laid, keys_more, undone_term, undone_ctx, undone_term_again, undone_ctx_again}
+use Rattle.gw_table.proofs.Lookups.{ctx-put_ctx, term-put_ctx}
+use Rattle.gw_table.proofs.Places.{got_term, got_ctx, ctx-maps_of, maps-put_term_place, maps-put_ctx_place, shown_placed, in-put_term, in-put_ctx}
+use Rattle.gw_table.proofs.SettingLookups.{with_it}
+use Rattle.gw_table.proofs.Settings.{maps-set_place}
+use Rattle.gw_table.proofs.Undone.{undone_more, keys_more, undone_term, undone_ctx, undone_term_again, undone_ctx_again, settled, settled_so, undone_beside}
 
 pub same_in_place : (start old now : Stored) (ws vs : List Write) → now ≡ old → vs ≡ ws → IsInPlace start old ws → IsInPlace start now vs
 same_in_place start old now ws vs e f i = subst (λ (s : Stored). IsInPlace start s vs) (sym e) (subst (λ (l : List Write). IsInPlace start old l) (sym f) i)
@@ -82,48 +89,63 @@ one_more keys k old new kept made ready q h = by (has keys q) (same_key q k) ref
 
 -- ---- where changes began
 
-maps-begun : (keys : List Key) (part : Maps) (s : Stored) → maps_of (begun_at keys part s) ≡ overlaid keys part (maps_of s)
-maps-begun [] part s = refl
-maps-begun (Term t ∷ keys) part s =
-    maps-put_term_place (begun_at keys part s) t (placed (term part t)) ∙ ap (put_term (maps_of (begun_at keys part s)) t) (shown_placed (term part t))
-    ∙ ap (λ (m : Maps). put_term m t (term part t)) (maps-begun keys part s)
-maps-begun (Ctx n ∷ keys) part s =
-    maps-put_ctx_place (begun_at keys part s) n (placed (ctx part n)) ∙ ap (put_ctx (maps_of (begun_at keys part s)) n) (shown_placed (ctx part n))
-    ∙ ap (λ (m : Maps). put_ctx m n (ctx part n)) (maps-begun keys part s)
-maps-begun (Whole ∷ keys) part s = maps-begun keys part s
+by_maps : (w : Write) (s : Stored) → maps_of (begun_by w s) ≡ without_write w (maps_of s)
+by_maps (OfTerm t o) s = maps-put_term_place s t (placed o) ∙ ap (put_term (maps_of s) t) (shown_placed o)
+by_maps (OfCtx n o) s = maps-put_ctx_place s n (placed o) ∙ ap (put_ctx (maps_of s) n) (shown_placed o)
+by_maps (OfProperties n p e) s = maps-set_place (Both p e) n s (ctx (maps_of s) n)
+
+pub maps_before_all : (ws : List Write) (s : Stored) → maps_of (before_all ws s) ≡ undone ws (maps_of s)
+maps_before_all [] s = refl
+maps_before_all (w ∷ ws) s = by_maps w (before_all ws s) ∙ ap (without_write w) (maps_before_all ws s)
 
 this_or_other : (same : Bool) (P : Type 0) → (same ≡ true → P) → (same ≡ false → P) → P
 this_or_other true P f g = f refl
 this_or_other false P f g = g refl
 
+-- a context that stands has a place
+has_place : (s : Stored) (n : CtxNum) (o : Option ContextRecord) (x : Setting) → o ≡ ctx (maps_of s) n → KeepReady (set_place x n s o) s
+has_place s n None x e k h = h
+has_place s n (Some c) x e k h = this_or_other (same_key k (Ctx n)) (is_ready s k ≡ true) (λ f. at k f) (λ f. other_ctx s n (Here (with_setting x c)) k f h)
+  where
+    some : (o : Option (Place ContextRecord)) → Some c ≡ shown o → is_some o ≡ true
+    some None g = absurd cc
+    some (Some p) g = refl
+
+    at : (k : Key) → same_key k (Ctx n) ≡ true → is_ready s k ≡ true
+    at (Term q) f = absurd cc
+    at (Ctx q) f = ap (λ (m : CtxNum). is_some (finite.get s.contexts m.0)) (same_number q n f) ∙ some (finite.get s.contexts n.0) (e ∙ ctx-maps_of s n)
+    at Whole f = absurd cc
+
 -- no key but these has got a place
-no_other : (keys : List Key) (part : Maps) (s : Stored) → AreReady keys s → KeepReady (begun_at keys part s) s
-no_other [] part s ready k h = h
-no_other (Term t ∷ keys) part s ready k h = this_or_other (same_key k (Term t)) (is_ready s k ≡ true)
-    (λ e. ready k (or_left (same_key k (Term t)) (has keys k) e))
-    (λ e. no_other keys part s (λ q g. ready q (or_right (same_key q (Term t)) (has keys q) g)) k (other_term (begun_at keys part s) t (placed (term part t)) k e h))
-no_other (Ctx n ∷ keys) part s ready k h = this_or_other (same_key k (Ctx n)) (is_ready s k ≡ true)
-    (λ e. ready k (or_left (same_key k (Ctx n)) (has keys k) e))
-    (λ e. no_other keys part s (λ q g. ready q (or_right (same_key q (Ctx n)) (has keys q) g)) k (other_ctx (begun_at keys part s) n (placed (ctx part n)) k e h))
-no_other (Whole ∷ keys) part s ready k h = no_other keys part s (λ q g. ready q (or_right (same_key q Whole) (has keys q) g)) k h
+no_other : (ws : List Write) (s : Stored) → AreReady (keys_written ws) s → KeepReady (before_all ws s) s
+no_other [] s ready k h = h
+no_other (OfTerm t o ∷ ws) s ready k h = this_or_other (same_key k (Term t)) (is_ready s k ≡ true)
+    (λ e. ready k (or_left (same_key k (Term t)) (has (keys_written ws) k) e))
+    (λ e. no_other ws s (λ q g. ready q (or_right (same_key q (Term t)) (has (keys_written ws) q) g)) k (other_term (before_all ws s) t (placed o) k e h))
+no_other (OfCtx n o ∷ ws) s ready k h = this_or_other (same_key k (Ctx n)) (is_ready s k ≡ true)
+    (λ e. ready k (or_left (same_key k (Ctx n)) (has (keys_written ws) k) e))
+    (λ e. no_other ws s (λ q g. ready q (or_right (same_key q (Ctx n)) (has (keys_written ws) q) g)) k (other_ctx (before_all ws s) n (placed o) k e h))
+no_other (OfProperties n p e ∷ ws) s ready k h =
+    no_other ws s (λ q g. ready q (or_right (same_key q Whole) (has (keys_written ws) q) g)) k (has_place (before_all ws s) n (ctx (maps_of (before_all ws s)) n) (Both p e) refl k h)
 
 -- what was prepared before is so
-pub begun_ready : (keys : List Key) (part : Maps) (s : Stored) → KeepReady s (begun_at keys part s)
-begun_ready [] part s k h = h
-begun_ready (Term t ∷ keys) part s k h = keep-put_term (begun_at keys part s) t (placed (term part t)) k (begun_ready keys part s k h)
-begun_ready (Ctx n ∷ keys) part s k h = keep-put_ctx (begun_at keys part s) n (placed (ctx part n)) k (begun_ready keys part s k h)
-begun_ready (Whole ∷ keys) part s k h = begun_ready keys part s k h
+keep_set : (s : Stored) (n : CtxNum) (x : Setting) (o : Option ContextRecord) → KeepReady s (set_place x n s o)
+keep_set s n x None k h = h
+keep_set s n x (Some c) k h = keep-put_ctx s n (Here (with_setting x c)) k h
 
-pub maps_before_all : (originals : Parted) (s : Stored) → maps_of (before_all originals s) ≡ overlaid (list_of originals.keys) originals.maps (maps_of s)
-maps_before_all originals s = maps-begun (list_of originals.keys) originals.maps s
+pub begun_ready : (ws : List Write) (s : Stored) → KeepReady s (before_all ws s)
+begun_ready [] s k h = h
+begun_ready (OfTerm t o ∷ ws) s k h = keep-put_term (before_all ws s) t (placed o) k (begun_ready ws s k h)
+begun_ready (OfCtx n o ∷ ws) s k h = keep-put_ctx (before_all ws s) n (placed o) k (begun_ready ws s k h)
+begun_ready (OfProperties n p e ∷ ws) s k h = keep_set (before_all ws s) n (Both p e) (ctx (maps_of (before_all ws s)) n) k (begun_ready ws s k h)
 
 -- earlier changes are gone on with
-pub gone_on : (s : Stored) (ws : List Write) → NoneIsOut s → AreReady (keys_written ws) s → IsInPlace (begun_at (keys_written ws) (undone ws no_maps) s) s ws
+pub gone_on : (s : Stored) (ws : List Write) → NoneIsOut s → AreReady (keys_written ws) s → IsInPlace (before_all ws s) s ws
 gone_on s ws here ready = record {
   here = here;
-  back = undone_laid ws (maps_of s) ∙ sym (maps-begun (keys_written ws) (undone ws no_maps) s);
+  back = sym (maps_before_all ws s);
   places = ready;
-  kept = no_other (keys_written ws) (undone ws no_maps) s ready;
+  kept = no_other ws s ready;
 }
 
 -- ---- one more write
@@ -178,6 +200,61 @@ module _ (start now : Stored) (ws : List Write) (i : IsInPlace start now ws) whe
       by None x g e = i
       by (Some r) Noted g e = wrote_ctx_again n Empty refl g
       by (Some r) (Original o) g e = absurd (let clash : None ≡ Some r = e ∙ g in cc)
+
+-- ---- properties that are noted as they are, and set in their place
+
+pub noted_properties : (start now : Stored) (ws : List Write) → IsInPlace start now ws → (n : CtxNum) (c : ContextRecord) → ctx (maps_of now) n ≡ Some c → IsInPlace start now (ws ++ OfProperties n c.priority c.emergency ∷ [])
+noted_properties start now ws i n c e = record {
+  here = i.here;
+  back = undone_more ws (OfProperties n c.priority c.emergency) (maps_of now) ∙ ap (undone ws) as_it_is ∙ i.back;
+  places = λ k h. one_more (keys_written ws) Whole now now (λ q g. g) whole_ready i.places k (ap (λ (l : List Key). has l k) (sym (keys_more ws (OfProperties n c.priority c.emergency))) ∙ h);
+  kept = i.kept;
+}
+  where
+    as_it_is : put_setting (Both c.priority c.emergency) n (maps_of now) (ctx (maps_of now) n) ≡ maps_of now
+    as_it_is = ap (put_setting (Both c.priority c.emergency) n (maps_of now)) e ∙ put_ctx-same (maps_of now) n (Some c) (sym e)
+
+    whole_ready : (q : Key) → same_key q Whole ≡ true → is_ready now q ≡ true
+    whole_ready (Term t) h = absurd cc
+    whole_ready (Ctx m) h = absurd cc
+    whole_ready Whole h = refl
+
+pub set_one : (start now : Stored) (ws : List Write) → IsInPlace start now ws → (n : CtxNum) (x : Setting) (p : Place ContextRecord) → finite.get now.contexts n.0 ≡ Some p → IsKept x ws n.0 p → IsInPlace start (put_ctx_place now n (set_at x p)) ws
+set_one start now ws i n x p stands kept = record {
+  here = in-put_ctx now n (set_at x p) (out_still x p ∙ ap (λ o. has_left o) (sym stands) ∙ i.here (Ctx n)) i.here;
+  back = ap (undone ws) (maps-put_ctx_place now n (set_at x p)) ∙ undone_beside ws (maps_of now) (put_ctx (maps_of now) n (shown (Some (set_at x p)))) (λ t. term-put_ctx (maps_of now) n (shown (Some (set_at x p))) t) (λ q. at q (nat_eq q.0 n.0) refl) ∙ i.back;
+  places = λ k e. keep-put_ctx now n (set_at x p) k (i.places k e);
+  kept = λ k e. keep-put_ctx now n (set_at x p) k (i.kept k e);
+}
+  where
+    out_still : (x : Setting) (p : Place ContextRecord) → has_left (Some (set_at x p)) ≡ has_left (Some p)
+    out_still x Empty = refl
+    out_still x (Here c) = refl
+    out_still x Out = refl
+
+    shows : (x : Setting) (p : Place ContextRecord) → shown (Some (set_at x p)) ≡ with_it x (shown (Some p))
+    shows x Empty = refl
+    shows x (Here c) = refl
+    shows x Out = refl
+
+    was : shown (Some p) ≡ ctx (maps_of now) n
+    was = ap (λ o. shown o) (sym stands) ∙ sym (ctx-maps_of now n)
+
+    new : Option ContextRecord
+    new = shown (Some (set_at x p))
+
+    same : (q : CtxNum) → nat_eq q.0 n.0 ≡ true → new ≡ ctx (maps_of now) n → ctx (put_ctx (maps_of now) n new) q ≡ ctx (maps_of now) q
+    same q e f = ctx-put_ctx (maps_of now) n new q ∙ ap (λ (b : Bool). cond b new (ctx (maps_of now) q)) e ∙ f ∙ ap (ctx (maps_of now)) (sym (same_number q n e))
+
+    at : (q : CtxNum) (b : Bool) → nat_eq q.0 n.0 ≡ b → (has (keys_written ws) (Ctx q) ≡ true) ⊎ (settled ws q (ctx (put_ctx (maps_of now) n new) q) ≡ settled ws q (ctx (maps_of now) q))
+    at q false e = inr (ap (settled ws q) (ctx-put_ctx (maps_of now) n new q ∙ ap (λ (b : Bool). cond b new (ctx (maps_of now) q)) e))
+    at q true e = elim kept [
+      | inl noted ↦ inl (ap (λ (m : CtxNum). has (keys_written ws) (Ctx m)) (same_number q n e) ∙ noted)
+      | inr (inl so) ↦ inr (ap (settled ws q) (same q e (ap (λ (y : Place ContextRecord). shown (Some y)) so ∙ was)))
+      | inr (inr in_part) ↦ inr (
+          ap (settled ws q) (ctx-put_ctx (maps_of now) n new q ∙ ap (λ (b : Bool). cond b new (ctx (maps_of now) q)) e ∙ shows x p ∙ ap (λ (o : Option ContextRecord). with_it x o) (was ∙ ap (ctx (maps_of now)) (sym (same_number q n e))))
+          ∙ settled_so ws q x (ctx (maps_of now) q) (ap (λ (m : CtxNum). has_properties m ws) (same_number q n e) ∙ in_part))
+    ]
 
 -- ---- what was found
 

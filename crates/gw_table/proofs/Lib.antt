@@ -23,6 +23,7 @@ pub mod Provisioning
 pub mod Shown
 pub mod Searched
 pub mod Served
+pub mod SettingLookups
 pub mod Settings
 pub mod AllSettings
 pub mod SlotNames

@@ -6,6 +6,7 @@ pub mod Found
 pub mod Free
 pub mod Grounds
 pub mod Joining
+pub mod KeptSettings
 pub mod KeyLists
 pub mod Locality
 pub mod Maps

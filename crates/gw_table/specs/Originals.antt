@@ -1,17 +1,21 @@
 -- What stood at keys before they were written, and the way back (own).
-use Rattle.std.specs.Prelude.{◌≡◌, List, [], ◌∷◌, map}
+use Rattle.std.specs.Prelude.{◌≡◌, nat_eq, Bool, false, List, [], ◌∷◌, map}
+use Rattle.std.specs.List.{list_any}
+use Rattle.gw_base.specs.declared.ids.CtxNum.{CtxNum}
 use Rattle.gw_base.specs.declared.key.Key.{Key}
 use Rattle.gw_base.specs.declared.key.Key.TheVariants.{Term, Ctx, Whole}
 use Rattle.gw_table.specs.declared.originals.Write.{Write}
-use Rattle.gw_table.specs.declared.originals.Write.TheVariants.{OfTerm, OfCtx}
-use Rattle.gw_table.specs.Maps.{Maps, term, ctx, put_term, put_ctx}
-use Rattle.gw_table.specs.Parts.{Parted, list_of}
+use Rattle.gw_table.specs.declared.originals.Write.TheVariants.{OfTerm, OfCtx, OfProperties}
+use Rattle.gw_table.specs.declared.setting.Setting.TheVariants.{Both}
+use Rattle.gw_table.specs.Maps.{Maps, ctx, put_term, put_ctx}
+use Rattle.gw_table.specs.Settings.{put_setting, set_place}
 use Rattle.gw_table.specs.Stored.{Stored, placed, maps_of, put_term_place, put_ctx_place, AreReady, KeepReady, NoneIsOut}
 
--- the key that was written
+-- the key that was written; where properties alone were noted, none that names an entry
 abbrev pub key_written : Write → Key
 key_written (OfTerm t o) = Term t
 key_written (OfCtx n o) = Ctx n
+key_written (OfProperties n p e) = Whole
 
 -- a key for each write, in their order
 abbrev pub keys_written : List Write → List Key
@@ -21,22 +25,33 @@ keys_written writes = map key_written writes
 abbrev pub without_write : Write → Maps → Maps
 without_write (OfTerm t o) m = put_term m t o
 without_write (OfCtx n o) m = put_ctx m n o
+without_write (OfProperties n p e) m = put_setting (Both p e) n m (ctx m n)
 
 -- the maps without the writes: the last one is taken back first, so that at each key stands what its first write found there
 abbrev pub undone : List Write → Maps → Maps
 undone [] m = m
 undone (w ∷ later) m = without_write w (undone later m)
 
--- the tables with what a part has at these keys, each in its place
-abbrev pub begun_at : List Key → Maps → Stored → Stored
-begun_at [] part s = s
-begun_at (Term t ∷ keys) part s = put_term_place (begun_at keys part s) t (placed (term part t))
-begun_at (Ctx n ∷ keys) part s = put_ctx_place (begun_at keys part s) n (placed (ctx part n))
-begun_at (Whole ∷ keys) part s = begun_at keys part s
+-- the tables without a write, with a place for its key
+abbrev pub begun_by : Write → Stored → Stored
+begun_by (OfTerm t o) s = put_term_place s t (placed o)
+begun_by (OfCtx n o) s = put_ctx_place s n (placed o)
+begun_by (OfProperties n p e) s = set_place (Both p e) n s (ctx (maps_of s) n)
 
--- the tables that originals lead back to: those in which their changes began
-abbrev pub before_all : Parted → Stored → Stored
-before_all originals s = begun_at (list_of originals.keys) originals.maps s
+-- the tables that writes lead back to: those in which they began
+abbrev pub before_all : List Write → Stored → Stored
+before_all [] s = s
+before_all (w ∷ later) s = begun_by w (before_all later s)
+
+-- ---- properties that are noted
+
+abbrev pub notes_properties : CtxNum → Write → Bool
+notes_properties n (OfTerm t o) = false
+notes_properties n (OfCtx k o) = false
+notes_properties n (OfProperties k p e) = nat_eq n.0 k.0
+
+abbrev pub has_properties : CtxNum → List Write → Bool
+has_properties n writes = list_any (notes_properties n) writes
 
 -- Tables that were changed in place: nothing is out, the way back leads to the maps of the start and takes no memory, and what was
 -- prepared at the start is so still.

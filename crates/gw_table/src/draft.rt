@@ -5,8 +5,8 @@ ghost use Rattle.gw_base.specs.declared.key.Key.TheVariants.{Term, Ctx};
 ghost use Rattle.gw_base.specs.NameLists.{is_in};
 ghost use Rattle.gw_table.specs.Maps.{term, ctx, put_term, put_ctx, names, numbers, members_of};
 ghost use Rattle.gw_table.specs.Members.{put_service, with_member, without_member};
-ghost use Rattle.gw_table.specs.Originals.{before_all};
-ghost use Rattle.gw_table.specs.Parts.{Over, Only, list_of, start_of, holds, restricted, overlaid};
+ghost use Rattle.gw_table.specs.Originals.{before_all, keys_written, undone};
+ghost use Rattle.gw_table.specs.Parts.{Over, Only, list_of, start_of, holds};
 ghost use Rattle.gw_table.specs.Stored.{maps_of, NoneIsOut, AreReady, KeepReady};
 
 use crate::in_place::InPlace;
@@ -59,7 +59,7 @@ impl<'t> Draft<'t> {
     /// originals has a place. It takes no memory.
     pub fn of_tables(tables: Tables, originals: Originals) -> Draft<'t>
         requires here { NoneIsOut tables }
-        requires ready { AreReady (list_of originals.keys) tables }
+        requires ready { AreReady (keys_written originals) tables }
         ensures { result ≡ record { keys = Over (before_all originals tables); maps = maps_of tables } }
     {
         Draft {
@@ -249,17 +249,15 @@ impl<'t> Draft<'t> {
         }
     }
 
-    /// A draft of whole tables as the tables that it left, with what stood there before: these, laid over them, give the tables in which
+    /// A draft of whole tables as the tables that it left, with what stood there before: the writes, taken back, give the tables in which
     /// the changes began, earlier ones that were gone on with among them. It takes no memory.
     pub fn into_tables(self) -> (Tables, Originals)
         requires { self.keys ≡ Over (start_of self.keys) }
         ensures maps { maps_of result.0 ≡ self.entry.maps }
         ensures here { NoneIsOut result.0 }
         ensures kept { KeepReady (start_of self.entry.keys) result.0 }
-        ensures listed { result.1.keys ≡ Only (list_of result.1.keys) }
-        ensures ready { AreReady (list_of result.1.keys) result.0 }
-        ensures originals { result.1.maps ≡ restricted (list_of result.1.keys) (maps_of (start_of self.entry.keys)) }
-        ensures back { overlaid (list_of result.1.keys) result.1.maps (maps_of result.0) ≡ maps_of (start_of self.entry.keys) }
+        ensures ready { AreReady (keys_written result.1) result.0 }
+        ensures back { undone result.1 (maps_of result.0) ≡ maps_of (start_of self.entry.keys) }
     {
         let Draft { ground } = self;
         match ground {

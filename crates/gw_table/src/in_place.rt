@@ -3,8 +3,8 @@
 ghost use Rattle.std.specs.Prelude.{◌≡◌, None, IfOk, OnOk, option_copied};
 ghost use Rattle.gw_table.specs.Maps.{term, ctx, put_term, put_ctx, names, numbers};
 ghost use Rattle.gw_table.specs.Members.{put_service};
-ghost use Rattle.gw_table.specs.Originals.{before_all};
-ghost use Rattle.gw_table.specs.Parts.{Over, Only, list_of, start_of, restricted, overlaid};
+ghost use Rattle.gw_table.specs.Originals.{before_all, keys_written, undone};
+ghost use Rattle.gw_table.specs.Parts.{Over, start_of};
 ghost use Rattle.gw_table.specs.Stored.{maps_of, NoneIsOut, AreReady, KeepReady};
 
 use crate::originals::{Originals, Write};
@@ -20,7 +20,8 @@ use std::snapshot::Snapshot;
 
 /// Tables that are changed in place: the first write of each key is noted with what stood there, so that there is a way back, which
 /// takes no memory. A look-up is one in the tables, and a write takes one. Beside what is written only the originals are held, one for
-/// each key, however often it is written; those of earlier changes are gone on with, and then the way back leads to where they began.
+/// each key, however often it is written, and the properties of a context, where these were set first; those of earlier changes are gone
+/// on with, and then the way back leads to where they began.
 pub(crate) struct InPlace {
     pub(crate) tables: Tables,
     pub(crate) writes: Vec<Write>,
@@ -72,7 +73,7 @@ impl InPlace {
     /// Tables, with the originals of earlier changes.
     pub(crate) fn new(tables: Tables, originals: Originals) -> InPlace
         requires here { NoneIsOut tables }
-        requires ready { AreReady (list_of originals.keys) tables }
+        requires ready { AreReady (keys_written originals) tables }
         ensures { result ≡ record { keys = Over (before_all originals tables); maps = maps_of tables } }
     {
         let before = Snapshot::of(&tables);
@@ -211,10 +212,8 @@ impl InPlace {
         ensures maps { maps_of result.0 ≡ self.maps }
         ensures here { NoneIsOut result.0 }
         ensures kept { KeepReady (start_of self.keys) result.0 }
-        ensures listed { result.1.keys ≡ Only (list_of result.1.keys) }
-        ensures ready { AreReady (list_of result.1.keys) result.0 }
-        ensures originals { result.1.maps ≡ restricted (list_of result.1.keys) (maps_of (start_of self.keys)) }
-        ensures back { overlaid (list_of result.1.keys) result.1.maps (maps_of result.0) ≡ maps_of (start_of self.keys) }
+        ensures ready { AreReady (keys_written result.1) result.0 }
+        ensures back { undone result.1 (maps_of result.0) ≡ maps_of (start_of self.keys) }
     {
         let InPlace {
             tables,

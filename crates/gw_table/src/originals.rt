@@ -3,12 +3,11 @@
 ghost use Rattle.std.specs.Prelude.{◌≡◌, true, false, []};
 ghost use Rattle.gw_base.specs.declared.key.Key.TheVariants.{Term};
 ghost use Rattle.gw_base.specs.Keys.{same_key};
-ghost use Rattle.gw_table.specs.Maps.{no_maps};
-ghost use Rattle.gw_table.specs.Originals.{key_written, keys_written, without_write, undone};
-ghost use Rattle.gw_table.specs.Parts.{Only, list_of, overlaid};
+ghost use Rattle.gw_table.specs.Originals.{key_written, keys_written, notes_properties, without_write, undone};
 ghost use Rattle.gw_table.specs.Stored.{maps_of, is_ready, is_out, AreReady, AreIn, AreAsReady, AreAsOut, NoneIsOut};
 
 use crate::place::Place;
+use crate::setting::Setting;
 use crate::tables::Tables;
 use gw_base::{CtxNum, Held, Key, TermName};
 use gw_ctx::Context;
@@ -23,6 +22,9 @@ pub enum Write {
     OfTerm(TermName, Option<Held<Termination>>),
     /// The context with a number, or none.
     OfCtx(CtxNum, Option<Held<Context>>),
+    /// The priority of the context with a number, if there is one, and whether it was marked as an emergency; of the rest nothing. The
+    /// context may be written still, so it counts for no key.
+    OfProperties(CtxNum, u8, bool),
 }
 
 impl Write {
@@ -33,6 +35,7 @@ impl Write {
         match self {
             Write::OfTerm(name, _) => Key::Term(*name),
             Write::OfCtx(number, _) => Key::Ctx(*number),
+            Write::OfProperties(_, _, _) => Key::Whole,
         }
     }
 
@@ -43,6 +46,7 @@ impl Write {
         match (self, key) {
             (Write::OfTerm(own, _), Key::Term(name)) => own == name,
             (Write::OfCtx(own, _), Key::Ctx(number)) => own.0 == number.0,
+            (Write::OfProperties(_, _, _), Key::Whole) => true,
             _ => false,
         }
     }
@@ -55,13 +59,23 @@ impl Write {
     {
         match self {
             Write::OfTerm(own, _) => own == name,
-            Write::OfCtx(_, _) => false,
+            Write::OfCtx(_, _) | Write::OfProperties(_, _, _) => false,
+        }
+    }
+
+    /// Whether it notes the properties of the context with this number.
+    pub(crate) fn is_of_properties(&self, number: CtxNum) -> bool
+        ensures { result ≡ notes_properties number self.now }
+    {
+        match self {
+            Write::OfProperties(own, _, _) => number.0 == own.0,
+            Write::OfTerm(_, _) | Write::OfCtx(_, _) => false,
         }
     }
 }
 
 /// What stood at keys of tables before they were written, in the order of the writes: a key for each, and of each key what its first
-/// write found there.
+/// write found there; and the properties of contexts of which nothing else was changed then. Contracts see the list of the writes.
 #[derive(Drop)]
 pub struct Originals {
     pub(crate) writes: Vec<Write>,
@@ -70,21 +84,18 @@ pub struct Originals {
 }
 
 impl Model for Originals {
-    ghost use Rattle.gw_table.specs.Maps.{no_maps};
-    ghost use Rattle.gw_table.specs.Originals.{keys_written, undone};
-    ghost use Rattle.gw_table.specs.Parts.{Parted, Only, coded_part};
+    ghost use Rattle.std.specs.Prelude.{List};
+    ghost use Rattle.gw_table.specs.declared.originals.Write.{Write};
 
-    ghost Value = { Parted };
+    ghost Value = { List Write };
 
-    ghost coded = { coded_part };
-
-    ghost view = { λ a. record { keys = Only (keys_written a.writes.items); maps = undone a.writes.items no_maps } };
+    ghost view = { λ a. a.writes.items };
 }
 
 impl Originals {
     /// Those of no change. They take no memory.
     pub fn new(alloc: Global) -> Originals
-        ensures { result ≡ record { keys = Only []; maps = no_maps } }
+        ensures { result ≡ [] }
     {
         Originals {
             writes: Vec::new(alloc),
@@ -105,6 +116,9 @@ impl Tables {
         match write {
             Write::OfTerm(name, before) => drop(self.exchange_term(&name, Place::of(before))),
             Write::OfCtx(number, before) => drop(self.exchange_ctx(number, Place::of(before))),
+            Write::OfProperties(number, priority, emergency) => {
+                self.set(number, Setting::Both(priority, emergency));
+            }
         }
     }
 
@@ -122,12 +136,12 @@ impl Tables {
         }
     }
 
-    /// Puts originals in place of what is here: each of their keys has its entry then, or none where there was none. The caller knows
-    /// that each has a place, and that none is out. A write takes one look-up, and no memory is taken.
+    /// Takes the writes back: each of their keys has its entry then, or none where there was none. The caller knows that each has a place,
+    /// and that none is out. A write takes one look-up, and no memory is taken.
     pub fn restore(&mut self, originals: Originals)
-        requires ready { AreReady (list_of originals.keys) self.old }
-        requires here { AreIn (list_of originals.keys) self.old }
-        ensures maps { maps_of self.new ≡ overlaid (list_of originals.keys) originals.maps (maps_of self.old) }
+        requires ready { AreReady (keys_written originals) self.old }
+        requires here { AreIn (keys_written originals) self.old }
+        ensures maps { maps_of self.new ≡ undone originals (maps_of self.old) }
         ensures out { AreAsOut self.old self.new }
         ensures ready { AreAsReady self.old self.new }
     {

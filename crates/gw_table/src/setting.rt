@@ -1,27 +1,25 @@
 //! Properties of contexts that are set in their places.
 
-ghost use Rattle.std.specs.Prelude.{◌≡◌, true, All, IfOk, OnOk, OnErr};
+ghost use Rattle.std.specs.Prelude.{◌≡◌, true, All, OnOk};
 ghost use Rattle.std.specs.Bool.{OnTrue};
 ghost use Rattle.gw_base.specs.declared.key.Key.TheVariants.{Ctx};
-ghost use Rattle.gw_table.specs.Found.{IsFound};
+ghost use Rattle.gw_table.specs.KeptSettings.{AreKept};
 ghost use Rattle.gw_table.specs.Maps.{ctx, numbers};
-ghost use Rattle.gw_table.specs.Originals.{keys_written, IsInPlace};
+ghost use Rattle.gw_table.specs.Originals.{IsInPlace};
 ghost use Rattle.gw_table.specs.Parts.{holds};
-ghost use Rattle.gw_table.specs.Settings.{with_setting, put_setting, all_set, set_at, set_place, AreKept, AreSet};
-ghost use Rattle.gw_table.specs.Stored.{maps_of, shown, Stored};
+ghost use Rattle.gw_table.specs.Settings.{with_setting, put_setting, all_set, set_at, set_place, AreSet};
+ghost use Rattle.gw_table.specs.Stored.{maps_of, Stored};
 ghost use Rattle.gw_base.specs.declared.ids.CtxNum.{CtxNum};
 
 use crate::draft::{Draft, Ground};
 use crate::in_place::InPlace;
 use crate::originals::Write;
 use crate::over_part::OverPart;
-use crate::place::{Place, copied};
-use crate::site::Found;
+use crate::place::Place;
 use crate::tables::Tables;
-use gw_base::{CtxNum, Held, Key, NoMemory};
+use gw_base::{CtxNum, Held, NoMemory};
 use gw_ctx::Context;
 use std::alloc::Global;
-use std::mem;
 
 /// A property of a context that is set in its place (RFC 3525, section 6.1.1).
 #[derive(Clone, Copy)]
@@ -30,6 +28,8 @@ pub enum Setting {
     Priority(u8),
     /// It is marked as an emergency.
     Emergency,
+    /// Both, as they were: its priority, and whether it was marked as an emergency.
+    Both(u8, bool),
 }
 
 /// Sets a property of the context.
@@ -39,6 +39,7 @@ fn set(context: &mut Context, setting: Setting)
     match setting {
         Setting::Priority(priority) => context.set_priority(priority),
         Setting::Emergency => context.set_emergency(),
+        Setting::Both(priority, emergency) => context.set_properties(priority, emergency),
     }
 }
 
@@ -49,6 +50,9 @@ pub(crate) fn is_set(context: &Context, setting: Setting) -> bool
     match setting {
         Setting::Priority(priority) => context.priority() == priority,
         Setting::Emergency => context.emergency(),
+        Setting::Both(priority, emergency) => {
+            context.priority() == priority && context.emergency() == emergency
+        }
     }
 }
 
@@ -61,56 +65,45 @@ pub(crate) fn set_in_place(place: &mut Place<Held<Context>>, setting: Setting)
     }
 }
 
-/// Sets a property of the context that stands in a place, if there is one, in a copy. Answers the one that stood there.
-pub(crate) fn set_copy(
-    place: &mut Place<Held<Context>>,
-    alloc: Global,
-    setting: Setting,
-) -> Result<Option<Held<Context>>, NoMemory>
-    ensures before { IfOk result (λ before. before ≡ shown (Some place.old)) }
-    ensures after { OnOk result (place.new ≡ set_at setting place.old) }
-    ensures err { OnErr result (place.new ≡ place.old) }
-{
-    let Some(mut copy) = copied(place, alloc)? else {
-        return Ok(None);
-    };
-    set(copy.get_mut(), setting);
-    Ok(mem::replace(place, Place::Here(copy)).into_entry())
-}
-
 impl Tables {
-    /// Sets a property of the context with a number, if there is one: in its place where the number is noted in the list of writes, and
-    /// else in a copy. Answers what was found there, as `write_ctx` does. It is one look-up. After want of memory nothing has changed.
-    fn set_property(
-        &mut self,
-        alloc: Global,
-        number: CtxNum,
-        setting: Setting,
-        writes: &[Write],
-    ) -> Result<Found<Held<Context>>, NoMemory>
-        ensures found { IfOk result (λ found. IsFound (keys_written writes.now) (Ctx number) (ctx (maps_of self.old) number) found) }
-        ensures after { OnOk result (self.new ≡ set_place setting number self.old (ctx (maps_of self.old) number)) }
-        ensures err { OnErr result (self.new ≡ self.old) }
+    /// Sets a property of the context with a number, if there is one, in its place. It is one look-up.
+    pub(crate) fn set(&mut self, number: CtxNum, setting: Setting)
+        ensures { self.new ≡ set_place setting number self.old (ctx (maps_of self.old) number) }
     {
         let Some(site) = self.contexts.get_mut(&number.0) else {
-            return Ok(Found::Original(None));
+            return;
         };
-        site.set(alloc, setting, writes, &Key::Ctx(number))
+        site.set(setting);
     }
 
-    /// Notes each context as a copy, but for those that are noted already and those that are so. The work is one pass over the places,
-    /// without a look-up.
-    fn note_settings(
-        &self,
-        alloc: Global,
+    /// Sets a property of the context with a number, if there is one, in its place. Both properties are noted as they were, but where
+    /// they or the context are noted already, or it is so already. It is one look-up. After want of memory nothing has changed.
+    fn set_property(
+        &mut self,
+        number: CtxNum,
         setting: Setting,
         writes: &mut Vec<Write>,
     ) -> Result<(), NoMemory>
+        ensures back { (start : Stored) → IsInPlace start self.old writes.old.items → IsInPlace start self.new writes.new.items }
+        ensures after { OnOk result (self.new ≡ set_place setting number self.old (ctx (maps_of self.old) number)) }
+    {
+        let Some(site) = self.contexts.get_mut(&number.0) else {
+            return Ok(());
+        };
+        let next = writes.len();
+        site.note_setting(number, setting, writes)?;
+        site.set_noted(number, setting, writes, next);
+        Ok(())
+    }
+
+    /// Notes the properties of each context, but for those that are noted already and those that are so. The work is one pass over the
+    /// places, without a look-up.
+    fn note_settings(&self, setting: Setting, writes: &mut Vec<Write>) -> Result<(), NoMemory>
         ensures back { (start : Stored) → IsInPlace start self.now writes.old.items → IsInPlace start self.now writes.new.items }
         ensures kept { OnOk result (AreKept setting writes.new.items self.now) }
     {
         for (number, site) in &self.contexts {
-            site.note_setting(alloc, CtxNum(*number), setting, writes)?;
+            site.note_setting(CtxNum(*number), setting, writes)?;
         }
         Ok(())
     }
@@ -129,37 +122,22 @@ impl Tables {
 }
 
 impl InPlace {
-    /// Sets a property of the context with a number, if there is one: in its place where it was written before, and else in a copy, since
-    /// the original is kept.
-    fn set_property(
-        &mut self,
-        alloc: Global,
-        number: CtxNum,
-        setting: Setting,
-    ) -> Result<(), NoMemory>
+    /// Sets a property of the context with a number, if there is one, in its place. The properties are noted as they were, where they are
+    /// set for the first time.
+    fn set_property(&mut self, number: CtxNum, setting: Setting) -> Result<(), NoMemory>
         ensures maps { OnOk result (self.new.maps ≡ put_setting setting number self.old.maps (ctx self.old.maps number)) }
         ensures keys { self.new.keys ≡ self.old.keys }
     {
-        self.writes.reserve(1)?;
-        let found = self
-            .tables
-            .set_property(alloc, number, setting, &self.writes)?;
-        let Some(before) = found.into_original() else {
-            return Ok(());
-        };
-        let Ok(()) = self.writes.push(Write::OfCtx(number, Some(before))) else {
-            unreachable!()
-        };
-        Ok(())
+        self.tables.set_property(number, setting, &mut self.writes)
     }
 
-    /// Sets a property of each context. One that is not so already is copied at its first change, since the original is kept.
-    fn set_property_of_all(&mut self, alloc: Global, setting: Setting) -> Result<(), NoMemory>
+    /// Sets a property of each context, as `set_property` does.
+    fn set_property_of_all(&mut self, setting: Setting) -> Result<(), NoMemory>
         ensures maps { OnOk result (self.new.maps ≡ all_set setting (numbers self.old.maps) self.old.maps) }
         ensures keys { self.new.keys ≡ self.old.keys }
     {
         let first = self.writes.len();
-        self.tables.note_settings(alloc, setting, &mut self.writes)?;
+        self.tables.note_settings(setting, &mut self.writes)?;
         self.tables.set_all_noted(setting, &self.writes, first);
         Ok(())
     }
@@ -214,7 +192,7 @@ impl OverPart<'_> {
 
 impl Draft<'_> {
     /// Sets a property of the context with a number, if there is one. The caller knows that the number is one of the draft's keys. In
-    /// whole tables it is one look-up, and a copy of a context that was not written before.
+    /// whole tables it is one look-up, and the context is not copied.
     ///
     /// # Errors
     ///
@@ -231,12 +209,12 @@ impl Draft<'_> {
     {
         match &mut self.ground {
             Ground::OfPart(ground) => ground.set_property(alloc, number, setting),
-            Ground::OfTables(ground) => ground.set_property(alloc, number, setting),
+            Ground::OfTables(ground) => ground.set_property(number, setting),
         }
     }
     /// Sets a property of each context that there is. The caller knows that their numbers are among the draft's keys. The work is two
-    /// passes over the tables, without a look-up; or a look-up for each key of the part, and two for each context. Memory is taken for the
-    /// originals of those that are not so already and were not written before.
+    /// passes over the tables, without a look-up; or a look-up for each key of the part, and two for each context. In whole tables memory is
+    /// taken for the properties of those that are not so already and were not noted before.
     ///
     /// # Errors
     ///
@@ -248,7 +226,7 @@ impl Draft<'_> {
     {
         match &mut self.ground {
             Ground::OfPart(ground) => ground.set_property_of_all(alloc, setting),
-            Ground::OfTables(ground) => ground.set_property_of_all(alloc, setting),
+            Ground::OfTables(ground) => ground.set_property_of_all(setting),
         }
     }
 }

@@ -11,16 +11,17 @@ ghost use Rattle.gw_table.specs.Found.{IsFound, original_of};
 ghost use Rattle.gw_table.specs.Joining.{joined_at, left_at};
 ghost use Rattle.gw_table.specs.Maps.{members_of};
 ghost use Rattle.gw_table.specs.Merged.{WasChanged};
-ghost use Rattle.gw_table.specs.Originals.{keys_written};
+ghost use Rattle.gw_table.specs.KeptSettings.{IsKept, MayKeep};
+ghost use Rattle.gw_table.specs.Originals.{keys_written, has_properties};
 ghost use Rattle.gw_table.specs.Served.{IsNoted, MayNote};
-ghost use Rattle.gw_table.specs.Settings.{set_at, IsKept, MayKeep};
+ghost use Rattle.gw_table.specs.Settings.{set_at};
 ghost use Rattle.gw_table.specs.Stored.{shown, served, emptied};
 
 use crate::joining::{join_in_place, leave_in_place};
 use crate::merging::merge_in_place;
 use crate::originals::Write;
 use crate::place::{Place, copied, renew, serve, set_in_place};
-use crate::setting::{self, Setting, is_set, set_copy};
+use crate::setting::{self, Setting, is_set};
 use gw_base::{CtxNum, Held, Key, NoMemory, Rules, Service, TermName};
 use gw_ctx::Context;
 use gw_desc::Descriptor;
@@ -83,6 +84,13 @@ fn is_of_term(writes: &[Write], at: usize, name: &TermName) -> bool
     ensures { OnTrue result (has (keys_written writes.now) (Term name.now) ≡ true) }
 {
     at < writes.len() && writes[at].is_of_term(name)
+}
+
+/// Whether this write notes the properties of the context with this number.
+fn are_properties_at(writes: &[Write], at: usize, number: CtxNum) -> bool
+    ensures { OnTrue result (has_properties number writes.now ≡ true) }
+{
+    at < writes.len() && writes[at].is_of_properties(number)
 }
 
 impl<T> Site<T> {
@@ -302,37 +310,21 @@ impl Site<Held<Context>> {
 }
 
 impl Site<Held<Context>> {
-    /// Sets a property of the context that stands here, if there is one: in its place where the key is noted, and else in a copy, and the
-    /// original is to be noted next. After want of memory nothing has changed.
-    pub(crate) fn set(
-        &mut self,
-        alloc: Global,
-        setting: Setting,
-        writes: &[Write],
-        key: &Key,
-    ) -> Result<Found<Held<Context>>, NoMemory>
-        ensures found { IfOk result (λ found. IsFound (keys_written writes.now) key.now (shown (Some self.old)) found) }
-        ensures after { OnOk result (self.new ≡ set_at setting self.old) }
-        ensures err { OnErr result (self.new ≡ self.old) }
+    /// Sets a property of the context that stands here, if there is one, in its place.
+    pub(crate) fn set(&mut self, setting: Setting)
+        ensures { self.new ≡ set_at setting self.old }
     {
-        if self.is_noted(writes, key) {
-            setting::set_in_place(&mut self.place, setting);
-            return Ok(Found::Noted);
-        }
-        let before = set_copy(&mut self.place, alloc, setting)?;
-        self.noted = next_of(writes);
-        Ok(Found::Original(before))
+        setting::set_in_place(&mut self.place, setting);
     }
 
-    /// Notes the context that stands here, as a copy, where it is not so already and its key is not noted. The context may then be changed
-    /// in its place.
+    /// Notes both properties of the context that stands here, where it is not so already and neither they nor the context are noted. The
+    /// property may then be set in its place.
     ///
     /// # Errors
     ///
     /// Want of memory. Nothing is noted then.
     pub(crate) fn note_setting(
         &self,
-        alloc: Global,
         number: CtxNum,
         setting: Setting,
         writes: &mut Vec<Write>,
@@ -343,16 +335,19 @@ impl Site<Held<Context>> {
         let Place::Here(context) = &self.place else {
             return Ok(());
         };
-        if is_set(context.get(), setting) || self.is_noted(writes, &Key::Ctx(number)) {
+        let context = context.get();
+        if is_set(context, setting)
+            || are_properties_at(writes, self.noted as usize, number)
+            || self.is_noted(writes, &Key::Ctx(number))
+        {
             return Ok(());
         }
-        let before = Held::new(alloc, context.get().copy()?)?;
-        writes.push(Write::OfCtx(number, Some(before)))?;
+        writes.push(Write::OfProperties(number, context.priority(), context.emergency()))?;
         Ok(())
     }
 
-    /// Sets a property of the context that stands here, if there is one, in its place. Where it is noted at this index of a list of
-    /// writes, that is kept for later. Answers the index behind it then, and else this one.
+    /// Sets a property of the context that stands here, if there is one, in its place. Where its properties are noted at this index of a
+    /// list of writes, that is kept for later. Answers the index behind it then, and else this one.
     pub(crate) fn set_noted(
         &mut self,
         number: CtxNum,
@@ -362,8 +357,8 @@ impl Site<Held<Context>> {
     ) -> usize
         ensures { self.new ≡ set_at setting self.old }
     {
-        setting::set_in_place(&mut self.place, setting);
-        if !is_at(writes, next, &Key::Ctx(number)) {
+        self.set(setting);
+        if !are_properties_at(writes, next, number) {
             return next;
         }
         self.noted = u32::try_from(next).unwrap_or(u32::MAX);

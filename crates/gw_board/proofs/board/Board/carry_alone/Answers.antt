@@ -3,7 +3,8 @@ use Rattle.std.specs.List.{list_any}
 use Rattle.std.specs.Prelude.{slice_get, slice_set}
 use Rattle.gw_reserve.specs.Owned.{AreFreeSlots}
 use Rattle.gw_table.specs.Maps.{Maps}
-use Rattle.gw_table.specs.Parts.{Parted, list_of, overlaid}
+use Rattle.gw_table.specs.declared.originals.Write.{Write}
+use Rattle.gw_table.specs.Originals.{keys_written, undone as taken}
 use Rattle.gw_table.specs.Stored.{Stored, maps_of, AreReady, NoneIsOut}
 use Rattle.gw_table.specs.WellFormed.{AreWellFormed}
 use Rattle.gw_board.specs.Alone.{WasCarried, AreAsBegun}
@@ -11,14 +12,14 @@ use Rattle.gw_board.specs.BoardView.{value_of, IsOnTheWay, IsKeptIn}
 use Rattle.gw_board.specs.Boards.{Seen, asked_of, begun_board, core_of, AllClosed, unclosed}
 use Rattle.gw_board.specs.Carried.{Asked, done}
 use Rattle.gw_board.specs.Core.{Place, Closed, pending}
-use Rattle.gw_board.specs.Journal.{Original, undone}
+use Rattle.gw_board.specs.Journal.{Original, led as led_to, undone}
 use Rattle.gw_board.specs.OpenJobs.{IsSameBurst}
 use Rattle.gw_board.specs.Results.{is_open, NothingIsOpen}
-use Rattle.gw_board.specs.Seats.{place_of, original_of_part}
+use Rattle.gw_board.specs.Seats.{place_of, original_of_writes}
 use Rattle.gw_board.proofs.CarriedAlone.{with_alone, took_back, took_ready, led_back, well_here, unused_here, alone_fewer, alone_none, alone_closed, alone_same, alone_kept, alone_way}
 use Rattle.gw_board.proofs.KeptIn.{all_ready, begun_kept, none_out}
 use Rattle.gw_board.proofs.OnTheWay.{asked-pending, begun_way, gives_the_fold}
-use Rattle.gw_board.proofs.SeatFacts.{seat_inside, one_more_original, unclosed-pending, length-places, length-asked}
+use Rattle.gw_board.proofs.SeatFacts.{seat_inside, unclosed-pending, length-places, length-asked}
 use Rattle.gw_board.proofs.board.Board.carry_alone.Goals as goal
 use Rattle.gw_board.proofs.board.Board.carry_alone.Goals.{In-Ok-push, After-all_pending}
 
@@ -53,8 +54,8 @@ carry_in_place-requires-clause-here c =
 pub carry_in_place-requires-clause-ready : goal.carry_in_place-requires-clause-ready
 carry_in_place-requires-clause-ready c =
     let b : Seen = value_of c.self.inside in
-    subst (AreReady (list_of c.last_alone-earlier.result.keys)) (sym c.replace-tables.ensures.value)
-    (took_ready b.originals (map original_of_part c.last_alone-earlier.new.originals.items) (original_of_part c.last_alone-earlier.result) c.last_alone-earlier.ensures.last c.self.inside.tables c.self.invariant.kept.ready).1
+    subst (AreReady (keys_written c.last_alone-earlier.result)) (sym c.replace-tables.ensures.value)
+    (took_ready b.originals c.last_alone-earlier.new.originals.items (original_of_writes c.last_alone-earlier.result) c.last_alone-earlier.ensures.last c.self.inside.tables c.self.invariant.kept.ready).1
 
 -- ---- after want of memory
 
@@ -64,10 +65,10 @@ put_all_back-requires-clause-here c = c.in-Err.ensures.err.here
 pub put_all_back-requires-clause-ready : goal.put_all_back-requires-clause-ready
 put_all_back-requires-clause-ready c =
     let b : Seen = value_of c.self.inside in
-    let after : List Original = map original_of_part c.last_alone-earlier.new.originals.items in
+    let after : List Original = c.last_alone-earlier.new.originals.items in
     let was : AreAsBegun c.self.inside.tables c.last_alone-earlier.result c.in-Err.tables = subst (λ (s : Stored). AreAsBegun s c.last_alone-earlier.result c.in-Err.tables) c.replace-tables.ensures.value c.in-Err.ensures.err in
     all_ready after c.self.inside.tables c.in-Err.tables was.kept
-    (took_ready b.originals after (original_of_part c.last_alone-earlier.result) c.last_alone-earlier.ensures.last c.self.inside.tables c.self.invariant.kept.ready).0
+    (took_ready b.originals after (original_of_writes c.last_alone-earlier.result) c.last_alone-earlier.ensures.last c.self.inside.tables c.self.invariant.kept.ready).0
 
 module _ (c : After-all_pending) where
   abbrev before : Seen
@@ -77,7 +78,7 @@ module _ (c : After-all_pending) where
   back = c.put_all_back.new.tables
 
   abbrev left : Seen
-  left = record { manner = before.manner; begun = before.begun; maps = maps_of back; places = map place_of c.all_pending.new.seats.items; originals = map original_of_part c.put_all_back.new.originals.items }
+  left = record { manner = before.manner; begun = before.begun; maps = maps_of back; places = map place_of c.all_pending.new.seats.items; originals = c.put_all_back.new.originals.items }
 
   was_begun : AreAsBegun c.self.inside.tables c.last_alone-earlier.result c.in-Err.tables
   was_begun = subst (λ (s : Stored). AreAsBegun s c.last_alone-earlier.result c.in-Err.tables) c.replace-tables.ensures.value c.in-Err.ensures.err
@@ -85,13 +86,13 @@ module _ (c : After-all_pending) where
   maps_begun : maps_of back ≡ before.begun
   maps_begun =
       c.put_all_back.ensures.maps
-      ∙ ap (undone (map original_of_part c.last_alone-earlier.new.originals.items)) was_begun.maps
-      ∙ took_back before.originals (map original_of_part c.last_alone-earlier.new.originals.items) (original_of_part c.last_alone-earlier.result) c.last_alone-earlier.ensures.last before.maps
+      ∙ ap (undone c.last_alone-earlier.new.originals.items) was_begun.maps
+      ∙ took_back before.originals c.last_alone-earlier.new.originals.items (original_of_writes c.last_alone-earlier.result) c.last_alone-earlier.ensures.last before.maps
       ∙ led_back before c.self.invariant.on_the_way (none_here before c.args.self.now c.self.view_is c.requires.«open») c.args.place c.in-Some.task
       (pends_here before c.args.self.now c.args.place c.in-Some.task c.self.view_is c.in-Some.ensures)
 
   is_begun : left ≡ begun_board before.manner (asked_of before.places) before.begun
-  is_begun = λ j. record { manner = before.manner; begun = before.begun; maps = maps_begun j; places = c.all_pending.ensures.places j; originals = map original_of_part (c.put_all_back.ensures.none j) }
+  is_begun = λ j. record { manner = before.manner; begun = before.begun; maps = maps_begun j; places = c.all_pending.ensures.places j; originals = c.put_all_back.ensures.none j }
 
   begun_again : IsOnTheWay (begun_board before.manner (asked_of before.places) before.begun)
   begun_again = begun_way before.manner (asked_of before.places) before.begun c.self.invariant.on_the_way.begun.well c.self.invariant.on_the_way.begun.unused
@@ -176,18 +177,18 @@ module _ (c : In-Ok-push) where
   abbrev tables : Stored
   tables = c.in-Ok.left.tables
 
-  abbrev originals : Parted
+  abbrev originals : List Write
   originals = c.in-Ok.left.originals
 
-  abbrev earlier : Parted
+  abbrev earlier : List Write
   earlier = c.last_alone-earlier.result
 
   -- the journal before them
   abbrev front : List Original
-  front = map original_of_part c.last_alone-earlier.new.originals.items
+  front = c.last_alone-earlier.new.originals.items
 
   abbrev last : Original
-  last = original_of_part originals
+  last = original_of_writes originals
 
   was : WasCarried b.manner a c.self.inside.tables earlier tables originals c.in-Ok.left.text
   was = subst (λ (x : Asked). WasCarried b.manner x c.self.inside.tables earlier tables originals c.in-Ok.left.text) c.get.ensures
@@ -196,27 +197,24 @@ module _ (c : In-Ok-push) where
   places_are : map place_of c.set_stage.new.seats.items ≡ (with_alone b i a front last).places
   places_are = c.set_stage.ensures.places (pending a) pends ∙ (λ j. slice_set b.places i (record { asked = a; standing = Closed (was.reply j) }))
 
-  originals_are : map original_of_part c.push.new.self.items ≡ (with_alone b i a front last).originals
-  originals_are =
-      ap (map original_of_part) c.in-Ok-push.ensures.items
-      ∙ one_more_original c.last_alone-earlier.new.originals.items c.of_writes.result
-      ∙ ap (λ (p : Parted). front ++ original_of_part p ∷ []) c.of_writes.ensures
+  originals_are : c.push.new.self.items ≡ (with_alone b i a front last).originals
+  originals_are = c.in-Ok-push.ensures.items ∙ ap (λ (o : Original). front ++ o ∷ []) c.of_writes.ensures
 
   abbrev new : Seen
-  new = record { manner = b.manner; begun = b.begun; maps = maps_of tables; places = map place_of c.set_stage.new.seats.items; originals = map original_of_part c.push.new.self.items }
+  new = record { manner = b.manner; begun = b.begun; maps = maps_of tables; places = map place_of c.set_stage.new.seats.items; originals = c.push.new.self.items }
 
   is_new : new ≡ with_alone b i a front last
   is_new = λ j. record { manner = b.manner; begun = b.begun; maps = was.maps j; places = places_are j; originals = originals_are j }
 
   -- where the run of places began
   abbrev begun_at_maps : Maps
-  begun_at_maps = overlaid (list_of earlier.keys) earlier.maps b.maps
+  begun_at_maps = taken earlier b.maps
 
-  leads : overlaid last.keys last.part (done b.manner a b.maps).maps ≡ begun_at_maps
-  leads = ap (overlaid last.keys last.part) (sym was.maps) ∙ was.back
+  leads : led_to last (done b.manner a b.maps).maps ≡ begun_at_maps
+  leads = ap (led_to last) (sym was.maps) ∙ was.back
 
   led : undone front begun_at_maps ≡ b.begun
-  led = took_back b.originals front (original_of_part earlier) c.last_alone-earlier.ensures.last b.maps ∙ led_back b way none i a pends
+  led = took_back b.originals front (original_of_writes earlier) c.last_alone-earlier.ensures.last b.maps ∙ led_back b way none i a pends
 
   new_way : IsOnTheWay new
   new_way = subst IsOnTheWay (sym is_new) (alone_way b way none i a pends first front last begun_at_maps leads led)
@@ -224,7 +222,7 @@ module _ (c : In-Ok-push) where
   new_kept : IsKeptIn tables new
   new_kept = subst (IsKeptIn tables) (sym is_new)
       (alone_kept b way none i a pends front last c.self.inside.tables tables
-      (took_ready b.originals front (original_of_part earlier) c.last_alone-earlier.ensures.last c.self.inside.tables c.self.invariant.kept.ready).0 was.here was.kept was.ready)
+      (took_ready b.originals front (original_of_writes earlier) c.last_alone-earlier.ensures.last c.self.inside.tables c.self.invariant.kept.ready).0 was.here was.kept was.ready)
 
   fewer : suc (unclosed new.places) ≡ unclosed b.places
   fewer = ap (λ (l : List Place). suc (unclosed l)) places_are ∙ alone_fewer b way none i a pends

@@ -5,11 +5,12 @@ use Rattle.gw_table.specs.Stored.{maps_of, AreOut, CameBack}
 use Rattle.gw_board.specs.BoardView.{value_of, IsOnTheWay, IsKeptIn}
 use Rattle.gw_board.specs.Boards.{Seen, Handed, HasOpen, job_of, original_in, with_result, unclosed}
 use Rattle.gw_board.specs.Core.{Place, Closed, open_with}
-use Rattle.gw_board.specs.Seats.{place_of, original_of_part}
+use Rattle.gw_board.specs.Journal.{Original}
+use Rattle.gw_board.specs.Seats.{place_of}
 use Rattle.gw_board.proofs.Ends.{fewer_unclosed}
 use Rattle.gw_board.proofs.KeptIn.{open_out, result_kept_in}
 use Rattle.gw_board.proofs.OnTheWay.{gives_the_fold, result_way}
-use Rattle.gw_board.proofs.SeatFacts.{seat_inside, one_more_original}
+use Rattle.gw_board.proofs.SeatFacts.{seat_inside}
 use Rattle.gw_board.proofs.board.Board.close_with.Goals as goal
 use Rattle.gw_board.proofs.board.Board.close_with.Goals.{In-Ok}
 
@@ -59,15 +60,14 @@ module _ (c : In-Ok) where
       c.set_stage.ensures.places (open_with h.asked (job_of h)) (stands_at b h c.job.inside.place (ap (λ (x : Handed). x.place) c.job.view_is) o)
       ∙ (λ j. slice_set b.places ((c.job.view_is j).place) (record { asked = h.asked; standing = Closed (c.requires.reply j) }))
 
-  originals_are : map original_of_part c.push.new.self.items ≡ (with_result b h).originals
+  originals_are : c.push.new.self.items ≡ (with_result b h).originals
   originals_are =
-      ap (map original_of_part) c.in-Ok.ensures.items
-      ∙ one_more_original c.self.inside.originals.items c.of_job.result
-      ∙ ap (λ (p : Parted). b.originals ++ original_of_part p ∷ []) c.of_job.ensures
+      c.in-Ok.ensures.items
+      ∙ ap (λ (o : Original). b.originals ++ o ∷ []) c.of_job.ensures
       ∙ ap (λ (x : Handed). b.originals ++ original_in x ∷ []) c.job.view_is
 
   abbrev new : Seen
-  new = record { manner = b.manner; begun = b.begun; maps = maps_of c.put_back.new.self; places = map place_of c.set_stage.new.seats.items; originals = map original_of_part c.push.new.self.items }
+  new = record { manner = b.manner; begun = b.begun; maps = maps_of c.put_back.new.self; places = map place_of c.set_stage.new.seats.items; originals = c.push.new.self.items }
 
   is_new : new ≡ with_result b h
   is_new = λ j. record { manner = b.manner; begun = b.begun; maps = maps_are j; places = places_are j; originals = originals_are j }

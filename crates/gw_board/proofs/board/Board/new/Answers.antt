@@ -2,20 +2,20 @@ use Rattle.std.proofs.Common.{◌≡◌, map, length, sym, ap, subst, ◌∙◌,
 use Rattle.gw_table.specs.Stored.{maps_of}
 use Rattle.gw_board.specs.BoardView.{IsOnTheWay, IsKeptIn}
 use Rattle.gw_board.specs.Boards.{begun_board, GivesTheFold, unclosed}
-use Rattle.gw_board.specs.Seats.{place_of, original_of_part}
+use Rattle.gw_board.specs.Seats.{place_of}
 use Rattle.gw_board.proofs.KeptIn.{begun_kept}
 use Rattle.gw_board.proofs.OnTheWay.{begun_way, gives_the_fold}
 use Rattle.gw_board.proofs.SeatFacts.{unclosed-pending, length-places, length-pending}
 use Rattle.gw_board.proofs.board.Board.new.Goals as goal
 use Rattle.gw_board.proofs.board.Board.new.Goals.{After-of-start}
 
-is_begun : (c : After-of-start) → record { manner = c.args.manner; begun = maps_of c.of-start.result.value; maps = maps_of c.args.tables; places = map place_of c.in-Ok.seats.items; originals = map original_of_part c.in-Ok-with_capacity.originals.items } ≡ begun_board c.args.manner c.args.asked.now (maps_of c.args.tables)
+is_begun : (c : After-of-start) → record { manner = c.args.manner; begun = maps_of c.of-start.result.value; maps = maps_of c.args.tables; places = map place_of c.in-Ok.seats.items; originals = c.in-Ok-with_capacity.originals.items } ≡ begun_board c.args.manner c.args.asked.now (maps_of c.args.tables)
 is_begun c = λ i. record {
   manner = c.args.manner;
   begun = maps_of (c.of-start.ensures i);
   maps = maps_of c.args.tables;
   places = c.in-Ok.ensures i;
-  originals = map original_of_part (c.in-Ok-with_capacity.ensures.items i);
+  originals = c.in-Ok-with_capacity.ensures.items i;
 }
 
 way : (c : After-of-start) → IsOnTheWay (begun_board c.args.manner c.args.asked.now (maps_of c.args.tables))

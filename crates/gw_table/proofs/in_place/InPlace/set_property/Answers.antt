@@ -1,51 +1,24 @@
-use Rattle.std.proofs.Common.{◌≡◌, List, ◌∷◌, [], ◌++◌, Option, Some, refl, ap, sym, ◌∙◌}
-use Rattle.gw_base.specs.declared.key.Key.TheVariants.{Ctx}
-use Rattle.gw_table.specs.declared.originals.Write.{Write}
-use Rattle.gw_table.specs.declared.originals.Write.TheVariants.{OfCtx}
-use Rattle.gw_ctx.specs.Contexts.{ContextRecord}
-use Rattle.gw_table.specs.declared.place.Place.TheVariants.{Here}
+use Rattle.std.proofs.Common.{Result, Ok, Err, ap, ◌∙◌}
+use Rattle.std.specs.Result.{OnOk}
 use Rattle.gw_table.specs.Maps.{ctx}
-use Rattle.gw_table.specs.Settings.{with_setting, put_setting, set_place}
-use Rattle.gw_table.specs.Originals.{keys_written, before_all}
+use Rattle.gw_table.specs.Originals.{before_all}
 use Rattle.gw_table.specs.Parts.{Parted}
-use Rattle.gw_table.specs.Stored.{Stored, maps_of, put_ctx_place}
-use Rattle.gw_table.proofs.InPlace.{same_in_place, wrote_ctx, found_among, found_at}
-use Rattle.gw_table.proofs.Settings.{set_again, maps-set_place}
+use Rattle.gw_table.specs.Settings.{put_setting}
+use Rattle.gw_table.specs.Stored.{Stored, maps_of}
+use Rattle.gw_table.proofs.Settings.{maps-set_place}
 use Rattle.gw_table.proofs.in_place.InPlace.set_property.Goals as goal
 
--- ---- where there is nothing to note
+pub invariant_of-self : goal.invariant_of-self
+invariant_of-self c = c.set_property.ensures.back (before_all c.self.inside.earlier.value c.self.inside.before.value) c.self.invariant
 
-pub invariant_of-self-in_default : goal.invariant_of-self-in_default
-invariant_of-self-in_default c =
-    let old : Stored = c.self.inside.tables in
-    let start : Stored = before_all c.self.inside.earlier.value c.self.inside.before.value in
-    let at : Option ContextRecord = ctx (maps_of old) c.args.number in
-    same_in_place start (set_place c.args.setting c.args.number old at) c.set_property.new.self c.self.inside.writes.items c.reserve.new.self.items c.in_ok-found.ensures.after c.in_ok-reserve.ensures.items
-    (set_again start old c.self.inside.writes.items c.self.invariant c.args.number c.args.setting c.in_ok-found.found
-    (found_among c.self.inside.writes.items c.deref.result.now (Ctx c.args.number) at c.in_ok-found.found (c.deref.ensures.value ∙ c.in_ok-reserve.ensures.items) c.in_ok-found.ensures.found)
-    (sym c.in_default.is ∙ c.into_original.ensures))
-
-pub returns-in_default-clause-maps : goal.returns-in_default-clause-maps
-returns-in_default-clause-maps c =
-    let old : Stored = c.self.inside.tables in
-    ap (λ s. maps_of s) c.in_ok-found.ensures.after ∙ maps-set_place c.args.setting c.args.number old (ctx (maps_of old) c.args.number)
-    ∙ ap (λ (p : Parted). put_setting c.args.setting c.args.number p.maps (ctx p.maps c.args.number)) c.self.view_is
-
--- ---- where there is
-
-pub invariant_of-self-2 : goal.invariant_of-self-2
-invariant_of-self-2 c =
-    let old : Stored = c.self.inside.tables in
-    let start : Stored = before_all c.self.inside.earlier.value c.self.inside.before.value in
-    let was : Some c.in-Some.before ≡ ctx (maps_of old) c.args.number =
-    found_at (keys_written c.deref.result.now) (Ctx c.args.number) (ctx (maps_of old) c.args.number) c.in_ok-found.found c.in-Some.before c.in_ok-found.ensures.found (sym c.in-Some.is ∙ c.into_original.ensures) in
-    same_in_place start (put_ctx_place old c.args.number (Here (with_setting c.args.setting c.in-Some.before))) c.set_property.new.self (c.self.inside.writes.items ++ OfCtx c.args.number (Some c.in-Some.before) ∷ []) c.push.new.self.items
-    (c.in_ok-found.ensures.after ∙ ap (λ (o : Option ContextRecord). set_place c.args.setting c.args.number old o) (sym was))
-    (c.in-Ok.ensures.items ∙ ap (λ (l : List Write). l ++ OfCtx c.args.number (Some c.in-Some.before) ∷ []) c.in_ok-reserve.ensures.items)
-    (wrote_ctx start old c.self.inside.writes.items c.self.invariant c.args.number (Here (with_setting c.args.setting c.in-Some.before)) (Some c.in-Some.before) refl was)
+on_ok : {T E P Q : Type 0} (r : Result T E) → (P → Q) → OnOk r P → OnOk r Q
+on_ok (Ok x) f p = f p
+on_ok (Err e) f p = tt
 
 pub returns-clause-maps : goal.returns-clause-maps
 returns-clause-maps c =
     let old : Stored = c.self.inside.tables in
-    ap (λ s. maps_of s) c.in_ok-found.ensures.after ∙ maps-set_place c.args.setting c.args.number old (ctx (maps_of old) c.args.number)
-    ∙ ap (λ (p : Parted). put_setting c.args.setting c.args.number p.maps (ctx p.maps c.args.number)) c.self.view_is
+    on_ok c.set_property.result
+    (λ e. ap (λ s. maps_of s) e ∙ maps-set_place c.args.setting c.args.number old (ctx (maps_of old) c.args.number)
+    ∙ ap (λ (p : Parted). put_setting c.args.setting c.args.number p.maps (ctx p.maps c.args.number)) c.self.view_is)
+    c.set_property.ensures.after
