@@ -9,7 +9,9 @@ pub mod FreeSlots
 pub mod HeldKeys
 pub mod Kept
 pub mod Parts
+pub mod Refused
 pub mod RequestKeys
+pub mod RoomCounted
 pub mod SetProperties
 pub mod Steps
 pub mod TooLong

@@ -62,6 +62,7 @@ fn action_in(
             number,
             slots,
             sent,
+            sent.commands.is_empty(),
             told,
         ),
     }

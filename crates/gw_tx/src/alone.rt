@@ -14,6 +14,7 @@ ghost use Rattle.gw_tx.specs.Properties.{ArePlain};
 ghost use Rattle.gw_tx.specs.Told.{counted};
 ghost use Rattle.gw_tx.specs.Transactions.{in_all, reply_alone, AreThere};
 
+use crate::counting::{behind_each_alone, told_items};
 use crate::setting::set_properties_of_all;
 use crate::telling::{context_parts_if, parts_within};
 use crate::told::Counted;
@@ -28,12 +29,33 @@ use std::alloc::Global;
 const LEAST: usize = 20;
 
 /// Whether there is surely no room for the replies in so many contexts.
-fn are_too_long(told: &Telling<ActionReply>, count: usize) -> bool
+fn are_too_many(told: &Telling<ActionReply>, count: usize) -> bool
     ensures { (a : Sent) (m : Maps) (ns : List CtxNum) → a.commands ≡ [] → AreThere m ns → length ns ≡ count → result ≡ true → told_behind action_reply_text told.now (map (reply_alone a m) ns) ≡ TooLong }
 {
     match told {
         Telling::Within(_, room) => room / LEAST < count,
         Telling::All(_) | Telling::TooLong => false,
+    }
+}
+
+/// Whether there is no room for the replies in these contexts. They are counted, and none is made. Behind the first that there is no room
+/// for, none is looked at.
+fn are_too_long(
+    alloc: Global,
+    draft: &Draft<'_>,
+    sent: &Action<'_>,
+    numbers: &[CtxNum],
+    told: &Telling<ActionReply>,
+) -> Result<bool, NoMemory>
+    requires alone { sent.now.commands ≡ [] }
+    ensures { IfOk result (λ long. long ≡ true → told_behind action_reply_text told.now (map (reply_alone sent.now draft.now.maps) numbers.now) ≡ TooLong) }
+{
+    match told {
+        Telling::Within(_, room) => {
+            let items = told_items(alloc, sent)?;
+            Ok(behind_each_alone(*room, draft, &items, numbers).is_none())
+        }
+        Telling::All(_) | Telling::TooLong => Ok(false),
     }
 }
 
@@ -56,8 +78,8 @@ fn tell_alone(
     })
 }
 
-/// Tells the replies in these contexts, behind those before them. Behind the first that there is no room for, none is looked at; and none
-/// at all where there is surely no room for so many.
+/// Tells the replies in these contexts, behind those before them. They are counted first, so that none is made where there is no room for
+/// all; and not even that where there is surely no room for so many.
 fn tell_each_alone(
     alloc: Global,
     draft: &Draft<'_>,
@@ -69,7 +91,10 @@ fn tell_each_alone(
     requires there { AreThere draft.now.maps numbers.now }
     ensures { IfOk result (λ all. all ≡ told_behind action_reply_text told (map (reply_alone sent.now draft.now.maps) numbers.now)) }
 {
-    if are_too_long(&told, numbers.len()) {
+    if are_too_many(&told, numbers.len()) {
+        return Ok(Telling::TooLong);
+    }
+    if are_too_long(alloc, draft, sent, numbers, &told)? {
         return Ok(Telling::TooLong);
     }
     let mut told = told;

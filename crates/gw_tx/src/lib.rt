@@ -5,6 +5,7 @@ mod actions;
 mod alone;
 mod commands;
 mod contexts;
+mod counting;
 mod laws;
 mod links;
 mod owned;

@@ -29,7 +29,7 @@ use gw_table::Draft;
 use std::alloc::Global;
 
 /// The room that is left behind the links, each with a comma before it. The work is that of the links that there is room for.
-fn behind_links(room: usize, context: &Context) -> Option<usize>
+pub(crate) fn behind_links(room: usize, context: &Context) -> Option<usize>
     ensures { Leaves result room (length (later link_text context.now.links)) }
 {
     let mut left = room;
@@ -133,7 +133,7 @@ fn tell_audited(
 }
 
 /// What a property sets: nothing, where it only asks.
-fn kind_in(prop: &ContextProp) -> Option<ContextItem>
+pub(crate) fn kind_in(prop: &ContextProp) -> Option<ContextItem>
     ensures { option_to_list result ≡ kind_in prop.now }
 {
     match prop {

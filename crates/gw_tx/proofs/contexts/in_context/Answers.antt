@@ -1,4 +1,5 @@
-use Rattle.std.proofs.Common.{◌≡◌, ℕ, false, List, [], Option, refl, sym, ap, subst, ◌∙◌}
+use Rattle.std.proofs.Common.{◌≡◌, ℕ, Bool, not, List, [], Option, refl, sym, ap, subst, ◌∙◌}
+use Rattle.std.specs.List.{list_any}
 use Rattle.gw_msg.specs.declared.message.Command.{Command}
 use Rattle.gw_msg.specs.declared.message.ContextProp.{ContextProp}
 use Rattle.gw_length.specs.declared.telling.Telling.{Telling}
@@ -7,10 +8,8 @@ use Rattle.gw_reply.specs.declared.context_parts.ContextPart.{ContextPart}
 use Rattle.gw_reply.specs.declared.reply.ActionReply.{ActionReply}
 use Rattle.gw_reply.specs.declared.reply.CommandReply.{CommandReply}
 use Rattle.gw_reply.specs.Replies.{action_reply_text}
-use Rattle.gw_base.specs.declared.command_words.Rules.{Rules}
 use Rattle.gw_table.specs.declared.attempts.Attempts.{Attempts}
 use Rattle.gw_table.specs.Maps.{Maps, Outcome, ctx}
-use Rattle.gw_table.proofs.Folding.{ended, in_order-none}
 use Rattle.gw_refusal.specs.declared.at.At.{At}
 use Rattle.gw_table.specs.Parts.{Parted, Holds}
 use Rattle.gw_cmd.proofs.Parted.{StaysPart}
@@ -18,10 +17,12 @@ use Rattle.gw_reserve.specs.Owned.{paired_commands}
 use Rattle.gw_tx.specs.Footprints.{list_keys}
 use Rattle.gw_tx.specs.Properties.{context_parts_if, set_properties}
 use Rattle.gw_tx.specs.Told.{counted}
-use Rattle.gw_tx.specs.Transactions.{attempt, commands, replied}
+use Rattle.gw_tx.specs.declared.told.Counted.{Counted}
+use Rattle.gw_tx.specs.Transactions.{commands, replied}
 use Rattle.gw_tx.proofs.FreeSlots.{AnySlot}
 use Rattle.gw_tx.proofs.Kept.{With}
 use Rattle.gw_tx.proofs.Parts.{starts_set, covers_list}
+use Rattle.gw_tx.proofs.Refused.{refused_all}
 use Rattle.gw_tx.proofs.contexts.in_context.Goals as goal
 
 pub commands_in-requires-clause-covered : goal.commands_in-requires-clause-covered
@@ -42,16 +43,13 @@ commands_in-requires-clause-unused c =
     let w : With AnySlot (StaysPart start.keys start.maps) slots c.set_properties.new.draft.maps = subst (λ (m : Maps). With AnySlot (StaysPart start.keys start.maps) slots m) (sym c.in_ok-set_properties.ensures.maps) (starts_set start slots needed c.args.number c.as_slice.result.now c.requires.covered c.requires.unused) in
     w.free
 
--- there is no command
-nothing : (rules : Rules) (at : At) (slots : List (Option ℕ)) (sent : List Command) (m : Maps) → sent ≡ [] → commands rules [] at (paired_commands slots sent) m ≡ ended m at [] false
-nothing rules at slots sent m none = ap (λ (l : List Command). commands rules [] at (paired_commands slots l) m) none ∙ in_order-none (attempt rules []) at m
-
 pub returns-then-is_over-clause-maps : goal.returns-then-is_over-clause-maps
 returns-then-is_over-clause-maps c owned =
     let a = c.args in
-    let ready : Maps = c.set_properties.new.draft.maps in
-    sym (ap (λ (o : Outcome (Attempts At CommandReply)). o.maps) (nothing a.rules.now a.at a.slots.now a.sent.now.commands ready (c.if-is_over.ensures.none refl)))
-    ∙ ap (λ (m : Maps). (commands a.rules.now [] a.at (paired_commands a.slots.now a.sent.now.commands) m).maps) (c.in_ok-set_properties.ensures.maps ∙ ap (λ (l : List ContextProp). set_properties a.number l a.draft.now.maps) c.as_slice.ensures)
+    let set : Maps = set_properties a.number a.sent.now.props a.draft.now.maps in
+    c.in_ok-set_properties.ensures.maps
+    ∙ ap (λ (l : List ContextProp). set_properties a.number l a.draft.now.maps) c.as_slice.ensures
+    ∙ sym (refused_all a.rules.now a.at a.slots.now a.sent.now.commands set (c.requires.refused (c.if-is_over.ensures.none refl))).0
 
 pub returns-then-is_over-clause-answer : goal.returns-then-is_over-clause-answer
 returns-then-is_over-clause-answer c owned =
@@ -59,5 +57,8 @@ returns-then-is_over-clause-answer c owned =
     let ready : Maps = set_properties a.number a.sent.now.props a.draft.now.maps in
     let parts : List ContextPart = context_parts_if a.sent.now (ctx ready a.number) in
     let done : Outcome (Attempts At CommandReply) = commands a.rules.now [] a.at (paired_commands a.slots.now a.sent.now.commands) ready in
-    sym (ap (λ (t : Telling ActionReply). counted action_reply_text t (replied parts done.answer)) (c.if-is_over.ensures.long refl)
-    ∙ ap (λ (o : Outcome (Attempts At CommandReply)). counted action_reply_text TooLong (replied parts o.answer)) (nothing a.rules.now a.at a.slots.now a.sent.now.commands ready (c.if-is_over.ensures.none refl)))
+    let stops : c.is_any_needed.result ≡ done.answer.stopped =
+    c.is_any_needed.ensures ∙ ap (λ (l : List Command). list_any (λ k. not k.optional) l) c.as_slice-asked.ensures
+    ∙ sym (refused_all a.rules.now a.at a.slots.now a.sent.now.commands ready (c.requires.refused (c.if-is_over.ensures.none refl))).1 in
+    ap (λ (b : Bool). let d : Counted Unit ActionReply = record { next = tt; told = TooLong; stopped = b } in d) stops
+    ∙ sym (ap (λ (t : Telling ActionReply). counted action_reply_text t (replied parts done.answer)) (c.if-is_over.ensures.long refl))

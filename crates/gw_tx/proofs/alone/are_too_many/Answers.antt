@@ -6,7 +6,7 @@ use Rattle.gw_reply.specs.declared.reply.ActionReply.{ActionReply}
 use Rattle.gw_reply.specs.Replies.{action_reply_text}
 use Rattle.gw_tx.specs.Transactions.{reply_alone}
 use Rattle.gw_tx.proofs.ContextRoom.{no_room}
-use Rattle.gw_tx.proofs.alone.are_too_long.Goals as goal
+use Rattle.gw_tx.proofs.alone.are_too_many.Goals as goal
 
 pub returns-in-Within : goal.returns-in-Within
 returns-in-Within c =
