@@ -1,6 +1,6 @@
 -- Descriptors that every record takes, and of which nothing is told (own): they send no property but Mode and ServiceStates, so that
 -- no list can hold too many; no Local, which might be filled; and no Audit but an empty one.
-use Rattle.std.specs.Prelude.{ℕ, ◌==◌, if◌then◌else◌, Bool, true, false, List, length, Option}
+use Rattle.std.specs.Prelude.{ℕ, ◌==◌, if◌then◌else◌, Bool, true, false, List, length, Option, Some}
 use Rattle.std.specs.List.{flat_map, list_all}
 use Rattle.std.specs.Option.{option_map, unwrap_or}
 use Rattle.gw_base.specs.declared.command_words.Rules.{Rules}
@@ -14,6 +14,7 @@ use Rattle.gw_desc.specs.declared.descriptor.MediaPart.{MediaPart}
 use Rattle.gw_desc.specs.declared.descriptor.MediaPart.TheVariants as media
 use Rattle.gw_desc.specs.declared.descriptor.StreamPart.{StreamPart}
 use Rattle.gw_desc.specs.declared.descriptor.StreamPart.TheVariants as part
+use Rattle.gw_desc.specs.declared.descriptor.Tail.{Tail}
 use Rattle.gw_term.specs.declared.record.Stream.{Stream}
 use Rattle.gw_term.specs.declared.settings.Setting.{Setting}
 use Rattle.gw_term.specs.declared.settings.Setting.TheVariants as setting
@@ -73,6 +74,16 @@ abbrev pub is_tail_of : KeptKind → Setting → Bool
 is_tail_of kind (setting.Properties list) = false
 is_tail_of kind (setting.Stream number s) = false
 is_tail_of kind (setting.Tail other tail) = same_kept kind other
+
+-- a setting after a tail took the place of those of its kind
+abbrev pub retold : KeptKind → Tail (List ℕ) → Setting → Setting
+retold kind tail (setting.Properties list) = setting.Properties list
+retold kind tail (setting.Stream number s) = setting.Stream number s
+retold kind tail (setting.Tail other old) = if same_kept kind other then setting.Tail other tail else setting.Tail other old
+
+-- what was set, with this tail of a kind
+abbrev pub with_tail : KeptKind → Tail (List ℕ) → Settings → Settings
+with_tail kind tail s = record s { tails = put_kind kind (Some tail) s.tails }
 
 -- what was set, with the tail of a kind after the descriptors
 abbrev pub with_tail_after : KeptKind → List Descriptor → Settings → Settings
