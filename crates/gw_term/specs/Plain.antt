@@ -1,6 +1,6 @@
 -- Descriptors that every record takes, and of which nothing is told (own): they send no property but Mode and ServiceStates, so that
 -- no list can hold too many; no Local, which might be filled; and no Audit but an empty one.
-use Rattle.std.specs.Prelude.{ℕ, ◌==◌, if◌then◌else◌, Bool, true, false, List, length, Option, Some}
+use Rattle.std.specs.Prelude.{◌≡◌, ℕ, ◌==◌, if◌then◌else◌, Bool, true, false, List, length, Option, Some}
 use Rattle.std.specs.List.{flat_map, list_all}
 use Rattle.std.specs.Option.{option_map, unwrap_or}
 use Rattle.gw_base.specs.declared.command_words.Rules.{Rules}
@@ -18,6 +18,8 @@ use Rattle.gw_desc.specs.declared.descriptor.Tail.{Tail}
 use Rattle.gw_term.specs.declared.record.Stream.{Stream}
 use Rattle.gw_term.specs.declared.settings.Setting.{Setting}
 use Rattle.gw_term.specs.declared.settings.Setting.TheVariants as setting
+use Rattle.gw_term.specs.declared.named.Named.{Named}
+use Rattle.gw_term.specs.Named.{named_by}
 use Rattle.gw_term.specs.Merge.{each, parts_in, put_part, merged_stream, merged_tail, stream_in}
 use Rattle.gw_term.specs.Places.{at_number, put_number, at_kind, put_kind}
 use Rattle.gw_term.specs.Settings.{Settings}
@@ -41,6 +43,11 @@ is_plain_one _ = true
 
 abbrev pub are_plain : List Descriptor → Bool
 are_plain descriptors = list_all is_plain_one descriptors
+
+-- descriptors that every record takes, with what they name
+pub record AreKnown (descriptors : List Descriptor) (named : Named) : Type 0 where
+  pub plain : are_plain descriptors ≡ true
+  pub known : named ≡ named_by descriptors
 
 -- ---- a merge in the place of a stream
 

@@ -8,7 +8,7 @@ ghost use Rattle.gw_desc.specs.Values.{is_mode, is_service_states};
 ghost use Rattle.gw_term.specs.Merge.{is_named_in, merged};
 ghost use Rattle.gw_term.specs.Named.{named_by};
 ghost use Rattle.gw_term.specs.Places.{at_number, numbered, at_kind, put_kind, of_kinds};
-ghost use Rattle.gw_term.specs.Plain.{is_plain_stream, is_plain_part, is_plain_one, are_plain, stream_after, setting_after, with_stream_after, stream_or_none, with_streams_after, is_tail_of, retold, with_tail, with_tail_after, with_tails_after};
+ghost use Rattle.gw_term.specs.Plain.{is_plain_stream, is_plain_part, is_plain_one, are_plain, AreKnown, stream_after, setting_after, with_stream_after, stream_or_none, with_streams_after, is_tail_of, retold, with_tail, with_tail_after, with_tails_after};
 
 use crate::fault::ApplyFault;
 use crate::held::HeldTail;
@@ -472,8 +472,7 @@ impl Termination {
         alloc: Global,
         sending: &Sending<'_, '_>,
     ) -> Result<(), NoMemory>
-        requires plain { are_plain sending.now.descriptors.now ≡ true }
-        requires named { sending.now.named ≡ named_by sending.now.descriptors.now }
+        requires { AreKnown sending.now.descriptors.now sending.now.named }
         ensures { OnOk result (merged sending.now.rules.now sending.now.descriptors.now self.old ≡ Some self.new) }
     {
         let named = &sending.named;
