@@ -20,14 +20,15 @@ use Rattle.gw_term.specs.declared.record.Stream.{Stream}
 use Rattle.gw_term.specs.declared.record.Termination.{Termination}
 use Rattle.gw_term.specs.declared.streams.Merging.{Merging}
 use Rattle.gw_term.proofs.Naming.{tail_stays}
+use Rattle.gw_term.proofs.Unfilled.{unfilled}
 use Rattle.gw_term.specs.Named.{has_stream, has_tail, named_by}
 use Rattle.gw_term.specs.Places.{at_kind, put_kind, of_kinds}
 use Rattle.gw_term.specs.declared.places.PerKind.{PerKind}
 use Rattle.gw_term.specs.declared.places.PerStream.{PerStream}
-use Rattle.gw_term.specs.Merge.{Media, and_then, each, put_state, put_control, put_part, begun, unnamed, is_named_in, names_stream, parts_in, parts_in_part, states_in, states_in_part, merged_properties, merged_stream, merged_media, with_media, merged, filled_in, filled_of, filled_by, stream_in, merged_service, merged_tail, tail_after}
+use Rattle.gw_term.specs.Merge.{Media, local_text, is_filled, and_then, each, put_state, put_control, put_part, begun, unnamed, is_named_in, names_stream, parts_in, parts_in_part, states_in, states_in_part, merged_properties, merged_stream, merged_media, with_media, merged, filled_in, filled_of, filled_by, stream_in, merged_service, merged_tail, tail_after}
 use Rattle.gw_term.specs.declared.settings.Setting.{Setting}
 use Rattle.gw_term.specs.declared.settings.Setting.TheVariants as setting
-use Rattle.gw_term.specs.Plain.{is_plain_stream, is_plain_part, is_plain_one, are_plain, setting_after, with_stream_after, with_streams_after, stream_or_none, is_tail_of, retold, with_tail, with_tail_after, with_tails_after}
+use Rattle.gw_term.specs.Plain.{has_choice, is_plain_stream, is_plain_part, is_plain_one, are_plain, setting_after, with_stream_after, with_streams_after, stream_or_none, is_tail_of, retold, with_tail, with_tail_after, with_tails_after}
 use Rattle.gw_term.specs.Settings.{Settings, nothing_set, with_setting, with_settings, set_by}
 
 abbrev P : Type 0
@@ -87,8 +88,16 @@ properties_merged ds list h =
 control_put : (p : P) (s : Stream) → is_mode p.name ≡ true → Unit {0} → (t : Stream) × (put_control p s ≡ Some t) × Unit {0}
 control_put p s h i = (record s { mode = unwrap_or (mode_set_by p) s.mode }, (rw h refl), tt)
 
+none_there : (b : Bool) → not b ≡ true → b ≡ false
+none_there true h = absurd cc
+none_there false h = refl
+
 part_put : (rules : Rules) (slot : Option ℕ) (number : ℕ) (p : StreamPart) (m : Merging) → is_plain_stream p ≡ true → m.filled ≡ false → (t : Merging) × (put_part rules slot number p m ≡ Some t) × (t.filled ≡ false)
-part_put rules slot number (part.Local text) m h i = absurd cc
+part_put rules slot number (part.Local text) m h i = (record { stream = record m.stream { local = Some (local_text rules slot number text) }; filled = is_filled slot text }, refl, by slot)
+  where
+    by : (slot : Option ℕ) → is_filled slot text ≡ false
+    by None = refl
+    by (Some s) = unfilled text (none_there (has_choice text) h)
 part_put rules slot number (part.Remote text) m h i = (record m { stream = record m.stream { remote = Some text } }, refl, i)
 part_put rules slot number (part.LocalControl properties) m h i =
     let done = each_done put_control (λ (p : P). is_mode p.name) (λ s. Unit {0}) control_put properties m.stream h tt in

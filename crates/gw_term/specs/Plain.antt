@@ -1,8 +1,9 @@
 -- Descriptors that every record takes, and of which nothing is told (own): they send no property but Mode and ServiceStates, so that
--- no list can hold too many; no Local, which might be filled; and no Audit but an empty one.
-use Rattle.std.specs.Prelude.{◌≡◌, ℕ, ◌==◌, if◌then◌else◌, Bool, true, false, List, length, Option, Some}
-use Rattle.std.specs.List.{flat_map, list_all}
+-- no list can hold too many; no Local with a `$`, which might be filled; and no Audit but an empty one.
+use Rattle.std.specs.Prelude.{◌≡◌, ℕ, ◌==◌, if◌then◌else◌, Bool, true, false, not, codes, List, length, Option, Some}
+use Rattle.std.specs.List.{flat_map, list_all, list_any}
 use Rattle.std.specs.Option.{option_map, unwrap_or}
+use Rattle.gw_base.specs.Bytes.{is_one_of}
 use Rattle.gw_base.specs.declared.command_words.Rules.{Rules}
 use Rattle.gw_desc.specs.Values.{is_mode, is_service_states}
 use Rattle.gw_desc.specs.declared.descriptor.Descriptor.{Descriptor}
@@ -24,9 +25,13 @@ use Rattle.gw_term.specs.Merge.{each, parts_in, put_part, merged_stream, merged_
 use Rattle.gw_term.specs.Places.{at_number, put_number, at_kind, put_kind}
 use Rattle.gw_term.specs.Settings.{Settings}
 
--- a part of a stream: a Remote, or a LocalControl that sends modes alone
+-- a `$`, which might be filled
+abbrev pub has_choice : List ℕ → Bool
+has_choice text = list_any (is_one_of (codes "$")) text
+
+-- a part of a stream: a Local without a `$`, a Remote, or a LocalControl that sends modes alone
 abbrev pub is_plain_stream : StreamPart → Bool
-is_plain_stream (part.Local text) = false
+is_plain_stream (part.Local text) = not (has_choice text)
 is_plain_stream (part.Remote text) = true
 is_plain_stream (part.LocalControl properties) = list_all (λ p. is_mode p.name) properties
 

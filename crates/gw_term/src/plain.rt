@@ -8,7 +8,7 @@ ghost use Rattle.gw_desc.specs.Values.{is_mode, is_service_states};
 ghost use Rattle.gw_term.specs.Merge.{is_named_in, merged};
 ghost use Rattle.gw_term.specs.Named.{named_by};
 ghost use Rattle.gw_term.specs.Places.{at_number, numbered, at_kind, put_kind, of_kinds};
-ghost use Rattle.gw_term.specs.Plain.{is_plain_stream, is_plain_part, is_plain_one, are_plain, AreKnown, stream_after, setting_after, with_stream_after, stream_or_none, with_streams_after, is_tail_of, retold, with_tail, with_tail_after, with_tails_after};
+ghost use Rattle.gw_term.specs.Plain.{has_choice, is_plain_stream, is_plain_part, is_plain_one, are_plain, AreKnown, stream_after, setting_after, with_stream_after, stream_or_none, with_streams_after, is_tail_of, retold, with_tail, with_tail_after, with_tails_after};
 
 use crate::fault::ApplyFault;
 use crate::held::HeldTail;
@@ -44,11 +44,21 @@ fn are_services(properties: &[Property<Span<'_>>]) -> bool
         .all(|property| is_service_states(property.name.as_bytes()))
 }
 
+/// What leaves a value to the gateway.
+const CHOICE: &[u8] = b"$";
+
+/// Whether the text has a `$`, which might be filled.
+fn has_choice(text: &[u8]) -> bool
+    ensures { result ≡ has_choice text.now }
+{
+    text.iter().any(|byte| CHOICE.contains(byte))
+}
+
 fn is_plain_stream(part: &StreamPart<'_>) -> bool
     ensures { result ≡ is_plain_stream part.now }
 {
     match part {
-        StreamPart::Local(_) => false,
+        StreamPart::Local(text) => !has_choice(text.as_bytes()),
         StreamPart::Remote(_) => true,
         StreamPart::LocalControl(properties) => are_modes(properties.as_slice()),
     }
@@ -87,7 +97,7 @@ fn is_plain_one(descriptor: &Descriptor<'_>) -> bool
 }
 
 /// Whether every record takes the descriptors, and nothing is told of them: they send no property but Mode and ServiceStates, no Local
-/// and no Audit but an empty one. The work is one pass over them.
+/// with a `$`, and no Audit but an empty one. The work is one pass over them.
 pub fn are_plain(descriptors: &[Descriptor<'_>]) -> bool
     ensures { result ≡ are_plain descriptors.now }
 {

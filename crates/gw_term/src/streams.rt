@@ -98,10 +98,12 @@ fn put_local(
     requires last { number ≤ 4 }
     ensures { Becomes result (record { stream = stream.new; filled = filled.new }) (put_part sent.now.rules.now sent.now.slot number (Local text.now) (record { stream = stream.old; filled = filled.old })) }
 {
-    let (local, is_filled) = match sent.slot {
-        Some(slot) => fill_local(alloc, text, &sent.rules.media, slot, number)?,
-        None => (Vec::from_slice(alloc, text)?, false),
+    let Some(slot) = sent.slot else {
+        put_text(alloc, text, &mut stream.local)?;
+        *filled = false;
+        return Ok(());
     };
+    let (local, is_filled) = fill_local(alloc, text, &sent.rules.media, slot, number)?;
     put(&mut stream.local, Some(Items::from(local)));
     *filled = is_filled;
     Ok(())
