@@ -1,13 +1,13 @@
 -- Descriptors that are merged into many terminations at once: what it comes to, and that the way back leads to where it led before.
-use Rattle.std.proofs.Common.{nat_eq, ◌≡◌, ℕ, zero, suc, ◌≤◌, Bool, true, false, T, cond, List, [], ◌∷◌, map, length, bytes_eq, Option, None, Some, is_some, inl, inr, refl, sym, ap, subst, ◌∙◌, arith}
-use Rattle.std.specs.Prelude.{◌&&◌, ◌||◌, ◌⊎◌}
+use Rattle.std.proofs.Common.{nat_eq, ◌≡◌, ℕ, suc, ◌≤◌, Bool, true, false, T, cond, List, [], ◌∷◌, map, length, bytes_eq, Option, None, Some, is_some, inl, inr, refl, sym, ap, subst, ◌∙◌, arith}
+use Rattle.std.specs.Prelude.{◌&&◌, ◌||◌, ◌⊎◌, ◌+◌, if◌then◌else◌}
 use Rattle.std.specs.BTreeMap.{is_at}
 use Rattle.std.specs.Cmp.Lexicographic.{nat_list_cmp_total}
 use Rattle.std.specs.FinMap as finite
 use Rattle.std.specs.FinMap.{is_sorted, entries_sorted}
 use Rattle.std.specs.FinMap.Entries.{below_all}
-use Rattle.std.specs.List.{filter, starts_with}
-use Rattle.std.specs.Map.{lookup}
+use Rattle.std.specs.List.{filter, starts_with, FoldsTo}
+use Rattle.std.specs.Map.{keys_of, lookup}
 use Rattle.std.specs.Map.Calls.{RetainsPairs}
 use Rattle.std.specs.Option.{option_map, is_none, unwrap_or}
 use Rattle.std.specs.Ordering.{is_eq, is_lt}
@@ -28,7 +28,7 @@ use Rattle.gw_table.specs.declared.place.Place.{Place}
 use Rattle.gw_table.specs.declared.place.Place.TheVariants.{Empty, Here, Out}
 use Rattle.gw_table.specs.declared.reach.Reach.TheVariants.{Free}
 use Rattle.gw_table.specs.Free.{is_free_at}
-use Rattle.gw_table.specs.Maps.{Maps, term, ctx, put_term, names, place_of}
+use Rattle.gw_table.specs.Maps.{Maps, term, ctx, names, place_of}
 use Rattle.gw_table.specs.Marking.{AreMarked}
 use Rattle.gw_table.specs.Merged.{Change, put_if, put_changed, all_changed, changed, changed_place, changed_if, changed_at, is_away_at, WasChanged, IsPassed, IsAlike, AreAlike, AreChanged, AreAllNoted}
 use Rattle.gw_table.specs.Originals.{keys_written, IsInPlace}
@@ -43,6 +43,11 @@ use Rattle.gw_table.proofs.Undone.{undone_elsewhere, written_before}
 
 abbrev Named : Type 0
 Named = List ℕ × Place Termination
+
+-- what each call keeps is so after all of them
+pub still : {S X : Type 0} (I : S → Type 0) (R : S → X → S → Type 0) → ((s : S) (x : X) (t : S) → I s → R s x t → I t) → (xs : List X) (s t : S) → I s → FoldsTo R s xs t → I t
+still I R step [] s t i ran = subst I ran i
+still I R step (x ∷ xs) s t i ran = still I R step xs ran.0 t (step s x ran.0 i ran.1) ran.2
 
 -- ---- no name stands twice among those of the tables
 
@@ -115,6 +120,12 @@ module _ (prefix : List ℕ) (f : Change) where
         let one = step s e.0 e.1 ran.0 ran.1 ran.2 i ran.4 in
         (ran.1, ran.3, one.1, passed_by ran.2 es ran.3 one.2 ran.5, ran.6 ∙ ap (λ (b : Bool). cond b ((e.0, ran.1) ∷ ran.3) ran.3) one.0)
 
+  -- the names stay
+  pub keys_kept : (es ks : List Named) → Passed es ks → keys_of ks ≡ keys_of es
+  unfolding Passed
+  keys_kept [] ks h = ap (λ (l : List Named). keys_of l) h
+  keys_kept (e ∷ es) ks h = ap (λ (l : List Named). keys_of l) h.4 ∙ ap (λ (l : List (List ℕ)). e.0 ∷ l) (keys_kept es h.1 h.3)
+
   alike_at : (es ks : List Named) → Passed es ks → (t : List ℕ) → IsAlike prefix t (lookup (is_at (name_cmp t)) es) (lookup (is_at (name_cmp t)) ks)
   unfolding Passed
   alike_at [] ks h t = ap (λ (l : List Named). lookup (is_at (name_cmp t)) l) h
@@ -147,6 +158,14 @@ module _ (prefix : List ℕ) (f : Change) where
       by : (b : Bool) → length (cond b (e ∷ filter (λ e. is_free_at e.1) es) (filter (λ e. is_free_at e.1) es)) ≡ one_if b (count es)
       by true = refl
       by false = refl
+
+  -- one more that was passed over, of those that are left
+  pub one_counted : (n : ℕ) (e : Named) (rest left all : List Named) → rest ≡ e ∷ left → n + count rest ≡ count all → (n + (if is_free_at e.1 then 1 else 0)) + count left ≡ count all
+  one_counted n e rest left all is so_far = by (is_free_at e.1) (sym (ap count is ∙ count_more e left))
+    where
+      by : (b : Bool) → one_if b (count left) ≡ count rest → (n + (if b then 1 else 0)) + count left ≡ count all
+      by true h = omega (arith, h, so_far)
+      by false h = omega (arith, h, so_far)
 
   module _ (keeps : (r : Termination) → (changed f r).place ≡ r.place) where
     -- one is where it was, and was changed if it is meant; or it has left the null context
@@ -417,6 +436,14 @@ module _ (prefix : List ℕ) where
   pub all_noted : (es rest : List Named) (cs : List (ℕ × Place ContextRecord)) (now : Stored) (ws : List Write) → stored es cs ≡ now → rest ≡ [] → NotedBut es rest ws → AreAllNoted prefix ws now
   all_noted es rest cs now ws is over noted t p stands meant =
       elim (noted t p (term_seen es cs now t is ∙ stands) meant) [ inl h ↦ absurd (let clash : None ≡ Some p = sym (ap (λ (l : List Named). lookup (is_at (name_cmp t)) l) over) ∙ h in cc) | inr n ↦ n ]
+
+-- one more at most, of those that are left
+pub one_within : (n m : ℕ) (b : Bool) (e : Named) (rest left all : List Named) → rest ≡ e ∷ left → m ≡ n + (if b then 1 else 0) → n + length rest ≤ length all → m + length left ≤ length all
+one_within n m b e rest left all is more so_far = by b more (ap (λ (l : List Named). length l) is)
+  where
+    by : (b : Bool) → m ≡ n + (if b then 1 else 0) → length rest ≡ suc (length left) → m + length left ≤ length all
+    by true more k = omega (arith, more, k, so_far)
+    by false more k = omega (arith, more, k, so_far)
 
 -- what is noted stays so
 pub still_noted : (ws vs : List Write) (t q : List ℕ) (p : Place Termination) → MayNote t p ws vs → has (keys_written ws) (Term q) ≡ true → has (keys_written vs) (Term q) ≡ true

@@ -30,7 +30,7 @@ pub(crate) fn is_free_at(site: &Site<Held<Termination>>) -> bool
 pub(crate) fn begins_with(name: &TermName, prefix: &[u8]) -> bool
     ensures { result ≡ starts_with nat_eq name.now prefix.now }
 {
-    name.as_bytes().starts_with(prefix)
+    prefix.is_empty() || name.as_bytes().starts_with(prefix)
 }
 
 impl Tables {

@@ -1,11 +1,14 @@
 //! Descriptors that are merged into many terminations at once.
 
-ghost use Rattle.std.specs.Prelude.{◌≡◌, ℕ, nat_eq, true, length, List, OnOk};
+ghost use Rattle.std.specs.Prelude.{◌≡◌, ◌<◌, ◌+◌, if◌then◌else◌, ℕ, nat_eq, true, length, List, IfOk, OnOk};
+ghost use Rattle.std.specs.FinMap as finite;
 ghost use Rattle.std.specs.List.{filter};
+ghost use Rattle.std.specs.List.Sorted.{IsStrictlySortedBy};
+ghost use Rattle.std.specs.Map.{keys_of};
 ghost use Rattle.gw_base.specs.declared.key.Key.TheVariants.{Term};
-ghost use Rattle.gw_base.specs.NameLists.{is_in};
+ghost use Rattle.gw_base.specs.NameLists.{is_in, name_cmp};
 ghost use Rattle.gw_term.specs.Merge.{merged};
-ghost use Rattle.gw_term.specs.Plain.{are_plain};
+ghost use Rattle.gw_term.specs.Plain.{are_plain, AreKnown};
 ghost use Rattle.gw_table.specs.declared.reach.Reach.TheVariants.{Free};
 ghost use Rattle.gw_table.specs.Free.{is_free_at};
 ghost use Rattle.gw_table.specs.Maps.{term};
@@ -26,7 +29,7 @@ use crate::site::Site;
 use crate::tables::Tables;
 use gw_base::{CtxNum, Held, NoMemory, Rules, TermName};
 use gw_desc::Descriptor;
-use gw_term::Termination;
+use gw_term::{Sending, Termination};
 use std::alloc::Global;
 use std::collections::BTreeMap;
 
@@ -35,18 +38,13 @@ use std::collections::BTreeMap;
 pub(crate) fn merge_in_place(
     place: &mut Place<Held<Termination>>,
     alloc: Global,
-    rules: &Rules,
-    descriptors: &[Descriptor<'_>],
+    sending: &Sending<'_, '_>,
 )
-    requires { are_plain descriptors.now ≡ true }
-    ensures { WasChanged (merged rules.now descriptors.now) place.old place.new }
+    requires { AreKnown sending.now.descriptors.now sending.now.named }
+    ensures { WasChanged (merged sending.now.rules.now sending.now.descriptors.now) place.old place.new }
 {
     if let Place::Here(termination) = place {
-        if termination
-            .get_mut()
-            .merge_plain(alloc, rules, descriptors)
-            .is_err()
-        {
+        if termination.get_mut().merge_sending(alloc, sending).is_err() {
             termination.get_mut().set_place(Some(CtxNum(0)));
         }
     }
@@ -57,18 +55,17 @@ pub(crate) fn merge_in_place(
 fn merge_reached(
     alloc: Global,
     prefix: &[u8],
-    rules: &Rules,
-    descriptors: &[Descriptor<'_>],
+    sending: &Sending<'_, '_>,
     name: &TermName,
     site: &mut Site<Held<Termination>>,
     writes: &[Write],
     next: usize,
 ) -> usize
-    requires { are_plain descriptors.now ≡ true }
-    ensures { IsPassed prefix.now (merged rules.now descriptors.now) name.now site.old site.new }
+    requires { AreKnown sending.now.descriptors.now sending.now.named }
+    ensures { IsPassed prefix.now (merged sending.now.rules.now sending.now.descriptors.now) name.now site.old site.new }
 {
     if is_reached_at(Reach::Free, prefix, name, site) {
-        site.merge_noted(alloc, rules, descriptors, name, writes, next)
+        site.merge_noted(alloc, sending, name, writes, next)
     } else {
         next
     }
@@ -76,9 +73,19 @@ fn merge_reached(
 
 /// How many terminations are in the null context.
 fn count_free(terms: &BTreeMap<TermName, Site<Held<Termination>>>) -> usize
-    ensures { result ≡ length (filter (λ e. is_free_at e.1) terms.now.entries) }
+    ensures count { result ≡ length (filter (λ e. is_free_at e.1) terms.now.entries) }
+    ensures ordered { IsStrictlySortedBy name_cmp (keys_of terms.now.entries) }
 {
     terms.iter().filter(|(_, site)| is_free_at(site)).count()
+}
+
+/// So many, and the termination in a place, if it is in the null context. The caller knows that they are fewer than the places.
+#[inline]
+fn with_free(free: usize, places: usize, site: &Site<Held<Termination>>) -> usize
+    requires { free < places }
+    ensures { result ≡ free + (if is_free_at site.now then 1 else 0) }
+{
+    if is_free_at(site) { free + 1 } else { free }
 }
 
 /// Whether as many are in the null context after a pass as before it.
@@ -93,27 +100,31 @@ fn unless_fewer(before: usize, after: usize) -> Result<(), NoMemory>
 }
 
 impl Tables {
-    /// Notes what stands at the names of those that are meant, as copies, but for those that are noted already. The work is one pass over
-    /// the places, without a look-up.
+    /// Notes what stands at the names of those that are meant, as copies, but for those that are noted already. Answers how many
+    /// terminations are in the null context. The work is one pass over the places, without a look-up.
     fn note_all_free(
         &self,
         alloc: Global,
         prefix: &[u8],
         writes: &mut Vec<Write>,
-    ) -> Result<(), NoMemory>
+    ) -> Result<usize, NoMemory>
         ensures back { (start : Stored) → IsInPlace start self.now writes.old.items → IsInPlace start self.now writes.new.items }
         ensures noted { OnOk result (AreAllNoted prefix.now writes.new.items self.now) }
+        ensures counted { IfOk result (λ free. free ≡ length (filter (λ e. is_free_at e.1) (finite.entries self.now.terms))) }
     {
+        let places = self.terms.len();
+        let mut free = 0;
         for (name, site) in &self.terms {
+            free = with_free(free, places, site);
             if is_reached_at(Reach::Free, prefix, name, site) {
                 site.note_original(alloc, name, writes)?;
             }
         }
-        Ok(())
+        Ok(free)
     }
 
     /// Merges the descriptors into those that are meant, each in its place. What was noted of them stands in the list of writes from an
-    /// index on, in their order. The work is three passes over the places, without a look-up.
+    /// index on, in their order; how many are in the null context was counted. The work is two passes over the places, without a look-up.
     ///
     /// # Errors
     ///
@@ -122,22 +133,22 @@ impl Tables {
         &mut self,
         alloc: Global,
         prefix: &[u8],
-        rules: &Rules,
-        descriptors: &[Descriptor<'_>],
+        sending: &Sending<'_, '_>,
         writes: &[Write],
         first: usize,
+        free: usize,
     ) -> Result<(), NoMemory>
-        requires { are_plain descriptors.now ≡ true }
+        requires counted { free ≡ length (filter (λ e. is_free_at e.1) (finite.entries self.old.terms)) }
+        requires known { AreKnown sending.now.descriptors.now sending.now.named }
         ensures alike { AreAlike prefix.now self.old self.new }
-        ensures changed { OnOk result (AreChanged prefix.now (merged rules.now descriptors.now) self.old self.new) }
+        ensures changed { OnOk result (AreChanged prefix.now (merged sending.now.rules.now sending.now.descriptors.now) self.old self.new) }
     {
-        let free = count_free(&self.terms);
         let mut next = first;
         self.terms.retain(
             move |name, site|
-                requires { are_plain descriptors.now ≡ true }
+                requires { AreKnown sending.now.descriptors.now sending.now.named }
             {
-                next = merge_reached(alloc, prefix, rules, descriptors, name, site, writes, next);
+                next = merge_reached(alloc, prefix, sending, name, site, writes, next);
                 true
             },
         );
@@ -159,9 +170,10 @@ impl InPlace {
         ensures keys { self.new.keys ≡ self.old.keys }
     {
         let first = self.writes.len();
-        self.tables.note_all_free(alloc, prefix, &mut self.writes)?;
+        let free = self.tables.note_all_free(alloc, prefix, &mut self.writes)?;
+        let sending = Sending::new(rules, descriptors);
         self.tables
-            .merge_all_free(alloc, prefix, rules, descriptors, &self.writes, first)
+            .merge_all_free(alloc, prefix, &sending, &self.writes, first, free)
     }
 }
 
@@ -227,7 +239,7 @@ impl OverPart<'_> {
 
 impl Draft<'_> {
     /// The descriptors are merged into those terminations of the null context whose names begin so. The caller knows that every record
-    /// takes them, and that the names are among the draft's keys. The work is four passes over the tables, without a look-up, and the
+    /// takes them, and that the names are among the draft's keys. The work is three passes over the tables, without a look-up, and the
     /// merges; or a look-up for each key of the part, and two for each that is meant. Memory is taken for the originals of those that
     /// were not written before, as copies, and for what is new in the records.
     ///

@@ -6,7 +6,7 @@ ghost use Rattle.gw_base.specs.declared.key.Key.TheVariants.{Term};
 ghost use Rattle.gw_base.specs.Keys.{has};
 ghost use Rattle.gw_base.specs.NameLists.{is_in};
 ghost use Rattle.gw_term.specs.Merge.{merged};
-ghost use Rattle.gw_term.specs.Plain.{are_plain};
+ghost use Rattle.gw_term.specs.Plain.{AreKnown};
 ghost use Rattle.gw_table.specs.Found.{IsFound, original_of};
 ghost use Rattle.gw_table.specs.Joining.{joined_at, left_at};
 ghost use Rattle.gw_table.specs.Maps.{members_of};
@@ -22,10 +22,9 @@ use crate::merging::merge_in_place;
 use crate::originals::Write;
 use crate::place::{Place, copied, renew, serve, set_in_place};
 use crate::setting::{self, Setting, is_set};
-use gw_base::{CtxNum, Held, Key, NoMemory, Rules, Service, TermName};
+use gw_base::{CtxNum, Held, Key, NoMemory, Service, TermName};
 use gw_ctx::Context;
-use gw_desc::Descriptor;
-use gw_term::Termination;
+use gw_term::{Sending, Termination};
 use std::alloc::Global;
 use std::marker::Model;
 use std::mem;
@@ -272,16 +271,15 @@ impl Site<Held<Termination>> {
     pub(crate) fn merge_noted(
         &mut self,
         alloc: Global,
-        rules: &Rules,
-        descriptors: &[Descriptor<'_>],
+        sending: &Sending<'_, '_>,
         name: &TermName,
         writes: &[Write],
         next: usize,
     ) -> usize
-        requires { are_plain descriptors.now ≡ true }
-        ensures { WasChanged (merged rules.now descriptors.now) self.old self.new }
+        requires { AreKnown sending.now.descriptors.now sending.now.named }
+        ensures { WasChanged (merged sending.now.rules.now sending.now.descriptors.now) self.old self.new }
     {
-        merge_in_place(&mut self.place, alloc, rules, descriptors);
+        merge_in_place(&mut self.place, alloc, sending);
         self.pass_noted(name, writes, next)
     }
 }

@@ -8,5 +8,6 @@ pub mod TooLong
 pub mod KeptMerges
 pub mod KeptAudits
 pub mod Naming
+pub mod Unfilled
 pub mod Taken
 pub mod SettingLists

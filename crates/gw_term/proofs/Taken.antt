@@ -16,18 +16,19 @@ use Rattle.gw_desc.specs.declared.descriptor.Property.{Property}
 use Rattle.gw_desc.specs.declared.descriptor.StreamPart.{StreamPart}
 use Rattle.gw_desc.specs.declared.descriptor.StreamPart.TheVariants as part
 use Rattle.gw_desc.specs.declared.descriptor.Tail.{Tail}
-use Rattle.gw_reply.specs.declared.parts.FilledStream.{FilledStream}
 use Rattle.gw_term.specs.declared.record.Stream.{Stream}
 use Rattle.gw_term.specs.declared.record.Termination.{Termination}
 use Rattle.gw_term.specs.declared.streams.Merging.{Merging}
 use Rattle.gw_term.proofs.Naming.{tail_stays}
+use Rattle.gw_term.proofs.Unfilled.{unfilled}
+use Rattle.gw_term.specs.Named.{has_stream, has_tail, named_by}
 use Rattle.gw_term.specs.Places.{at_kind, put_kind, of_kinds}
 use Rattle.gw_term.specs.declared.places.PerKind.{PerKind}
 use Rattle.gw_term.specs.declared.places.PerStream.{PerStream}
-use Rattle.gw_term.specs.Merge.{Media, and_then, each, put_state, put_control, put_part, begun, unnamed, is_named_in, names_stream, media_parts, parts_in, parts_in_part, states_in, states_in_part, merged_properties, merged_stream, merged_media, with_media, merged, filled_in, filled_of, filled_by, stream_in, merged_service, merged_tail, tail_after}
+use Rattle.gw_term.specs.Merge.{Media, local_text, is_filled, and_then, each, put_state, put_control, put_part, begun, unnamed, is_named_in, names_stream, parts_in, parts_in_part, states_in, states_in_part, merged_properties, merged_stream, merged_media, with_media, merged, filled_in, filled_of, filled_by, stream_in, merged_service, merged_tail, tail_after}
 use Rattle.gw_term.specs.declared.settings.Setting.{Setting}
 use Rattle.gw_term.specs.declared.settings.Setting.TheVariants as setting
-use Rattle.gw_term.specs.Plain.{is_plain_stream, is_plain_part, is_plain_one, are_plain, setting_after, with_stream_after, with_streams_after, stream_or_none, is_tail_of, with_tail_after, with_tails_after}
+use Rattle.gw_term.specs.Plain.{has_choice, is_plain_stream, is_plain_part, is_plain_one, are_plain, setting_after, with_stream_after, with_streams_after, stream_or_none, is_tail_of, retold, with_tail, with_tail_after, with_tails_after}
 use Rattle.gw_term.specs.Settings.{Settings, nothing_set, with_setting, with_settings, set_by}
 
 abbrev P : Type 0
@@ -87,8 +88,16 @@ properties_merged ds list h =
 control_put : (p : P) (s : Stream) → is_mode p.name ≡ true → Unit {0} → (t : Stream) × (put_control p s ≡ Some t) × Unit {0}
 control_put p s h i = (record s { mode = unwrap_or (mode_set_by p) s.mode }, (rw h refl), tt)
 
+none_there : (b : Bool) → not b ≡ true → b ≡ false
+none_there true h = absurd cc
+none_there false h = refl
+
 part_put : (rules : Rules) (slot : Option ℕ) (number : ℕ) (p : StreamPart) (m : Merging) → is_plain_stream p ≡ true → m.filled ≡ false → (t : Merging) × (put_part rules slot number p m ≡ Some t) × (t.filled ≡ false)
-part_put rules slot number (part.Local text) m h i = absurd cc
+part_put rules slot number (part.Local text) m h i = (record { stream = record m.stream { local = Some (local_text rules slot number text) }; filled = is_filled slot text }, refl, by slot)
+  where
+    by : (slot : Option ℕ) → is_filled slot text ≡ false
+    by None = refl
+    by (Some s) = unfilled text (none_there (has_choice text) h)
 part_put rules slot number (part.Remote text) m h i = (record m { stream = record m.stream { remote = Some text } }, refl, i)
 part_put rules slot number (part.LocalControl properties) m h i =
     let done = each_done put_control (λ (p : P). is_mode p.name) (λ s. Unit {0}) control_put properties m.stream h tt in
@@ -272,6 +281,50 @@ put_again Signals o x s = refl
 put_again DigitMap o x s = refl
 put_again EventBuffer o x s = refl
 
+-- ---- a tail in the place of those of its kind
+
+module _ (kind : KeptKind) (tail : Tail (List ℕ)) where
+  abbrev retold_in : Settings → Settings
+  retold_in s = record s { tails = put_kind kind (option_map (λ _. tail) (at_kind kind s.tails)) s.tails }
+
+retold_one : (kind : KeptKind) (tail : Tail (List ℕ)) (x : Setting) (s : Settings) → with_setting (retold kind tail x) (retold_in kind tail s) ≡ retold_in kind tail (with_setting x s)
+retold_one kind tail (setting.Properties list) s = refl
+retold_one kind tail (setting.Stream number x) s = refl
+retold_one Events tail (setting.Tail Events x) s = refl
+retold_one Events tail (setting.Tail Signals x) s = refl
+retold_one Events tail (setting.Tail DigitMap x) s = refl
+retold_one Events tail (setting.Tail EventBuffer x) s = refl
+retold_one Signals tail (setting.Tail Events x) s = refl
+retold_one Signals tail (setting.Tail Signals x) s = refl
+retold_one Signals tail (setting.Tail DigitMap x) s = refl
+retold_one Signals tail (setting.Tail EventBuffer x) s = refl
+retold_one DigitMap tail (setting.Tail Events x) s = refl
+retold_one DigitMap tail (setting.Tail Signals x) s = refl
+retold_one DigitMap tail (setting.Tail DigitMap x) s = refl
+retold_one DigitMap tail (setting.Tail EventBuffer x) s = refl
+retold_one EventBuffer tail (setting.Tail Events x) s = refl
+retold_one EventBuffer tail (setting.Tail Signals x) s = refl
+retold_one EventBuffer tail (setting.Tail DigitMap x) s = refl
+retold_one EventBuffer tail (setting.Tail EventBuffer x) s = refl
+
+retold_all : (kind : KeptKind) (tail : Tail (List ℕ)) (xs : List Setting) (s : Settings) → with_settings (map (retold kind tail) xs) (retold_in kind tail s) ≡ retold_in kind tail (with_settings xs s)
+retold_all kind tail [] s = refl
+retold_all kind tail (x ∷ xs) s = ap (with_settings (map (retold kind tail) xs)) (retold_one kind tail x s) ∙ retold_all kind tail xs (with_setting x s)
+
+retold_none : (kind : KeptKind) (tail : Tail (List ℕ)) → retold_in kind tail nothing_set ≡ nothing_set
+retold_none Events tail = refl
+retold_none Signals tail = refl
+retold_none DigitMap tail = refl
+retold_none EventBuffer tail = refl
+
+-- where a tail of the kind is there, it is this one after it took the place of each
+pub set_retold : (kind : KeptKind) (tail : Tail (List ℕ)) (xs : List Setting) → is_some (at_kind kind (set_by xs).tails) ≡ true → set_by (map (retold kind tail) xs) ≡ with_tail kind tail (set_by xs)
+set_retold kind tail xs h = ap (with_settings (map (retold kind tail) xs)) (sym (retold_none kind tail)) ∙ retold_all kind tail xs nothing_set ∙ by (at_kind kind (set_by xs).tails) h
+  where
+    by : (o : Option (Tail (List ℕ))) → is_some o ≡ true → record (set_by xs) { tails = put_kind kind (option_map (λ _. tail) o) (set_by xs).tails } ≡ with_tail kind tail (set_by xs)
+    by (Some x) h = refl
+    by None h = absurd cc
+
 -- a tail of a kind that is not named stays in its place
 pub kind_stays : (kind : KeptKind) (ds : List Descriptor) (s : Settings) → list_any (is_kept kind) ds ≡ false → s ≡ with_tail_after kind ds s
 kind_stays kind ds s h = by kind (sym (tail_stays kind ds (at_kind kind s.tails) h))
@@ -281,6 +334,35 @@ kind_stays kind ds s h = by kind (sym (tail_stays kind ds (at_kind kind s.tails)
     by Signals e = ap (λ (o : Option (Tail (List ℕ))). record s { tails = put_kind Signals o s.tails }) e
     by DigitMap e = ap (λ (o : Option (Tail (List ℕ))). record s { tails = put_kind DigitMap o s.tails }) e
     by EventBuffer e = ap (λ (o : Option (Tail (List ℕ))). record s { tails = put_kind EventBuffer o s.tails }) e
+
+neither : (a b : Bool) → (a || b) ≡ false → (a ≡ false) × (b ≡ false)
+neither true b h = absurd cc
+neither false b h = (refl, h)
+
+-- so do all, where none is named
+pub kinds_stay : (ds : List Descriptor) (s : Settings) → has_tail (named_by ds) ≡ false → s ≡ with_tails_after ds s
+kinds_stay ds s h =
+    let c = neither _ _ h in
+    let b = neither _ _ c.0 in
+    let a = neither _ _ b.0 in
+    let first : Settings = with_tail_after Events ds s in
+    let second : Settings = with_tail_after Signals ds first in
+    let third : Settings = with_tail_after DigitMap ds second in
+    kind_stays Events ds s a.0 ∙ kind_stays Signals ds first a.1 ∙ kind_stays DigitMap ds second b.1 ∙ kind_stays EventBuffer ds third c.1
+
+-- and all streams
+pub streams_stay : (rules : Rules) (slot : Option ℕ) (ds : List Descriptor) (s : Settings) → has_stream (named_by ds) ≡ false → s ≡ with_streams_after (stream_or_none rules slot) ds s
+unfolding merged_stream
+streams_stay rules slot ds s h =
+    let c = neither _ _ h in
+    let b = neither _ _ c.0 in
+    let a = neither _ _ b.0 in
+    let t : PerStream (Option Stream) = s.streams in
+    (λ i. let streams : PerStream (Option Stream) = record { first = one 1 t.first a.0 i; second = one 2 t.second a.1 i; third = one 3 t.third b.1 i; fourth = one 4 t.fourth c.1 i } in record s { streams = streams })
+  where
+    one : (number : ℕ) (old : Option Stream) → list_any (is_named_in number) ds ≡ false → old ≡ stream_or_none rules slot number ds old
+    one number None e = rw e refl
+    one number (Some x) e = rw e refl
 
 -- ---- in the place of what was set
 

@@ -1,8 +1,9 @@
 -- Descriptors that every record takes, and of which nothing is told (own): they send no property but Mode and ServiceStates, so that
--- no list can hold too many; no Local, which might be filled; and no Audit but an empty one.
-use Rattle.std.specs.Prelude.{ℕ, ◌==◌, if◌then◌else◌, Bool, true, false, List, length, Option}
-use Rattle.std.specs.List.{flat_map, list_all}
+-- no list can hold too many; no Local with a `$`, which might be filled; and no Audit but an empty one.
+use Rattle.std.specs.Prelude.{◌≡◌, ℕ, ◌==◌, if◌then◌else◌, Bool, true, false, not, codes, List, length, Option, Some}
+use Rattle.std.specs.List.{flat_map, list_all, list_any}
 use Rattle.std.specs.Option.{option_map, unwrap_or}
+use Rattle.gw_base.specs.Bytes.{is_one_of}
 use Rattle.gw_base.specs.declared.command_words.Rules.{Rules}
 use Rattle.gw_desc.specs.Values.{is_mode, is_service_states}
 use Rattle.gw_desc.specs.declared.descriptor.Descriptor.{Descriptor}
@@ -14,16 +15,23 @@ use Rattle.gw_desc.specs.declared.descriptor.MediaPart.{MediaPart}
 use Rattle.gw_desc.specs.declared.descriptor.MediaPart.TheVariants as media
 use Rattle.gw_desc.specs.declared.descriptor.StreamPart.{StreamPart}
 use Rattle.gw_desc.specs.declared.descriptor.StreamPart.TheVariants as part
+use Rattle.gw_desc.specs.declared.descriptor.Tail.{Tail}
 use Rattle.gw_term.specs.declared.record.Stream.{Stream}
 use Rattle.gw_term.specs.declared.settings.Setting.{Setting}
 use Rattle.gw_term.specs.declared.settings.Setting.TheVariants as setting
+use Rattle.gw_term.specs.declared.named.Named.{Named}
+use Rattle.gw_term.specs.Named.{named_by}
 use Rattle.gw_term.specs.Merge.{each, parts_in, put_part, merged_stream, merged_tail, stream_in}
 use Rattle.gw_term.specs.Places.{at_number, put_number, at_kind, put_kind}
 use Rattle.gw_term.specs.Settings.{Settings}
 
--- a part of a stream: a Remote, or a LocalControl that sends modes alone
+-- a `$`, which might be filled
+abbrev pub has_choice : List ℕ → Bool
+has_choice text = list_any (is_one_of (codes "$")) text
+
+-- a part of a stream: a Local without a `$`, a Remote, or a LocalControl that sends modes alone
 abbrev pub is_plain_stream : StreamPart → Bool
-is_plain_stream (part.Local text) = false
+is_plain_stream (part.Local text) = not (has_choice text)
 is_plain_stream (part.Remote text) = true
 is_plain_stream (part.LocalControl properties) = list_all (λ p. is_mode p.name) properties
 
@@ -40,6 +48,11 @@ is_plain_one _ = true
 
 abbrev pub are_plain : List Descriptor → Bool
 are_plain descriptors = list_all is_plain_one descriptors
+
+-- descriptors that every record takes, with what they name
+pub record AreKnown (descriptors : List Descriptor) (named : Named) : Type 0 where
+  pub plain : are_plain descriptors ≡ true
+  pub known : named ≡ named_by descriptors
 
 -- ---- a merge in the place of a stream
 
@@ -73,6 +86,16 @@ abbrev pub is_tail_of : KeptKind → Setting → Bool
 is_tail_of kind (setting.Properties list) = false
 is_tail_of kind (setting.Stream number s) = false
 is_tail_of kind (setting.Tail other tail) = same_kept kind other
+
+-- a setting after a tail took the place of those of its kind
+abbrev pub retold : KeptKind → Tail (List ℕ) → Setting → Setting
+retold kind tail (setting.Properties list) = setting.Properties list
+retold kind tail (setting.Stream number s) = setting.Stream number s
+retold kind tail (setting.Tail other old) = if same_kept kind other then setting.Tail other tail else setting.Tail other old
+
+-- what was set, with this tail of a kind
+abbrev pub with_tail : KeptKind → Tail (List ℕ) → Settings → Settings
+with_tail kind tail s = record s { tails = put_kind kind (Some tail) s.tails }
 
 -- what was set, with the tail of a kind after the descriptors
 abbrev pub with_tail_after : KeptKind → List Descriptor → Settings → Settings

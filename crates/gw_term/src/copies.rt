@@ -20,6 +20,14 @@ pub(crate) fn copied_if(
     }
 }
 
+/// The block of an old text, if it is as long as a new one, and else a new block.
+pub(crate) fn block_for(alloc: Global, old: Vec<u8>, length: usize) -> Result<Vec<u8>, AllocError> {
+    if old.len() == length {
+        return Ok(old);
+    }
+    Vec::with_capacity(alloc, length)
+}
+
 /// A copy of the properties.
 pub(crate) fn copied_properties(
     alloc: Global,

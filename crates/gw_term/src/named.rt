@@ -1,7 +1,7 @@
 //! What descriptors name of a termination, found in one pass.
 
 ghost use Rattle.std.specs.Prelude.{◌≡◌, ◌≤◌, []};
-ghost use Rattle.gw_term.specs.Named.{named_by, with_descriptor, with_part, with_parts, with_place, with_set};
+ghost use Rattle.gw_term.specs.Named.{named_by, has_stream, has_tail, with_descriptor, with_part, with_parts, with_place, with_set};
 
 use crate::places::{PerKind, PerStream};
 use crate::settings::{Setting, Settings};
@@ -9,7 +9,7 @@ use gw_desc::{Descriptor, MediaPart};
 
 /// What descriptors name.
 #[derive(Clone, Copy)]
-pub(crate) struct Named {
+pub struct Named {
     /// The streams.
     pub streams: PerStream<bool>,
     /// The properties or the service state: a TerminationState is there.
@@ -79,6 +79,22 @@ impl Named {
             named.note(descriptor);
         }
         named
+    }
+
+    /// Whether a stream is named.
+    pub(crate) fn has_stream(&self) -> bool
+        ensures { result ≡ has_stream self.now }
+    {
+        let streams = &self.streams;
+        streams.first || streams.second || streams.third || streams.fourth
+    }
+
+    /// Whether a tail is named.
+    pub(crate) fn has_tail(&self) -> bool
+        ensures { result ≡ has_tail self.now }
+    {
+        let tails = &self.tails;
+        tails.events || tails.signals || tails.digit_map || tails.event_buffer
     }
 
     /// A stream or a tail that was set is named too.

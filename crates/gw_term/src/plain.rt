@@ -2,28 +2,29 @@
 
 ghost use Rattle.std.specs.Prelude.{◌≡◌, ◌≤◌, true, map, None, Some, OnOk};
 ghost use Rattle.std.specs.List.{list_all, list_any};
-ghost use Rattle.std.specs.Option.{option_map};
+ghost use Rattle.std.specs.Option.{is_some, option_map};
 ghost use Rattle.gw_desc.specs.Checks.{is_kept};
 ghost use Rattle.gw_desc.specs.Values.{is_mode, is_service_states};
 ghost use Rattle.gw_term.specs.Merge.{is_named_in, merged};
-ghost use Rattle.gw_term.specs.Places.{at_number, numbered, of_kinds};
-ghost use Rattle.gw_term.specs.Plain.{is_plain_stream, is_plain_part, is_plain_one, are_plain, stream_after, setting_after, with_stream_after, stream_or_none, with_streams_after, is_tail_of, with_tail_after, with_tails_after};
+ghost use Rattle.gw_term.specs.Named.{named_by};
+ghost use Rattle.gw_term.specs.Places.{at_number, numbered, at_kind, put_kind, of_kinds};
+ghost use Rattle.gw_term.specs.Plain.{has_choice, is_plain_stream, is_plain_part, is_plain_one, are_plain, AreKnown, stream_after, setting_after, with_stream_after, stream_or_none, with_streams_after, is_tail_of, retold, with_tail, with_tail_after, with_tails_after};
 
-use crate::copies::put;
 use crate::fault::ApplyFault;
+use crate::held::HeldTail;
 use crate::named::Named;
 use crate::places::{PerKind, PerStream};
 use crate::properties::merged_service;
 use crate::record::{Stream, Termination};
 use crate::settings::{Setting, Settings};
-use crate::streams::{Merging, Sent, begun, put_all};
-use crate::tails::put_tails;
-use gw_base::{Items, NoMemory, Rules, Span};
+use crate::streams::{Sent, begun, put_all};
+use crate::tails::kept_of;
+use gw_base::{NoMemory, Rules, Span};
 use gw_desc::{
-    Descriptor, KeptKind, MediaPart, Property, StreamPart, is_mode, is_service_states, same_kept,
+    Descriptor, KeptKind, MediaPart, Property, StreamPart, Tail, is_mode, is_service_states,
+    same_kept,
 };
 use std::alloc::{AllocError, Global};
-use std::mem;
 
 /// Whether all of them are modes.
 fn are_modes(properties: &[Property<Span<'_>>]) -> bool
@@ -43,11 +44,21 @@ fn are_services(properties: &[Property<Span<'_>>]) -> bool
         .all(|property| is_service_states(property.name.as_bytes()))
 }
 
+/// What leaves a value to the gateway.
+const CHOICE: &[u8] = b"$";
+
+/// Whether the text has a `$`, which might be filled.
+fn has_choice(text: &[u8]) -> bool
+    ensures { result ≡ has_choice text.now }
+{
+    text.iter().any(|byte| CHOICE.contains(byte))
+}
+
 fn is_plain_stream(part: &StreamPart<'_>) -> bool
     ensures { result ≡ is_plain_stream part.now }
 {
     match part {
-        StreamPart::Local(_) => false,
+        StreamPart::Local(text) => !has_choice(text.as_bytes()),
         StreamPart::Remote(_) => true,
         StreamPart::LocalControl(properties) => are_modes(properties.as_slice()),
     }
@@ -86,7 +97,7 @@ fn is_plain_one(descriptor: &Descriptor<'_>) -> bool
 }
 
 /// Whether every record takes the descriptors, and nothing is told of them: they send no property but Mode and ServiceStates, no Local
-/// and no Audit but an empty one. The work is one pass over them.
+/// with a `$`, and no Audit but an empty one. The work is one pass over them.
 pub fn are_plain(descriptors: &[Descriptor<'_>]) -> bool
     ensures { result ≡ are_plain descriptors.now }
 {
@@ -103,6 +114,38 @@ fn is_tail_of(kind: KeptKind, setting: &Setting) -> bool
     }
 }
 
+/// A setting that is a tail of this kind becomes this one, in its block where it is as long.
+fn retell_setting(
+    alloc: Global,
+    kind: KeptKind,
+    tail: &Tail<Span<'_>>,
+    setting: &mut Setting,
+) -> Result<(), AllocError>
+    ensures { OnOk result (setting.new ≡ retold kind tail.now setting.old) }
+{
+    if let Setting::Tail(other, held) = setting {
+        if same_kept(kind, *other) {
+            held.retell(alloc, tail)?;
+        }
+    }
+    Ok(())
+}
+
+/// So does each of these.
+fn retell_settings(
+    alloc: Global,
+    kind: KeptKind,
+    tail: &Tail<Span<'_>>,
+    settings: &mut [Setting],
+) -> Result<(), AllocError>
+    ensures { OnOk result (settings.new ≡ map (retold kind tail.now) settings.old) }
+{
+    for setting in settings.iter_mut() {
+        retell_setting(alloc, kind, tail, setting)?;
+    }
+    Ok(())
+}
+
 /// A stream of this number, which the descriptors name, becomes what it is after them, where it lies.
 fn merge_stream(
     alloc: Global,
@@ -114,19 +157,8 @@ fn merge_stream(
     requires last { number ≤ 4 }
     ensures { OnOk result (stream.new ≡ stream_after sent.now.rules.now sent.now.slot number sent.now.descriptors.now stream.old) }
 {
-    let none = Stream {
-        mode: stream.mode,
-        properties: Items::new(alloc),
-        local: None,
-        remote: None,
-    };
-    let mut merging = Merging {
-        stream: mem::replace(stream, none),
-        filled: false,
-    };
-    put_all(alloc, sent, number, &mut merging)?;
-    put(stream, merging.into_stream());
-    Ok(())
+    let mut filled = false;
+    put_all(alloc, sent, number, stream, &mut filled)
 }
 
 /// So does a setting, if it is a stream of this number.
@@ -195,7 +227,13 @@ impl Settings {
         ensures { OnOk result (self.new ≡ with_stream_after (stream_or_none sent.now.rules.now sent.now.slot number sent.now.descriptors.now) number self.old) }
     {
         let mut merging = begun(alloc, None)?;
-        put_all(alloc, sent, number, &mut merging)?;
+        put_all(
+            alloc,
+            sent,
+            number,
+            &mut merging.stream,
+            &mut merging.filled,
+        )?;
         self.push(Setting::Stream(number, merging.into_stream()))?;
         Ok(())
     }
@@ -243,7 +281,7 @@ impl Settings {
     }
 
     /// Each stream becomes what it is after the descriptors.
-    fn merge_streams(
+    fn merge_each_stream(
         &mut self,
         alloc: Global,
         sent: &Sent<'_, '_>,
@@ -258,6 +296,59 @@ impl Settings {
         self.merge_number(alloc, sent, 4, named.fourth)
     }
 
+    /// So does each stream, where it is known what the descriptors name.
+    #[inline]
+    fn merge_streams(
+        &mut self,
+        alloc: Global,
+        sent: &Sent<'_, '_>,
+        named: &Named,
+    ) -> Result<(), ApplyFault>
+        requires { named.now ≡ named_by sent.now.descriptors.now }
+        ensures { OnOk result (self.new ≡ with_streams_after (stream_or_none sent.now.rules.now sent.now.slot) sent.now.descriptors.now self.old) }
+    {
+        if !named.has_stream() {
+            return Ok(());
+        }
+        self.merge_each_stream(alloc, sent, &named.streams)
+    }
+
+    /// The tail of this kind, which is there, becomes this one.
+    fn retell_tail(
+        &mut self,
+        alloc: Global,
+        kind: KeptKind,
+        tail: &Tail<Span<'_>>,
+    ) -> Result<(), AllocError>
+        requires { is_some (at_kind kind self.old.tails) ≡ true }
+        ensures { OnOk result (self.new ≡ with_tail kind tail.now self.old) }
+    {
+        retell_settings(alloc, kind, tail, &mut self.list)
+    }
+
+    /// This tail of this kind is kept.
+    fn keep_tail(
+        &mut self,
+        alloc: Global,
+        kind: KeptKind,
+        tail: &Tail<Span<'_>>,
+    ) -> Result<(), AllocError>
+        ensures { OnOk result (self.new ≡ with_tail kind tail.now self.old) }
+    {
+        if self.tail(kind).is_some() {
+            return self.retell_tail(alloc, kind, tail);
+        }
+        let tail = HeldTail::of(alloc, tail)?;
+        self.push(Setting::Tail(kind, tail))
+    }
+
+    /// No tail of this kind is kept.
+    fn drop_tail(&mut self, kind: KeptKind)
+        ensures { self.new ≡ record self.old { tails = put_kind kind None self.old.tails } }
+    {
+        self.list.retain(|setting| !is_tail_of(kind, setting));
+    }
+
     /// The tail of this kind, which the descriptors name, becomes what it is after them: the last of that kind tells it alone. Not
     /// inlined, as that of a stream.
     #[inline(never)]
@@ -270,13 +361,13 @@ impl Settings {
         requires { list_any (is_kept kind) descriptors.now ≡ true }
         ensures { OnOk result (self.new ≡ with_tail_after kind descriptors.now self.old) }
     {
-        let mut tail = None;
-        put_tails(alloc, kind, descriptors, &mut tail)?;
-        self.list.retain(|setting| !is_tail_of(kind, setting));
-        if let Some(tail) = tail {
-            self.push(Setting::Tail(kind, tail))?;
+        match kept_of(kind, descriptors) {
+            Some(tail) => self.keep_tail(alloc, kind, tail),
+            None => {
+                self.drop_tail(kind);
+                Ok(())
+            }
         }
-        Ok(())
     }
 
     /// The tail of this kind becomes what it is after the descriptors.
@@ -298,7 +389,7 @@ impl Settings {
     }
 
     /// Each tail becomes what it is after the descriptors.
-    fn merge_kinds(
+    fn merge_each_kind(
         &mut self,
         alloc: Global,
         named: &PerKind<bool>,
@@ -316,6 +407,49 @@ impl Settings {
             named.event_buffer,
             descriptors,
         )
+    }
+
+    /// So does each tail, where it is known what the descriptors name.
+    #[inline]
+    fn merge_kinds(
+        &mut self,
+        alloc: Global,
+        named: &Named,
+        descriptors: &[Descriptor<'_>],
+    ) -> Result<(), AllocError>
+        requires { named.now ≡ named_by descriptors.now }
+        ensures { OnOk result (self.new ≡ with_tails_after descriptors.now self.old) }
+    {
+        if !named.has_tail() {
+            return Ok(());
+        }
+        self.merge_each_kind(alloc, &named.tails, descriptors)
+    }
+}
+
+/// Descriptors that are merged into many records, under the gateway's rules, with what they name, which is found once for all of them.
+#[derive(Clone, Copy)]
+pub struct Sending<'a, 'b> {
+    /// The rules.
+    pub rules: &'a Rules,
+    /// The descriptors.
+    pub descriptors: &'a [Descriptor<'b>],
+    /// What they name.
+    pub named: Named,
+}
+
+impl<'a, 'b> Sending<'a, 'b> {
+    /// The descriptors with what they name. The work is one pass over them.
+    pub fn new(rules: &'a Rules, descriptors: &'a [Descriptor<'b>]) -> Sending<'a, 'b>
+        ensures rules { result.rules.now ≡ rules.now }
+        ensures descriptors { result.descriptors.now ≡ descriptors.now }
+        ensures named { result.named ≡ named_by descriptors.now }
+    {
+        Sending {
+            rules,
+            descriptors,
+            named: Named::by(descriptors),
+        }
     }
 }
 
@@ -335,20 +469,34 @@ impl Termination {
         requires { are_plain descriptors.now ≡ true }
         ensures { OnOk result (merged rules.now descriptors.now self.old ≡ Some self.new) }
     {
-        let named = Named::by(descriptors);
+        self.merge_sending(alloc, &Sending::new(rules, descriptors))
+    }
+
+    /// The same, where what the descriptors name is known.
+    ///
+    /// # Errors
+    ///
+    /// Want of memory. Nothing is known then of what is kept of the termination.
+    pub fn merge_sending(
+        &mut self,
+        alloc: Global,
+        sending: &Sending<'_, '_>,
+    ) -> Result<(), NoMemory>
+        requires { AreKnown sending.now.descriptors.now sending.now.named }
+        ensures { OnOk result (merged sending.now.rules.now sending.now.descriptors.now self.old ≡ Some self.new) }
+    {
+        let named = &sending.named;
+        let descriptors = sending.descriptors;
         let sent = Sent {
-            rules,
+            rules: sending.rules,
             slot: self.slot,
             descriptors,
         };
         let settings = &mut self.settings;
-        if settings
-            .merge_streams(alloc, &sent, &named.streams)
-            .is_err()
-        {
+        if settings.merge_streams(alloc, &sent, named).is_err() {
             return Err(NoMemory);
         }
-        settings.merge_kinds(alloc, &named.tails, descriptors)?;
+        settings.merge_kinds(alloc, named, descriptors)?;
         self.service = merged_service(named.states, descriptors, self.service);
         Ok(())
     }

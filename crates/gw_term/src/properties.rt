@@ -194,6 +194,7 @@ fn service_by(descriptors: &[Descriptor<'_>], old: Service) -> Service
 }
 
 /// The service state after the descriptors; whether a TerminationState is among these is known.
+#[inline]
 #[tactic(auto, using(crate::proofs::Naming::no_states), unfolding(crate::specs::Merge::merged_service))]
 pub(crate) fn merged_service(
     is_named: bool,

@@ -113,10 +113,11 @@ impl Settings {
         self.list.as_slice()
     }
 
-    /// This is set too.
+    /// This is set too. Their block grows to what they take, and no further.
     pub(crate) fn push(&mut self, setting: Setting) -> Result<(), AllocError>
         ensures { OnOk result (self.new ≡ with_setting setting self.old) }
     {
+        self.list.reserve_exact(1)?;
         self.list.push(setting)?;
         Ok(())
     }

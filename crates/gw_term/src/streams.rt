@@ -1,6 +1,6 @@
 //! Streams: what the parts of a Media do to each.
 
-ghost use Rattle.std.specs.Prelude.{◌≡◌, ◌≤◌, IfOk, OnOk, None, true};
+ghost use Rattle.std.specs.Prelude.{◌≡◌, ◌≤◌, IfOk, OnOk, None, Some, true};
 ghost use Rattle.std.specs.Option.{is_some, option_copied};
 ghost use Rattle.gw_term.specs.Named.{noted};
 ghost use Rattle.gw_desc.specs.declared.descriptor.StreamPart.TheVariants.{Local};
@@ -9,7 +9,7 @@ ghost use Rattle.gw_term.specs.Merge.{put_control, local_text, is_filled, put_pa
 ghost use Rattle.gw_term.specs.Applies.{Becomes, IsStreamMerged};
 ghost use Rattle.gw_term.specs.Places.{at_number, put_number};
 
-use crate::copies::{copied_stream, put};
+use crate::copies::{block_for, copied_stream, put};
 use crate::fault::ApplyFault;
 use crate::properties::{media_parts, put_property};
 use crate::record::Stream;
@@ -18,7 +18,7 @@ use gw_base::{Items, NoMemory, Rules, Span};
 use gw_desc::{
     Descriptor, MediaPart, Mode, Property, StreamPart, fill_local, is_mode, mode_set_by,
 };
-use std::alloc::Global;
+use std::alloc::{AllocError, Global};
 
 /// A stream while descriptors are merged into it.
 pub(crate) struct Merging {
@@ -91,18 +91,36 @@ fn put_local(
     sent: &Sent<'_, '_>,
     number: u8,
     text: &[u8],
-    merging: &mut Merging,
+    stream: &mut Stream,
+    filled: &mut bool,
 ) -> Result<(), ApplyFault>
     requires first { 1 ≤ number }
     requires last { number ≤ 4 }
-    ensures { Becomes result merging.new (put_part sent.now.rules.now sent.now.slot number (Local text.now) merging.old) }
+    ensures { Becomes result (record { stream = stream.new; filled = filled.new }) (put_part sent.now.rules.now sent.now.slot number (Local text.now) (record { stream = stream.old; filled = filled.old })) }
 {
-    let (local, filled) = match sent.slot {
-        Some(slot) => fill_local(alloc, text, &sent.rules.media, slot, number)?,
-        None => (Vec::from_slice(alloc, text)?, false),
+    let Some(slot) = sent.slot else {
+        put_text(alloc, text, &mut stream.local)?;
+        *filled = false;
+        return Ok(());
     };
-    put(&mut merging.stream.local, Some(Items::from(local)));
-    merging.filled = filled;
+    let (local, is_filled) = fill_local(alloc, text, &sent.rules.media, slot, number)?;
+    put(&mut stream.local, Some(Items::from(local)));
+    *filled = is_filled;
+    Ok(())
+}
+
+/// The text takes the place of the one there, in its block where it is as long.
+fn put_text(alloc: Global, text: &[u8], place: &mut Option<Items<u8>>) -> Result<(), AllocError>
+    ensures { OnOk result (place.new ≡ Some text.now) }
+{
+    let old = match place.take() {
+        Some(old) => old.into_vec(),
+        None => Vec::new(alloc),
+    };
+    let mut texts = block_for(alloc, old, text.len())?;
+    texts.clear();
+    texts.extend_from_slice(text)?;
+    *place = Some(Items::from(texts));
     Ok(())
 }
 
@@ -112,21 +130,21 @@ fn put_part(
     sent: &Sent<'_, '_>,
     number: u8,
     part: &StreamPart<'_>,
-    merging: &mut Merging,
+    stream: &mut Stream,
+    filled: &mut bool,
 ) -> Result<(), ApplyFault>
     requires first { 1 ≤ number }
     requires last { number ≤ 4 }
-    ensures { Becomes result merging.new (put_part sent.now.rules.now sent.now.slot number part.now merging.old) }
+    ensures { Becomes result (record { stream = stream.new; filled = filled.new }) (put_part sent.now.rules.now sent.now.slot number part.now (record { stream = stream.old; filled = filled.old })) }
 {
     match part {
-        StreamPart::Local(text) => put_local(alloc, sent, number, text.as_bytes(), merging),
+        StreamPart::Local(text) => put_local(alloc, sent, number, text.as_bytes(), stream, filled),
         StreamPart::Remote(text) => {
-            let remote = Items::from_slice(alloc, text.as_bytes())?;
-            put(&mut merging.stream.remote, Some(remote));
+            put_text(alloc, text.as_bytes(), &mut stream.remote)?;
             Ok(())
         }
         StreamPart::LocalControl(properties) => {
-            put_controls(alloc, properties.as_slice(), &mut merging.stream)
+            put_controls(alloc, properties.as_slice(), stream)
         }
     }
 }
@@ -136,14 +154,15 @@ fn put_parts(
     sent: &Sent<'_, '_>,
     number: u8,
     parts: &[StreamPart<'_>],
-    merging: &mut Merging,
+    stream: &mut Stream,
+    filled: &mut bool,
 ) -> Result<(), ApplyFault>
     requires first { 1 ≤ number }
     requires last { number ≤ 4 }
-    ensures { Becomes result merging.new (each (put_part sent.now.rules.now sent.now.slot number) parts.now merging.old) }
+    ensures { Becomes result (record { stream = stream.new; filled = filled.new }) (each (put_part sent.now.rules.now sent.now.slot number) parts.now (record { stream = stream.old; filled = filled.old })) }
 {
     for part in parts {
-        put_part(alloc, sent, number, part, merging)?;
+        put_part(alloc, sent, number, part, stream, filled)?;
     }
     Ok(())
 }
@@ -154,16 +173,17 @@ fn put_part_of(
     sent: &Sent<'_, '_>,
     number: u8,
     part: &MediaPart<'_>,
-    merging: &mut Merging,
+    stream: &mut Stream,
+    filled: &mut bool,
 ) -> Result<(), ApplyFault>
     requires first { 1 ≤ number }
     requires last { number ≤ 4 }
-    ensures { Becomes result merging.new (each (put_part sent.now.rules.now sent.now.slot number) (parts_in_part number part.now) merging.old) }
+    ensures { Becomes result (record { stream = stream.new; filled = filled.new }) (each (put_part sent.now.rules.now sent.now.slot number) (parts_in_part number part.now) (record { stream = stream.old; filled = filled.old })) }
 {
     match part {
-        MediaPart::Outside(p) if number == 1 => put_part(alloc, sent, number, p, merging),
+        MediaPart::Outside(p) if number == 1 => put_part(alloc, sent, number, p, stream, filled),
         MediaPart::Stream(other, parts) if *other == u16::from(number) => {
-            put_parts(alloc, sent, number, parts.as_slice(), merging)
+            put_parts(alloc, sent, number, parts.as_slice(), stream, filled)
         }
         _ => Ok(()),
     }
@@ -174,14 +194,15 @@ fn put_media(
     sent: &Sent<'_, '_>,
     number: u8,
     parts: &[MediaPart<'_>],
-    merging: &mut Merging,
+    stream: &mut Stream,
+    filled: &mut bool,
 ) -> Result<(), ApplyFault>
     requires first { 1 ≤ number }
     requires last { number ≤ 4 }
-    ensures { Becomes result merging.new (each (put_part sent.now.rules.now sent.now.slot number) (flat_map (parts_in_part number) parts.now) merging.old) }
+    ensures { Becomes result (record { stream = stream.new; filled = filled.new }) (each (put_part sent.now.rules.now sent.now.slot number) (flat_map (parts_in_part number) parts.now) (record { stream = stream.old; filled = filled.old })) }
 {
     for part in parts {
-        put_part_of(alloc, sent, number, part, merging)?;
+        put_part_of(alloc, sent, number, part, stream, filled)?;
     }
     Ok(())
 }
@@ -190,14 +211,15 @@ pub(crate) fn put_all(
     alloc: Global,
     sent: &Sent<'_, '_>,
     number: u8,
-    merging: &mut Merging,
+    stream: &mut Stream,
+    filled: &mut bool,
 ) -> Result<(), ApplyFault>
     requires first { 1 ≤ number }
     requires last { number ≤ 4 }
-    ensures { Becomes result merging.new (each (put_part sent.now.rules.now sent.now.slot number) (flat_map (parts_in number) sent.now.descriptors.now) merging.old) }
+    ensures { Becomes result (record { stream = stream.new; filled = filled.new }) (each (put_part sent.now.rules.now sent.now.slot number) (flat_map (parts_in number) sent.now.descriptors.now) (record { stream = stream.old; filled = filled.old })) }
 {
     for descriptor in sent.descriptors {
-        put_media(alloc, sent, number, media_parts(descriptor), merging)?;
+        put_media(alloc, sent, number, media_parts(descriptor), stream, filled)?;
     }
     Ok(())
 }
@@ -239,7 +261,13 @@ fn merge_there(
     ensures rest { OnOk result (new.new ≡ record new.old { streams = put_number number (at_number number new.new.streams) new.old.streams }) }
 {
     let mut merging = begun(alloc, old.stream(number))?;
-    put_all(alloc, sent, number, &mut merging)?;
+    put_all(
+        alloc,
+        sent,
+        number,
+        &mut merging.stream,
+        &mut merging.filled,
+    )?;
     let filled = merging.filled;
     new.push(Setting::Stream(number, merging.into_stream()))?;
     Ok(filled)

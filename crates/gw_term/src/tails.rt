@@ -3,7 +3,7 @@
 ghost use Rattle.std.specs.Prelude.{◌≡◌, bytes_eq, codes, IfOk, OnOk, None};
 ghost use Rattle.gw_text.specs.SpaceScan.{skip};
 ghost use Rattle.std.specs.List.{list_any};
-ghost use Rattle.std.specs.Option.{is_some};
+ghost use Rattle.std.specs.Option.{is_some, option_copied};
 ghost use Rattle.gw_term.specs.Named.{noted};
 ghost use Rattle.gw_desc.specs.Checks.{is_kept};
 ghost use Rattle.gw_term.specs.Places.{at_kind, put_kind, of_kinds};
@@ -57,6 +57,44 @@ fn kept_tail(alloc: Global, tail: &Tail<Span<'_>>) -> Result<Option<HeldTail>, A
     Ok(Some(HeldTail::of(alloc, tail)?))
 }
 
+/// The tail, if it is kept.
+fn if_kept<'a, 'b>(tail: &'b Tail<Span<'a>>) -> Option<&'b Tail<Span<'a>>>
+    ensures { option_copied result ≡ kept_tail tail.now }
+{
+    if !tail.equals && is_blank_group(&tail.group) {
+        return None;
+    }
+    Some(tail)
+}
+
+/// The tail that is kept after a descriptor, where it lies.
+fn kept_after<'a, 'b>(
+    kind: KeptKind,
+    descriptor: &'b Descriptor<'a>,
+    kept: Option<&'b Tail<Span<'a>>>,
+) -> Option<&'b Tail<Span<'a>>>
+    ensures { option_copied result ≡ tail_after kind descriptor.now (option_copied kept.entry) }
+{
+    match descriptor {
+        Descriptor::Keep(other, sent) if same_kept(kind, *other) => if_kept(sent),
+        _ => kept,
+    }
+}
+
+/// The tail of a kind that descriptors keep, where it lies; none where they keep none.
+pub(crate) fn kept_of<'a, 'b>(
+    kind: KeptKind,
+    descriptors: &'b [Descriptor<'a>],
+) -> Option<&'b Tail<Span<'a>>>
+    ensures { option_copied result ≡ merged_tail kind descriptors.now None }
+{
+    let mut kept = None;
+    for descriptor in descriptors {
+        kept = kept_after(kind, descriptor, kept);
+    }
+    kept
+}
+
 /// The tail after a descriptor.
 fn put_tail(
     alloc: Global,
@@ -75,7 +113,7 @@ fn put_tail(
 }
 
 /// The tail after descriptors.
-pub(crate) fn put_tails(
+fn put_tails(
     alloc: Global,
     kind: KeptKind,
     descriptors: &[Descriptor<'_>],
