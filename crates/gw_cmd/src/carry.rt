@@ -305,7 +305,7 @@ pub fn command_told(
 /// and of an Add, of all names, and its matches. With `W-` an AuditValue, a Modify without descriptors and an Add without them into a
 /// full context cost that pass up to the first match, since each target stays as it is; in an action for each context they do so where
 /// the draft is of whole tables. A ServiceChange of what matches in the null context looks nothing up, and with `W-` it names nothing; nor
-/// does a Modify of it that sends no property but Mode and ServiceStates, no Local and no Audit but an
+/// does a Modify of it that sends no property but Mode and ServiceStates, no Local with a `$` and no Audit but an
 /// empty one.
 ///
 /// The caller knows that the tables are sound, that the draft has the command's keys, and that no termination has the name of

@@ -47,17 +47,7 @@ fn is_blank_group(group: &Option<Span<'_>>) -> bool
     }
 }
 
-/// What is kept of a tail: nothing of one without `=` that has no group, or a blank one.
-fn kept_tail(alloc: Global, tail: &Tail<Span<'_>>) -> Result<Option<HeldTail>, AllocError>
-    ensures { IfOk result (λ kept. kept ≡ kept_tail tail.now) }
-{
-    if !tail.equals && is_blank_group(&tail.group) {
-        return Ok(None);
-    }
-    Ok(Some(HeldTail::of(alloc, tail)?))
-}
-
-/// The tail, if it is kept.
+/// The tail, if it is kept: none without `=` that has no group, or a blank one.
 fn if_kept<'a, 'b>(tail: &'b Tail<Span<'a>>) -> Option<&'b Tail<Span<'a>>>
     ensures { option_copied result ≡ kept_tail tail.now }
 {
@@ -65,6 +55,16 @@ fn if_kept<'a, 'b>(tail: &'b Tail<Span<'a>>) -> Option<&'b Tail<Span<'a>>>
         return None;
     }
     Some(tail)
+}
+
+/// What is kept of a tail.
+fn kept_tail(alloc: Global, tail: &Tail<Span<'_>>) -> Result<Option<HeldTail>, AllocError>
+    ensures { IfOk result (λ kept. kept ≡ kept_tail tail.now) }
+{
+    match if_kept(tail) {
+        Some(tail) => Ok(Some(HeldTail::of(alloc, tail)?)),
+        None => Ok(None),
+    }
 }
 
 /// The tail that is kept after a descriptor, where it lies.
