@@ -248,8 +248,12 @@ def wildcards():
     yield wild("2,000 contexts, `Context=*{AuditValue=*}`", two, b"C=*{AV=*{AT{}}}", 8, 4_000, b"Error=533")
     yield wild("2,000 contexts, `Context=*` with a Priority", two, b"C=*{PR=3}", 8, 2_000, b"Error=533")
     yield wild("2,000 contexts, one `Context=*` with a Priority", two, b"C=*{PR=3}", 1, 2_000, b"Error=533")
+    yield wild("2,000 contexts, one `Context=*` with an Emergency", two, b"C=*{EG}", 1, 2_000, b"Error=533")
     yield wild("700 contexts, `Context=*` with a Priority", contexts(700), b"C=*{PR=3}", 8, 700, b"Error=533")
     yield wild("2,000 contexts, `Context=*` with a Priority and an audit of none", two, b"C=*{PR=3,O-AV=X*{AT{}}}", 8, 2_000, b"Error=533")
+    yield wild("2,000 contexts, `Context=*` with a Priority and an audit of a wildcard that matches none", two, b"C=*{PR=3,O-AV=X/*{AT{}}}", 8, 2_000, b"Error=533")
+    yield wild("2,000 contexts, `Context=*` with a Priority and a Subtract of a wildcard that matches none", two, b"C=*{PR=3,O-S=X/*}", 8, 2_000, b"Error=533")
+    yield wild("2,000 contexts, `Context=*` with a Priority, an Emergency and an audit of none", two, b"C=*{PR=3,EG,O-AV=X*{AT{}}}", 8, 2_000, b"Error=533")
     yield Kind("2,000 contexts, `Context=*` with another Priority each time", two, asked([b"C=*{PR=%d}" % (n + 1) for n in range(8)]), b"Error=533", 16_000, 4_000)
     yield Kind("2,000 contexts, `Context=*` with another Priority each time and an Emergency", two,
                asked([b"C=*{PR=%d,EG}" % (n + 1) for n in range(8)]), b"Error=533", 16_000, 4_000)

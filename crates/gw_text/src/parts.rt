@@ -76,6 +76,7 @@ impl<'a> Parse<'a> for Span<'a> {
 }
 
 /// The part goes behind those before it.
+#[inline(always)]
 fn put<T: Drop>(parts: &mut Vec<T>, part: T) -> Result<(), AllocError>
     ensures { OnOk result (parts.new.items ≡ parts.old.items ++ part ∷ []) }
 {
@@ -84,6 +85,7 @@ fn put<T: Drop>(parts: &mut Vec<T>, part: T) -> Result<(), AllocError>
 }
 
 /// The part goes last, and no room is left behind it: most lists have one part, which then takes a block of its own size.
+#[inline(always)]
 fn put_last<T: Drop>(parts: &mut Vec<T>, part: T) -> Result<(), AllocError>
     ensures { OnOk result (parts.new.items ≡ parts.old.items ++ part ∷ []) }
 {
