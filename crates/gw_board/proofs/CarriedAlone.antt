@@ -18,7 +18,7 @@ use Rattle.gw_board.specs.Boards.{Seen, Handed, core_of, asked_of, with_open, wi
 use Rattle.gw_board.specs.Carried.{Asked, keys_of, done, carried}
 use Rattle.gw_board.specs.Core.{Standing, Pending, Opened, Closed, Place, Job, pending, open_with, closed_with, meets_at, meets_any, MayOpen}
 use Rattle.gw_board.specs.Fitting.{Each, out, Stands, Beside, Stand}
-use Rattle.gw_board.specs.Journal.{Original, led, undone}
+use Rattle.gw_board.specs.Journal.{Original, led as led_to, undone}
 use Rattle.gw_board.specs.OpenJobs.{IsSameBurst}
 use Rattle.gw_board.specs.Results.{is_open, carried_on, NothingIsOpen}
 use Rattle.gw_board.specs.Texts.{Text}
@@ -103,9 +103,9 @@ with_alone b i a front last = record b {
 
 -- ---- the original that is gone on with
 
-pub took_back : (before after : List Original) (last : Original) → TakesLast before after last → (m : Maps) → undone after (led last m) ≡ undone before m
+pub took_back : (before after : List Original) (last : Original) → TakesLast before after last → (m : Maps) → undone after (led_to last m) ≡ undone before m
 took_back before after last (Off e) m = sym (undone-append after (last ∷ []) m) ∙ ap (λ (l : List Original). undone l m) (sym e)
-took_back before after last (Fresh e f) m = ap (λ (o : Original). undone after (led o m)) f ∙ ap (λ (l : List Original). undone l m) e
+took_back before after last (Fresh e f) m = ap (λ (o : Original). undone after (led_to o m)) f ∙ ap (λ (l : List Original). undone l m) e
 
 pub took_ready : (before after : List Original) (last : Original) → TakesLast before after last → (s : Stored) → Each (λ o. AreReady o.keys s) before → Each (λ o. AreReady o.keys s) after × AreReady last.keys s
 took_ready before after last (Off e) s h =
@@ -192,7 +192,7 @@ module _ (b : Seen) (w : IsOnTheWay b) (none : NothingIsOpen (core_of b)) (i : �
     whole_after = sym (cut_none (out ended.places) way.fits.whole (out_of_none ended.places none_ended)) ∙ sym way.fits.maps ∙ same_outcome
 
     -- whichever keys changed: the last original leads to maps that those before it lead on from
-    pub alone_way : (front : List Original) (last : Original) (m : Maps) → led last o.maps ≡ m → undone front m ≡ b.begun → IsOnTheWay (with_alone b i a front last)
+    pub alone_way : (front : List Original) (last : Original) (m : Maps) → led_to last o.maps ≡ m → undone front m ≡ b.begun → IsOnTheWay (with_alone b i a front last)
     alone_way front last m is led =
         let c : Seen = with_alone b i a front last in
         record {
@@ -204,7 +204,7 @@ module _ (b : Seen) (w : IsOnTheWay b) (none : NothingIsOpen (core_of b)) (i : �
               ∙ ap (λ (l : List Place). carried b.manner (asked_of l) b.begun) same_places;
           back =
               undone-append front (last ∷ []) way.fits.whole
-              ∙ ap (λ (n : Maps). undone front (led last n)) whole_after
+              ∙ ap (λ (n : Maps). undone front (led_to last n)) whole_after
               ∙ ap (undone front) is
               ∙ led;
         }

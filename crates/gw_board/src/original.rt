@@ -24,10 +24,14 @@ pub(crate) struct Original {
 }
 
 impl Model for Original {
+    ghost use Rattle.std.specs.Coded.{codes};
+    ghost use Rattle.gw_table.specs.Maps.{coded_maps};
     ghost use Rattle.gw_board.specs.Journal.{Original as Way};
     ghost use Rattle.gw_board.specs.Stood.{stood_original};
 
     ghost Value = { Way };
+
+    ghost coded = { Prim.hlevel (codes, coded_maps) };
 
     ghost view = { λ a. stood_original a.stood };
 }
