@@ -62,10 +62,10 @@ def config(folder, terms, slots):
     return str(path)
 
 
-def contexts_and(command, share):
-    """Contexts in the first half of a datagram; then a command for all of them, as often as there is room."""
+def contexts_and(commands, share):
+    """Contexts in the first half of a datagram; then an action for all of them for each of the commands, as often as there is room."""
     made = listed([b"Context=${Add=$}"] * (LONGEST // share // 2 // 17))
-    each = in_context(b"*", [command])
+    each = listed(in_context(b"*", [command]) for command in commands)
     room = LONGEST // share - len(transaction(2, made))
     return transaction(2, listed([made] + [each] * (room // (len(each) + 1))))
 
@@ -114,8 +114,10 @@ def nothing():
 
 LINES = [
     Line("contexts of one, `Context=*{AuditValue=*{Audit{}}}`", 0, 4_096, nothing,
-         lambda share: [contexts_and(b"AuditValue=*{Audit{}}", share)], 6.5, 16),
-    Line("contexts of one, `Context=*{Modify=*}`", 0, 4_096, nothing, lambda share: [contexts_and(b"Modify=*", share)], 8.7, 16),
+         lambda share: [contexts_and([b"AuditValue=*{Audit{}}"], share)], 6.5, 16),
+    Line("contexts of one, `Context=*{Modify=*}`", 0, 4_096, nothing, lambda share: [contexts_and([b"Modify=*"], share)], 8.7, 16),
+    Line("contexts of one, `Context=*` with another Priority each time", 0, 4_096, nothing,
+         lambda share: [contexts_and([b"Priority=1", b"Priority=2"], share)], 1.0, 16),
     Line("400 terminations, `Modify=*` under `-`", 400, 0, nothing, lambda share: [filled(2, b"-", b"Modify=*", share)], 3.5, 16),
     Line("400 terminations, `O-Add=*` in a `$` context", 400, 0, nothing, lambda share: [filled(2, b"$", b"O-Add=*", share)], 3.5, 16),
     Line("4 terminations, `Modify=*` under `-`, 256 datagrams", 4, 0, nothing,
