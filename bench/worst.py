@@ -230,6 +230,8 @@ def wildcards():
     yield wild("4,000 terminations, `Modify=*` with a Local", [], b"C=-{MF=*{M{L{v=0}}}}", 8, 4_000, b"Error=533")
     yield wild("4,000 terminations, `Modify=*` with a Remote", [], b"C=-{MF=*{M{R{v=0}}}}", 8, 4_000, b"Error=533")
     yield wild("4,000 terminations, `Modify=*` with Events", [], b"C=-{MF=*{E=1{al/on}}}", 8, 4_000, b"Error=533")
+    yield wild("4,000 terminations, one `Modify=*` with a Remote", [], b"C=-{MF=*{M{R{v=0}}}}", 1, 4_000, b"Error=533")
+    yield wild("4,000 terminations, one `Modify=*` with Events", [], b"C=-{MF=*{E=1{al/on}}}", 1, 4_000, b"Error=533")
     yield wild("98 KB each of 64, `Modify=*` of a property", strangers.members(), b"C=1{MF=*{M{O{a=1}}}}", 64, 64, terms=64)
     yield wild("`Modify=*` with a LocalControl in a context of 64", full, b"C=1{MF=*%s}" % MODE, 256, 64)
     yield wild("4,000 terminations, `W-AuditValue=*`", [], b"C=-{W-AV=*{AT{}}}", 8, 4_000)
