@@ -9,5 +9,7 @@ pub mod KeptMerges
 pub mod KeptAudits
 pub mod Naming
 pub mod Unfilled
-pub mod Taken
 pub mod SettingLists
+pub mod Taken
+pub mod MadeThere
+pub mod RoomTaken

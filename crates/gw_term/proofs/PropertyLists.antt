@@ -324,7 +324,7 @@ after_puts (p ∷ ps) list new h =
 
 -- ---- where a list would be too long
 
-length_lower : (list : List P) → length (lower_names list) ≡ length list
+pub length_lower : (list : List P) → length (lower_names list) ≡ length list
 length_lower [] = refl
 length_lower (p ∷ ps) = ap suc (length_lower ps)
 

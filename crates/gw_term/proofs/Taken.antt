@@ -1,10 +1,9 @@
--- Every record takes plain descriptors, and nothing is filled.
+-- Where nothing is told of descriptors, nothing is filled; and what a merge in the place of a record comes to.
 use Rattle.std.proofs.Common.{◌≡◌, ℕ, zero, suc, ◌≤◌, ◌==◌, eqb-true, arith, Bool, true, false, not, List, [], ◌∷◌, ◌++◌, map, Option, Some, None, is_some, refl, ap, sym, ◌∙◌, subst}
 use Rattle.std.specs.Prelude.{◌&&◌, ◌||◌, if◌then◌else◌}
 use Rattle.std.specs.List.{list_all, list_any, filter, flat_map}
 use Rattle.std.specs.Option.{option_map, unwrap_or}
 use Rattle.gw_base.specs.declared.command_words.Rules.{Rules}
-use Rattle.gw_desc.specs.Values.{is_mode, is_service_states, mode_set_by}
 use Rattle.gw_desc.specs.Checks.{is_kept, same_kept}
 use Rattle.gw_desc.specs.declared.descriptor.Descriptor.{Descriptor}
 use Rattle.gw_desc.specs.declared.descriptor.Descriptor.TheVariants as descriptor
@@ -19,16 +18,18 @@ use Rattle.gw_desc.specs.declared.descriptor.Tail.{Tail}
 use Rattle.gw_term.specs.declared.record.Stream.{Stream}
 use Rattle.gw_term.specs.declared.record.Termination.{Termination}
 use Rattle.gw_term.specs.declared.streams.Merging.{Merging}
+use Rattle.gw_term.proofs.ByField.{parts_are}
+use Rattle.gw_term.proofs.Made.{first_then}
 use Rattle.gw_term.proofs.Naming.{tail_stays}
 use Rattle.gw_term.proofs.Unfilled.{unfilled}
 use Rattle.gw_term.specs.Named.{has_stream, has_tail, named_by}
 use Rattle.gw_term.specs.Places.{at_kind, put_kind, of_kinds}
 use Rattle.gw_term.specs.declared.places.PerKind.{PerKind}
 use Rattle.gw_term.specs.declared.places.PerStream.{PerStream}
-use Rattle.gw_term.specs.Merge.{Media, local_text, is_filled, and_then, each, put_state, put_control, put_part, begun, unnamed, is_named_in, names_stream, parts_in, parts_in_part, states_in, states_in_part, merged_properties, merged_stream, merged_media, with_media, merged, filled_in, filled_of, filled_by, stream_in, merged_service, merged_tail, tail_after}
+use Rattle.gw_term.specs.Merge.{Media, local_text, is_filled, and_then, each, put_control, put_part, begun, unnamed, is_named_in, names_stream, parts_in, parts_in_part, merged_properties, merged_stream, merged_media, with_media, merged, filled_in, filled_of, filled_by, stream_in, merged_service, merged_tail, tail_after}
 use Rattle.gw_term.specs.declared.settings.Setting.{Setting}
 use Rattle.gw_term.specs.declared.settings.Setting.TheVariants as setting
-use Rattle.gw_term.specs.Plain.{has_choice, is_plain_stream, is_plain_part, is_plain_one, are_plain, setting_after, with_stream_after, with_streams_after, stream_or_none, is_tail_of, retold, with_tail, with_tail_after, with_tails_after}
+use Rattle.gw_term.specs.Plain.{has_choice, is_plain_stream, is_plain_part, is_plain_one, are_plain, setting_after, with_stream_after, with_streams_after, stream_or_none, AreMade, with_properties, is_tail_of, retold, with_tail, with_tail_after, with_tails_after}
 use Rattle.gw_term.specs.Settings.{Settings, nothing_set, with_setting, with_settings, set_by}
 
 abbrev P : Type 0
@@ -50,58 +51,39 @@ all_in : {X Y : Type 0} (p : X → Bool) (q : Y → Bool) (f : X → List Y) →
 all_in p q f each [] h = refl
 all_in p q f each (x ∷ xs) h = let a = both_of (p x) (list_all p xs) h in all_both q (f x) (flat_map f xs) (each x a.0) (all_in p q f each xs a.1)
 
--- steps that can each be done, and keep to something, can be done one after another
-module _ {S X : Type 0} (step : X → S → Option S) (ok : X → Bool) (I : S → Type 0) (one : (x : X) (s : S) → ok x ≡ true → I s → (t : S) × (step x s ≡ Some t) × I t) where
-  each_done : (xs : List X) (s : S) → list_all ok xs ≡ true → I s → (t : S) × (each step xs s ≡ Some t) × I t
-  each_done [] s h i = (s, refl, i)
-  each_done (x ∷ xs) s h i =
+-- where each step keeps to something, all of them do
+module _ {S X : Type 0} (step : X → S → Option S) (ok : X → Bool) (I : S → Type 0) (one : (x : X) (s t : S) → ok x ≡ true → I s → step x s ≡ Some t → I t) where
+  all_keep : (xs : List X) (s t : S) → list_all ok xs ≡ true → I s → each step xs s ≡ Some t → I t
+  all_keep [] s t h i e = let same : s ≡ t = cc in subst I same i
+  all_keep (x ∷ xs) s t h i e =
       let a = both_of (ok x) (list_all ok xs) h in
-      let now = one x s a.0 i in
-      let later = each_done xs now.0 a.1 now.2 in
-      (later.0, ap (λ (o : Option S). and_then o (each step xs)) now.1 ∙ later.1, later.2)
-
--- ---- the termination's list
-
-state_put : (was : List P) (p : P) (list : List P) → is_service_states p.name ≡ true → list ≡ was → (t : List P) × (put_state p list ≡ Some t) × (t ≡ was)
-state_put was p list h i = (list, (rw h refl), i)
-
-plain_states : (m : MediaPart) → is_plain_part m ≡ true → list_all (λ (p : P). is_service_states p.name) (states_in_part m) ≡ true
-plain_states (media.Outside p) h = refl
-plain_states (media.Stream number parts) h = refl
-plain_states (media.TerminationState properties) h = h
-
-plain_states_in : (d : Descriptor) → is_plain_one d ≡ true → list_all (λ (p : P). is_service_states p.name) (states_in d) ≡ true
-plain_states_in (descriptor.Media parts) h = all_in is_plain_part (λ (p : P). is_service_states p.name) states_in_part plain_states parts h
-plain_states_in (descriptor.Keep kind tail) h = refl
-plain_states_in (descriptor.Audit words) h = refl
-plain_states_in (descriptor.Services parms) h = refl
-plain_states_in (descriptor.Other text) h = refl
-
-properties_merged : (ds : List Descriptor) (list : List P) → are_plain ds ≡ true → merged_properties ds list ≡ Some list
-unfolding merged_properties
-properties_merged ds list h =
-    let done = each_done put_state (λ (p : P). is_service_states p.name) (λ l. l ≡ list) (state_put list) (flat_map states_in ds) list (all_in is_plain_one (λ (p : P). is_service_states p.name) states_in plain_states_in ds h) refl in
-    done.1 ∙ ap (λ (l : List P). Some l) done.2
+      let now = first_then (step x s) (each step xs) t e in
+      all_keep xs now.0 t a.1 (one x s now.0 a.0 i now.1) now.2
 
 -- ---- a stream
-
-control_put : (p : P) (s : Stream) → is_mode p.name ≡ true → Unit {0} → (t : Stream) × (put_control p s ≡ Some t) × Unit {0}
-control_put p s h i = (record s { mode = unwrap_or (mode_set_by p) s.mode }, (rw h refl), tt)
 
 none_there : (b : Bool) → not b ≡ true → b ≡ false
 none_there true h = absurd cc
 none_there false h = refl
 
-part_put : (rules : Rules) (slot : Option ℕ) (number : ℕ) (p : StreamPart) (m : Merging) → is_plain_stream p ≡ true → m.filled ≡ false → (t : Merging) × (put_part rules slot number p m ≡ Some t) × (t.filled ≡ false)
-part_put rules slot number (part.Local text) m h i = (record { stream = record m.stream { local = Some (local_text rules slot number text) }; filled = is_filled slot text }, refl, by slot)
+stays_unfilled : (o : Option Stream) (m t : Merging) → m.filled ≡ false → option_map (λ s. record m { stream = s }) o ≡ Some t → t.filled ≡ false
+stays_unfilled None m t i e = absurd cc
+stays_unfilled (Some x) m t i e = let same : record m { stream = x } ≡ t = cc in ap (λ (n : Merging). n.filled) (sym same) ∙ i
+
+part_keeps : (rules : Rules) (slot : Option ℕ) (number : ℕ) (p : StreamPart) (m t : Merging) → is_plain_stream p ≡ true → m.filled ≡ false → put_part rules slot number p m ≡ Some t → t.filled ≡ false
+part_keeps rules slot number (part.Local text) m t h i e =
+    let put : Merging = record { stream = record m.stream { local = Some (local_text rules slot number text) }; filled = is_filled slot text } in
+    let same : put ≡ t = cc in
+    ap (λ (n : Merging). n.filled) (sym same) ∙ by slot
   where
     by : (slot : Option ℕ) → is_filled slot text ≡ false
     by None = refl
     by (Some s) = unfilled text (none_there (has_choice text) h)
-part_put rules slot number (part.Remote text) m h i = (record m { stream = record m.stream { remote = Some text } }, refl, i)
-part_put rules slot number (part.LocalControl properties) m h i =
-    let done = each_done put_control (λ (p : P). is_mode p.name) (λ s. Unit {0}) control_put properties m.stream h tt in
-    (record m { stream = done.0 }, ap (λ (o : Option Stream). option_map (λ s. record m { stream = s }) o) done.1, i)
+part_keeps rules slot number (part.Remote text) m t h i e =
+    let put : Merging = record m { stream = record m.stream { remote = Some text } } in
+    let same : put ≡ t = cc in
+    ap (λ (n : Merging). n.filled) (sym same) ∙ i
+part_keeps rules slot number (part.LocalControl properties) m t h i e = stays_unfilled (each put_control properties m.stream) m t i e
 
 plain_parts : (number : ℕ) (m : MediaPart) → is_plain_part m ≡ true → list_all is_plain_stream (parts_in_part number m) ≡ true
 plain_parts number (media.Outside p) h = by (names_stream number (media.Outside p))
@@ -123,47 +105,42 @@ plain_parts_in number (descriptor.Audit words) h = refl
 plain_parts_in number (descriptor.Services parms) h = refl
 plain_parts_in number (descriptor.Other text) h = refl
 
-stream_merged : (rules : Rules) (slot : Option ℕ) (number : ℕ) (ds : List Descriptor) (old : Option Stream) → are_plain ds ≡ true → (t : Option Merging) × (merged_stream rules slot number ds old ≡ Some t) × (filled_in number t ≡ [])
+-- nothing of a stream is filled
+stream_unfilled : (rules : Rules) (slot : Option ℕ) (number : ℕ) (ds : List Descriptor) (old : Option Stream) (t : Option Merging) → are_plain ds ≡ true → merged_stream rules slot number ds old ≡ Some t → filled_in number t ≡ []
 unfolding merged_stream
-stream_merged rules slot number ds old h = by (list_any (is_named_in number) ds) refl
+stream_unfilled rules slot number ds old t h e = by (list_any (is_named_in number) ds) refl
   where
     none : (m : Merging) → m.filled ≡ false → filled_in number (Some m) ≡ []
-    none m e = rw e refl
+    none m f = rw f refl
 
     not_named : (o : Option Stream) → filled_in number (unnamed o) ≡ []
     not_named None = refl
     not_named (Some s) = refl
 
-    by : (b : Bool) → list_any (is_named_in number) ds ≡ b → (t : Option Merging) × (merged_stream rules slot number ds old ≡ Some t) × (filled_in number t ≡ [])
-    by true e =
-        let done = each_done (put_part rules slot number) is_plain_stream (λ m. m.filled ≡ false) (part_put rules slot number) (flat_map (parts_in number) ds) (begun old) (all_in is_plain_one is_plain_stream (parts_in number) (plain_parts_in number) ds h) refl in
-        (Some done.0, (rw e (ap (λ (o : Option Merging). option_map (λ m. Some m) o) done.1)), none done.0 done.2)
-    by false e = (unnamed old, (rw e refl), not_named old)
+    made : (o : Option Merging) → each (put_part rules slot number) (flat_map (parts_in number) ds) (begun old) ≡ o → option_map (λ m. Some m) o ≡ Some t → filled_in number t ≡ []
+    made None is k = absurd cc
+    made (Some m) is k =
+        let same : Some m ≡ t = cc in
+        ap (filled_in number) (sym same) ∙ none m (all_keep (put_part rules slot number) is_plain_stream (λ m. m.filled ≡ false) (part_keeps rules slot number) (flat_map (parts_in number) ds) (begun old) m (all_in is_plain_one is_plain_stream (parts_in number) (plain_parts_in number) ds h) refl is)
+
+    by : (b : Bool) → list_any (is_named_in number) ds ≡ b → filled_in number t ≡ []
+    by true n = made (each (put_part rules slot number) (flat_map (parts_in number) ds) (begun old)) refl (rw n at e)
+    by false n = let same : unnamed old ≡ t = (let k : Some (unnamed old) ≡ Some t = rw n at e in cc) in ap (filled_in number) (sym same) ∙ not_named old
 
 -- ---- the whole
 
-media_merged : (rules : Rules) (ds : List Descriptor) (r : Termination) → are_plain ds ≡ true → (m : Media) × (merged_media rules ds r ≡ Some m) × (filled_of (Some m) ≡ [])
-unfolding merged_media
-media_merged rules ds r h =
-    let p = properties_merged ds r.settings.properties h in
-    let a = stream_merged rules r.slot 1 ds r.settings.streams.first h in
-    let b = stream_merged rules r.slot 2 ds r.settings.streams.second h in
-    let c = stream_merged rules r.slot 3 ds r.settings.streams.third h in
-    let d = stream_merged rules r.slot 4 ds r.settings.streams.fourth h in (
-      record { properties = r.settings.properties; streams = record { first = a.0; second = b.0; third = c.0; fourth = d.0 } },
-      (λ i. and_then (p i) (λ properties. and_then (and_then (a.1 i) (λ first. and_then (b.1 i) (λ second. and_then (c.1 i) (λ third. and_then (d.1 i) (λ fourth.
-          Some (let x : PerStream (Option Merging) = record { first = first; second = second; third = third; fourth = fourth } in x)))))) (λ streams.
-          Some (let x : Media = record { properties = properties; streams = streams } in x)))),
-      (λ i. a.2 i ++ b.2 i ++ c.2 i ++ d.2 i),
-    )
-
-pub plain_merged : (rules : Rules) (ds : List Descriptor) (r : Termination) → are_plain ds ≡ true → (new : Termination) × (merged rules ds r ≡ Some new)
-unfolding merged
-plain_merged rules ds r h = let m = media_merged rules ds r h in (with_media ds r m.0, ap (λ (o : Option Media). option_map (with_media ds r) o) m.1)
+media_unfilled : (rules : Rules) (ds : List Descriptor) (r : Termination) (o : Option Media) → are_plain ds ≡ true → merged_media rules ds r ≡ o → filled_of o ≡ []
+media_unfilled rules ds r None h e = refl
+media_unfilled rules ds r (Some m) h e =
+    let made = (parts_are rules ds r m e).streams in
+    (λ i. stream_unfilled rules r.slot 1 ds r.settings.streams.first m.streams.first h made.first i
+    ++ stream_unfilled rules r.slot 2 ds r.settings.streams.second m.streams.second h made.second i
+    ++ stream_unfilled rules r.slot 3 ds r.settings.streams.third m.streams.third h made.third i
+    ++ stream_unfilled rules r.slot 4 ds r.settings.streams.fourth m.streams.fourth h made.fourth i)
 
 pub plain_fills_none : (rules : Rules) (ds : List Descriptor) (r : Termination) → are_plain ds ≡ true → filled_by rules ds r ≡ []
 unfolding filled_by
-plain_fills_none rules ds r h = let m = media_merged rules ds r h in ap (λ (o : Option Media). filled_of o) m.1 ∙ m.2
+plain_fills_none rules ds r h = media_unfilled rules ds r (merged_media rules ds r) h refl
 
 -- after any merge the termination is where it was
 pub merge_stays : (rules : Rules) (ds : List Descriptor) (r : Termination) → (unwrap_or (merged rules ds r) r).place ≡ r.place
@@ -176,24 +153,28 @@ merge_stays rules ds r = by (merged_media rules ds r)
 
 -- ---- where it lies
 
--- the streams, the tails and the service state are all that changes
-pub merged_here : (rules : Rules) (ds : List Descriptor) (r : Termination) → are_plain ds ≡ true
-    → merged rules ds r ≡ Some (record r { service = merged_service ds r.service; settings = with_tails_after ds (with_streams_after (stream_or_none rules r.slot) ds r.settings) })
+some_of : {T : Type 0} (o : Option T) → is_some o ≡ true → (t : T) × (o ≡ Some t)
+some_of None h = absurd cc
+some_of (Some t) h = (t, refl)
+
+-- the properties, the streams, the tails and the service state are all that changes
+pub merged_here : (rules : Rules) (ds : List Descriptor) (r : Termination) (list : List P) → merged_properties ds r.settings.properties ≡ Some list → AreMade rules r.slot ds r.settings.streams
+    → merged rules ds r ≡ Some (record r { service = merged_service ds r.service; settings = with_tails_after ds (with_streams_after (stream_or_none rules r.slot) ds (with_properties list r.settings)) })
 unfolding merged merged_media
-merged_here rules ds r h =
+merged_here rules ds r list h made =
     let s : PerStream (Option Stream) = r.settings.streams in
     let t : PerKind (Option (Tail (List ℕ))) = r.settings.tails in
-    let a = stream_merged rules r.slot 1 ds s.first h in
-    let b = stream_merged rules r.slot 2 ds s.second h in
-    let c = stream_merged rules r.slot 3 ds s.third h in
-    let d = stream_merged rules r.slot 4 ds s.fourth h in
-    (λ i. option_map (with_media ds r) (and_then (properties_merged ds r.settings.properties h i) (λ properties. and_then (and_then (a.1 i) (λ first. and_then (b.1 i) (λ second. and_then (c.1 i) (λ third. and_then (d.1 i) (λ fourth.
+    let a = some_of (merged_stream rules r.slot 1 ds s.first) made.first in
+    let b = some_of (merged_stream rules r.slot 2 ds s.second) made.second in
+    let c = some_of (merged_stream rules r.slot 3 ds s.third) made.third in
+    let d = some_of (merged_stream rules r.slot 4 ds s.fourth) made.fourth in
+    (λ i. option_map (with_media ds r) (and_then (h i) (λ properties. and_then (and_then (a.1 i) (λ first. and_then (b.1 i) (λ second. and_then (c.1 i) (λ third. and_then (d.1 i) (λ fourth.
     Some (let x : PerStream (Option Merging) = record { first = first; second = second; third = third; fourth = fourth } in x)))))) (λ streams.
     Some (let x : Media = record { properties = properties; streams = streams } in x)))))
     ∙ (λ i. Some (record r {
       service = merged_service ds r.service;
       settings = (let x : Settings = record {
-        properties = r.settings.properties;
+        properties = list;
         streams = (let y : PerStream (Option Stream) = record { first = one 1 s.first a.0 a.1 i; second = one 2 s.second b.0 b.1 i; third = one 3 s.third c.0 c.1 i; fourth = one 4 s.fourth d.0 d.1 i } in y);
         tails = of_kinds (λ kind. merged_tail kind ds (at_kind kind t));
       } in x);
@@ -335,7 +316,7 @@ kind_stays kind ds s h = by kind (sym (tail_stays kind ds (at_kind kind s.tails)
     by DigitMap e = ap (λ (o : Option (Tail (List ℕ))). record s { tails = put_kind DigitMap o s.tails }) e
     by EventBuffer e = ap (λ (o : Option (Tail (List ℕ))). record s { tails = put_kind EventBuffer o s.tails }) e
 
-neither : (a b : Bool) → (a || b) ≡ false → (a ≡ false) × (b ≡ false)
+pub neither : (a b : Bool) → (a || b) ≡ false → (a ≡ false) × (b ≡ false)
 neither true b h = absurd cc
 neither false b h = (refl, h)
 

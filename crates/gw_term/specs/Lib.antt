@@ -12,3 +12,4 @@ pub mod Lookups
 pub mod KeptRecords
 pub mod Named
 pub mod Plain
+pub mod Room

@@ -1,11 +1,9 @@
--- Descriptors that every record takes, and of which nothing is told (own): they send no property but Mode and ServiceStates, so that
--- no list can hold too many; no Local with a `$`, which might be filled; and no Audit but an empty one.
+-- Descriptors of which nothing is told (own): they send no Local with a `$`, which might be filled, and no Audit but an empty one.
 use Rattle.std.specs.Prelude.{◌≡◌, ℕ, ◌==◌, if◌then◌else◌, Bool, true, false, not, codes, List, length, Option, Some}
 use Rattle.std.specs.List.{flat_map, list_all, list_any}
-use Rattle.std.specs.Option.{option_map, unwrap_or}
+use Rattle.std.specs.Option.{is_some, option_map, unwrap_or}
 use Rattle.gw_base.specs.Bytes.{is_one_of}
 use Rattle.gw_base.specs.declared.command_words.Rules.{Rules}
-use Rattle.gw_desc.specs.Values.{is_mode, is_service_states}
 use Rattle.gw_desc.specs.declared.descriptor.Descriptor.{Descriptor}
 use Rattle.gw_desc.specs.declared.descriptor.Descriptor.TheVariants as descriptor
 use Rattle.gw_desc.specs.Checks.{same_kept}
@@ -15,6 +13,7 @@ use Rattle.gw_desc.specs.declared.descriptor.MediaPart.{MediaPart}
 use Rattle.gw_desc.specs.declared.descriptor.MediaPart.TheVariants as media
 use Rattle.gw_desc.specs.declared.descriptor.StreamPart.{StreamPart}
 use Rattle.gw_desc.specs.declared.descriptor.StreamPart.TheVariants as part
+use Rattle.gw_desc.specs.declared.descriptor.Property.{Property}
 use Rattle.gw_desc.specs.declared.descriptor.Tail.{Tail}
 use Rattle.gw_term.specs.declared.record.Stream.{Stream}
 use Rattle.gw_term.specs.declared.settings.Setting.{Setting}
@@ -24,22 +23,23 @@ use Rattle.gw_term.specs.Named.{named_by}
 use Rattle.gw_term.specs.Merge.{each, parts_in, put_part, merged_stream, merged_tail, stream_in}
 use Rattle.gw_term.specs.Places.{at_number, put_number, at_kind, put_kind}
 use Rattle.gw_term.specs.Settings.{Settings}
+use Rattle.gw_term.specs.declared.places.PerStream.{PerStream}
 
 -- a `$`, which might be filled
 abbrev pub has_choice : List ℕ → Bool
 has_choice text = list_any (is_one_of (codes "$")) text
 
--- a part of a stream: a Local without a `$`, a Remote, or a LocalControl that sends modes alone
+-- a part of a stream: no Local with a `$`
 abbrev pub is_plain_stream : StreamPart → Bool
 is_plain_stream (part.Local text) = not (has_choice text)
 is_plain_stream (part.Remote text) = true
-is_plain_stream (part.LocalControl properties) = list_all (λ p. is_mode p.name) properties
+is_plain_stream (part.LocalControl properties) = true
 
--- a part of a Media: such a one, or a TerminationState that sends service states alone
+-- a part of a Media: none with such a Local
 abbrev pub is_plain_part : MediaPart → Bool
 is_plain_part (media.Outside p) = is_plain_stream p
 is_plain_part (media.Stream number parts) = list_all is_plain_stream parts
-is_plain_part (media.TerminationState properties) = list_all (λ p. is_service_states p.name) properties
+is_plain_part (media.TerminationState properties) = true
 
 abbrev pub is_plain_one : Descriptor → Bool
 is_plain_one (descriptor.Media parts) = list_all is_plain_part parts
@@ -49,7 +49,7 @@ is_plain_one _ = true
 abbrev pub are_plain : List Descriptor → Bool
 are_plain descriptors = list_all is_plain_one descriptors
 
--- descriptors that every record takes, with what they name
+-- such descriptors, with what they name
 pub record AreKnown (descriptors : List Descriptor) (named : Named) : Type 0 where
   pub plain : are_plain descriptors ≡ true
   pub known : named ≡ named_by descriptors
@@ -79,6 +79,31 @@ stream_or_none rules slot number descriptors old = unwrap_or (option_map stream_
 abbrev pub with_streams_after : (ℕ → List Descriptor → Option Stream → Option Stream) → List Descriptor → Settings → Settings
 with_streams_after f descriptors s =
     with_stream_after (f 4 descriptors) 4 (with_stream_after (f 3 descriptors) 3 (with_stream_after (f 2 descriptors) 2 (with_stream_after (f 1 descriptors) 1 s)))
+
+-- the descriptors can be merged into each stream, as far as they name it
+pub record AreMade (rules : Rules) (slot : Option ℕ) (descriptors : List Descriptor) (streams : PerStream (Option Stream)) : Type 0 where
+  pub first : is_some (merged_stream rules slot 1 descriptors streams.first) ≡ true
+  pub second : is_some (merged_stream rules slot 2 descriptors streams.second) ≡ true
+  pub third : is_some (merged_stream rules slot 3 descriptors streams.third) ≡ true
+  pub fourth : is_some (merged_stream rules slot 4 descriptors streams.fourth) ≡ true
+
+-- and into a setting, if it is a stream of this number
+abbrev pub is_made_at : Rules → Option ℕ → ℕ → List Descriptor → Setting → Bool
+is_made_at rules slot number descriptors (setting.Properties list) = true
+is_made_at rules slot number descriptors (setting.Stream other s) =
+    if other == number then is_some (each (put_part rules slot number) (flat_map (parts_in number) descriptors) (record { stream = s; filled = false })) else true
+is_made_at rules slot number descriptors (setting.Tail kind tail) = true
+
+-- ---- the properties in their place
+
+abbrev pub is_properties : Setting → Bool
+is_properties (setting.Properties list) = true
+is_properties (setting.Stream number s) = false
+is_properties (setting.Tail kind tail) = false
+
+-- what was set, with these properties
+abbrev pub with_properties : List (Property (List ℕ)) → Settings → Settings
+with_properties list s = record s { properties = list }
 
 -- ---- a merge in the place of a tail
 

@@ -1,48 +1,26 @@
-//! Descriptors that every record takes, and their merge where the record lies.
+//! Descriptors of which nothing is told, and their merge where the record lies.
 
-ghost use Rattle.std.specs.Prelude.{◌≡◌, ◌≤◌, true, map, None, Some, OnOk};
-ghost use Rattle.std.specs.List.{list_all, list_any};
+ghost use Rattle.std.specs.Prelude.{◌≡◌, ◌≤◌, true, false, map, None, Some, OnOk};
+ghost use Rattle.std.specs.List.{flat_map, list_all, list_any};
 ghost use Rattle.std.specs.Option.{is_some, option_map};
 ghost use Rattle.gw_desc.specs.Checks.{is_kept};
-ghost use Rattle.gw_desc.specs.Values.{is_mode, is_service_states};
-ghost use Rattle.gw_term.specs.Merge.{is_named_in, merged};
-ghost use Rattle.gw_term.specs.Named.{named_by};
+ghost use Rattle.gw_term.specs.Merge.{each, put_part, parts_in, is_named_in, merged, merged_properties, merged_stream};
+ghost use Rattle.gw_term.specs.Named.{has_states, named_by};
 ghost use Rattle.gw_term.specs.Places.{at_number, numbered, at_kind, put_kind, of_kinds};
-ghost use Rattle.gw_term.specs.Plain.{has_choice, is_plain_stream, is_plain_part, is_plain_one, are_plain, AreKnown, stream_after, setting_after, with_stream_after, stream_or_none, with_streams_after, is_tail_of, retold, with_tail, with_tail_after, with_tails_after};
+ghost use Rattle.gw_term.specs.Plain.{has_choice, is_plain_stream, is_plain_part, is_plain_one, are_plain, AreKnown, stream_after, setting_after, with_stream_after, stream_or_none, with_streams_after, AreMade, is_made_at, is_properties, with_properties, is_tail_of, retold, with_tail, with_tail_after, with_tails_after};
 
 use crate::fault::ApplyFault;
-use crate::held::HeldTail;
+use crate::held::{HeldProperty, HeldTail};
 use crate::named::Named;
 use crate::places::{PerKind, PerStream};
-use crate::properties::merged_service;
+use crate::properties::{merged_properties, merged_service};
 use crate::record::{Stream, Termination};
 use crate::settings::{Setting, Settings};
 use crate::streams::{Sent, begun, put_all};
 use crate::tails::kept_of;
-use gw_base::{NoMemory, Rules, Span};
-use gw_desc::{
-    Descriptor, KeptKind, MediaPart, Property, StreamPart, Tail, is_mode, is_service_states,
-    same_kept,
-};
+use gw_base::{Items, NoMemory, Rules, Span};
+use gw_desc::{Descriptor, KeptKind, MediaPart, StreamPart, Tail, same_kept};
 use std::alloc::{AllocError, Global};
-
-/// Whether all of them are modes.
-fn are_modes(properties: &[Property<Span<'_>>]) -> bool
-    ensures { result ≡ list_all (λ p. is_mode p.name) properties.now }
-{
-    properties
-        .iter()
-        .all(|property| is_mode(property.name.as_bytes()))
-}
-
-/// Whether all of them are service states.
-fn are_services(properties: &[Property<Span<'_>>]) -> bool
-    ensures { result ≡ list_all (λ p. is_service_states p.name) properties.now }
-{
-    properties
-        .iter()
-        .all(|property| is_service_states(property.name.as_bytes()))
-}
 
 /// What leaves a value to the gateway.
 const CHOICE: &[u8] = b"$";
@@ -59,8 +37,7 @@ fn is_plain_stream(part: &StreamPart<'_>) -> bool
 {
     match part {
         StreamPart::Local(text) => !has_choice(text.as_bytes()),
-        StreamPart::Remote(_) => true,
-        StreamPart::LocalControl(properties) => are_modes(properties.as_slice()),
+        StreamPart::Remote(_) | StreamPart::LocalControl(_) => true,
     }
 }
 
@@ -76,7 +53,7 @@ fn is_plain_part(part: &MediaPart<'_>) -> bool
     match part {
         MediaPart::Outside(part) => is_plain_stream(part),
         MediaPart::Stream(_, parts) => are_plain_streams(parts.as_slice()),
-        MediaPart::TerminationState(properties) => are_services(properties.as_slice()),
+        MediaPart::TerminationState(_) => true,
     }
 }
 
@@ -96,8 +73,8 @@ fn is_plain_one(descriptor: &Descriptor<'_>) -> bool
     }
 }
 
-/// Whether every record takes the descriptors, and nothing is told of them: they send no property but Mode and ServiceStates, no Local
-/// with a `$`, and no Audit but an empty one. The work is one pass over them.
+/// Whether nothing is told of the descriptors: they send no Local with a `$`, and no Audit but an empty one. The work is one pass over
+/// them.
 pub fn are_plain(descriptors: &[Descriptor<'_>]) -> bool
     ensures { result ≡ are_plain descriptors.now }
 {
@@ -112,6 +89,13 @@ fn is_tail_of(kind: KeptKind, setting: &Setting) -> bool
         Setting::Tail(other, _) => same_kept(kind, *other),
         _ => false,
     }
+}
+
+/// Whether a setting is the properties.
+fn is_properties(setting: &Setting) -> bool
+    ensures { result ≡ is_properties setting.now }
+{
+    matches!(setting, Setting::Properties(_))
 }
 
 /// A setting that is a tail of this kind becomes this one, in its block where it is as long.
@@ -155,7 +139,8 @@ fn merge_stream(
 ) -> Result<(), ApplyFault>
     requires first { 1 ≤ number }
     requires last { number ≤ 4 }
-    ensures { OnOk result (stream.new ≡ stream_after sent.now.rules.now sent.now.slot number sent.now.descriptors.now stream.old) }
+    ensures after { OnOk result (stream.new ≡ stream_after sent.now.rules.now sent.now.slot number sent.now.descriptors.now stream.old) }
+    ensures made { OnOk result (is_some (each (put_part sent.now.rules.now sent.now.slot number) (flat_map (parts_in number) sent.now.descriptors.now) (record { stream = stream.old; filled = false })) ≡ true) }
 {
     let mut filled = false;
     put_all(alloc, sent, number, stream, &mut filled)
@@ -170,7 +155,8 @@ fn merge_setting(
 ) -> Result<(), ApplyFault>
     requires first { 1 ≤ number }
     requires last { number ≤ 4 }
-    ensures { OnOk result (setting.new ≡ setting_after (stream_after sent.now.rules.now sent.now.slot number sent.now.descriptors.now) number setting.old) }
+    ensures after { OnOk result (setting.new ≡ setting_after (stream_after sent.now.rules.now sent.now.slot number sent.now.descriptors.now) number setting.old) }
+    ensures made { OnOk result (is_made_at sent.now.rules.now sent.now.slot number sent.now.descriptors.now setting.old ≡ true) }
 {
     if let Setting::Stream(other, stream) = setting {
         if *other == number {
@@ -189,7 +175,8 @@ fn merge_settings(
 ) -> Result<(), ApplyFault>
     requires first { 1 ≤ number }
     requires last { number ≤ 4 }
-    ensures { OnOk result (settings.new ≡ map (setting_after (stream_after sent.now.rules.now sent.now.slot number sent.now.descriptors.now) number) settings.old) }
+    ensures after { OnOk result (settings.new ≡ map (setting_after (stream_after sent.now.rules.now sent.now.slot number sent.now.descriptors.now) number) settings.old) }
+    ensures made { OnOk result (list_all (is_made_at sent.now.rules.now sent.now.slot number sent.now.descriptors.now) settings.old ≡ true) }
 {
     for setting in settings.iter_mut() {
         merge_setting(alloc, sent, number, setting)?;
@@ -207,7 +194,10 @@ impl Settings {
     ) -> Result<(), ApplyFault>
         requires first { 1 ≤ number }
         requires last { number ≤ 4 }
-        ensures { OnOk result (self.new ≡ with_stream_after (λ old. option_map (stream_after sent.now.rules.now sent.now.slot number sent.now.descriptors.now) old) number self.old) }
+        requires named { list_any (is_named_in number) sent.now.descriptors.now ≡ true }
+        requires there { is_some (at_number number self.old.streams) ≡ true }
+        ensures after { OnOk result (self.new ≡ with_stream_after (λ old. option_map (stream_after sent.now.rules.now sent.now.slot number sent.now.descriptors.now) old) number self.old) }
+        ensures made { OnOk result (is_some (merged_stream sent.now.rules.now sent.now.slot number sent.now.descriptors.now (at_number number self.old.streams)) ≡ true) }
     {
         merge_settings(alloc, sent, number, &mut self.list)
     }
@@ -224,7 +214,8 @@ impl Settings {
         requires last { number ≤ 4 }
         requires named { list_any (is_named_in number) sent.now.descriptors.now ≡ true }
         requires empty { at_number number self.old.streams ≡ None }
-        ensures { OnOk result (self.new ≡ with_stream_after (stream_or_none sent.now.rules.now sent.now.slot number sent.now.descriptors.now) number self.old) }
+        ensures after { OnOk result (self.new ≡ with_stream_after (stream_or_none sent.now.rules.now sent.now.slot number sent.now.descriptors.now) number self.old) }
+        ensures made { OnOk result (is_some (merged_stream sent.now.rules.now sent.now.slot number sent.now.descriptors.now (at_number number self.old.streams)) ≡ true) }
     {
         let mut merging = begun(alloc, None)?;
         put_all(
@@ -251,7 +242,8 @@ impl Settings {
         requires first { 1 ≤ number }
         requires last { number ≤ 4 }
         requires named { list_any (is_named_in number) sent.now.descriptors.now ≡ true }
-        ensures { OnOk result (self.new ≡ with_stream_after (stream_or_none sent.now.rules.now sent.now.slot number sent.now.descriptors.now) number self.old) }
+        ensures after { OnOk result (self.new ≡ with_stream_after (stream_or_none sent.now.rules.now sent.now.slot number sent.now.descriptors.now) number self.old) }
+        ensures made { OnOk result (is_some (merged_stream sent.now.rules.now sent.now.slot number sent.now.descriptors.now (at_number number self.old.streams)) ≡ true) }
     {
         match self.stream(number) {
             Some(_) => self.merge_there(alloc, sent, number),
@@ -272,7 +264,8 @@ impl Settings {
         requires first { 1 ≤ number }
         requires last { number ≤ 4 }
         requires named { is_named ≡ list_any (is_named_in number) sent.now.descriptors.now }
-        ensures { OnOk result (self.new ≡ with_stream_after (stream_or_none sent.now.rules.now sent.now.slot number sent.now.descriptors.now) number self.old) }
+        ensures after { OnOk result (self.new ≡ with_stream_after (stream_or_none sent.now.rules.now sent.now.slot number sent.now.descriptors.now) number self.old) }
+        ensures made { OnOk result (is_some (merged_stream sent.now.rules.now sent.now.slot number sent.now.descriptors.now (at_number number self.old.streams)) ≡ true) }
     {
         if is_named {
             return self.merge_named(alloc, sent, number);
@@ -288,7 +281,8 @@ impl Settings {
         named: &PerStream<bool>,
     ) -> Result<(), ApplyFault>
         requires { named.now ≡ numbered (λ number. list_any (is_named_in number) sent.now.descriptors.now) }
-        ensures { OnOk result (self.new ≡ with_streams_after (stream_or_none sent.now.rules.now sent.now.slot) sent.now.descriptors.now self.old) }
+        ensures after { OnOk result (self.new ≡ with_streams_after (stream_or_none sent.now.rules.now sent.now.slot) sent.now.descriptors.now self.old) }
+        ensures made { OnOk result (AreMade sent.now.rules.now sent.now.slot sent.now.descriptors.now self.old.streams) }
     {
         self.merge_number(alloc, sent, 1, named.first)?;
         self.merge_number(alloc, sent, 2, named.second)?;
@@ -305,12 +299,59 @@ impl Settings {
         named: &Named,
     ) -> Result<(), ApplyFault>
         requires { named.now ≡ named_by sent.now.descriptors.now }
-        ensures { OnOk result (self.new ≡ with_streams_after (stream_or_none sent.now.rules.now sent.now.slot) sent.now.descriptors.now self.old) }
+        ensures after { OnOk result (self.new ≡ with_streams_after (stream_or_none sent.now.rules.now sent.now.slot) sent.now.descriptors.now self.old) }
+        ensures made { OnOk result (AreMade sent.now.rules.now sent.now.slot sent.now.descriptors.now self.old.streams) }
     {
         if !named.has_stream() {
             return Ok(());
         }
         self.merge_each_stream(alloc, sent, &named.streams)
+    }
+
+    /// These properties, and no others, are kept.
+    fn put_properties(&mut self, list: Items<HeldProperty>) -> Result<(), AllocError>
+        ensures { OnOk result (self.new ≡ with_properties list self.old) }
+    {
+        self.list.retain(|setting| !is_properties(setting));
+        if list.is_empty() {
+            return Ok(());
+        }
+        self.push(Setting::Properties(list))
+    }
+
+    /// The properties, where a TerminationState is among the descriptors, become what they are after them.
+    #[inline(never)]
+    fn merge_named_states(
+        &mut self,
+        alloc: Global,
+        descriptors: &[Descriptor<'_>],
+    ) -> Result<(), ApplyFault>
+        requires { list_any has_states descriptors.now ≡ true }
+        ensures made { OnOk result (merged_properties descriptors.now self.old.properties ≡ Some self.new.properties) }
+        ensures after { OnOk result (self.new ≡ with_properties self.new.properties self.old) }
+    {
+        let list = merged_properties(alloc, true, descriptors, self.properties())?;
+        self.put_properties(list)?;
+        Ok(())
+    }
+
+    /// The properties become what they are after the descriptors.
+    #[inline]
+    #[tactic(auto, using(crate::proofs::Naming::no_states), unfolding(crate::specs::Merge::merged_properties))]
+    fn merge_states(
+        &mut self,
+        alloc: Global,
+        is_named: bool,
+        descriptors: &[Descriptor<'_>],
+    ) -> Result<(), ApplyFault>
+        requires { is_named ≡ list_any has_states descriptors.now }
+        ensures made { OnOk result (merged_properties descriptors.now self.old.properties ≡ Some self.new.properties) }
+        ensures after { OnOk result (self.new ≡ with_properties self.new.properties self.old) }
+    {
+        if is_named {
+            return self.merge_named_states(alloc, descriptors);
+        }
+        Ok(())
     }
 
     /// The tail of this kind, which is there, becomes this one.
@@ -493,6 +534,12 @@ impl Termination {
             descriptors,
         };
         let settings = &mut self.settings;
+        if settings
+            .merge_states(alloc, named.states, descriptors)
+            .is_err()
+        {
+            return Err(NoMemory);
+        }
         if settings.merge_streams(alloc, &sent, named).is_err() {
             return Err(NoMemory);
         }

@@ -1,0 +1,42 @@
+-- Whether every list of a record has room for the properties that descriptors send (own): enough where all of them, new ones or not, find
+-- room behind each list that there is.
+use Rattle.std.specs.Prelude.{◌≡◌, ◌≤◌, ◌+◌, ℕ, List, length}
+use Rattle.std.specs.List.{flat_map}
+use Rattle.gw_desc.specs.declared.descriptor.Descriptor.{Descriptor}
+use Rattle.gw_desc.specs.declared.descriptor.MediaPart.{MediaPart}
+use Rattle.gw_desc.specs.declared.descriptor.MediaPart.TheVariants as media
+use Rattle.gw_desc.specs.declared.descriptor.Property.{Property}
+use Rattle.gw_term.specs.Lookups.{controls_in, list_in}
+use Rattle.gw_term.specs.Merge.{media_parts, most_properties}
+use Rattle.gw_term.specs.Places.{AtEach}
+use Rattle.gw_term.specs.Settings.{Settings}
+use Rattle.gw_term.specs.declared.settings.Setting.{Setting}
+use Rattle.gw_term.specs.declared.settings.Setting.TheVariants as setting
+
+-- what a part of a Media sends, for whichever list
+abbrev pub sent_in : MediaPart → List (Property (List ℕ))
+sent_in (media.Outside p) = controls_in p
+sent_in (media.Stream number parts) = flat_map controls_in parts
+sent_in (media.TerminationState properties) = properties
+
+abbrev pub sent_by : Descriptor → List (Property (List ℕ))
+sent_by d = flat_map sent_in (media_parts d)
+
+-- what descriptors send
+abbrev pub all_sent : List Descriptor → List (Property (List ℕ))
+all_sent descriptors = flat_map sent_by descriptors
+
+-- a list of so many properties has just room for them
+abbrev pub IsRoomFor : List Descriptor → ℕ → Type 0
+IsRoomFor descriptors most = most + length (all_sent descriptors) ≡ most_properties
+
+-- no list of what was set has more than so many properties
+pub record HasRoom (most : ℕ) (s : Settings) : Type 0 where
+  pub properties : length s.properties ≤ most
+  pub streams : AtEach (λ number stream. length (list_in stream) ≤ most) s.streams
+
+-- the same of a setting
+abbrev pub HasRoomAt : ℕ → Setting → Type 0
+HasRoomAt most (setting.Properties list) = length list ≤ most
+HasRoomAt most (setting.Stream number s) = length s.properties ≤ most
+HasRoomAt most (setting.Tail kind tail) = Unit {0}
