@@ -20,7 +20,7 @@ use Rattle.gw_table.specs.declared.site.Found.{Found}
 use Rattle.gw_table.specs.declared.site.Found.TheVariants.{Noted, Original}
 use Rattle.gw_table.specs.Found.{IsFound, original_of}
 use Rattle.gw_table.specs.KeptSettings.{IsKept}
-use Rattle.gw_table.specs.Maps.{Maps, term, ctx, put_term, put_ctx}
+use Rattle.gw_table.specs.Maps.{term, ctx, put_term, put_ctx}
 use Rattle.gw_table.specs.Members.{put_service}
 use Rattle.gw_table.specs.Originals.{keys_written, without_write, undone, begun_by, before_all, has_properties, IsInPlace}
 use Rattle.gw_table.specs.Settings.{with_setting, put_setting, set_at, set_place}

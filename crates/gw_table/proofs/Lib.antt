@@ -30,3 +30,4 @@ pub mod SlotNames
 pub mod Standing
 pub mod Swept
 pub mod Undone
+pub mod Roomy

@@ -1,5 +1,5 @@
 -- Writes that are taken back: what is read then, and what one more write comes to.
-use Rattle.std.proofs.Common.{nat_eq, ◌≡◌, ℕ, ◌<◌, length, get_or, Bool, true, false, cond, List, [], ◌∷◌, ◌++◌, bytes_eq, Option, None, inl, inr, refl, sym, ap, ◌∙◌}
+use Rattle.std.proofs.Common.{nat_eq, ◌≡◌, ℕ, ◌<◌, length, get_or, Bool, true, false, cond, List, [], ◌∷◌, ◌++◌, bytes_eq, Option, inl, inr, refl, sym, ap, ◌∙◌}
 use Rattle.std.specs.Prelude.{◌||◌, ◌⊎◌}
 use Rattle.std.specs.Bool.{OnTrue}
 use Rattle.std.specs.List.{list_any}

@@ -24,3 +24,4 @@ pub mod Unused
 pub mod WellFormed
 pub use Rattle.gw_ctx.specs.Contexts
 pub use Rattle.gw_term.specs.Record
+pub mod Room

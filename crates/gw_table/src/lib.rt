@@ -21,6 +21,7 @@ mod part;
 mod place;
 mod reach;
 mod reserved;
+mod room;
 mod serving;
 mod setting;
 mod site;

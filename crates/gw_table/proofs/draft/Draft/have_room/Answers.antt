@@ -1,0 +1,11 @@
+use Rattle.std.proofs.Common.{sym, ap, subst, ◌∙◌}
+use Rattle.gw_table.specs.declared.draft.Ground.{Ground}
+use Rattle.gw_table.specs.Grounds.{ground_part}
+use Rattle.gw_table.specs.Maps.{Maps}
+use Rattle.gw_table.specs.Parts.{Parted}
+use Rattle.gw_table.specs.Room.{HaveRoom}
+use Rattle.gw_table.proofs.draft.Draft.have_room.Goals as goal
+
+pub returns-in-OfTables : goal.returns-in-OfTables
+returns-in-OfTables c = λ h.
+    subst (λ (m : Maps). HaveRoom c.args.prefix.now c.args.most m) (ap (λ (g : Ground). (ground_part g).maps) (sym c.in-OfTables.is) ∙ ap (λ (p : Parted). p.maps) c.self.view_is) (c.have_room.ensures h)
