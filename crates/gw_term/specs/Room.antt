@@ -1,11 +1,13 @@
--- Whether every list of a record has room for the properties that descriptors send (own): enough where all of them, new ones or not, find
--- room behind each list that there is.
-use Rattle.std.specs.Prelude.{◌≡◌, ◌≤◌, ◌+◌, ℕ, List, length}
-use Rattle.std.specs.List.{flat_map}
+-- Whether every list of a record has room for the properties that descriptors send, Mode and ServiceStates apart, which no list holds
+-- (own): enough where all of them, new ones or not, find room behind each list that there is.
+use Rattle.std.specs.Prelude.{◌≡◌, ◌≤◌, ◌+◌, ℕ, not, List, length}
+use Rattle.std.specs.List.{filter, flat_map}
 use Rattle.gw_desc.specs.declared.descriptor.Descriptor.{Descriptor}
 use Rattle.gw_desc.specs.declared.descriptor.MediaPart.{MediaPart}
 use Rattle.gw_desc.specs.declared.descriptor.MediaPart.TheVariants as media
 use Rattle.gw_desc.specs.declared.descriptor.Property.{Property}
+use Rattle.gw_desc.specs.declared.descriptor.StreamPart.{StreamPart}
+use Rattle.gw_desc.specs.Values.{is_mode, is_service_states}
 use Rattle.gw_term.specs.Lookups.{controls_in, list_in}
 use Rattle.gw_term.specs.Merge.{media_parts, most_properties}
 use Rattle.gw_term.specs.Places.{AtEach}
@@ -13,11 +15,15 @@ use Rattle.gw_term.specs.Settings.{Settings}
 use Rattle.gw_term.specs.declared.settings.Setting.{Setting}
 use Rattle.gw_term.specs.declared.settings.Setting.TheVariants as setting
 
+-- what a part of a stream sends for its list
+abbrev pub controls_of : StreamPart → List (Property (List ℕ))
+controls_of p = filter (λ q. not (is_mode q.name)) (controls_in p)
+
 -- what a part of a Media sends, for whichever list
 abbrev pub sent_in : MediaPart → List (Property (List ℕ))
-sent_in (media.Outside p) = controls_in p
-sent_in (media.Stream number parts) = flat_map controls_in parts
-sent_in (media.TerminationState properties) = properties
+sent_in (media.Outside p) = controls_of p
+sent_in (media.Stream number parts) = flat_map controls_of parts
+sent_in (media.TerminationState properties) = filter (λ p. not (is_service_states p.name)) properties
 
 abbrev pub sent_by : Descriptor → List (Property (List ℕ))
 sent_by d = flat_map sent_in (media_parts d)

@@ -14,7 +14,7 @@ use gw_desc::{Descriptor, MediaPart, Property, is_service_states, service_set_by
 use std::alloc::Global;
 
 /// How many properties a list may hold (own to this profile).
-pub(crate) const MOST_PROPERTIES: usize = 32;
+pub const MOST_PROPERTIES: usize = 32;
 
 /// The place of the property of this name, in any case, or the length of the list.
 fn property_place(name: &[u8], list: &[HeldProperty]) -> usize

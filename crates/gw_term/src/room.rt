@@ -1,28 +1,49 @@
 //! Whether every list of a record has room for the properties that descriptors send.
 
-ghost use Rattle.std.specs.Prelude.{◌≡◌, ◌≤◌, ◌+◌, true, length, All, IfSome};
-ghost use Rattle.std.specs.List.{flat_map};
-ghost use Rattle.gw_term.specs.Lookups.{controls_in};
-ghost use Rattle.gw_term.specs.Room.{sent_in, sent_by, all_sent, IsRoomFor, HasRoom, HasRoomAt};
+ghost use Rattle.std.specs.Prelude.{◌≡◌, ◌≤◌, ◌+◌, true, not, length, All, IfSome};
+ghost use Rattle.std.specs.List.{filter, flat_map};
+ghost use Rattle.gw_desc.specs.Values.{is_mode, is_service_states};
+ghost use Rattle.gw_term.specs.Room.{controls_of, sent_in, sent_by, all_sent, IsRoomFor, HasRoom, HasRoomAt};
 
 use crate::properties::{MOST_PROPERTIES, media_parts};
 use crate::record::Termination;
 use crate::settings::Setting;
-use gw_desc::{Descriptor, MediaPart, StreamPart};
+use gw_base::Span;
+use gw_desc::{Descriptor, MediaPart, Property, StreamPart, is_mode, is_service_states};
 
-/// The room that is left behind the properties of a part of a stream.
+/// How many of the properties of a LocalControl are for its stream's list: all but Mode.
+fn count_controls(properties: &[Property<Span<'_>>]) -> usize
+    ensures { result ≡ length (filter (λ p. not (is_mode p.name)) properties.now) }
+{
+    properties
+        .iter()
+        .filter(|property| !is_mode(property.name.as_bytes()))
+        .count()
+}
+
+/// How many of those of a TerminationState are for the termination's list: all but ServiceStates.
+fn count_states(properties: &[Property<Span<'_>>]) -> usize
+    ensures { result ≡ length (filter (λ p. not (is_service_states p.name)) properties.now) }
+{
+    properties
+        .iter()
+        .filter(|property| !is_service_states(property.name.as_bytes()))
+        .count()
+}
+
+/// The room that is left behind what a part of a stream sends for its list.
 fn behind_part(room: usize, part: &StreamPart<'_>) -> Option<usize>
-    ensures { IfSome result (λ left. left + length (controls_in part.now) ≡ room) }
+    ensures { IfSome result (λ left. left + length (controls_of part.now) ≡ room) }
 {
     match part {
-        StreamPart::LocalControl(properties) => room.checked_sub(properties.len()),
+        StreamPart::LocalControl(list) => room.checked_sub(count_controls(list.as_slice())),
         _ => Some(room),
     }
 }
 
-/// The room that is left behind those of each of these.
+/// The same of each of these.
 fn behind_parts(room: usize, parts: &[StreamPart<'_>]) -> Option<usize>
-    ensures { IfSome result (λ left. left + length (flat_map controls_in parts.now) ≡ room) }
+    ensures { IfSome result (λ left. left + length (flat_map controls_of parts.now) ≡ room) }
 {
     let mut left = room;
     for part in parts {
@@ -31,18 +52,18 @@ fn behind_parts(room: usize, parts: &[StreamPart<'_>]) -> Option<usize>
     Some(left)
 }
 
-/// The room that is left behind those of a part of a Media.
+/// The room that is left behind what a part of a Media sends, for whichever list.
 fn behind_media_part(room: usize, part: &MediaPart<'_>) -> Option<usize>
     ensures { IfSome result (λ left. left + length (sent_in part.now) ≡ room) }
 {
     match part {
         MediaPart::Outside(part) => behind_part(room, part),
         MediaPart::Stream(_, parts) => behind_parts(room, parts.as_slice()),
-        MediaPart::TerminationState(properties) => room.checked_sub(properties.len()),
+        MediaPart::TerminationState(list) => room.checked_sub(count_states(list.as_slice())),
     }
 }
 
-/// The room that is left behind those of each of these.
+/// The same of each of these.
 fn behind_media(room: usize, parts: &[MediaPart<'_>]) -> Option<usize>
     ensures { IfSome result (λ left. left + length (flat_map sent_in parts.now) ≡ room) }
 {
@@ -53,8 +74,9 @@ fn behind_media(room: usize, parts: &[MediaPart<'_>]) -> Option<usize>
     Some(left)
 }
 
-/// How many properties a list may have before a merge of these descriptors, so that there is room for all that they send, new ones or not
-/// (32 at most are kept in a list: own to this profile); none where they send more than that. The work is one pass over them.
+/// How many properties a list may have before a merge of these descriptors, so that there is room for all that they send for lists, new
+/// ones or not: [`MOST_PROPERTIES`] where they send none, for Mode and ServiceStates are kept in no list; nothing where they send more than
+/// that. The work is one pass over them.
 pub fn room_for(descriptors: &[Descriptor<'_>]) -> Option<usize>
     ensures { IfSome result (λ most. IsRoomFor descriptors.now most) }
 {
