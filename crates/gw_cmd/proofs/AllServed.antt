@@ -1,5 +1,5 @@
 -- A ServiceChange or a Modify of all terminations of the null context that match: what comes of it.
-use Rattle.std.proofs.Common.{◌≡◌, ◌==◌, eqb-true, arith, length, ℕ, nat_eq, Bool, true, false, cond, List, [], ◌∷◌, ◌++◌, map, Option, None, Some, Result, Ok, bytes_eq, refl, sym, ap, ◌∙◌}
+use Rattle.std.proofs.Common.{◌≡◌, ◌==◌, eqb-true, arith, length, ℕ, nat_eq, Bool, true, false, cond, List, [], ◌∷◌, ◌++◌, map, Option, None, Some, Result, Ok, bytes_eq, refl, sym, ap, subst, ◌∙◌}
 use Rattle.std.specs.Prelude.{◌&&◌, ◌||◌, if◌then◌else◌}
 use Rattle.std.specs.List.{filter, find, list_any, starts_with}
 use Rattle.std.specs.Option.{option_map, unwrap_or}
@@ -11,7 +11,8 @@ use Rattle.gw_base.specs.declared.command_words.Verb.TheVariants.{Modify, Servic
 use Rattle.gw_base.specs.declared.key.Key.TheVariants.{Term}
 use Rattle.gw_base.specs.declared.term_ref.TermRef.{TermRef}
 use Rattle.gw_base.specs.declared.term_ref.TermRef.TheVariants.{Root, All, Under, Choose, Name, Other}
-use Rattle.gw_base.specs.NameLists.{is_in}
+use Rattle.gw_base.specs.NameLists.{is_in, NoDoubles}
+use Rattle.gw_base.proofs.NameTests.{same_name}
 use Rattle.gw_base.proofs.NamesInLists.{or_left, or_right, itself}
 use Rattle.gw_desc.specs.Checks.{is_asking, is_audit}
 use Rattle.gw_desc.specs.declared.descriptor.Descriptor.{Descriptor}
@@ -27,7 +28,7 @@ use Rattle.gw_term.specs.Audit.{audit_parts}
 use Rattle.gw_term.specs.Merge.{merged}
 use Rattle.gw_term.specs.Plain.{are_plain, is_plain_one}
 use Rattle.gw_term.specs.Record.{placed, serviced}
-use Rattle.gw_term.proofs.Taken.{plain_merged, plain_fills_none, merge_stays}
+use Rattle.gw_term.proofs.Taken.{plain_fills_none, merge_stays}
 use Rattle.gw_table.specs.declared.attempts.Attempts.{Attempts}
 use Rattle.gw_table.specs.declared.reach.Reach.TheVariants.{Every, Free}
 use Rattle.gw_table.specs.Folds.{attempts_behind, in_order}
@@ -37,8 +38,8 @@ use Rattle.gw_table.specs.Members.{put_service}
 use Rattle.gw_table.specs.Parts.{PartKeys, holds, Holds}
 use Rattle.gw_table.specs.Served.{is_reached, reached, all_serviced}
 use Rattle.gw_table.proofs.Folding.{ended, in_order-more, in_order-none}
-use Rattle.gw_table.proofs.Merged.{term-put_changed}
-use Rattle.gw_table.proofs.Served.{term-put_service}
+use Rattle.gw_table.proofs.Merged.{term-put_changed, reached_once}
+use Rattle.gw_table.proofs.Served.{term-put_service, in_filtered}
 use Rattle.gw_refusal.specs.declared.at.At.TheVariants.{Null}
 use Rattle.gw_refusal.specs.Asked.{is_add, is_wildcard, matches, service_asked, audited, words_in}
 use Rattle.gw_refusal.specs.Forms.{refusal_by_form}
@@ -148,21 +149,29 @@ module _ (c : Command) (m : Maps) (wildcard : is_wildcard c.term ≡ true) (stay
 bare : (c : Command) (v : Verb) (t : List ℕ) (x : Maps) → c.verb ≡ v → idle_reply c x t ≡ reply c (Name t) (idle_answer v c.descriptors (term x t))
 bare c v t x e = ap (λ (w : Verb). reply c (Name t) (idle_answer w c.descriptors (term x t))) e
 
-module _ (rules : Rules) (c : Command) (put : List ℕ → Maps → Maps)
-    (one : (t : List ℕ) (m x : Maps) → StandsIn None t m → on_target rules Null c tt t m ≡ ended (put t m) tt (idle_reply c x t ∷ []) false)
-    (still : (t q : List ℕ) (m : Maps) → StandsIn None q m → StandsIn None q (put t m)) where
+-- where each is as it has to be for its turn, also after the others
+module _ (rules : Rules) (c : Command) (put : List ℕ → Maps → Maps) (IsReady : List ℕ → Maps → Type 0)
+    (one : (t : List ℕ) (m x : Maps) → IsReady t m → on_target rules Null c tt t m ≡ ended (put t m) tt (idle_reply c x t ∷ []) false)
+    (still : (t q : List ℕ) (m : Maps) → bytes_eq q t ≡ false → IsReady q m → IsReady q (put t m)) where
   all_put : List (List ℕ) → Maps → Maps
   all_put [] m = m
   all_put (t ∷ ts) m = all_put ts (put t m)
 
-  all_done : (ts : List (List ℕ)) (m x : Maps) → ((t : List ℕ) → is_in t ts ≡ true → StandsIn None t m) → on_targets rules Null c ts m ≡ ended (all_put ts m) tt (map (idle_reply c x) ts) false
+  all_done : (ts : List (List ℕ)) (m x : Maps) → NoDoubles ts → ((t : List ℕ) → is_in t ts ≡ true → IsReady t m) → on_targets rules Null c ts m ≡ ended (all_put ts m) tt (map (idle_reply c x) ts) false
   unfolding all_put
-  all_done [] m x stands = in_order-none (on_target rules Null c) tt m
-  all_done (t ∷ ts) m x stands =
+  all_done [] m x d ready = in_order-none (on_target rules Null c) tt m
+  all_done (t ∷ ts) m x d ready =
       in_order-more (on_target rules Null c) tt t ts m
-      ∙ ap (λ (o : Outcome (Attempts Unit CommandReply)). attempts_behind o.answer.answers (in_order (on_target rules Null c) tt ts o.maps)) (one t m x (stands t (or_left (bytes_eq t t) (is_in t ts) (itself t))))
+      ∙ ap (λ (o : Outcome (Attempts Unit CommandReply)). attempts_behind o.answer.answers (in_order (on_target rules Null c) tt ts o.maps)) (one t m x (ready t (or_left (bytes_eq t t) (is_in t ts) (itself t))))
       ∙ ap (λ (o : Outcome (Attempts Unit CommandReply)). attempts_behind (idle_reply c x t ∷ []) o)
-      (all_done ts (put t m) x (λ q h. still t q m (stands q (or_right (bytes_eq q t) (is_in q ts) h))))
+      (all_done ts (put t m) x d.1 (λ q h. still t q m (other q h) (ready q (or_right (bytes_eq q t) (is_in q ts) h))))
+    where
+      other : (q : List ℕ) → is_in q ts ≡ true → bytes_eq q t ≡ false
+      other q h = by (bytes_eq q t) refl
+        where
+          by : (b : Bool) → bytes_eq q t ≡ b → bytes_eq q t ≡ false
+          by true e = absurd (let clash : true ≡ false = sym h ∙ ap (λ (x : List ℕ). is_in x ts) (same_name q t e) ∙ d.0 in cc)
+          by false e = e
 
 -- ---- a ServiceChange
 
@@ -179,21 +188,21 @@ module _ (rules : Rules) (c : Command) (s : Service) (serving : IsServing Null c
       ap (λ (o : Outcome (Result (List ReplyPart) Code)). ended o.maps tt (reply c (Name t) o.answer ∷ []) false) done
       ∙ ap (λ (a : CommandReply). ended (serve t m) tt (a ∷ []) false) (sym (bare c ServiceChange t x serving.verb))
 
-  still_served : (t q : List ℕ) (m : Maps) → StandsIn None q m → StandsIn None q (serve t m)
-  still_served t q m stands = by (bytes_eq q t) (term-put_service s t m q)
+  still_served : (t q : List ℕ) (m : Maps) → bytes_eq q t ≡ false → StandsIn None q m → StandsIn None q (serve t m)
+  still_served t q m apart stands = by (bytes_eq q t) (term-put_service s t m q)
     where
       by : (b : Bool) → term (serve t m) q ≡ cond b (option_map (λ r. serviced r s) (term m q)) (term m q) → StandsIn None q (serve t m)
       by true e = (serviced stands.0 s, e ∙ ap (λ (o : Option Termination). option_map (λ r. serviced r s) o) stands.1, stands.2)
       by false e = (stands.0, e ∙ stands.1, stands.2)
 
-  as_served : (ts : List (List ℕ)) (m : Maps) → all_put rules c serve one_served still_served ts m ≡ all_serviced s ts m
+  as_served : (ts : List (List ℕ)) (m : Maps) → all_put rules c serve (StandsIn None) one_served still_served ts m ≡ all_serviced s ts m
   unfolding all_put
   as_served [] m = refl
   as_served (t ∷ ts) m = as_served ts (serve t m)
 
--- ---- a Modify whose descriptors every record takes
+-- ---- a Modify whose descriptors each of them takes
 
-module _ (rules : Rules) (c : Command) (merging : IsMerging Null c) where
+module _ (rules : Rules) (c : Command) (m0 : Maps) (merging : IsMerging Null c m0) where
   abbrev merge : List ℕ → Maps → Maps
   merge t m = put_changed (merged rules c.descriptors) t m (term m t)
 
@@ -216,11 +225,16 @@ module _ (rules : Rules) (c : Command) (merging : IsMerging Null c) where
       here : new.place ≡ None
       here = sym (ap (λ (o : Option Termination). (unwrap_or o r).place) is) ∙ merge_stays rules c.descriptors r ∙ there
 
-  one_merged : (t : List ℕ) (m x : Maps) → StandsIn None t m → on_target rules Null c tt t m ≡ ended (merge t m) tt (idle_reply c x t ∷ []) false
-  unfolding on_record
-  one_merged t m x stands =
+  -- a termination of the null context that takes the descriptors has the name
+  IsTaking : List ℕ → Maps → Type 0
+  IsTaking t m = StandsIn None t m × ((r : Termination) → term m t ≡ Some r → (new : Termination) × (merged rules c.descriptors r ≡ Some new))
+
+  one_merged : (t : List ℕ) (m x : Maps) → IsTaking t m → on_target rules Null c tt t m ≡ ended (merge t m) tt (idle_reply c x t ∷ []) false
+  unfolding on_record IsTaking
+  one_merged t m x takes =
+      let stands = takes.0 in
       let r : Termination = stands.0 in
-      let new = plain_merged rules c.descriptors r merging.plain in
+      let new = takes.1 r stands.1 in
       let changed : Outcome (Result (List ReplyPart) Code) = record { maps = put_term m t (Some new.0); answer = Ok [] } in
       let found : on_name rules None c t m ≡ changed = ap (λ (o : Option Termination). on_found rules None c t o m) stands.1
       ∙ ap (λ (v : Verb). done t m (decided_in_null rules v c.descriptors r)) merging.verb
@@ -229,44 +243,52 @@ module _ (rules : Rules) (c : Command) (merging : IsMerging Null c) where
       ap (λ (o : Outcome (Result (List ReplyPart) Code)). ended o.maps tt (reply c (Name t) o.answer ∷ []) false) found
       ∙ (λ i. ended (maps i) tt (sym (bare c Modify t x merging.verb) i ∷ []) false)
 
-  still_merged : (t q : List ℕ) (m : Maps) → StandsIn None q m → StandsIn None q (merge t m)
-  still_merged t q m stands = by (bytes_eq q t) (term-put_changed f t m q)
-    where
-      f : Termination → Option Termination
-      f = merged rules c.descriptors
+  still_merged : (t q : List ℕ) (m : Maps) → bytes_eq q t ≡ false → IsTaking q m → IsTaking q (merge t m)
+  unfolding IsTaking
+  still_merged t q m apart takes =
+      let f : Termination → Option Termination = merged rules c.descriptors in
+      let same : term (merge t m) q ≡ term m q = term-put_changed f t m q ∙ ap (λ (b : Bool). cond b (option_map (changed f) (term m q)) (term m q)) apart in
+      ((takes.0.0, same ∙ takes.0.1, takes.0.2), λ r e. takes.1 r (sym same ∙ e))
 
-      by : (b : Bool) → term (merge t m) q ≡ cond b (option_map (changed f) (term m q)) (term m q) → StandsIn None q (merge t m)
-      by true e = (changed f stands.0, e ∙ ap (λ (o : Option Termination). option_map (changed f) o) stands.1, merge_stays rules c.descriptors stands.0 ∙ stands.2)
-      by false e = (stands.0, e ∙ stands.1, stands.2)
-
-  as_merged : (ts : List (List ℕ)) (m : Maps) → all_put rules c merge one_merged still_merged ts m ≡ all_changed (merged rules c.descriptors) ts m
+  as_merged : (ts : List (List ℕ)) (m : Maps) → all_put rules c merge IsTaking one_merged still_merged ts m ≡ all_changed (merged rules c.descriptors) ts m
   unfolding all_put
   as_merged [] m = refl
   as_merged (t ∷ ts) m = as_merged ts (merge t m)
 
+  -- each that is meant does
+  taking : (ts : List (List ℕ)) → ((t : List ℕ) → is_in t ts ≡ true → is_in t (reached Free (prefix_of c.term) m0) ≡ true) → ((t : List ℕ) → is_in t ts ≡ true → StandsIn None t m0) → (t : List ℕ) → is_in t ts ≡ true → IsTaking t m0
+  unfolding IsTaking
+  taking ts meant stands t h = (stands t h, λ r there. merging.taken rules t r (second_of (is_in t (names m0)) (is_reached Free (prefix_of c.term) m0 t) (sym (in_filtered (is_reached Free (prefix_of c.term) m0) (names m0) t) ∙ meant t h)) there)
+
 -- ---- either
 
-module _ (rules : Rules) (c : Command) where
-  pub is_wild : (a : ForAll) → IsForAll Null c a → is_wildcard c.term ≡ true
+none_twice : (prefix : List ℕ) (m : Maps) (ts : List (List ℕ)) → ts ≡ reached Free prefix m → NoDoubles ts
+none_twice prefix m ts is = subst NoDoubles (sym is) (reached_once prefix m)
+
+module _ (rules : Rules) (c : Command) (m : Maps) where
+  pub is_wild : (a : ForAll) → IsForAll Null c m a → is_wildcard c.term ≡ true
   is_wild (Serve s) h = h.wildcard
   is_wild Merge h = h.wildcard
 
-  is_no_add : (a : ForAll) → IsForAll Null c a → is_add c.verb ≡ false
+  is_no_add : (a : ForAll) → IsForAll Null c m a → is_add c.verb ≡ false
   is_no_add (Serve s) h = ap (λ (v : Verb). is_add v) h.verb
   is_no_add Merge h = ap (λ (v : Verb). is_add v) h.verb
 
-  all_met : (a : ForAll) → IsForAll Null c a → (ts : List (List ℕ)) (m x : Maps) → ((t : List ℕ) → is_in t ts ≡ true → StandsIn None t m) → on_targets rules Null c ts m ≡ ended (all_after rules c a ts m) tt (map (idle_reply c x) ts) false
-  all_met (Serve s) h ts m x stands = all_done rules c (serve rules c s h) (one_served rules c s h) (still_served rules c s h) ts m x stands ∙ ap (λ (y : Maps). ended y tt (map (idle_reply c x) ts) false) (as_served rules c s h ts m)
-  all_met Merge h ts m x stands = all_done rules c (merge rules c h) (one_merged rules c h) (still_merged rules c h) ts m x stands ∙ ap (λ (y : Maps). ended y tt (map (idle_reply c x) ts) false) (as_merged rules c h ts m)
+  all_met : (a : ForAll) → IsForAll Null c m a → (ts : List (List ℕ)) (x : Maps) → ts ≡ reached Free (prefix_of c.term) m → ((t : List ℕ) → is_in t ts ≡ true → StandsIn None t m) → on_targets rules Null c ts m ≡ ended (all_after rules c a ts m) tt (map (idle_reply c x) ts) false
+  all_met (Serve s) h ts x meant stands = all_done rules c (serve rules c s h) (StandsIn None) (one_served rules c s h) (still_served rules c s h) ts m x (none_twice (prefix_of c.term) m ts meant) stands ∙ ap (λ (y : Maps). ended y tt (map (idle_reply c x) ts) false) (as_served rules c s h ts m)
+  all_met Merge h ts x meant stands =
+      all_done rules c (merge rules c m h) (IsTaking rules c m h) (one_merged rules c m h) (still_merged rules c m h) ts m x (none_twice (prefix_of c.term) m ts meant) (taking rules c m h ts (λ t i. ap (λ (l : List (List ℕ)). is_in t l) (sym meant) ∙ i) stands)
+      ∙ ap (λ (y : Maps). ended y tt (map (idle_reply c x) ts) false) (as_merged rules c m h ts m)
 
   -- each target is as it is to be, and has its reply
-  pub all_carried : (a : ForAll) → IsForAll Null c a → (slot : Option ℕ) (m x : Maps) → refusal_by_tables Null slot c m ≡ None
+  pub all_carried : (a : ForAll) → IsForAll Null c m a → (slot : Option ℕ) (x : Maps) → refusal_by_tables Null slot c m ≡ None
       → allowed rules Null slot c m ≡ record { maps = all_after rules c a (reached Free (prefix_of c.term) m) m; answer = outcome_told Null c (map (idle_reply c x) (targets Null c m)) }
-  all_carried a h slot m x none =
+  all_carried a h slot x none =
       ap (λ (o : Option Code). unless_refused o Null c m (carried rules Null slot c m c.term)) none ∙ carried_on Null slot c m rules c.term (is_wild a h)
-      ∙ ap (λ (o : Outcome (Attempts Unit CommandReply)). let y : Outcome CmdOutcome = record { maps = o.maps; answer = outcome_told Null c o.answer.answers } in y) (all_met a h (targets Null c m) m x (each_free c m (is_wild a h) (is_no_add a h)))
+      ∙ ap (λ (o : Outcome (Attempts Unit CommandReply)). let y : Outcome CmdOutcome = record { maps = o.maps; answer = outcome_told Null c o.answer.answers } in y)
+      (all_met a h (targets Null c m) x (targets_are c m (is_wild a h) (is_no_add a h)) (each_free c m (is_wild a h) (is_no_add a h)))
       ∙ ap (λ (l : List (List ℕ)). let y : Outcome CmdOutcome = record { maps = all_after rules c a l m; answer = outcome_told Null c (map (idle_reply c x) (targets Null c m)) } in y) (targets_are c m (is_wild a h) (is_no_add a h))
 
-  pub keys_of_targets : (a : ForAll) → IsForAll Null c a → (m : Maps) (keys : PartKeys) (slot : Option ℕ) → Holds keys (command_keys Null slot c m) → refusal_by_form Null c ≡ None → refusal_by_tables Null slot c m ≡ None
+  pub keys_of_targets : (a : ForAll) → IsForAll Null c m a → (keys : PartKeys) (slot : Option ℕ) → Holds keys (command_keys Null slot c m) → refusal_by_form Null c ≡ None → refusal_by_tables Null slot c m ≡ None
       → (t : List ℕ) → is_in t (reached Free (prefix_of c.term) m) ≡ true → holds keys (Term t) ≡ true
-  keys_of_targets a h m keys slot = keys_of c m (is_wild a h) (is_no_add a h) keys slot
+  keys_of_targets a h keys slot = keys_of c m (is_wild a h) (is_no_add a h) keys slot

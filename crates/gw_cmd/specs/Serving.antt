@@ -8,9 +8,11 @@ use Rattle.gw_base.specs.declared.term_ref.TermRef.TheVariants.{Under}
 use Rattle.gw_msg.specs.declared.message.Command.{Command}
 use Rattle.gw_term.specs.Merge.{merged}
 use Rattle.gw_term.specs.Plain.{are_plain}
-use Rattle.gw_table.specs.Maps.{Maps}
+use Rattle.gw_term.specs.declared.record.Termination.{Termination}
+use Rattle.gw_table.specs.declared.reach.Reach.TheVariants.{Free}
+use Rattle.gw_table.specs.Maps.{Maps, term}
 use Rattle.gw_table.specs.Merged.{all_changed}
-use Rattle.gw_table.specs.Served.{all_serviced}
+use Rattle.gw_table.specs.Served.{is_reached, all_serviced}
 use Rattle.gw_refusal.specs.declared.at.At.{At}
 use Rattle.gw_refusal.specs.declared.at.At.TheVariants.{Null}
 use Rattle.gw_refusal.specs.Asked.{is_wildcard, service_asked}
@@ -22,6 +24,10 @@ abbrev pub prefix_of : TermRef → List ℕ
 prefix_of (Under prefix) = prefix
 prefix_of _ = []
 
+-- each termination of the null context whose name begins so takes the descriptors
+abbrev pub AreTaken : Command → Maps → Type 0
+AreTaken c m = (rules : Rules) (t : List ℕ) (r : Termination) → is_reached Free (prefix_of c.term) m t ≡ true → term m t ≡ Some r → (new : Termination) × (merged rules c.descriptors r ≡ Some new)
+
 -- a command that asks this service state of each that it matches, all of them in the null context
 pub record IsServing (at : At) (c : Command) (s : Service) : Type 0 where
   pub null : at ≡ Null
@@ -29,16 +35,17 @@ pub record IsServing (at : At) (c : Command) (s : Service) : Type 0 where
   pub wildcard : is_wildcard c.term ≡ true
   pub asked : service_asked c.descriptors ≡ Some s
 
--- one that merges descriptors that every record takes into each that it matches, all of them in the null context
-pub record IsMerging (at : At) (c : Command) : Type 0 where
+-- one that merges descriptors, of which nothing is told, into each that it matches, all of them in the null context; and each takes them
+pub record IsMerging (at : At) (c : Command) (m : Maps) : Type 0 where
   pub null : at ≡ Null
   pub verb : c.verb ≡ Modify
   pub wildcard : is_wildcard c.term ≡ true
   pub plain : are_plain c.descriptors ≡ true
+  pub taken : AreTaken c m
 
-abbrev pub IsForAll : At → Command → ForAll → Type 0
-IsForAll at c (Serve s) = IsServing at c s
-IsForAll at c Merge = IsMerging at c
+abbrev pub IsForAll : At → Command → Maps → ForAll → Type 0
+IsForAll at c m (Serve s) = IsServing at c s
+IsForAll at c m Merge = IsMerging at c m
 
 -- these terminations after it, one after another
 abbrev pub all_after : Rules → Command → ForAll → List (List ℕ) → Maps → Maps

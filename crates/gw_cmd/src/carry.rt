@@ -260,8 +260,8 @@ fn with_targets(
 
 /// Carries one command out as [`command`] does, and tells its replies behind those before it. Where they are too long, none is kept,
 /// and the command is carried out all the same. One that leaves each of its targets as it is ends there, and begun behind the limit it
-/// costs as little as with `W-`; so does a ServiceChange of what matches in the null context, and a Modify of it whose descriptors every
-/// record takes, which name nothing then.
+/// costs as little as with `W-`; so does a ServiceChange of what matches in the null context, and a Modify of it whose descriptors each of
+/// them takes, which name nothing then.
 ///
 /// # Errors
 ///
@@ -292,7 +292,7 @@ pub fn command_told(
     if is_idle(rules, draft, at, command) {
         return on_idle(alloc, rules, draft, at, slot, command, told);
     }
-    if let Some(for_all) = for_all(at, command) {
+    if let Some(for_all) = for_all(draft, at, command) {
         return on_all_free(alloc, rules, draft, slot, command, for_all, told);
     }
     let named = targets(alloc, draft, at, command)?;
@@ -305,8 +305,8 @@ pub fn command_told(
 /// and of an Add, of all names, and its matches. With `W-` an AuditValue, a Modify without descriptors and an Add without them into a
 /// full context cost that pass up to the first match, since each target stays as it is; in an action for each context they do so where
 /// the draft is of whole tables. A ServiceChange of what matches in the null context looks nothing up, and with `W-` it names nothing; nor
-/// does a Modify of it that sends no property but Mode and ServiceStates, no Local with a `$` and no Audit but an
-/// empty one.
+/// does a Modify of it that sends no Local with a `$` and no Audit but an empty one, where each list has room for the properties that it
+/// sends.
 ///
 /// The caller knows that the tables are sound, that the draft has the command's keys, and that no termination has the name of
 /// the slot.

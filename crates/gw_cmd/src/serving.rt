@@ -11,7 +11,7 @@ ghost use Rattle.gw_refusal.specs.Asked.{is_wildcard};
 ghost use Rattle.gw_refusal.specs.Forms.{refusal_by_form};
 ghost use Rattle.gw_cmd.specs.Commands.{allowed};
 ghost use Rattle.gw_cmd.specs.Keys.{command_keys};
-ghost use Rattle.gw_cmd.specs.Serving.{prefix_of, all_after, IsForAll};
+ghost use Rattle.gw_cmd.specs.Serving.{prefix_of, all_after, AreTaken, IsForAll};
 ghost use Rattle.gw_cmd.specs.Told.{outcome_behind};
 
 use crate::idle::{keeps_none, on_each, seen_idle};
@@ -24,7 +24,7 @@ use gw_msg::Command;
 use gw_refusal::{At, has_targets, is_wildcard, service_asked, targets};
 use gw_reply::CommandReply;
 use gw_table::{Draft, Reach};
-use gw_term::are_plain;
+use gw_term::{MOST_PROPERTIES, are_plain, room_for};
 use std::alloc::Global;
 
 /// What a command does to all terminations of the null context that match.
@@ -32,25 +32,8 @@ use std::alloc::Global;
 pub(crate) enum ForAll {
     /// They have this service state.
     Serve(Service),
-    /// Its descriptors, which every record takes, are merged into each.
+    /// Its descriptors, which each of them takes, are merged into each.
     Merge,
-}
-
-/// What a command does to all terminations of the null context that a wildcard matches, if it is a ServiceChange, or a Modify whose
-/// descriptors every record takes; of another command none.
-pub(crate) fn for_all(at: At, command: &Command<'_>) -> Option<ForAll>
-    ensures { IfSome result (IsForAll at command.now) }
-{
-    let descriptors = command.descriptors.as_slice();
-    match (at, command.verb) {
-        (At::Null, Verb::ServiceChange) if is_wildcard(&command.term) => {
-            Some(ForAll::Serve(service_asked(descriptors)?))
-        }
-        (At::Null, Verb::Modify) if is_wildcard(&command.term) && are_plain(descriptors) => {
-            Some(ForAll::Merge)
-        }
-        _ => None,
-    }
 }
 
 /// How the names begin that a wildcard matches.
@@ -63,6 +46,36 @@ fn prefix_of<'a>(term: &'a TermRef) -> &'a [u8]
     }
 }
 
+/// Whether each termination of the null context that the wildcard matches surely takes the descriptors: they send no property that a list
+/// holds, or there is room for all of these.
+fn are_taken(draft: &Draft<'_>, command: &Command<'_>) -> bool
+    ensures { result ≡ true → AreTaken command.now draft.now.maps }
+{
+    match room_for(command.descriptors.as_slice()) {
+        Some(MOST_PROPERTIES) => true,
+        Some(most) => draft.have_room(prefix_of(&command.term), most),
+        None => false,
+    }
+}
+
+/// What a command does to all terminations of the null context that a wildcard matches, if it is a ServiceChange, or a Modify whose
+/// descriptors each of them takes, and of which nothing is told; of another command none. Where properties are sent that lists hold, the
+/// work is one pass over the tables.
+pub(crate) fn for_all(draft: &Draft<'_>, at: At, command: &Command<'_>) -> Option<ForAll>
+    ensures { IfSome result (IsForAll at command.now draft.now.maps) }
+{
+    let descriptors = command.descriptors.as_slice();
+    match (at, command.verb) {
+        (At::Null, Verb::ServiceChange) if is_wildcard(&command.term) => {
+            Some(ForAll::Serve(service_asked(descriptors)?))
+        }
+        (At::Null, Verb::Modify)
+            if is_wildcard(&command.term) && are_plain(descriptors) && are_taken(draft, command) =>
+            { Some(ForAll::Merge) }
+        _ => None,
+    }
+}
+
 /// It is done to the terminations of the null context that the wildcard matches. They are not named.
 fn change(
     alloc: Global,
@@ -71,7 +84,7 @@ fn change(
     command: &Command<'_>,
     for_all: ForAll,
 ) -> Result<(), NoMemory>
-    requires form { IsForAll At.Null command.now for_all }
+    requires form { IsForAll At.Null command.now draft.old.maps for_all }
     requires term_keys { (t : List ℕ) → is_in t (reached Free (prefix_of command.now.term) draft.old.maps) ≡ true → holds draft.old.keys (Term t) ≡ true }
     ensures maps { OnOk result (draft.new.maps ≡ all_after rules.now command.now for_all (reached Free (prefix_of command.now.term) draft.old.maps) draft.old.maps) }
     ensures keys { draft.new.keys ≡ draft.old.keys }
@@ -97,7 +110,7 @@ fn with_each(
 ) -> Result<CmdTold, NoMemory>
     requires covered { Holds draft.old.keys (command_keys At.Null slot command.now draft.old.maps) }
     requires form { refusal_by_form At.Null command.now ≡ None }
-    requires for_all { IsForAll At.Null command.now for_all }
+    requires for_all { IsForAll At.Null command.now draft.old.maps for_all }
     requires told { (command.now.wild && is_wildcard command.now.term) ≡ false }
     ensures maps { OnOk result (draft.new.maps ≡ (allowed rules.now At.Null slot command.now draft.old.maps).maps) }
     ensures answer { IfOk result (λ done. done ≡ outcome_behind told (allowed rules.now At.Null slot command.now draft.old.maps).answer) }
@@ -124,7 +137,7 @@ fn with_none(
 ) -> Result<CmdTold, NoMemory>
     requires covered { Holds draft.old.keys (command_keys At.Null slot command.now draft.old.maps) }
     requires form { refusal_by_form At.Null command.now ≡ None }
-    requires for_all { IsForAll At.Null command.now for_all }
+    requires for_all { IsForAll At.Null command.now draft.old.maps for_all }
     requires kept { (command.now.wild && is_wildcard command.now.term) ≡ false → told ≡ TooLong }
     ensures maps { OnOk result (draft.new.maps ≡ (allowed rules.now At.Null slot command.now draft.old.maps).maps) }
     ensures answer { IfOk result (λ done. done ≡ outcome_behind told (allowed rules.now At.Null slot command.now draft.old.maps).answer) }
@@ -155,7 +168,7 @@ pub(crate) fn on_all_free(
 ) -> Result<CmdTold, NoMemory>
     requires covered { Holds draft.old.keys (command_keys At.Null slot command.now draft.old.maps) }
     requires form { refusal_by_form At.Null command.now ≡ None }
-    requires for_all { IsForAll At.Null command.now for_all }
+    requires for_all { IsForAll At.Null command.now draft.old.maps for_all }
     ensures maps { OnOk result (draft.new.maps ≡ (allowed rules.now At.Null slot command.now draft.old.maps).maps) }
     ensures answer { IfOk result (λ done. done ≡ outcome_behind told (allowed rules.now At.Null slot command.now draft.old.maps).answer) }
     ensures keys { draft.new.keys ≡ draft.old.keys }

@@ -19,7 +19,7 @@ use Rattle.gw_cmd.proofs.serving.with_none.Goals as goal
 pub change-requires-clause-term_keys : goal.change-requires-clause-term_keys
 change-requires-clause-term_keys c =
     let a = c.args in
-    keys_of_targets a.rules.now a.command.now a.for_all c.requires.for_all a.draft.now.maps a.draft.now.keys a.slot c.requires.covered c.requires.form (sym c.in_default.ensures)
+    keys_of_targets a.rules.now a.command.now a.draft.now.maps a.for_all c.requires.for_all a.draft.now.keys a.slot c.requires.covered c.requires.form (sym c.in_default.ensures)
 
 on_ok : {T E P : Type 0} (r : Result T E) → P → OnOk r P
 on_ok (Ok x) p = p
@@ -29,7 +29,7 @@ pub returns-clause-maps : goal.returns-clause-maps
 returns-clause-maps c =
     let a = c.args in
     let m : Maps = a.draft.now.maps in
-    on_ok c.outcome_of_all.result (c.in_ok-change.ensures.maps ∙ sym (ap (λ (o : Outcome CmdOutcome). o.maps) (all_carried a.rules.now a.command.now a.for_all c.requires.for_all a.slot m m (sym c.in_default.ensures))))
+    on_ok c.outcome_of_all.result (c.in_ok-change.ensures.maps ∙ sym (ap (λ (o : Outcome CmdOutcome). o.maps) (all_carried a.rules.now a.command.now m a.for_all c.requires.for_all a.slot m (sym c.in_default.ensures))))
 
 pub returns-clause-answer : goal.returns-clause-answer
 returns-clause-answer c =
@@ -38,15 +38,15 @@ returns-clause-answer c =
     let none : refusal_by_tables Null a.slot a.command.now m ≡ None = sym c.in_default.ensures in
     let ts : List (List ℕ) = targets Null a.command.now m in
     let replies : List CommandReply = map (idle_reply a.command.now m) ts in
-    let all = c.seen_idle-seen.ensures ∙ seen_idle a.command.now m TooLong TooLong ts (some_matched Null a.slot a.command.now m (is_wild a.rules.now a.command.now a.for_all c.requires.for_all) none) refl in
-    let whole = all_carried a.rules.now a.command.now a.for_all c.requires.for_all a.slot m m none in
+    let all = c.seen_idle-seen.ensures ∙ seen_idle a.command.now m TooLong TooLong ts (some_matched Null a.slot a.command.now m (is_wild a.rules.now a.command.now a.draft.now.maps a.for_all c.requires.for_all) none) refl in
+    let whole = all_carried a.rules.now a.command.now m a.for_all c.requires.for_all a.slot m none in
     IfOk-weaker c.outcome_of_all.result _ _ (λ _ e. e ∙ ap (λ (o : Outcome CmdOutcome). outcome_behind a.told o.answer) (sym whole)) (c.outcome_of_all.ensures TooLong replies all)
 
 pub returns-then-not-has_one_reply-clause-maps : goal.returns-then-not-has_one_reply-clause-maps
 returns-then-not-has_one_reply-clause-maps c =
     let a = c.args in
     let m : Maps = a.draft.now.maps in
-    c.in_ok-change.ensures.maps ∙ sym (ap (λ (o : Outcome CmdOutcome). o.maps) (all_carried a.rules.now a.command.now a.for_all c.requires.for_all a.slot m m (sym c.in_default.ensures)))
+    c.in_ok-change.ensures.maps ∙ sym (ap (λ (o : Outcome CmdOutcome). o.maps) (all_carried a.rules.now a.command.now m a.for_all c.requires.for_all a.slot m (sym c.in_default.ensures)))
 
 pub returns-then-not-has_one_reply-clause-answer : goal.returns-then-not-has_one_reply-clause-answer
 returns-then-not-has_one_reply-clause-answer c =
@@ -55,8 +55,8 @@ returns-then-not-has_one_reply-clause-answer c =
     let none : refusal_by_tables Null a.slot a.command.now m ≡ None = sym c.in_default.ensures in
     let ts : List (List ℕ) = targets Null a.command.now m in
     let replies : List CommandReply = map (idle_reply a.command.now m) ts in
-    let all = c.seen_idle-seen.ensures ∙ seen_idle a.command.now m TooLong TooLong ts (some_matched Null a.slot a.command.now m (is_wild a.rules.now a.command.now a.for_all c.requires.for_all) none) refl in
-    let whole = all_carried a.rules.now a.command.now a.for_all c.requires.for_all a.slot m m none in
+    let all = c.seen_idle-seen.ensures ∙ seen_idle a.command.now m TooLong TooLong ts (some_matched Null a.slot a.command.now m (is_wild a.rules.now a.command.now a.draft.now.maps a.for_all c.requires.for_all) none) refl in
+    let whole = all_carried a.rules.now a.command.now m a.for_all c.requires.for_all a.slot m none in
     let long : a.told ≡ TooLong = c.requires.kept (sym c.has_one_reply.ensures ∙ c.if-not-has_one_reply.true) in
     c.outcome_of.ensures TooLong replies all ∙ ap (λ (t : Telling CommandReply). outcome_behind t (outcome_told Null a.command.now replies)) (sym long)
     ∙ ap (λ (o : Outcome CmdOutcome). outcome_behind a.told o.answer) (sym whole)
