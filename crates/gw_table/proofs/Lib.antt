@@ -20,6 +20,7 @@ pub mod Picked
 pub mod Places
 pub mod Prepared
 pub mod Provisioning
+pub mod Records
 pub mod Shown
 pub mod Searched
 pub mod Served

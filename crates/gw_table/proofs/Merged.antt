@@ -23,23 +23,24 @@ use Rattle.gw_base.proofs.Views.{seen}
 use Rattle.gw_term.specs.declared.record.Termination.{Termination}
 use Rattle.gw_ctx.specs.Contexts.{ContextRecord}
 use Rattle.gw_table.specs.declared.originals.Write.{Write}
-use Rattle.gw_table.specs.declared.originals.Write.TheVariants.{OfTerm}
+use Rattle.gw_table.specs.declared.originals.Write.TheVariants.{OfRecord}
 use Rattle.gw_table.specs.declared.place.Place.{Place}
 use Rattle.gw_table.specs.declared.place.Place.TheVariants.{Empty, Here, Out}
 use Rattle.gw_table.specs.declared.reach.Reach.TheVariants.{Free}
 use Rattle.gw_table.specs.Free.{is_free_at}
 use Rattle.gw_table.specs.Maps.{Maps, term, ctx, names, place_of}
 use Rattle.gw_table.specs.Marking.{AreMarked}
-use Rattle.gw_table.specs.Merged.{Change, put_if, put_changed, all_changed, changed, changed_place, changed_if, changed_at, is_away_at, WasChanged, IsPassed, IsAlike, AreAlike, AreChanged, AreAllNoted}
-use Rattle.gw_table.specs.Originals.{keys_written, IsInPlace}
+use Rattle.gw_table.specs.Merged.{Change, put_if, put_changed, all_changed, changed, changed_place, changed_if, changed_at, is_away_at, WasChanged, IsPassed, IsAlike, AreAlike, AreChanged, AreAllNoted, MayNoteRecord}
+use Rattle.gw_table.specs.Originals.{keys_written, has_termination, IsInPlace}
 use Rattle.gw_table.specs.Reserved.{slot_name}
-use Rattle.gw_table.specs.Served.{is_within, is_reached, reached, is_reached_at, MayNote}
+use Rattle.gw_table.specs.Served.{is_within, is_reached, reached, is_reached_at}
 use Rattle.gw_table.specs.Stored.{Stored, stored, shown, has_left, maps_of, is_ready, is_out}
 use Rattle.gw_table.proofs.Exchanged.{term_seen}
+use Rattle.gw_table.proofs.InPlace.{noted_record}
 use Rattle.gw_table.proofs.Lookups.{term-put_term, ctx-put_term, same_maps}
 use Rattle.gw_table.proofs.Places.{term-maps_of, ctx-maps_of}
 use Rattle.gw_table.proofs.Served.{got_passed, in_filtered, in_names}
-use Rattle.gw_table.proofs.Undone.{undone_elsewhere, written_before}
+use Rattle.gw_table.proofs.Undone.{recorded, recorded_so, undone_elsewhere, termination_before}
 
 abbrev Named : Type 0
 Named = List ℕ × Place Termination
@@ -306,17 +307,20 @@ module _ (prefix : List ℕ) where
     out_alike (Ctx n) = ap (λ m. has_left (finite.get m n.0)) h.contexts
     out_alike Whole = refl
 
-    noted_or_same : (ws : List Write) → AreAllNoted prefix ws a → (q : List ℕ) → (has (keys_written ws) (Term q) ≡ true) ⊎ (term (maps_of b) q ≡ term (maps_of a) q)
+    noted_or_same : (ws : List Write) → AreAllNoted prefix ws a → (q : List ℕ) → (has (keys_written ws) (Term q) ≡ true) ⊎ (recorded ws q (term (maps_of b) q) ≡ recorded ws q (term (maps_of a) q))
     noted_or_same ws noted q = by (finite.get a.terms q) refl (h.terms q)
       where
-        same : (o : Option (Place Termination)) → finite.get a.terms q ≡ o → shown (finite.get b.terms q) ≡ shown o → term (maps_of b) q ≡ term (maps_of a) q
-        same o e f = term-maps_of b q ∙ f ∙ sym (ap (λ o. shown o) e) ∙ sym (term-maps_of a q)
+        same : (o : Option (Place Termination)) → finite.get a.terms q ≡ o → shown (finite.get b.terms q) ≡ shown o → recorded ws q (term (maps_of b) q) ≡ recorded ws q (term (maps_of a) q)
+        same o e f = ap (recorded ws q) (term-maps_of b q ∙ f ∙ sym (ap (λ o. shown o) e) ∙ sym (term-maps_of a q))
 
-        at : (p : Place Termination) → finite.get a.terms q ≡ Some p → IsAlike prefix q (Some p) (finite.get b.terms q) → (r : Bool) → is_met q p ≡ r → (has (keys_written ws) (Term q) ≡ true) ⊎ (term (maps_of b) q ≡ term (maps_of a) q)
-        at p e l true is = inl (noted q p e is)
+        stood : is_some (term (maps_of b) q) ≡ is_some (term (maps_of a) q)
+        stood = ap (λ o. is_some o) (term-maps_of b q) ∙ still_stands q (finite.get a.terms q) (finite.get b.terms q) (h.terms q) ∙ sym (ap (λ o. is_some o) (term-maps_of a q))
+
+        at : (p : Place Termination) → finite.get a.terms q ≡ Some p → IsAlike prefix q (Some p) (finite.get b.terms q) → (r : Bool) → is_met q p ≡ r → (has (keys_written ws) (Term q) ≡ true) ⊎ (recorded ws q (term (maps_of b) q) ≡ recorded ws q (term (maps_of a) q))
+        at p e l true is = recorded_so ws q (term (maps_of b) q) (term (maps_of a) q) stood (noted q p e is)
         at p e l false is = inr (same (Some p) e (ap (λ o. shown o) l.1 ∙ ap (λ (x : Place Termination). shown (Some x)) (l.2 is)))
 
-        by : (o : Option (Place Termination)) → finite.get a.terms q ≡ o → IsAlike prefix q o (finite.get b.terms q) → (has (keys_written ws) (Term q) ≡ true) ⊎ (term (maps_of b) q ≡ term (maps_of a) q)
+        by : (o : Option (Place Termination)) → finite.get a.terms q ≡ o → IsAlike prefix q o (finite.get b.terms q) → (has (keys_written ws) (Term q) ≡ true) ⊎ (recorded ws q (term (maps_of b) q) ≡ recorded ws q (term (maps_of a) q))
         by None e l = inr (same None e (ap (λ o. shown o) l))
         by (Some p) e l = at p e l (is_met q p) refl
 
@@ -418,19 +422,19 @@ meant_here prefix t Out h = absurd cc
 module _ (prefix : List ℕ) where
   -- each that is meant is noted, or among the rest
   abbrev pub NotedBut : (all rest : List Named) → List Write → Type 0
-  NotedBut all rest ws = (t : List ℕ) (p : Place Termination) → lookup (is_at (name_cmp t)) all ≡ Some p → is_reached_at Free prefix t p ≡ true → (lookup (is_at (name_cmp t)) rest ≡ Some p) ⊎ (has (keys_written ws) (Term t) ≡ true)
+  NotedBut all rest ws = (t : List ℕ) (p : Place Termination) → lookup (is_at (name_cmp t)) all ≡ Some p → is_reached_at Free prefix t p ≡ true → (lookup (is_at (name_cmp t)) rest ≡ Some p) ⊎ (has_termination t ws ≡ true)
 
-  pub one_more_noted : (all rest left : List Named) (e : Named) (ws vs : List Write) → rest ≡ e ∷ left → (is_reached_at Free prefix e.0 e.1 ≡ true → has (keys_written vs) (Term e.0) ≡ true) → ((q : List ℕ) → has (keys_written ws) (Term q) ≡ true → has (keys_written vs) (Term q) ≡ true) → NotedBut all rest ws → NotedBut all left vs
+  pub one_more_noted : (all rest left : List Named) (e : Named) (ws vs : List Write) → rest ≡ e ∷ left → (is_reached_at Free prefix e.0 e.1 ≡ true → has_termination e.0 vs ≡ true) → ((q : List ℕ) → has_termination q ws ≡ true → has_termination q vs ≡ true) → NotedBut all rest ws → NotedBut all left vs
   one_more_noted all rest left e ws vs is here kept so_far t p found meant = elim (so_far t p found meant) [
     | inl h ↦ by (is_at (name_cmp t) e.0) refl (sym (ap (λ (l : List Named). lookup (is_at (name_cmp t)) l) is) ∙ h)
     | inr n ↦ inr (kept t n)
   ]
     where
-      by : (b : Bool) → is_at (name_cmp t) e.0 ≡ b → cond b (Some e.1) (lookup (is_at (name_cmp t)) left) ≡ Some p → (lookup (is_at (name_cmp t)) left ≡ Some p) ⊎ (has (keys_written vs) (Term t) ≡ true)
+      by : (b : Bool) → is_at (name_cmp t) e.0 ≡ b → cond b (Some e.1) (lookup (is_at (name_cmp t)) left) ≡ Some p → (lookup (is_at (name_cmp t)) left ≡ Some p) ⊎ (has_termination t vs ≡ true)
       by true f h =
           let name : t ≡ e.0 = same_name t e.0 (sym (name_test t e.0) ∙ f) in
           let place : e.1 ≡ p = cc in
-          inr (ap (λ (x : List ℕ). has (keys_written vs) (Term x)) name ∙ here ((λ i. is_reached_at Free prefix (sym name i) (place i)) ∙ meant))
+          inr (ap (λ (x : List ℕ). has_termination x vs) name ∙ here ((λ i. is_reached_at Free prefix (sym name i) (place i)) ∙ meant))
       by false f h = inl h
 
   pub all_noted : (es rest : List Named) (cs : List (ℕ × Place ContextRecord)) (now : Stored) (ws : List Write) → stored es cs ≡ now → rest ≡ [] → NotedBut es rest ws → AreAllNoted prefix ws now
@@ -445,7 +449,14 @@ one_within n m b e rest left all is more so_far = by b more (ap (λ (l : List Na
     by true more k = omega (arith, more, k, so_far)
     by false more k = omega (arith, more, k, so_far)
 
+-- the record of what stands in a place may be noted, whatever was before
+pub may_note_record : (start now : Stored) (ws vs : List Write) (t : List ℕ) (p : Place Termination) → finite.get now.terms t ≡ Some p → MayNoteRecord t p ws vs → IsInPlace start now ws → IsInPlace start now vs
+may_note_record start now ws vs t p stands (inl e) i = subst (λ (l : List Write). IsInPlace start now l) (sym e) i
+may_note_record start now ws vs t p stands (inr (r, here, e)) i =
+    subst (λ (l : List Write). IsInPlace start now l) (sym e)
+    (noted_record start now ws i t r (term-maps_of now t ∙ ap (λ o. shown o) (stands ∙ ap (λ (y : Place Termination). Some y) here)))
+
 -- what is noted stays so
-pub still_noted : (ws vs : List Write) (t q : List ℕ) (p : Place Termination) → MayNote t p ws vs → has (keys_written ws) (Term q) ≡ true → has (keys_written vs) (Term q) ≡ true
-still_noted ws vs t q p (inl e) h = ap (λ (l : List Write). has (keys_written l) (Term q)) e ∙ h
-still_noted ws vs t q p (inr e) h = ap (λ (l : List Write). has (keys_written l) (Term q)) e ∙ written_before ws (OfTerm t (shown (Some p))) (Term q) h
+pub still_noted : (ws vs : List Write) (t q : List ℕ) (p : Place Termination) → MayNoteRecord t p ws vs → has_termination q ws ≡ true → has_termination q vs ≡ true
+still_noted ws vs t q p (inl e) h = ap (has_termination q) e ∙ h
+still_noted ws vs t q p (inr (r, here, e)) h = ap (has_termination q) e ∙ termination_before ws (OfRecord t r) q h

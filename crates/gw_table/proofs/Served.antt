@@ -38,7 +38,7 @@ use Rattle.gw_table.proofs.Exchanged.{term_seen}
 use Rattle.gw_table.proofs.InPlace.{wrote_term}
 use Rattle.gw_table.proofs.Lookups.{term-put_term, ctx-put_term, same_maps}
 use Rattle.gw_table.proofs.Places.{term-maps_of, ctx-maps_of, same_term_place}
-use Rattle.gw_table.proofs.Undone.{undone_elsewhere, written_before}
+use Rattle.gw_table.proofs.Undone.{recorded, undone_elsewhere, written_before}
 
 -- ---- one pass over an ordered map that changes values and leaves keys
 
@@ -117,17 +117,17 @@ module _ (reach : Reach) (prefix : List ℕ) (s : Service) where
     out_served (Ctx n) = ap (λ m. has_left (finite.get m n.0)) h.contexts
     out_served Whole = refl
 
-    noted_or_same : (ws : List Write) → AreNoted reach prefix s ws a → (q : List ℕ) → (has (keys_written ws) (Term q) ≡ true) ⊎ (term (maps_of b) q ≡ term (maps_of a) q)
+    noted_or_same : (ws : List Write) → AreNoted reach prefix s ws a → (q : List ℕ) → (has (keys_written ws) (Term q) ≡ true) ⊎ (recorded ws q (term (maps_of b) q) ≡ recorded ws q (term (maps_of a) q))
     noted_or_same ws noted q = by (finite.get a.terms q) refl
       where
-        same : (o : Option (Place Termination)) → finite.get a.terms q ≡ o → shown (option_map (served_at reach prefix s q) o) ≡ shown o → term (maps_of b) q ≡ term (maps_of a) q
-        same o e f = term-maps_of b q ∙ ap (λ o. shown o) (h.terms q ∙ ap (λ o. option_map (served_at reach prefix s q) o) e) ∙ f ∙ sym (ap (λ o. shown o) e) ∙ sym (term-maps_of a q)
+        same : (o : Option (Place Termination)) → finite.get a.terms q ≡ o → shown (option_map (served_at reach prefix s q) o) ≡ shown o → recorded ws q (term (maps_of b) q) ≡ recorded ws q (term (maps_of a) q)
+        same o e f = ap (recorded ws q) (term-maps_of b q ∙ ap (λ o. shown o) (h.terms q ∙ ap (λ o. option_map (served_at reach prefix s q) o) e) ∙ f ∙ sym (ap (λ o. shown o) e) ∙ sym (term-maps_of a q))
 
-        at : (p : Place Termination) (r : Bool) → finite.get a.terms q ≡ Some p → is_reached_at reach prefix q p ≡ r → (has (keys_written ws) (Term q) ≡ true) ⊎ (term (maps_of b) q ≡ term (maps_of a) q)
+        at : (p : Place Termination) (r : Bool) → finite.get a.terms q ≡ Some p → is_reached_at reach prefix q p ≡ r → (has (keys_written ws) (Term q) ≡ true) ⊎ (recorded ws q (term (maps_of b) q) ≡ recorded ws q (term (maps_of a) q))
         at p true e f = elim (noted q p e f) [ inl x ↦ inl x | inr x ↦ inr (same (Some p) e (ap (λ (r : Bool). shown (Some (served_if r s p))) f ∙ ap (λ (y : Place Termination). shown (Some y)) x)) ]
         at p false e f = inr (same (Some p) e (ap (λ (r : Bool). shown (Some (served_if r s p))) f))
 
-        by : (o : Option (Place Termination)) → finite.get a.terms q ≡ o → (has (keys_written ws) (Term q) ≡ true) ⊎ (term (maps_of b) q ≡ term (maps_of a) q)
+        by : (o : Option (Place Termination)) → finite.get a.terms q ≡ o → (has (keys_written ws) (Term q) ≡ true) ⊎ (recorded ws q (term (maps_of b) q) ≡ recorded ws q (term (maps_of a) q))
         by None e = inr (same None e refl)
         by (Some p) e = at p (is_reached_at reach prefix q p) e refl
 

@@ -15,6 +15,7 @@ pub mod Members
 pub mod Merged
 pub mod Originals
 pub mod Parts
+pub mod Records
 pub mod Reserved
 pub mod Served
 pub mod Settings

@@ -1,16 +1,15 @@
 -- Descriptors that are merged into many terminations at once (RFC 3525, section 7.2.2), and what is noted of them for the way back (own).
-use Rattle.std.specs.Prelude.{◌≡◌, ℕ, ◌⊎◌, Bool, true, false, List, [], ◌∷◌, Option, None, Some}
+use Rattle.std.specs.Prelude.{◌≡◌, ℕ, ◌⊎◌, Bool, true, false, List, [], ◌∷◌, ◌++◌, Option, None, Some}
 use Rattle.std.specs.Option.{option_map, is_some, unwrap_or}
 use Rattle.std.specs.FinMap as finite
-use Rattle.gw_base.specs.declared.key.Key.TheVariants.{Term}
-use Rattle.gw_base.specs.Keys.{has}
 use Rattle.gw_term.specs.declared.record.Termination.{Termination}
 use Rattle.gw_table.specs.declared.originals.Write.{Write}
+use Rattle.gw_table.specs.declared.originals.Write.TheVariants.{OfRecord}
 use Rattle.gw_table.specs.declared.place.Place.{Place}
 use Rattle.gw_table.specs.declared.place.Place.TheVariants.{Empty, Here, Out}
 use Rattle.gw_table.specs.declared.reach.Reach.TheVariants.{Free}
 use Rattle.gw_table.specs.Maps.{Maps, term, put_term}
-use Rattle.gw_table.specs.Originals.{keys_written}
+use Rattle.gw_table.specs.Originals.{has_termination}
 use Rattle.gw_table.specs.Served.{is_reached_at}
 use Rattle.gw_table.specs.Stored.{Stored, shown}
 
@@ -82,6 +81,10 @@ pub record AreChanged (prefix : List ℕ) (f : Change) (a b : Stored) : Type 0 w
 
 -- ---- the way back
 
--- each that is meant is noted
+-- nothing is noted more, or the record of what stands in the place of this name
+abbrev pub MayNoteRecord : List ℕ → Place Termination → List Write → List Write → Type 0
+MayNoteRecord t p old new = (new ≡ old) ⊎ ((r : Termination) × (p ≡ Here r) × (new ≡ old ++ OfRecord t r ∷ []))
+
+-- each that is meant is noted, whole or by its record
 abbrev pub AreAllNoted : List ℕ → List Write → Stored → Type 0
-AreAllNoted prefix writes now = (t : List ℕ) (p : Place Termination) → finite.get now.terms t ≡ Some p → is_reached_at Free prefix t p ≡ true → has (keys_written writes) (Term t) ≡ true
+AreAllNoted prefix writes now = (t : List ℕ) (p : Place Termination) → finite.get now.terms t ≡ Some p → is_reached_at Free prefix t p ≡ true → has_termination t writes ≡ true

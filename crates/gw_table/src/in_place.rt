@@ -20,8 +20,8 @@ use std::snapshot::Snapshot;
 
 /// Tables that are changed in place: the first write of each key is noted with what stood there, so that there is a way back, which
 /// takes no memory. A look-up is one in the tables, and a write takes one. Beside what is written only the originals are held, one for
-/// each key, however often it is written, and the properties of a context, where these were set first; those of earlier changes are gone
-/// on with, and then the way back leads to where they began.
+/// each key, however often it is written, and the properties of a context or the record of a termination, where these were changed first;
+/// those of earlier changes are gone on with, and then the way back leads to where they began.
 pub(crate) struct InPlace {
     pub(crate) tables: Tables,
     pub(crate) writes: Vec<Write>,

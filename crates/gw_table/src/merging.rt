@@ -100,8 +100,8 @@ fn unless_fewer(before: usize, after: usize) -> Result<(), NoMemory>
 }
 
 impl Tables {
-    /// Notes what stands at the names of those that are meant, as copies, but for those that are noted already. Answers how many
-    /// terminations are in the null context. The work is one pass over the places, without a look-up.
+    /// Notes the records of those that are meant, as copies, but for those that are noted already. Answers how many terminations are in
+    /// the null context. The work is one pass over the places, without a look-up.
     fn note_all_free(
         &self,
         alloc: Global,
@@ -117,7 +117,7 @@ impl Tables {
         for (name, site) in &self.terms {
             free = with_free(free, places, site);
             if is_reached_at(Reach::Free, prefix, name, site) {
-                site.note_original(alloc, name, writes)?;
+                site.note_record(alloc, name, writes)?;
             }
         }
         Ok(free)
@@ -157,7 +157,7 @@ impl Tables {
 }
 
 impl InPlace {
-    /// The descriptors are merged into those that are meant. One that was not written before is copied first, since the original is kept.
+    /// The descriptors are merged into those that are meant, each in its place. The record of one that was not noted before is noted first.
     fn merge_all_free(
         &mut self,
         alloc: Global,
@@ -240,8 +240,8 @@ impl OverPart<'_> {
 impl Draft<'_> {
     /// The descriptors are merged into those terminations of the null context whose names begin so. The caller knows that every record
     /// takes them, and that the names are among the draft's keys. The work is three passes over the tables, without a look-up, and the
-    /// merges; or a look-up for each key of the part, and two for each that is meant. Memory is taken for the originals of those that
-    /// were not written before, as copies, and for what is new in the records.
+    /// merges; or a look-up for each key of the part, and two for each that is meant. Memory is taken for the records of those that were
+    /// not noted before, as copies, and for what is new in the records.
     ///
     /// # Errors
     ///

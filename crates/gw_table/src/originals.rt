@@ -3,7 +3,9 @@
 ghost use Rattle.std.specs.Prelude.{◌≡◌, true, false, []};
 ghost use Rattle.gw_base.specs.declared.key.Key.TheVariants.{Term};
 ghost use Rattle.gw_base.specs.Keys.{same_key};
-ghost use Rattle.gw_table.specs.Originals.{key_written, keys_written, notes_properties, without_write, undone};
+ghost use Rattle.gw_table.specs.Maps.{term};
+ghost use Rattle.gw_table.specs.Originals.{key_written, keys_written, notes_properties, notes_termination, without_write, undone};
+ghost use Rattle.gw_table.specs.Records.{put_record_place};
 ghost use Rattle.gw_table.specs.Stored.{maps_of, is_ready, is_out, AreReady, AreIn, AreAsReady, AreAsOut, NoneIsOut};
 
 use crate::place::Place;
@@ -25,6 +27,8 @@ pub enum Write {
     /// The priority of the context with a number, if there is one, and whether it was marked as an emergency; of the rest nothing. The
     /// context may be written still, so it counts for no key.
     OfProperties(CtxNum, u8, bool),
+    /// The record of the termination of a name, if there is one. The termination may be written still, so it counts for no key.
+    OfRecord(TermName, Termination),
 }
 
 impl Write {
@@ -35,7 +39,7 @@ impl Write {
         match self {
             Write::OfTerm(name, _) => Key::Term(*name),
             Write::OfCtx(number, _) => Key::Ctx(*number),
-            Write::OfProperties(_, _, _) => Key::Whole,
+            Write::OfProperties(_, _, _) | Write::OfRecord(_, _) => Key::Whole,
         }
     }
 
@@ -47,6 +51,7 @@ impl Write {
             (Write::OfTerm(own, _), Key::Term(name)) => own == name,
             (Write::OfCtx(own, _), Key::Ctx(number)) => own.0 == number.0,
             (Write::OfProperties(_, _, _), Key::Whole) => true,
+            (Write::OfRecord(_, _), Key::Whole) => true,
             _ => false,
         }
     }
@@ -59,6 +64,17 @@ impl Write {
     {
         match self {
             Write::OfTerm(own, _) => own == name,
+            Write::OfCtx(_, _) | Write::OfProperties(_, _, _) | Write::OfRecord(_, _) => false,
+        }
+    }
+
+    /// Whether it notes the termination of this name, whole or its record.
+    pub(crate) fn notes_termination(&self, name: &TermName) -> bool
+        ensures { result ≡ notes_termination name.now self.now }
+    {
+        match self {
+            Write::OfTerm(own, _) => name == own,
+            Write::OfRecord(own, _) => name == own,
             Write::OfCtx(_, _) | Write::OfProperties(_, _, _) => false,
         }
     }
@@ -69,13 +85,14 @@ impl Write {
     {
         match self {
             Write::OfProperties(own, _, _) => number.0 == own.0,
-            Write::OfTerm(_, _) | Write::OfCtx(_, _) => false,
+            Write::OfTerm(_, _) | Write::OfCtx(_, _) | Write::OfRecord(_, _) => false,
         }
     }
 }
 
 /// What stood at keys of tables before they were written, in the order of the writes: a key for each, and of each key what its first
-/// write found there; and the properties of contexts of which nothing else was changed then. Contracts see the list of the writes.
+/// write found there; and the properties of contexts and the records of terminations that were changed where they lie before that.
+/// Contracts see the list of the writes.
 #[derive(Drop)]
 pub struct Originals {
     pub(crate) writes: Vec<Write>,
@@ -105,6 +122,16 @@ impl Originals {
 }
 
 impl Tables {
+    /// The termination of a name, if there is one, has this record, where it lies. It is one look-up.
+    fn put_record(&mut self, name: &TermName, before: Termination)
+        ensures { self.new ≡ put_record_place before name.now self.old (term (maps_of self.old) name.now) }
+    {
+        let Some(site) = self.terms.get_mut(name) else {
+            return;
+        };
+        site.put_record(before);
+    }
+
     /// Puts back what stood at a key before a write of it.
     fn take_back(&mut self, write: Write)
         requires ready { is_ready self.old (key_written write) ≡ true }
@@ -119,6 +146,7 @@ impl Tables {
             Write::OfProperties(number, priority, emergency) => {
                 self.set(number, Setting::Both(priority, emergency));
             }
+            Write::OfRecord(name, before) => self.put_record(&name, before),
         }
     }
 

@@ -1,6 +1,7 @@
 //! What stands at a prepared key.
 
 ghost use Rattle.std.specs.Prelude.{◌≡◌, Some, is_some, IfOk, OnOk, OnErr, option_copied};
+ghost use Rattle.gw_table.specs.Records.{recorded_at};
 ghost use Rattle.gw_table.specs.Stored.{shown, placed, served, emptied, is_vacant};
 
 use gw_base::{Held, NoMemory, Service};
@@ -95,6 +96,15 @@ pub(crate) fn set_in_place(place: &mut Place<Held<Termination>>, service: Servic
 {
     if let Place::Here(entry) = place {
         entry.get_mut().set_service(service);
+    }
+}
+
+/// The termination that stands in a place has this record, if there is one. It is changed in its place.
+pub(crate) fn put_record(place: &mut Place<Held<Termination>>, before: Termination)
+    ensures { place.new ≡ recorded_at before place.old }
+{
+    if let Place::Here(entry) = place {
+        *entry.get_mut() = before;
     }
 }
 

@@ -10,9 +10,10 @@ ghost use Rattle.gw_term.specs.Plain.{AreKnown};
 ghost use Rattle.gw_table.specs.Found.{IsFound, original_of};
 ghost use Rattle.gw_table.specs.Joining.{joined_at, left_at};
 ghost use Rattle.gw_table.specs.Maps.{members_of};
-ghost use Rattle.gw_table.specs.Merged.{WasChanged};
+ghost use Rattle.gw_table.specs.Merged.{WasChanged, MayNoteRecord};
 ghost use Rattle.gw_table.specs.KeptSettings.{IsKept, MayKeep};
-ghost use Rattle.gw_table.specs.Originals.{keys_written, has_properties};
+ghost use Rattle.gw_table.specs.Originals.{keys_written, has_properties, has_termination};
+ghost use Rattle.gw_table.specs.Records.{recorded_at};
 ghost use Rattle.gw_table.specs.Served.{IsNoted, MayNote};
 ghost use Rattle.gw_table.specs.Settings.{set_at};
 ghost use Rattle.gw_table.specs.Stored.{shown, served, emptied};
@@ -20,7 +21,7 @@ ghost use Rattle.gw_table.specs.Stored.{shown, served, emptied};
 use crate::joining::{join_in_place, leave_in_place};
 use crate::merging::merge_in_place;
 use crate::originals::Write;
-use crate::place::{Place, copied, renew, serve, set_in_place};
+use crate::place::{Place, copied, put_record, renew, serve, set_in_place};
 use crate::setting::{self, Setting, is_set};
 use gw_base::{CtxNum, Held, Key, NoMemory, Service, TermName};
 use gw_ctx::Context;
@@ -83,6 +84,13 @@ fn is_of_term(writes: &[Write], at: usize, name: &TermName) -> bool
     ensures { OnTrue result (has (keys_written writes.now) (Term name.now) ≡ true) }
 {
     at < writes.len() && writes[at].is_of_term(name)
+}
+
+/// Whether this write notes the termination of a name, whole or its record.
+fn is_termination_at(writes: &[Write], at: usize, name: &TermName) -> bool
+    ensures { OnTrue result (has_termination name.now writes.now ≡ true) }
+{
+    at < writes.len() && writes[at].notes_termination(name)
 }
 
 /// Whether this write notes the properties of the context with this number.
@@ -233,7 +241,7 @@ impl Site<Held<Termination>> {
     fn pass_noted(&mut self, name: &TermName, writes: &[Write], next: usize) -> usize
         ensures { self.new ≡ self.old }
     {
-        if !is_of_term(writes, next, name) {
+        if !is_termination_at(writes, next, name) {
             return next;
         }
         self.noted = u32::try_from(next).unwrap_or(u32::MAX);
@@ -263,6 +271,39 @@ impl Site<Held<Termination>> {
         let before = Held::new(alloc, termination.get().copy(alloc)?)?;
         writes.push(Write::OfTerm(*name, Some(before)))?;
         Ok(())
+    }
+
+    /// Notes the record of the termination that stands here, as a copy, unless that or its key is noted. The termination may then be
+    /// changed in its place.
+    ///
+    /// # Errors
+    ///
+    /// Want of memory. Nothing is noted then.
+    pub(crate) fn note_record(
+        &self,
+        alloc: Global,
+        name: &TermName,
+        writes: &mut Vec<Write>,
+    ) -> Result<(), NoMemory>
+        ensures least { MayNoteRecord name.now self.now writes.old.items writes.new.items }
+        ensures noted { OnOk result (is_some (shown (Some self.now)) ≡ true → has_termination name.now writes.new.items ≡ true) }
+    {
+        let Place::Here(termination) = &self.place else {
+            return Ok(());
+        };
+        if is_termination_at(writes, self.noted as usize, name) {
+            return Ok(());
+        }
+        let before = termination.get().copy(alloc)?;
+        writes.push(Write::OfRecord(*name, before))?;
+        Ok(())
+    }
+
+    /// The termination that stands here has this record, if there is one, in its place.
+    pub(crate) fn put_record(&mut self, before: Termination)
+        ensures { self.new ≡ recorded_at before self.old }
+    {
+        put_record(&mut self.place, before);
     }
 
     /// The descriptors are merged into the termination that stands here, in its place, if there is one; one for which memory is refused

@@ -10,8 +10,8 @@ use Rattle.gw_base.proofs.Views.{entries_seen}
 use Rattle.gw_table.specs.Free.{is_free_at}
 use Rattle.gw_table.specs.Stored.{Stored, stored}
 use Rattle.gw_table.proofs.FreeNames.{Named, each_found}
-use Rattle.gw_table.proofs.Served.{may_note, stands_next, stand_behind}
-use Rattle.gw_table.proofs.Merged.{meant_here, still_noted, one_more_noted, one_counted, one_within, all_noted}
+use Rattle.gw_table.proofs.Served.{stands_next, stand_behind}
+use Rattle.gw_table.proofs.Merged.{meant_here, still_noted, one_more_noted, one_counted, one_within, all_noted, may_note_record}
 use Rattle.gw_table.proofs.tables.Tables.note_all_free.Goals as goal
 
 abbrev free_in : List Named → ℕ
@@ -32,9 +32,9 @@ loop-name-preserved-in-Continue-1 c =
     stands_next c.into_iter-name-iterator.result c.loop-name.name-iterator c.next.new.self (c.in-Some.name.now, c.in-Some.site.now) c.self.inside.contexts.entries c.args.self.now
     (ap (λ (l : List Named). stored l c.self.inside.contexts.entries) c.into_iter-name-iterator.ensures.into_iter_gives.0 ∙ c.self.view_is) c.in-Some.ensures.steps c.loop-name.invariant.left in
     record {
-      back = λ start i. may_note start c.args.self.now c.loop-name.writes.items c.note_original.new.writes.items c.in-Some.name.now c.in-Some.site.now stands c.in_ok-note_original.ensures.least (c.loop-name.invariant.back start i);
-      noted = one_more_noted c.args.prefix.now c.into_iter-name-iterator.result c.loop-name.name-iterator c.next.new.self (c.in-Some.name.now, c.in-Some.site.now) c.loop-name.writes.items c.note_original.new.writes.items c.in-Some.ensures.steps
-          (λ h. c.in_ok-note_original.ensures.noted (meant_here c.args.prefix.now c.in-Some.name.now c.in-Some.site.now h)) (λ q. still_noted c.loop-name.writes.items c.note_original.new.writes.items c.in-Some.name.now q c.in-Some.site.now c.in_ok-note_original.ensures.least) c.loop-name.invariant.noted;
+      back = λ start i. may_note_record start c.args.self.now c.loop-name.writes.items c.note_record.new.writes.items c.in-Some.name.now c.in-Some.site.now stands c.in_ok-note_record.ensures.least (c.loop-name.invariant.back start i);
+      noted = one_more_noted c.args.prefix.now c.into_iter-name-iterator.result c.loop-name.name-iterator c.next.new.self (c.in-Some.name.now, c.in-Some.site.now) c.loop-name.writes.items c.note_record.new.writes.items c.in-Some.ensures.steps
+          (λ h. c.in_ok-note_record.ensures.noted (meant_here c.args.prefix.now c.in-Some.name.now c.in-Some.site.now h)) (λ q. still_noted c.loop-name.writes.items c.note_record.new.writes.items c.in-Some.name.now q c.in-Some.site.now c.in_ok-note_record.ensures.least) c.loop-name.invariant.noted;
       counted = ap (λ (n : ℕ). n + free_in c.next.new.self) c.with_free-free.ensures ∙ one_counted c.args.prefix.now (λ r. Some r) c.loop-name.free (c.in-Some.name.now, c.in-Some.site.now) c.loop-name.name-iterator c.next.new.self c.into_iter-name-iterator.result c.in-Some.ensures.steps c.loop-name.invariant.counted;
       within = one_within c.loop-name.free c.with_free-free.result (is_free_at c.in-Some.site.now) (c.in-Some.name.now, c.in-Some.site.now) c.loop-name.name-iterator c.next.new.self c.into_iter-name-iterator.result c.in-Some.ensures.steps c.with_free-free.ensures c.loop-name.invariant.within;
       left = stand_behind c.into_iter-name-iterator.result c.loop-name.name-iterator c.next.new.self (c.in-Some.name.now, c.in-Some.site.now) c.in-Some.ensures.steps c.loop-name.invariant.left;
@@ -65,9 +65,9 @@ returns c = record {
       ∙ ap (λ (s : Stored). free_in (finite.entries s.terms)) c.self.view_is;
 }
 
-pub returns-in_err-note_original-clause-back : goal.returns-in_err-note_original-clause-back
-returns-in_err-note_original-clause-back c start i =
+pub returns-in_err-note_record-clause-back : goal.returns-in_err-note_record-clause-back
+returns-in_err-note_record-clause-back c start i =
     let stands : finite.get c.args.self.now.terms c.in-Some.name.now ≡ Some c.in-Some.site.now =
     stands_next c.into_iter-name-iterator.result c.loop-name.name-iterator c.next.new.self (c.in-Some.name.now, c.in-Some.site.now) c.self.inside.contexts.entries c.args.self.now
     (ap (λ (l : List Named). stored l c.self.inside.contexts.entries) c.into_iter-name-iterator.ensures.into_iter_gives.0 ∙ c.self.view_is) c.in-Some.ensures.steps c.loop-name.invariant.left in
-    may_note start c.args.self.now c.loop-name.writes.items c.note_original.new.writes.items c.in-Some.name.now c.in-Some.site.now stands c.in_err-note_original.ensures.least (c.loop-name.invariant.back start i)
+    may_note_record start c.args.self.now c.loop-name.writes.items c.note_record.new.writes.items c.in-Some.name.now c.in-Some.site.now stands c.in_err-note_record.ensures.least (c.loop-name.invariant.back start i)
