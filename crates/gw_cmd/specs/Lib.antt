@@ -4,6 +4,7 @@ pub mod Idle
 pub mod Keys
 pub mod Changes
 pub mod Needs
+pub mod Nothing
 pub mod Refusals
 pub mod Refused
 pub mod Serving

@@ -9,6 +9,7 @@ mod idle;
 mod laws;
 mod members;
 mod merge;
+mod nothing;
 mod outcome;
 mod refusal;
 mod replies;
@@ -22,4 +23,5 @@ pub use laws::{
     commands_keep_forms, commands_keep_tables_well_formed, commands_keep_to_their_keys,
     commands_on_other_keys_change_places, keys_are_needed, the_whole_is_a_key_of_commands_for_all,
 };
+pub use nothing::{come_to_nothing, come_to_nothing_at};
 pub use outcome::{CmdOutcome, CmdTold};

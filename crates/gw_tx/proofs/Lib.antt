@@ -9,7 +9,7 @@ pub mod FreeSlots
 pub mod HeldKeys
 pub mod Kept
 pub mod Parts
-pub mod Refused
+pub mod NoEffect
 pub mod RequestKeys
 pub mod RoomCounted
 pub mod SetProperties

@@ -22,6 +22,8 @@ use Rattle.gw_msg.specs.declared.message.ContextItem.TheVariants as item
 use Rattle.gw_reply.specs.declared.context_parts.ContextPart.{ContextPart}
 use Rattle.gw_reply.specs.declared.context_parts.ContextPart.TheVariants as part
 use Rattle.gw_table.specs.Maps.{Maps, term, ctx, put_ctx, place_of}
+use Rattle.gw_table.specs.Settings.{with_setting, put_setting}
+use Rattle.gw_table.specs.declared.setting.Setting.{Setting}
 use Rattle.gw_refusal.specs.Places.{same_place}
 
 -- ---- the kinds of what is asked
@@ -243,6 +245,15 @@ set_property n p m = put_ctx m n (with_property_if p (ctx m n))
 abbrev pub set_properties : CtxNum → List ContextProp → Maps → Maps
 set_properties n [] m = m
 set_properties n (p ∷ ps) m = set_properties n ps (set_property n p m)
+
+-- what waits to be set in its place: a priority, an emergency or both
+abbrev pub with_wanted : Option Setting → ContextRecord → ContextRecord
+with_wanted None c = c
+with_wanted (Some x) c = with_setting x c
+
+abbrev pub put_wanted : Option Setting → CtxNum → Maps → Maps
+put_wanted None n m = m
+put_wanted (Some x) n m = put_setting x n m (ctx m n)
 
 -- the same of what stands under a number
 abbrev pub with_properties : List ContextProp → Option ContextRecord → Option ContextRecord

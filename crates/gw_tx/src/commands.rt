@@ -1,13 +1,9 @@
 //! The commands of an action.
 
-ghost use Rattle.std.specs.Prelude.{◌≡◌, not, is_none, IfOk, OnOk};
+ghost use Rattle.std.specs.Prelude.{◌≡◌, not, IfOk, OnOk};
 ghost use Rattle.std.specs.List.{list_any};
-ghost use Rattle.gw_base.specs.declared.ids.CtxNum.{CtxNum};
 ghost use Rattle.gw_cmd.specs.Keys.{command_keys};
 ghost use Rattle.gw_cmd.specs.Suits.{IsUnused};
-ghost use Rattle.gw_refusal.specs.declared.at.At.TheVariants.{Each};
-ghost use Rattle.gw_refusal.specs.Forms.{refusal_by_form};
-ghost use Rattle.gw_table.specs.Maps.{number};
 ghost use Rattle.gw_reserve.specs.Owned.{AreFreeSlots, paired_commands};
 ghost use Rattle.gw_tx.specs.Footprints.{list_keys, Covers};
 ghost use Rattle.gw_reply.specs.Replies.{command_reply_text, action_reply_text};
@@ -19,35 +15,13 @@ use crate::owned::next_entry;
 use crate::replies::replied;
 use crate::setting::set_when_made;
 use crate::told::{Counted, inside};
-use gw_base::{CtxNum, Items, NoMemory, Rules};
+use gw_base::{Items, NoMemory, Rules};
 use gw_cmd::{At, command_told};
 use gw_length::Telling;
 use gw_msg::{Command, ContextProp};
-use gw_refusal::refusal_by_form;
 use gw_reply::{ActionReply, CommandReply, ContextPart};
 use gw_table::Draft;
 use std::alloc::Global;
-
-/// Whether a command is not refused by its form, in a context of those that there are: in whichever.
-fn may_be_carried_out(command: &Command<'_>) -> bool
-    ensures { result ≡ is_none (refusal_by_form (Each (number 0)) command.now) }
-{
-    refusal_by_form(At::Each(CtxNum(0)), command).is_none()
-}
-
-/// Whether one of the commands is not refused by its form, in whichever context of those that there are.
-fn is_any_allowed(asked: &[Command<'_>]) -> bool
-    ensures { result ≡ list_any (λ c. is_none (refusal_by_form (Each (number 0)) c)) asked.now }
-{
-    asked.iter().any(may_be_carried_out)
-}
-
-/// Whether each of the commands is refused by its form, in whichever context of those that there are.
-pub(crate) fn are_refused(asked: &[Command<'_>]) -> bool
-    ensures { (n : CtxNum) → result ≡ not (list_any (λ c. is_none (refusal_by_form (Each n) c)) asked.now) }
-{
-    !is_any_allowed(asked)
-}
 
 /// Whether one of the commands is not marked `O-`.
 pub(crate) fn is_any_needed(asked: &[Command<'_>]) -> bool

@@ -1,14 +1,15 @@
 //! An action in a context that is there, and in each that there is.
 
-ghost use Rattle.std.specs.Prelude.{◌≡◌, true, false, All, Option, is_none, IfOk, OnOk};
+ghost use Rattle.std.specs.Prelude.{◌≡◌, true, false, All, Option, IfOk, OnOk};
 ghost use Rattle.gw_length.specs.declared.telling.Telling.TheVariants.{TooLong};
 ghost use Rattle.std.specs.List.{list_any};
+ghost use Rattle.gw_base.specs.declared.command_words.Rules.{Rules};
 ghost use Rattle.gw_base.specs.declared.ids.CtxNum.{CtxNum};
 ghost use Rattle.gw_base.specs.declared.key.Key.TheVariants.{Ctx};
-ghost use Rattle.gw_table.specs.Maps.{numbers};
+ghost use Rattle.gw_table.specs.Maps.{Maps, numbers};
 ghost use Rattle.gw_table.specs.Parts.{holds};
 ghost use Rattle.gw_refusal.specs.declared.at.At.TheVariants.{Each};
-ghost use Rattle.gw_refusal.specs.Forms.{refusal_by_form};
+ghost use Rattle.gw_cmd.specs.Nothing.{ComeToNothing};
 ghost use Rattle.gw_reserve.specs.Owned.{AreFreeSlots, paired_action, paired_commands};
 ghost use Rattle.gw_tx.specs.Footprints.{list_keys, Covers};
 ghost use Rattle.gw_reply.specs.Replies.{action_reply_text};
@@ -17,30 +18,38 @@ ghost use Rattle.gw_tx.specs.Told.{counted};
 ghost use Rattle.gw_tx.specs.Transactions.{in_context as done_in_context, in_all, action_for_each};
 
 use crate::alone::action_alone;
-use crate::commands::{are_refused, commands_in, is_any_needed};
+use crate::commands::{commands_in, is_any_needed};
 use crate::replies::action_error;
 use crate::setting::set_properties;
 use crate::telling::{context_parts_if, parts_within};
 use crate::told::Counted;
 use gw_base::{Code, CtxNum, CtxRef, NoMemory, Rules};
-use gw_cmd::At;
+use gw_cmd::{At, come_to_nothing, come_to_nothing_at};
 use gw_length::Telling;
-use gw_msg::Action;
+use gw_msg::{Action, Command};
 use gw_reply::ActionReply;
 use gw_table::Draft;
 use std::alloc::Global;
 
-/// Whether nothing more is told, and nothing more to be done, where `refused` says that no command changes anything.
-fn is_over(told: &Telling<ActionReply>, refused: bool) -> bool
+/// Whether nothing more is told, and nothing more to be done, since each of the commands comes to nothing in the context: `nothing` says
+/// that they do in whichever.
+fn is_over(
+    told: &Telling<ActionReply>,
+    draft: &Draft<'_>,
+    at: At,
+    asked: &[Command<'_>],
+    nothing: bool,
+) -> bool
+    requires { (rules : Rules) (m : Maps) → nothing ≡ true → ComeToNothing rules at asked.now m }
     ensures long { result ≡ true → told.now ≡ TooLong }
-    ensures none { result ≡ true → refused ≡ true }
+    ensures none { (rules : Rules) → result ≡ true → ComeToNothing rules at asked.now draft.now.maps }
 {
-    refused && matches!(told, Telling::TooLong)
+    matches!(told, Telling::TooLong) && (nothing || come_to_nothing_at(draft, at, asked))
 }
 
 /// Carries an action out in a context that is there: sets its properties, tells what it then is, and carries the commands out. Where
-/// nothing more is told, the commands are carried out all the same; but where `refused` says that each is refused by its form, or that
-/// there is none, to set the properties is all.
+/// nothing more is told, the commands are carried out all the same; but where each comes to nothing, in whichever context, as `nothing`
+/// says, or in this one of an action for each, to set the properties is all.
 pub(crate) fn in_context(
     alloc: Global,
     rules: &Rules,
@@ -49,21 +58,21 @@ pub(crate) fn in_context(
     number: CtxNum,
     slots: &[Option<u16>],
     sent: &Action<'_>,
-    refused: bool,
+    nothing: bool,
     told: Telling<ActionReply>,
 ) -> Result<Counted<(), ActionReply>, NoMemory>
     requires covered { Covers draft.old (list_keys at (paired_commands slots.now sent.now.commands) draft.old.maps) }
     requires unused { AreFreeSlots draft.old.maps slots.now }
     requires key { holds draft.old.keys (Ctx number) ≡ true }
     requires low { list_any is_too_high sent.now.props ≡ false }
-    requires refused { refused ≡ true → list_any (λ c. is_none (refusal_by_form at c)) sent.now.commands ≡ false }
+    requires nothing { (rules : Rules) (m : Maps) → nothing ≡ true → ComeToNothing rules at sent.now.commands m }
     ensures maps { (owned : Option CtxNum) → OnOk result (draft.new.maps ≡ (done_in_context rules.now (paired_action owned slots.now sent.now) at number draft.old.maps).maps) }
     ensures answer { (owned : Option CtxNum) → IfOk result (λ done. done ≡ counted action_reply_text told (done_in_context rules.now (paired_action owned slots.now sent.now) at number draft.old.maps).answer) }
     ensures keys { draft.new.keys ≡ draft.old.keys }
 {
     set_properties(alloc, draft, number, sent.props.as_slice())?;
     let asked = sent.commands.as_slice();
-    if is_over(&told, refused) {
+    if is_over(&told, draft, at, asked, nothing) {
         return Ok(Counted {
             next: (),
             told: Telling::TooLong,
@@ -94,7 +103,7 @@ fn in_all(
     ensures answer { (owned : Option CtxNum) → IfOk result (λ done. done ≡ counted action_reply_text told (in_all rules.now (paired_action owned slots.now sent.now) numbers.now draft.old.maps).answer) }
     ensures keys { draft.new.keys ≡ draft.old.keys }
 {
-    let refused = are_refused(sent.commands.as_slice());
+    let nothing = come_to_nothing(sent.commands.as_slice());
     let mut stopped = false;
     let mut told = told;
     for number in numbers {
@@ -106,7 +115,7 @@ fn in_all(
             *number,
             slots,
             sent,
-            refused,
+            nothing,
             told,
         )?;
         stopped = stopped || done.stopped;

@@ -1,11 +1,13 @@
 //! Properties of contexts that are set.
 
-ghost use Rattle.std.specs.Prelude.{◌≡◌, ◌∷◌, [], true, false, OnOk};
+ghost use Rattle.std.specs.Prelude.{◌≡◌, ◌∷◌, [], true, false, IfOk, OnOk};
 ghost use Rattle.std.specs.List.{list_any};
 ghost use Rattle.gw_base.specs.declared.key.Key.TheVariants.{Ctx};
+ghost use Rattle.gw_ctx.specs.Contexts.{ContextRecord};
 ghost use Rattle.gw_msg.specs.declared.message.ContextProp.TheVariants.{Topology};
 ghost use Rattle.gw_table.specs.Parts.{holds, IsPart};
-ghost use Rattle.gw_tx.specs.Properties.{linked_if, link_of, name_of, linked_by, is_too_high, is_topology, set_property, set_properties, ArePlain, AreSetInAll};
+ghost use Rattle.gw_table.specs.Settings.{with_setting};
+ghost use Rattle.gw_tx.specs.Properties.{linked_if, link_of, name_of, linked_by, is_too_high, is_topology, set_property, set_properties, with_wanted, put_wanted, ArePlain, AreSetInAll};
 ghost use Rattle.gw_base.specs.declared.ids.CtxNum.{CtxNum};
 ghost use Rattle.gw_refusal.specs.declared.at.At.TheVariants.{Unmade};
 ghost use Rattle.gw_tx.specs.Transactions.{set_when_made};
@@ -59,31 +61,81 @@ fn link_in(
     draft.set_ctx(number, Some(context))
 }
 
-/// Sets one property, where the context is there: a priority and an emergency in its place. What only asks leaves it where it lies. The
-/// caller knows that a priority is one that there is.
-fn set_property(
+/// Two properties that are set one after another, as one.
+fn both(first: Setting, later: Setting) -> Setting
+    ensures { (c : ContextRecord) → with_setting result c ≡ with_setting later (with_setting first c) }
+{
+    match (first, later) {
+        (Setting::Priority(priority), Setting::Emergency) => Setting::Both(priority, true),
+        (Setting::Both(priority, _), Setting::Emergency) => Setting::Both(priority, true),
+        (Setting::Emergency, Setting::Priority(priority)) => Setting::Both(priority, true),
+        (Setting::Both(_, emergency), Setting::Priority(priority)) => {
+            Setting::Both(priority, emergency)
+        }
+        (Setting::Priority(_), Setting::Priority(_)) => later,
+        (Setting::Emergency, Setting::Emergency) => later,
+        (_, Setting::Both(_, _)) => later,
+    }
+}
+
+/// What waits to be set, if anything does, and then one more.
+fn and_then(wanted: Option<Setting>, later: Setting) -> Setting
+    ensures { (c : ContextRecord) → with_setting result c ≡ with_setting later (with_wanted wanted c) }
+{
+    match wanted {
+        Some(first) => both(first, later),
+        None => later,
+    }
+}
+
+/// Sets what waits to be set, where the context is there.
+fn set_wanted(
     alloc: Global,
     draft: &mut Draft<'_>,
     number: CtxNum,
-    prop: &ContextProp,
+    wanted: Option<Setting>,
 ) -> Result<(), NoMemory>
     requires key { holds draft.old.keys (Ctx number) ≡ true }
+    ensures maps { OnOk result (draft.new.maps ≡ put_wanted wanted number draft.old.maps) }
+    ensures keys { draft.new.keys ≡ draft.old.keys }
+{
+    match wanted {
+        Some(setting) => draft.set_property(alloc, number, setting),
+        None => Ok(()),
+    }
+}
+
+/// One property more, where the context is there, behind what waits to be set: a priority and an emergency wait too, to be set in their
+/// place together. What only asks leaves it where it lies. The caller knows that a priority is one that there is.
+fn set_behind(
+    alloc: Global,
+    draft: &mut Draft<'_>,
+    number: CtxNum,
+    wanted: Option<Setting>,
+    prop: &ContextProp,
+) -> Result<Option<Setting>, NoMemory>
+    requires key { holds draft.old.keys (Ctx number) ≡ true }
     requires low { is_too_high prop.now ≡ false }
-    ensures maps { OnOk result (draft.new.maps ≡ set_property number prop.now draft.old.maps) }
+    ensures maps { IfOk result (λ left. put_wanted left number draft.new.maps ≡ set_property number prop.now (put_wanted wanted number draft.old.maps)) }
     ensures keys { draft.new.keys ≡ draft.old.keys }
 {
     match prop {
         ContextProp::Priority(priority) => {
-            draft.set_property(alloc, number, Setting::Priority(*priority as u8))
+            Ok(Some(and_then(wanted, Setting::Priority(*priority as u8))))
         }
-        ContextProp::Emergency => draft.set_property(alloc, number, Setting::Emergency),
-        ContextProp::Topology(triples) => link_in(alloc, draft, number, triples.as_slice()),
-        ContextProp::ContextAudit(_) => Ok(()),
+        ContextProp::Emergency => Ok(Some(and_then(wanted, Setting::Emergency))),
+        ContextProp::Topology(triples) => {
+            set_wanted(alloc, draft, number, wanted)?;
+            link_in(alloc, draft, number, triples.as_slice())?;
+            Ok(None)
+        }
+        ContextProp::ContextAudit(_) => Ok(wanted),
     }
 }
 
 /// Sets what is asked of a context, in the order written, where it is there. The caller knows that its number is one of the draft's
-/// keys, and that each priority is one that there is. The work is a look-up for each, and for each triple one pass of the links.
+/// keys, and that each priority is one that there is. The work is one look-up for a priority and an emergency together, and for a
+/// Topology another and one pass of the links for each triple.
 ///
 /// # Errors
 ///
@@ -99,10 +151,11 @@ pub(crate) fn set_properties(
     ensures maps { OnOk result (draft.new.maps ≡ set_properties number props.now draft.old.maps) }
     ensures keys { draft.new.keys ≡ draft.old.keys }
 {
+    let mut wanted = None;
     for prop in props {
-        set_property(alloc, draft, number, prop)?;
+        wanted = set_behind(alloc, draft, number, wanted, prop)?;
     }
-    Ok(())
+    set_wanted(alloc, draft, number, wanted)
 }
 
 /// Sets one property of every context: a priority or an emergency. What only asks sets nothing. The caller knows that a priority is one

@@ -7,7 +7,7 @@ use Rattle.gw_reserve.specs.Owned.{OwnedAction, paired_action}
 use Rattle.gw_tx.specs.Properties.{linked_names, refusal_of_links}
 use Rattle.gw_tx.specs.Told.{counted}
 use Rattle.gw_refusal.specs.declared.at.At.TheVariants.{Live}
-use Rattle.gw_tx.proofs.Refused.{none_refused}
+use Rattle.gw_tx.proofs.NoEffect.{none_to_nothing}
 use Rattle.gw_tx.proofs.Steps.{live_in}
 use Rattle.gw_tx.proofs.actions.action_in.Goals as goal
 
@@ -29,6 +29,6 @@ returns-clause-answer c = λ owned.
     let fine : refusal_of_links c.args.number (linked_names c.args.sent.now.props) m ≡ None = ap (λ (l : List (List ℕ)). refusal_of_links c.args.number l m) (sym names) ∙ sym c.refusal_of_links.ensures ∙ c.in-None.is in
     subst (λ (o : Outcome (Attempts Unit ActionReply)). IfOk c.in_context.result (λ done. done ≡ counted action_reply_text c.args.told o.answer)) (live_in c.args.rules.now c.args.number pair m (ctx m c.args.number) there fine) (c.in_context.ensures.answer owned)
 
--- no command is refused where there is none
-pub in_context-requires-clause-refused : goal.in_context-requires-clause-refused
-in_context-requires-clause-refused c = λ e. none_refused (Live c.args.number) c.args.sent.now.commands (sym c.is_empty.ensures ∙ e)
+-- where there is no command, none does anything
+pub in_context-requires-clause-nothing : goal.in_context-requires-clause-nothing
+in_context-requires-clause-nothing c = λ rules m e. none_to_nothing rules (Live c.args.number) c.args.sent.now.commands m (sym c.is_empty.ensures ∙ e)

@@ -1,6 +1,5 @@
-use Rattle.std.proofs.Common.{◌≡◌, ℕ, Bool, true, false, not, List, [], ◌∷◌, ◌++◌, ◌+◌, get_or, drop, Option, None, is_none, refl, sym, ap, subst, ◌∙◌}
+use Rattle.std.proofs.Common.{◌≡◌, ℕ, Bool, false, List, [], ◌∷◌, ◌++◌, ◌+◌, get_or, drop, Option, None, refl, sym, ap, subst, ◌∙◌}
 use Rattle.std.specs.Prelude.{◌||◌}
-use Rattle.std.specs.List.{list_any}
 use Rattle.std.proofs.Math.ListN.{drop_of_length-le}
 use Rattle.gw_base.specs.declared.ids.CtxNum.{CtxNum}
 use Rattle.gw_base.specs.declared.key.Key.TheVariants.{Ctx}
@@ -12,7 +11,7 @@ use Rattle.gw_table.specs.Maps.{Maps, Outcome, number}
 use Rattle.gw_table.specs.Parts.{Parted, PartKeys, holds}
 use Rattle.gw_table.proofs.Folding.{ended, rest_of, goes_on, ends}
 use Rattle.gw_refusal.specs.declared.at.At.TheVariants.{Each}
-use Rattle.gw_refusal.specs.Forms.{refusal_by_form}
+use Rattle.gw_cmd.specs.Nothing.{ComeToNothing}
 use Rattle.gw_cmd.proofs.Parted.{StaysPart}
 use Rattle.gw_reserve.specs.Owned.{OwnedAction, paired_action, paired_commands}
 use Rattle.gw_tx.specs.Footprints.{list_keys}
@@ -51,16 +50,10 @@ in_context-requires-clause-key c =
     let n : CtxNum = get_or c.args.numbers.now i (number 0) in
     ap (λ (k : PartKeys). holds k (Ctx n)) c.loop-number.invariant.keys ∙ c.requires.key i (number 0) c.loop-number-test.true
 
--- refused in one of them, refused in all
-pub in_context-requires-clause-refused : goal.in_context-requires-clause-refused
-in_context-requires-clause-refused c = λ e.
+pub in_context-requires-clause-nothing : goal.in_context-requires-clause-nothing
+in_context-requires-clause-nothing c = λ rules m e.
     let n : CtxNum = get_or c.args.numbers.now c.loop-number.number-index (number 0) in
-    not_true (list_any (λ k. is_none (refusal_by_form (Each n) k)) c.args.sent.now.commands)
-    (sym (ap (λ (l : List Command). not (list_any (λ k. is_none (refusal_by_form (Each n) k)) l)) c.as_slice.ensures) ∙ sym (c.are_refused-refused.ensures n) ∙ e)
-  where
-    not_true : (b : Bool) → not b ≡ true → b ≡ false
-    not_true true h = sym h
-    not_true false h = refl
+    subst (λ (l : List Command). ComeToNothing rules (Each n) l m) c.as_slice.ensures (c.come_to_nothing-nothing.ensures rules n m e)
 
 pub loop-number-preserved : goal.loop-number-preserved
 loop-number-preserved c =

@@ -1,5 +1,4 @@
-use Rattle.std.proofs.Common.{◌≡◌, ℕ, Bool, not, List, [], Option, refl, sym, ap, subst, ◌∙◌}
-use Rattle.std.specs.List.{list_any}
+use Rattle.std.proofs.Common.{◌≡◌, ℕ, Bool, List, [], Option, refl, sym, ap, subst, ◌∙◌}
 use Rattle.gw_msg.specs.declared.message.Command.{Command}
 use Rattle.gw_msg.specs.declared.message.ContextProp.{ContextProp}
 use Rattle.gw_length.specs.declared.telling.Telling.{Telling}
@@ -12,6 +11,7 @@ use Rattle.gw_table.specs.declared.attempts.Attempts.{Attempts}
 use Rattle.gw_table.specs.Maps.{Maps, Outcome, ctx}
 use Rattle.gw_refusal.specs.declared.at.At.{At}
 use Rattle.gw_table.specs.Parts.{Parted, Holds}
+use Rattle.gw_cmd.specs.Nothing.{ComeToNothing}
 use Rattle.gw_cmd.proofs.Parted.{StaysPart}
 use Rattle.gw_reserve.specs.Owned.{paired_commands}
 use Rattle.gw_tx.specs.Footprints.{list_keys}
@@ -22,7 +22,7 @@ use Rattle.gw_tx.specs.Transactions.{commands, replied}
 use Rattle.gw_tx.proofs.FreeSlots.{AnySlot}
 use Rattle.gw_tx.proofs.Kept.{With}
 use Rattle.gw_tx.proofs.Parts.{starts_set, covers_list}
-use Rattle.gw_tx.proofs.Refused.{refused_all}
+use Rattle.gw_tx.proofs.NoEffect.{all_to_nothing}
 use Rattle.gw_tx.proofs.contexts.in_context.Goals as goal
 
 pub commands_in-requires-clause-covered : goal.commands_in-requires-clause-covered
@@ -43,22 +43,32 @@ commands_in-requires-clause-unused c =
     let w : With AnySlot (StaysPart start.keys start.maps) slots c.set_properties.new.draft.maps = subst (λ (m : Maps). With AnySlot (StaysPart start.keys start.maps) slots m) (sym c.in_ok-set_properties.ensures.maps) (starts_set start slots needed c.args.number c.as_slice.result.now c.requires.covered c.requires.unused) in
     w.free
 
+pub is_over-requires : goal.is_over-requires
+is_over-requires c = λ rules m e. subst (λ (l : List Command). ComeToNothing rules c.args.at l m) (sym c.as_slice-asked.ensures) (c.requires.nothing rules m e)
+
 pub returns-then-is_over-clause-maps : goal.returns-then-is_over-clause-maps
 returns-then-is_over-clause-maps c owned =
     let a = c.args in
-    let set : Maps = set_properties a.number a.sent.now.props a.draft.now.maps in
-    c.in_ok-set_properties.ensures.maps
-    ∙ ap (λ (l : List ContextProp). set_properties a.number l a.draft.now.maps) c.as_slice.ensures
-    ∙ sym (refused_all a.rules.now a.at a.slots.now a.sent.now.commands set (c.requires.refused (c.if-is_over.ensures.none refl))).0
+    let asked : List Command = c.as_slice-asked.result.now in
+    let set : Maps = c.set_properties.new.draft.maps in
+    let ready : set ≡ set_properties a.number a.sent.now.props a.draft.now.maps = c.in_ok-set_properties.ensures.maps ∙ ap (λ (l : List ContextProp). set_properties a.number l a.draft.now.maps) c.as_slice.ensures in
+    sym (all_to_nothing a.rules.now a.at a.slots.now asked set (c.if-is_over.ensures.none a.rules.now refl)).0
+    ∙ ap (λ (l : List Command). (commands a.rules.now [] a.at (paired_commands a.slots.now l) set).maps) c.as_slice-asked.ensures
+    ∙ ap (λ (m : Maps). (commands a.rules.now [] a.at (paired_commands a.slots.now a.sent.now.commands) m).maps) ready
 
 pub returns-then-is_over-clause-answer : goal.returns-then-is_over-clause-answer
 returns-then-is_over-clause-answer c owned =
     let a = c.args in
+    let asked : List Command = c.as_slice-asked.result.now in
+    let set : Maps = c.set_properties.new.draft.maps in
     let ready : Maps = set_properties a.number a.sent.now.props a.draft.now.maps in
+    let same : set ≡ ready = c.in_ok-set_properties.ensures.maps ∙ ap (λ (l : List ContextProp). set_properties a.number l a.draft.now.maps) c.as_slice.ensures in
     let parts : List ContextPart = context_parts_if a.sent.now (ctx ready a.number) in
     let done : Outcome (Attempts At CommandReply) = commands a.rules.now [] a.at (paired_commands a.slots.now a.sent.now.commands) ready in
     let stops : c.is_any_needed.result ≡ done.answer.stopped =
-    c.is_any_needed.ensures ∙ ap (λ (l : List Command). list_any (λ k. not k.optional) l) c.as_slice-asked.ensures
-    ∙ sym (refused_all a.rules.now a.at a.slots.now a.sent.now.commands ready (c.requires.refused (c.if-is_over.ensures.none refl))).1 in
+    c.is_any_needed.ensures
+    ∙ sym (all_to_nothing a.rules.now a.at a.slots.now asked set (c.if-is_over.ensures.none a.rules.now refl)).1
+    ∙ ap (λ (l : List Command). (commands a.rules.now [] a.at (paired_commands a.slots.now l) set).answer.stopped) c.as_slice-asked.ensures
+    ∙ ap (λ (m : Maps). (commands a.rules.now [] a.at (paired_commands a.slots.now a.sent.now.commands) m).answer.stopped) same in
     ap (λ (b : Bool). let d : Counted Unit ActionReply = record { next = tt; told = TooLong; stopped = b } in d) stops
     ∙ sym (ap (λ (t : Telling ActionReply). counted action_reply_text t (replied parts done.answer)) (c.if-is_over.ensures.long refl))
