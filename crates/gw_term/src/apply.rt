@@ -39,8 +39,7 @@ fn push_filled(
     let Some(stream) = settings.stream(number) else {
         return Ok(());
     };
-    if let Some(text) = &stream.local {
-        let local = Items::from_slice(alloc, text.as_slice())?;
+    if let Some(local) = stream.local.told(alloc)? {
         filled.push(FilledStream { number, local })?;
     }
     Ok(())

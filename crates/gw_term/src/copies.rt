@@ -7,27 +7,6 @@ use crate::record::{Stream, Termination};
 use gw_base::{Items, NoMemory};
 use std::alloc::{AllocError, Global};
 
-/// A copy of the text, if it is there.
-pub(crate) fn copied_if(
-    alloc: Global,
-    text: &Option<Items<u8>>,
-) -> Result<Option<Items<u8>>, AllocError>
-    ensures { IfOk result (λ copy. copy ≡ text.now) }
-{
-    match text {
-        Some(text) => Ok(Some(Items::from_slice(alloc, text.as_slice())?)),
-        None => Ok(None),
-    }
-}
-
-/// The block of an old text, if it is as long as a new one, and else a new block.
-pub(crate) fn block_for(alloc: Global, old: Vec<u8>, length: usize) -> Result<Vec<u8>, AllocError> {
-    if old.len() == length {
-        return Ok(old);
-    }
-    Vec::with_capacity(alloc, length)
-}
-
 /// A copy of the properties.
 pub(crate) fn copied_properties(
     alloc: Global,
@@ -47,8 +26,8 @@ pub(crate) fn copied_stream(alloc: Global, stream: &Stream) -> Result<Stream, Al
     ensures { IfOk result (λ copy. copy ≡ stream.now) }
 {
     let properties = copied_properties(alloc, stream.properties.as_slice())?;
-    let local = copied_if(alloc, &stream.local)?;
-    let remote = copied_if(alloc, &stream.remote)?;
+    let local = stream.local.copied(alloc)?;
+    let remote = stream.remote.copied(alloc)?;
     Ok(Stream {
         mode: stream.mode,
         properties,

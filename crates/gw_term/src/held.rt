@@ -3,7 +3,7 @@
 ghost use Rattle.std.specs.Prelude.{◌≡◌, ◌++◌, if◌then◌else◌, IfOk, OnOk, None, Some};
 ghost use Rattle.gw_term.specs.HeldTexts.{text_of};
 
-use crate::copies::block_for;
+use crate::text::Text;
 use gw_base::{Items, Span};
 use gw_desc::{Property, Sign, Tail};
 use gw_reply::{KeptProperty, KeptTail};
@@ -34,7 +34,7 @@ fn joined(alloc: Global, first: &[u8], second: &[u8]) -> Result<Vec<u8>, AllocEr
 #[derive(Drop)]
 pub struct HeldProperty {
     sign: Sign,
-    texts: Vec<u8>,
+    texts: Text,
     /// How long the name is: where the value begins.
     split: usize,
 }
@@ -42,13 +42,13 @@ pub struct HeldProperty {
 impl Model for HeldProperty {
     ghost use Rattle.std.specs.Prelude.{◌≤◌, ℕ, List, length};
     ghost use Rattle.gw_desc.specs.declared.descriptor.Property.{Property as PropertyOf};
-    ghost use Rattle.gw_term.specs.HeldTexts.{split_property};
+    ghost use Rattle.gw_term.specs.HeldTexts.{split_property, text_of};
 
     ghost Value = { PropertyOf (List ℕ) };
 
-    ghost view = { λ p. split_property p.sign p.split p.texts.items };
+    ghost view = { λ p. split_property p.sign p.split (text_of p.texts) };
 
-    ghost invariant = { λ p. p.split ≤ length p.texts.items };
+    ghost invariant = { λ p. p.split ≤ length (text_of p.texts) };
 }
 
 impl HeldProperty {
@@ -63,7 +63,7 @@ impl HeldProperty {
     {
         Ok(HeldProperty {
             sign,
-            texts: joined(alloc, name, value)?,
+            texts: Text::from_vec(joined(alloc, name, value)?),
             split: name.len(),
         })
     }
@@ -72,7 +72,7 @@ impl HeldProperty {
     pub(crate) fn name(&self) -> &[u8]
         ensures { result.now ≡ self.now.name }
     {
-        &self.texts[..self.split]
+        &self.texts.as_slice()[..self.split]
     }
 
     /// A copy of the property.
@@ -81,7 +81,7 @@ impl HeldProperty {
     {
         Ok(HeldProperty {
             sign: self.sign,
-            texts: Vec::from_slice(alloc, self.texts.as_slice())?,
+            texts: self.texts.copied(alloc)?,
             split: self.split,
         })
     }
@@ -90,7 +90,7 @@ impl HeldProperty {
     pub(crate) fn told(&self, alloc: Global) -> Result<KeptProperty, AllocError>
         ensures { IfOk result (λ told. told ≡ self.now) }
     {
-        let (name, value) = self.texts.split_at(self.split);
+        let (name, value) = self.texts.as_slice().split_at(self.split);
         let name = Items::from_slice(alloc, name)?;
         let value = Items::from_slice(alloc, value)?;
         Ok(Property {
@@ -107,7 +107,7 @@ pub struct HeldTail {
     equals: bool,
     has_word: bool,
     has_group: bool,
-    texts: Vec<u8>,
+    texts: Text,
     /// How long the word is: where the group begins.
     split: usize,
 }
@@ -115,13 +115,13 @@ pub struct HeldTail {
 impl Model for HeldTail {
     ghost use Rattle.std.specs.Prelude.{◌≤◌, ℕ, List, length};
     ghost use Rattle.gw_desc.specs.declared.descriptor.Tail.{Tail as TailOf};
-    ghost use Rattle.gw_term.specs.HeldTexts.{split_tail};
+    ghost use Rattle.gw_term.specs.HeldTexts.{split_tail, text_of};
 
     ghost Value = { TailOf (List ℕ) };
 
-    ghost view = { λ t. split_tail t.equals t.has_word t.has_group t.split t.texts.items };
+    ghost view = { λ t. split_tail t.equals t.has_word t.has_group t.split (text_of t.texts) };
 
-    ghost invariant = { λ t. t.split ≤ length t.texts.items };
+    ghost invariant = { λ t. t.split ≤ length (text_of t.texts) };
 }
 
 /// The text, or none.
@@ -156,18 +156,18 @@ impl HeldTail {
             equals: tail.equals,
             has_word: tail.word.is_some(),
             has_group: tail.group.is_some(),
-            texts,
+            texts: Text::from_vec(texts),
             split: word.len(),
         })
     }
 
     /// No tail, without texts. It takes no memory.
-    fn blank(alloc: Global) -> HeldTail {
+    fn blank() -> HeldTail {
         HeldTail {
             equals: false,
             has_word: false,
             has_group: false,
-            texts: Vec::new(alloc),
+            texts: Text::none(),
             split: 0,
         }
     }
@@ -178,12 +178,12 @@ impl HeldTail {
     {
         let word = text_of(&tail.word);
         let group = text_of(&tail.group);
-        let block = block_for(alloc, self.texts, word.len() + group.len())?;
+        let block = self.texts.into_block(alloc, word.len() + group.len())?;
         Ok(HeldTail {
             equals: tail.equals,
             has_word: tail.word.is_some(),
             has_group: tail.group.is_some(),
-            texts: joined_in(block, word, group)?,
+            texts: Text::from_vec(joined_in(block, word, group)?),
             split: word.len(),
         })
     }
@@ -192,7 +192,7 @@ impl HeldTail {
     pub(crate) fn retell(&mut self, alloc: Global, tail: &Tail<Span<'_>>) -> Result<(), AllocError>
         ensures { OnOk result (self.new ≡ tail.now) }
     {
-        let old = mem::replace(self, HeldTail::blank(alloc));
+        let old = mem::replace(self, HeldTail::blank());
         *self = old.retold(alloc, tail)?;
         Ok(())
     }
@@ -205,7 +205,7 @@ impl HeldTail {
             equals: self.equals,
             has_word: self.has_word,
             has_group: self.has_group,
-            texts: Vec::from_slice(alloc, self.texts.as_slice())?,
+            texts: self.texts.copied(alloc)?,
             split: self.split,
         })
     }
@@ -214,7 +214,7 @@ impl HeldTail {
     pub(crate) fn told(&self, alloc: Global) -> Result<KeptTail, AllocError>
         ensures { IfOk result (λ told. told ≡ self.now) }
     {
-        let (word, group) = self.texts.split_at(self.split);
+        let (word, group) = self.texts.as_slice().split_at(self.split);
         Ok(Tail {
             equals: self.equals,
             word: kept_if(alloc, self.has_word, word)?,

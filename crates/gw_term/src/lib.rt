@@ -15,6 +15,7 @@ mod record;
 mod settings;
 mod streams;
 mod tails;
+mod text;
 
 pub use apply::{Applied, Filled};
 pub use fault::ApplyFault;
@@ -25,3 +26,4 @@ pub use places::{PerKind, PerStream};
 pub use plain::{Sending, are_plain};
 pub use record::{Stream, Termination};
 pub use settings::{Setting, Settings};
+pub use text::Text;

@@ -9,16 +9,17 @@ ghost use Rattle.gw_term.specs.Merge.{put_control, local_text, is_filled, put_pa
 ghost use Rattle.gw_term.specs.Applies.{Becomes, IsStreamMerged};
 ghost use Rattle.gw_term.specs.Places.{at_number, put_number};
 
-use crate::copies::{block_for, copied_stream, put};
+use crate::copies::{copied_stream, put};
 use crate::fault::ApplyFault;
 use crate::properties::{media_parts, put_property};
 use crate::record::Stream;
 use crate::settings::{Setting, Settings};
+use crate::text::Text;
 use gw_base::{Items, NoMemory, Rules, Span};
 use gw_desc::{
     Descriptor, MediaPart, Mode, Property, StreamPart, fill_local, is_mode, mode_set_by,
 };
-use std::alloc::{AllocError, Global};
+use std::alloc::Global;
 
 /// A stream while descriptors are merged into it.
 pub(crate) struct Merging {
@@ -99,28 +100,13 @@ fn put_local(
     ensures { Becomes result (record { stream = stream.new; filled = filled.new }) (put_part sent.now.rules.now sent.now.slot number (Local text.now) (record { stream = stream.old; filled = filled.old })) }
 {
     let Some(slot) = sent.slot else {
-        put_text(alloc, text, &mut stream.local)?;
+        stream.local.put(alloc, text)?;
         *filled = false;
         return Ok(());
     };
     let (local, is_filled) = fill_local(alloc, text, &sent.rules.media, slot, number)?;
-    put(&mut stream.local, Some(Items::from(local)));
+    put(&mut stream.local, Text::from_vec(local));
     *filled = is_filled;
-    Ok(())
-}
-
-/// The text takes the place of the one there, in its block where it is as long.
-fn put_text(alloc: Global, text: &[u8], place: &mut Option<Items<u8>>) -> Result<(), AllocError>
-    ensures { OnOk result (place.new ≡ Some text.now) }
-{
-    let old = match place.take() {
-        Some(old) => old.into_vec(),
-        None => Vec::new(alloc),
-    };
-    let mut texts = block_for(alloc, old, text.len())?;
-    texts.clear();
-    texts.extend_from_slice(text)?;
-    *place = Some(Items::from(texts));
     Ok(())
 }
 
@@ -140,7 +126,7 @@ fn put_part(
     match part {
         StreamPart::Local(text) => put_local(alloc, sent, number, text.as_bytes(), stream, filled),
         StreamPart::Remote(text) => {
-            put_text(alloc, text.as_bytes(), &mut stream.remote)?;
+            stream.remote.put(alloc, text.as_bytes())?;
             Ok(())
         }
         StreamPart::LocalControl(properties) => {
@@ -233,8 +219,8 @@ pub(crate) fn begun(alloc: Global, old: Option<&Stream>) -> Result<Merging, NoMe
         None => Stream {
             mode: Mode::Inactive,
             properties: Items::new(alloc),
-            local: None,
-            remote: None,
+            local: Text::none(),
+            remote: Text::none(),
         },
     };
     Ok(Merging {
