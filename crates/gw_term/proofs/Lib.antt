@@ -11,3 +11,4 @@ pub mod Naming
 pub mod Unfilled
 pub mod Taken
 pub mod SettingLists
+pub mod MadeOnce

@@ -1,6 +1,6 @@
 -- Descriptors that every record takes, and of which nothing is told (own): they send no property but Mode and ServiceStates, so that
 -- no list can hold too many; no Local with a `$`, which might be filled; and no Audit but an empty one.
-use Rattle.std.specs.Prelude.{◌≡◌, ℕ, ◌==◌, if◌then◌else◌, Bool, true, false, not, codes, List, length, Option, Some}
+use Rattle.std.specs.Prelude.{◌≡◌, ℕ, ◌==◌, if◌then◌else◌, Bool, true, false, not, codes, List, length, Option, None, Some}
 use Rattle.std.specs.List.{flat_map, list_all, list_any}
 use Rattle.std.specs.Option.{option_map, unwrap_or}
 use Rattle.gw_base.specs.Bytes.{is_one_of}
@@ -17,13 +17,15 @@ use Rattle.gw_desc.specs.declared.descriptor.StreamPart.{StreamPart}
 use Rattle.gw_desc.specs.declared.descriptor.StreamPart.TheVariants as part
 use Rattle.gw_desc.specs.declared.descriptor.Tail.{Tail}
 use Rattle.gw_term.specs.declared.record.Stream.{Stream}
+use Rattle.gw_term.specs.declared.record.Termination.{Termination}
 use Rattle.gw_term.specs.declared.settings.Setting.{Setting}
 use Rattle.gw_term.specs.declared.settings.Setting.TheVariants as setting
 use Rattle.gw_term.specs.declared.named.Named.{Named}
 use Rattle.gw_term.specs.Named.{named_by}
-use Rattle.gw_term.specs.Merge.{each, parts_in, put_part, merged_stream, merged_tail, stream_in}
+use Rattle.gw_term.specs.Merge.{each, parts_in, put_part, merged, merged_stream, merged_tail, stream_in}
 use Rattle.gw_term.specs.Places.{at_number, put_number, at_kind, put_kind}
-use Rattle.gw_term.specs.Settings.{Settings}
+use Rattle.gw_term.specs.Record.{provisioned}
+use Rattle.gw_term.specs.Settings.{Settings, nothing_set}
 
 -- a `$`, which might be filled
 abbrev pub has_choice : List ℕ → Bool
@@ -53,6 +55,14 @@ are_plain descriptors = list_all is_plain_one descriptors
 pub record AreKnown (descriptors : List Descriptor) (named : Named) : Type 0 where
   pub plain : are_plain descriptors ≡ true
   pub known : named ≡ named_by descriptors
+
+-- what the descriptors make of a termination of which nothing was set; nothing where there is no merge
+abbrev pub settings_of : Option Termination → Settings
+settings_of None = nothing_set
+settings_of (Some r) = r.settings
+
+abbrev pub made_by : Rules → List Descriptor → Settings
+made_by rules descriptors = settings_of (merged rules descriptors provisioned)
 
 -- ---- a merge in the place of a stream
 
@@ -104,3 +114,7 @@ with_tail_after kind descriptors s = record s { tails = put_kind kind (merged_ta
 -- the same of each of the four
 abbrev pub with_tails_after : List Descriptor → Settings → Settings
 with_tails_after descriptors s = with_tail_after EventBuffer descriptors (with_tail_after DigitMap descriptors (with_tail_after Signals descriptors (with_tail_after Events descriptors s)))
+
+-- the streams and the tails after the descriptors
+abbrev pub with_all_after : Rules → Option ℕ → List Descriptor → Settings → Settings
+with_all_after rules slot descriptors s = with_tails_after descriptors (with_streams_after (stream_or_none rules slot) descriptors s)

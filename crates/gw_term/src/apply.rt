@@ -69,7 +69,7 @@ fn tell(
 #[tactic(auto, unfolding(crate::specs::Merge::merged, crate::specs::Merge::merged_media, crate::specs::Merge::filled_by))]
 fn merge_into(
     alloc: Global,
-    sent: &Sent<'_, '_>,
+    sent: &Sent<'_, '_, '_>,
     there: &Named,
     old: &Termination,
     new: &mut Termination,
@@ -164,6 +164,7 @@ impl Termination {
             rules,
             slot: self.slot,
             descriptors,
+            made: None,
         };
         merge_into(alloc, &sent, &there, self, record.get_mut(), &mut filled)?;
         Ok(Applied { record, filled })

@@ -4,6 +4,7 @@ ghost use Rattle.std.specs.Prelude.{◌≡◌, IfOk};
 
 use crate::held::HeldProperty;
 use crate::record::{Stream, Termination};
+use crate::text::Copying;
 use gw_base::{Items, NoMemory};
 use std::alloc::{AllocError, Global};
 
@@ -11,23 +12,28 @@ use std::alloc::{AllocError, Global};
 pub(crate) fn copied_properties(
     alloc: Global,
     properties: &[HeldProperty],
+    copying: Copying,
 ) -> Result<Items<HeldProperty>, AllocError>
     ensures { IfOk result (λ copy. copy ≡ properties.now) }
 {
     let mut copy = Items::new(alloc);
     for property in properties {
-        copy.push(property.copied(alloc)?)?;
+        copy.push(property.copied(alloc, copying)?)?;
     }
     Ok(copy)
 }
 
 /// A copy of the stream.
-pub(crate) fn copied_stream(alloc: Global, stream: &Stream) -> Result<Stream, AllocError>
+pub(crate) fn copied_stream(
+    alloc: Global,
+    stream: &Stream,
+    copying: Copying,
+) -> Result<Stream, AllocError>
     ensures { IfOk result (λ copy. copy ≡ stream.now) }
 {
-    let properties = copied_properties(alloc, stream.properties.as_slice())?;
-    let local = stream.local.copied(alloc)?;
-    let remote = stream.remote.copied(alloc)?;
+    let properties = copied_properties(alloc, stream.properties.as_slice(), copying)?;
+    let local = stream.local.copied(alloc, copying)?;
+    let remote = stream.remote.copied(alloc, copying)?;
     Ok(Stream {
         mode: stream.mode,
         properties,
@@ -52,7 +58,7 @@ fn copied_termination(alloc: Global, old: &Termination) -> Result<Termination, A
         place: old.place,
         service: old.service,
         slot: old.slot,
-        settings: old.settings.copied(alloc)?,
+        settings: old.settings.copied(alloc, Copying::Once)?,
     })
 }
 

@@ -1,33 +1,23 @@
 //! What is kept of a property and of a tail, with the texts of each in one block.
 
-ghost use Rattle.std.specs.Prelude.{◌≡◌, ◌++◌, if◌then◌else◌, IfOk, OnOk, None, Some};
+ghost use Rattle.std.specs.Prelude.{◌≡◌, ◌++◌, if◌then◌else◌, IfOk, None, Some};
 ghost use Rattle.gw_term.specs.HeldTexts.{text_of};
 
-use crate::text::Text;
+use crate::text::{Copying, Text};
 use gw_base::{Items, Span};
 use gw_desc::{Property, Sign, Tail};
 use gw_reply::{KeptProperty, KeptTail};
 use std::alloc::{AllocError, Global};
 use std::marker::Model;
-use std::mem;
-
-/// The two texts, the one behind the other, in place of what a block has.
-fn joined_in(block: Vec<u8>, first: &[u8], second: &[u8]) -> Result<Vec<u8>, AllocError>
-    ensures { IfOk result (λ texts. texts.items ≡ first.now ++ second.now) }
-{
-    let mut texts = block;
-    texts.clear();
-    texts.extend_from_slice(first)?;
-    texts.extend_from_slice(second)?;
-    Ok(texts)
-}
 
 /// The two texts, the one behind the other, with no room for more.
-fn joined(alloc: Global, first: &[u8], second: &[u8]) -> Result<Vec<u8>, AllocError>
-    ensures { IfOk result (λ texts. texts.items ≡ first.now ++ second.now) }
+fn joined(alloc: Global, first: &[u8], second: &[u8]) -> Result<Text, AllocError>
+    ensures { IfOk result (λ texts. texts ≡ Some (first.now ++ second.now)) }
 {
-    let block = Vec::with_capacity(alloc, first.len() + second.len())?;
-    joined_in(block, first, second)
+    let mut texts = Vec::with_capacity(alloc, first.len() + second.len())?;
+    texts.extend_from_slice(first)?;
+    texts.extend_from_slice(second)?;
+    Ok(Text::from_vec(texts))
 }
 
 /// A property that is kept: its name and its value stand in one block, the name first. Contracts see the property.
@@ -63,7 +53,7 @@ impl HeldProperty {
     {
         Ok(HeldProperty {
             sign,
-            texts: Text::from_vec(joined(alloc, name, value)?),
+            texts: joined(alloc, name, value)?,
             split: name.len(),
         })
     }
@@ -76,12 +66,12 @@ impl HeldProperty {
     }
 
     /// A copy of the property.
-    pub(crate) fn copied(&self, alloc: Global) -> Result<HeldProperty, AllocError>
+    pub(crate) fn copied(&self, alloc: Global, copying: Copying) -> Result<HeldProperty, AllocError>
         ensures { IfOk result (λ copy. copy ≡ self.now) }
     {
         Ok(HeldProperty {
             sign: self.sign,
-            texts: self.texts.copied(alloc)?,
+            texts: self.texts.copied(alloc, copying)?,
             split: self.split,
         })
     }
@@ -156,56 +146,20 @@ impl HeldTail {
             equals: tail.equals,
             has_word: tail.word.is_some(),
             has_group: tail.group.is_some(),
-            texts: Text::from_vec(texts),
+            texts,
             split: word.len(),
         })
-    }
-
-    /// No tail, without texts. It takes no memory.
-    fn blank() -> HeldTail {
-        HeldTail {
-            equals: false,
-            has_word: false,
-            has_group: false,
-            texts: Text::none(),
-            split: 0,
-        }
-    }
-
-    /// The tail, with copies of its texts, in the block of this one where they are as long together.
-    fn retold(self, alloc: Global, tail: &Tail<Span<'_>>) -> Result<HeldTail, AllocError>
-        ensures { IfOk result (λ held. held ≡ tail.now) }
-    {
-        let word = text_of(&tail.word);
-        let group = text_of(&tail.group);
-        let block = self.texts.into_block(alloc, word.len() + group.len())?;
-        Ok(HeldTail {
-            equals: tail.equals,
-            has_word: tail.word.is_some(),
-            has_group: tail.group.is_some(),
-            texts: Text::from_vec(joined_in(block, word, group)?),
-            split: word.len(),
-        })
-    }
-
-    /// The tail takes the place of this one, in its block where it is as long.
-    pub(crate) fn retell(&mut self, alloc: Global, tail: &Tail<Span<'_>>) -> Result<(), AllocError>
-        ensures { OnOk result (self.new ≡ tail.now) }
-    {
-        let old = mem::replace(self, HeldTail::blank());
-        *self = old.retold(alloc, tail)?;
-        Ok(())
     }
 
     /// A copy of the tail.
-    pub(crate) fn copied(&self, alloc: Global) -> Result<HeldTail, AllocError>
+    pub(crate) fn copied(&self, alloc: Global, copying: Copying) -> Result<HeldTail, AllocError>
         ensures { IfOk result (λ copy. copy ≡ self.now) }
     {
         Ok(HeldTail {
             equals: self.equals,
             has_word: self.has_word,
             has_group: self.has_group,
-            texts: self.texts.copied(alloc)?,
+            texts: self.texts.copied(alloc, copying)?,
             split: self.split,
         })
     }

@@ -91,6 +91,19 @@ impl Termination {
         Termination::unset(alloc, None, Service::InService, Some(slot))
     }
 
+    /// What was set of it.
+    pub(crate) fn into_settings(self) -> Settings
+        ensures { result ≡ self.settings }
+    {
+        let Termination {
+            place: _,
+            service: _,
+            slot: _,
+            settings,
+        } = self;
+        settings
+    }
+
     /// The context that it is in, or none for the null context.
     pub fn place(&self) -> Option<CtxNum>
         ensures { result ≡ self.now.place }

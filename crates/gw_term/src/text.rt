@@ -1,6 +1,6 @@
 //! A text that is kept: in a block of its own, or in one that copies share.
 
-ghost use Rattle.std.specs.Prelude.{◌≡◌, IfOk, OnOk, None, Some};
+ghost use Rattle.std.specs.Prelude.{◌≡◌, IfOk, OnOk, None, Some, true};
 ghost use Rattle.gw_term.specs.HeldTexts.{text_of};
 
 use gw_base::Items;
@@ -9,7 +9,17 @@ use std::marker::Model;
 use std::mem;
 use std::sync::ArcSlice;
 
+/// How the texts of a copy lie.
+#[derive(Clone, Copy)]
+pub(crate) enum Copying {
+    /// As in what is copied: a text that is shared is shared again, and another is copied into a block of its own.
+    Once,
+    /// In blocks that copies of the copy share.
+    ForMany,
+}
+
 /// Where the bytes of a text lie.
+#[derive(Drop)]
 pub enum Form {
     /// There is no text.
     Missing,
@@ -19,35 +29,21 @@ pub enum Form {
     Shared(ArcSlice<u8>),
 }
 
-// By hand, as that of a stream.
-impl Drop for Form {
-    fn drop(self) {
-        match self {
-            Form::Missing => {}
-            Form::Own(_) => {}
-            Form::Shared(_) => {}
-        }
+/// The block of an old text, if it is as long as a new one, and else a new block.
+fn block_for(alloc: Global, old: Vec<u8>, length: usize) -> Result<Vec<u8>, AllocError> {
+    if old.len() == length {
+        return Ok(old);
     }
+    Vec::with_capacity(alloc, length)
 }
 
 impl Form {
-    ghost use Rattle.gw_term.specs.HeldTexts.{text_in};
-
-    /// The same text, in a block that its copies will share.
-    fn into_shared(self) -> Result<Form, AllocError>
-        ensures { IfOk result (λ form. text_in form ≡ text_in self) }
-    {
-        match self {
-            Form::Own(block) => Ok(Form::Shared(ArcSlice::from_vec(block)?)),
-            other => Ok(other),
-        }
-    }
-
     /// Its block, if it is of this length and no other text has it, and else a new one.
     fn into_block(self, alloc: Global, length: usize) -> Result<Vec<u8>, AllocError> {
         match self {
-            Form::Own(block) if block.len() == length => Ok(block),
-            _ => Vec::with_capacity(alloc, length),
+            Form::Own(block) => block_for(alloc, block, length),
+            Form::Shared(_block) => Vec::with_capacity(alloc, length),
+            Form::Missing => Vec::with_capacity(alloc, length),
         }
     }
 }
@@ -99,41 +95,59 @@ impl Text {
         }
     }
 
-    /// A copy, which shares the block of a text that is shared.
-    pub(crate) fn copied(&self, alloc: Global) -> Result<Text, AllocError>
+    /// A copy.
+    pub(crate) fn copied(&self, alloc: Global, copying: Copying) -> Result<Text, AllocError>
         ensures { IfOk result (λ copy. copy ≡ self.now) }
     {
         let form = match &self.form {
             Form::Missing => Form::Missing,
-            Form::Own(block) => Form::Own(Vec::from_slice(alloc, block.as_slice())?),
+            Form::Own(block) => match copying {
+                Copying::Once => Form::Own(Vec::from_slice(alloc, block.as_slice())?),
+                Copying::ForMany => { Form::Shared(ArcSlice::from_slice(alloc, block.as_slice())?) }
+            },
             Form::Shared(block) => Form::Shared(block.clone()?),
         };
         Ok(Text { form })
     }
 
-    /// The text in a block that its copies will share.
-    pub(crate) fn into_shared(self) -> Result<Text, AllocError>
-        ensures { IfOk result (λ text. text ≡ self) }
+    /// Whether it is this text.
+    fn is(&self, text: &[u8]) -> bool
+        ensures { result ≡ true → self.now ≡ Some text.now }
     {
-        Ok(Text {
-            form: self.form.into_shared()?,
-        })
+        match &self.form {
+            Form::Missing => false,
+            Form::Own(block) => block.as_slice() == text,
+            Form::Shared(block) => block.as_slice() == text,
+        }
     }
 
-    /// A block for a text of this length: its own, if it is as long, and else a new one.
-    pub(crate) fn into_block(self, alloc: Global, length: usize) -> Result<Vec<u8>, AllocError> {
-        self.form.into_block(alloc, length)
-    }
-
-    /// Another text takes its place, in its block where that is its own and as long.
-    pub(crate) fn put(&mut self, alloc: Global, text: &[u8]) -> Result<(), AllocError>
-        ensures { OnOk result (self.new ≡ Some text.now) }
+    /// This text, in its block, if that is its own and as long, and else in a new one.
+    fn written(self, alloc: Global, text: &[u8]) -> Result<Text, AllocError>
+        ensures { IfOk result (λ written. written ≡ Some text.now) }
     {
-        let old = mem::replace(self, Text::none());
-        let mut block = old.into_block(alloc, text.len())?;
+        let mut block = self.form.into_block(alloc, text.len())?;
         block.clear();
         block.extend_from_slice(text)?;
-        *self = Text::from_vec(block);
+        Ok(Text::from_vec(block))
+    }
+
+    /// A text takes its place: a copy of one that is there already, if it is that, and else in a block of its own.
+    pub(crate) fn put(
+        &mut self,
+        alloc: Global,
+        text: &[u8],
+        made: Option<&Text>,
+    ) -> Result<(), AllocError>
+        ensures { OnOk result (self.new ≡ Some text.now) }
+    {
+        if let Some(made) = made {
+            if made.is(text) {
+                *self = made.copied(alloc, Copying::Once)?;
+                return Ok(());
+            }
+        }
+        let old = mem::replace(self, Text::none());
+        *self = old.written(alloc, text)?;
         Ok(())
     }
 
