@@ -171,7 +171,7 @@ impl InPlace {
     {
         let first = self.writes.len();
         let free = self.tables.note_all_free(alloc, prefix, &mut self.writes)?;
-        let sending = Sending::new(rules, descriptors);
+        let sending = Sending::new(alloc, rules, descriptors)?;
         self.tables
             .merge_all_free(alloc, prefix, &sending, &self.writes, first, free)
     }

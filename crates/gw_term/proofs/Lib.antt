@@ -9,7 +9,8 @@ pub mod KeptMerges
 pub mod KeptAudits
 pub mod Naming
 pub mod Unfilled
-pub mod SettingLists
 pub mod Taken
+pub mod SettingLists
+pub mod MadeOnce
 pub mod MadeThere
 pub mod RoomTaken

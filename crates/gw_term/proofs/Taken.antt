@@ -47,7 +47,7 @@ all_both p [] ys h k = k
 all_both p (x ∷ xs) ys h k = let a = both_of (p x) (list_all p xs) h in two (p x) (list_all p (xs ++ ys)) a.0 (all_both p xs ys a.1 k)
 
 -- what is said of each part is said of what it is made of
-all_in : {X Y : Type 0} (p : X → Bool) (q : Y → Bool) (f : X → List Y) → ((x : X) → p x ≡ true → list_all q (f x) ≡ true) → (xs : List X) → list_all p xs ≡ true → list_all q (flat_map f xs) ≡ true
+pub all_in : {X Y : Type 0} (p : X → Bool) (q : Y → Bool) (f : X → List Y) → ((x : X) → p x ≡ true → list_all q (f x) ≡ true) → (xs : List X) → list_all p xs ≡ true → list_all q (flat_map f xs) ≡ true
 all_in p q f each [] h = refl
 all_in p q f each (x ∷ xs) h = let a = both_of (p x) (list_all p xs) h in all_both q (f x) (flat_map f xs) (each x a.0) (all_in p q f each xs a.1)
 
@@ -62,7 +62,7 @@ module _ {S X : Type 0} (step : X → S → Option S) (ok : X → Bool) (I : S �
 
 -- ---- a stream
 
-none_there : (b : Bool) → not b ≡ true → b ≡ false
+pub none_there : (b : Bool) → not b ≡ true → b ≡ false
 none_there true h = absurd cc
 none_there false h = refl
 
@@ -98,7 +98,7 @@ plain_parts number (media.Stream other parts) h = by (names_stream number (media
     by false = refl
 plain_parts number (media.TerminationState properties) h = refl
 
-plain_parts_in : (number : ℕ) (d : Descriptor) → is_plain_one d ≡ true → list_all is_plain_stream (parts_in number d) ≡ true
+pub plain_parts_in : (number : ℕ) (d : Descriptor) → is_plain_one d ≡ true → list_all is_plain_stream (parts_in number d) ≡ true
 plain_parts_in number (descriptor.Media parts) h = all_in is_plain_part is_plain_stream (parts_in_part number) (plain_parts number) parts h
 plain_parts_in number (descriptor.Keep kind tail) h = refl
 plain_parts_in number (descriptor.Audit words) h = refl

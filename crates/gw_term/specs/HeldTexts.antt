@@ -3,10 +3,19 @@ use Rattle.std.specs.Prelude.{ℕ, Bool, if◌then◌else◌, List, [], take, dr
 use Rattle.gw_desc.specs.declared.descriptor.Property.{Property}
 use Rattle.gw_desc.specs.declared.descriptor.Sign.{Sign}
 use Rattle.gw_desc.specs.declared.descriptor.Tail.{Tail}
+use Rattle.gw_term.specs.declared.text.Form.{Form}
+use Rattle.gw_term.specs.declared.text.Form.TheVariants as form
+use Rattle.std.specs.Arc.{arc_slice_items}
 
 abbrev pub text_of : Option (List ℕ) → List ℕ
 text_of None = []
 text_of (Some text) = text
+
+-- a text that is kept, wherever it lies
+abbrev pub text_in : Form → Option (List ℕ)
+text_in form.Missing = None
+text_in (form.Own block) = Some block.items
+text_in (form.Shared block) = Some (arc_slice_items block)
 
 -- its word is as long as `split` says, and its group is the rest, each if it is there
 abbrev pub split_tail : (equals has_word has_group : Bool) (split : ℕ) (texts : List ℕ) → Tail (List ℕ)

@@ -16,12 +16,14 @@ use Rattle.gw_desc.specs.declared.descriptor.StreamPart.TheVariants as part
 use Rattle.gw_desc.specs.declared.descriptor.Property.{Property}
 use Rattle.gw_desc.specs.declared.descriptor.Tail.{Tail}
 use Rattle.gw_term.specs.declared.record.Stream.{Stream}
+use Rattle.gw_term.specs.declared.record.Termination.{Termination}
 use Rattle.gw_term.specs.declared.settings.Setting.{Setting}
 use Rattle.gw_term.specs.declared.settings.Setting.TheVariants as setting
 use Rattle.gw_term.specs.declared.named.Named.{Named}
 use Rattle.gw_term.specs.Named.{named_by}
-use Rattle.gw_term.specs.Merge.{each, parts_in, put_part, merged_stream, merged_tail, stream_in}
+use Rattle.gw_term.specs.Merge.{each, parts_in, put_part, merged, merged_properties, merged_stream, merged_tail, stream_in}
 use Rattle.gw_term.specs.Places.{at_number, put_number, at_kind, put_kind}
+use Rattle.gw_term.specs.Record.{provisioned}
 use Rattle.gw_term.specs.Settings.{Settings}
 use Rattle.gw_term.specs.declared.places.PerStream.{PerStream}
 
@@ -53,6 +55,10 @@ are_plain descriptors = list_all is_plain_one descriptors
 pub record AreKnown (descriptors : List Descriptor) (named : Named) : Type 0 where
   pub plain : are_plain descriptors ≡ true
   pub known : named ≡ named_by descriptors
+
+-- what the descriptors make of a termination of which nothing was set
+abbrev pub IsMadeBy : Rules → List Descriptor → Settings → Type 0
+IsMadeBy rules descriptors made = option_map (λ r. r.settings) (merged rules descriptors provisioned) ≡ Some made
 
 -- ---- a merge in the place of a stream
 
@@ -129,3 +135,15 @@ with_tail_after kind descriptors s = record s { tails = put_kind kind (merged_ta
 -- the same of each of the four
 abbrev pub with_tails_after : List Descriptor → Settings → Settings
 with_tails_after descriptors s = with_tail_after EventBuffer descriptors (with_tail_after DigitMap descriptors (with_tail_after Signals descriptors (with_tail_after Events descriptors s)))
+
+-- ---- of all that was set
+
+-- the streams and the tails after the descriptors
+abbrev pub with_all_after : Rules → Option ℕ → List Descriptor → Settings → Settings
+with_all_after rules slot descriptors s = with_tails_after descriptors (with_streams_after (stream_or_none rules slot) descriptors s)
+
+-- what was set, after the descriptors, which each list took
+pub record AreSet (rules : Rules) (slot : Option ℕ) (descriptors : List Descriptor) (old new : Settings) : Type 0 where
+  pub properties : merged_properties descriptors old.properties ≡ Some new.properties
+  pub streams : AreMade rules slot descriptors old.streams
+  pub all : new ≡ with_all_after rules slot descriptors (with_properties new.properties old)

@@ -39,8 +39,7 @@ fn push_filled(
     let Some(stream) = settings.stream(number) else {
         return Ok(());
     };
-    if let Some(text) = &stream.local {
-        let local = Items::from_slice(alloc, text.as_slice())?;
+    if let Some(local) = stream.local.told(alloc)? {
         filled.push(FilledStream { number, local })?;
     }
     Ok(())
@@ -70,7 +69,7 @@ fn tell(
 #[tactic(auto, unfolding(crate::specs::Merge::merged, crate::specs::Merge::merged_media, crate::specs::Merge::filled_by))]
 fn merge_into(
     alloc: Global,
-    sent: &Sent<'_, '_>,
+    sent: &Sent<'_, '_, '_>,
     there: &Named,
     old: &Termination,
     new: &mut Termination,
@@ -165,6 +164,7 @@ impl Termination {
             rules,
             slot: self.slot,
             descriptors,
+            made: None,
         };
         merge_into(alloc, &sent, &there, self, record.get_mut(), &mut filled)?;
         Ok(Applied { record, filled })

@@ -4,7 +4,6 @@ ghost use Rattle.std.specs.Prelude.{◌≡◌, ◌≤◌, ◌++◌, IfOk, OnOk};
 ghost use Rattle.gw_term.specs.Audit.{stream_told, media_told, tail_told, item_told, word_told};
 ghost use Rattle.gw_term.specs.Places.{at_number, at_kind, rising};
 
-use crate::copies::copied_if;
 use crate::held::HeldProperty;
 use crate::record::Termination;
 use crate::settings::Settings;
@@ -45,8 +44,8 @@ fn push_stream(
         number,
         mode: stream.mode,
         properties: properties_told(alloc, stream.properties.as_slice())?,
-        local: copied_if(alloc, &stream.local)?,
-        remote: copied_if(alloc, &stream.remote)?,
+        local: stream.local.told(alloc)?,
+        remote: stream.remote.told(alloc)?,
     })?;
     Ok(())
 }

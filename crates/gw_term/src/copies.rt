@@ -4,51 +4,36 @@ ghost use Rattle.std.specs.Prelude.{◌≡◌, IfOk};
 
 use crate::held::HeldProperty;
 use crate::record::{Stream, Termination};
+use crate::text::Copying;
 use gw_base::{Items, NoMemory};
 use std::alloc::{AllocError, Global};
-
-/// A copy of the text, if it is there.
-pub(crate) fn copied_if(
-    alloc: Global,
-    text: &Option<Items<u8>>,
-) -> Result<Option<Items<u8>>, AllocError>
-    ensures { IfOk result (λ copy. copy ≡ text.now) }
-{
-    match text {
-        Some(text) => Ok(Some(Items::from_slice(alloc, text.as_slice())?)),
-        None => Ok(None),
-    }
-}
-
-/// The block of an old text, if it is as long as a new one, and else a new block.
-pub(crate) fn block_for(alloc: Global, old: Vec<u8>, length: usize) -> Result<Vec<u8>, AllocError> {
-    if old.len() == length {
-        return Ok(old);
-    }
-    Vec::with_capacity(alloc, length)
-}
 
 /// A copy of the properties.
 pub(crate) fn copied_properties(
     alloc: Global,
     properties: &[HeldProperty],
+    copying: Copying,
 ) -> Result<Items<HeldProperty>, AllocError>
     ensures { IfOk result (λ copy. copy ≡ properties.now) }
 {
     let mut copy = Items::new(alloc);
     for property in properties {
-        copy.push(property.copied(alloc)?)?;
+        copy.push(property.copied(alloc, copying)?)?;
     }
     Ok(copy)
 }
 
 /// A copy of the stream.
-pub(crate) fn copied_stream(alloc: Global, stream: &Stream) -> Result<Stream, AllocError>
+pub(crate) fn copied_stream(
+    alloc: Global,
+    stream: &Stream,
+    copying: Copying,
+) -> Result<Stream, AllocError>
     ensures { IfOk result (λ copy. copy ≡ stream.now) }
 {
-    let properties = copied_properties(alloc, stream.properties.as_slice())?;
-    let local = copied_if(alloc, &stream.local)?;
-    let remote = copied_if(alloc, &stream.remote)?;
+    let properties = copied_properties(alloc, stream.properties.as_slice(), copying)?;
+    let local = stream.local.copied(alloc, copying)?;
+    let remote = stream.remote.copied(alloc, copying)?;
     Ok(Stream {
         mode: stream.mode,
         properties,
@@ -73,7 +58,7 @@ fn copied_termination(alloc: Global, old: &Termination) -> Result<Termination, A
         place: old.place,
         service: old.service,
         slot: old.slot,
-        settings: old.settings.copied(alloc)?,
+        settings: old.settings.copied(alloc, Copying::Once)?,
     })
 }
 

@@ -1,40 +1,30 @@
 //! What is kept of a property and of a tail, with the texts of each in one block.
 
-ghost use Rattle.std.specs.Prelude.{◌≡◌, ◌++◌, if◌then◌else◌, IfOk, OnOk, None, Some};
+ghost use Rattle.std.specs.Prelude.{◌≡◌, ◌++◌, if◌then◌else◌, IfOk, None, Some};
 ghost use Rattle.gw_term.specs.HeldTexts.{text_of};
 
-use crate::copies::block_for;
+use crate::text::{Copying, Text};
 use gw_base::{Items, Span};
 use gw_desc::{Property, Sign, Tail};
 use gw_reply::{KeptProperty, KeptTail};
 use std::alloc::{AllocError, Global};
 use std::marker::Model;
-use std::mem;
-
-/// The two texts, the one behind the other, in place of what a block has.
-fn joined_in(block: Vec<u8>, first: &[u8], second: &[u8]) -> Result<Vec<u8>, AllocError>
-    ensures { IfOk result (λ texts. texts.items ≡ first.now ++ second.now) }
-{
-    let mut texts = block;
-    texts.clear();
-    texts.extend_from_slice(first)?;
-    texts.extend_from_slice(second)?;
-    Ok(texts)
-}
 
 /// The two texts, the one behind the other, with no room for more.
-fn joined(alloc: Global, first: &[u8], second: &[u8]) -> Result<Vec<u8>, AllocError>
-    ensures { IfOk result (λ texts. texts.items ≡ first.now ++ second.now) }
+fn joined(alloc: Global, first: &[u8], second: &[u8]) -> Result<Text, AllocError>
+    ensures { IfOk result (λ texts. texts ≡ Some (first.now ++ second.now)) }
 {
-    let block = Vec::with_capacity(alloc, first.len() + second.len())?;
-    joined_in(block, first, second)
+    let mut texts = Vec::with_capacity(alloc, first.len() + second.len())?;
+    texts.extend_from_slice(first)?;
+    texts.extend_from_slice(second)?;
+    Ok(Text::from_vec(texts))
 }
 
 /// A property that is kept: its name and its value stand in one block, the name first. Contracts see the property.
 #[derive(Drop)]
 pub struct HeldProperty {
     sign: Sign,
-    texts: Vec<u8>,
+    texts: Text,
     /// How long the name is: where the value begins.
     split: usize,
 }
@@ -42,13 +32,13 @@ pub struct HeldProperty {
 impl Model for HeldProperty {
     ghost use Rattle.std.specs.Prelude.{◌≤◌, ℕ, List, length};
     ghost use Rattle.gw_desc.specs.declared.descriptor.Property.{Property as PropertyOf};
-    ghost use Rattle.gw_term.specs.HeldTexts.{split_property};
+    ghost use Rattle.gw_term.specs.HeldTexts.{split_property, text_of};
 
     ghost Value = { PropertyOf (List ℕ) };
 
-    ghost view = { λ p. split_property p.sign p.split p.texts.items };
+    ghost view = { λ p. split_property p.sign p.split (text_of p.texts) };
 
-    ghost invariant = { λ p. p.split ≤ length p.texts.items };
+    ghost invariant = { λ p. p.split ≤ length (text_of p.texts) };
 }
 
 impl HeldProperty {
@@ -72,16 +62,16 @@ impl HeldProperty {
     pub(crate) fn name(&self) -> &[u8]
         ensures { result.now ≡ self.now.name }
     {
-        &self.texts[..self.split]
+        &self.texts.as_slice()[..self.split]
     }
 
     /// A copy of the property.
-    pub(crate) fn copied(&self, alloc: Global) -> Result<HeldProperty, AllocError>
+    pub(crate) fn copied(&self, alloc: Global, copying: Copying) -> Result<HeldProperty, AllocError>
         ensures { IfOk result (λ copy. copy ≡ self.now) }
     {
         Ok(HeldProperty {
             sign: self.sign,
-            texts: Vec::from_slice(alloc, self.texts.as_slice())?,
+            texts: self.texts.copied(alloc, copying)?,
             split: self.split,
         })
     }
@@ -90,7 +80,7 @@ impl HeldProperty {
     pub(crate) fn told(&self, alloc: Global) -> Result<KeptProperty, AllocError>
         ensures { IfOk result (λ told. told ≡ self.now) }
     {
-        let (name, value) = self.texts.split_at(self.split);
+        let (name, value) = self.texts.as_slice().split_at(self.split);
         let name = Items::from_slice(alloc, name)?;
         let value = Items::from_slice(alloc, value)?;
         Ok(Property {
@@ -107,7 +97,7 @@ pub struct HeldTail {
     equals: bool,
     has_word: bool,
     has_group: bool,
-    texts: Vec<u8>,
+    texts: Text,
     /// How long the word is: where the group begins.
     split: usize,
 }
@@ -115,13 +105,13 @@ pub struct HeldTail {
 impl Model for HeldTail {
     ghost use Rattle.std.specs.Prelude.{◌≤◌, ℕ, List, length};
     ghost use Rattle.gw_desc.specs.declared.descriptor.Tail.{Tail as TailOf};
-    ghost use Rattle.gw_term.specs.HeldTexts.{split_tail};
+    ghost use Rattle.gw_term.specs.HeldTexts.{split_tail, text_of};
 
     ghost Value = { TailOf (List ℕ) };
 
-    ghost view = { λ t. split_tail t.equals t.has_word t.has_group t.split t.texts.items };
+    ghost view = { λ t. split_tail t.equals t.has_word t.has_group t.split (text_of t.texts) };
 
-    ghost invariant = { λ t. t.split ≤ length t.texts.items };
+    ghost invariant = { λ t. t.split ≤ length (text_of t.texts) };
 }
 
 /// The text, or none.
@@ -161,51 +151,15 @@ impl HeldTail {
         })
     }
 
-    /// No tail, without texts. It takes no memory.
-    fn blank(alloc: Global) -> HeldTail {
-        HeldTail {
-            equals: false,
-            has_word: false,
-            has_group: false,
-            texts: Vec::new(alloc),
-            split: 0,
-        }
-    }
-
-    /// The tail, with copies of its texts, in the block of this one where they are as long together.
-    fn retold(self, alloc: Global, tail: &Tail<Span<'_>>) -> Result<HeldTail, AllocError>
-        ensures { IfOk result (λ held. held ≡ tail.now) }
-    {
-        let word = text_of(&tail.word);
-        let group = text_of(&tail.group);
-        let block = block_for(alloc, self.texts, word.len() + group.len())?;
-        Ok(HeldTail {
-            equals: tail.equals,
-            has_word: tail.word.is_some(),
-            has_group: tail.group.is_some(),
-            texts: joined_in(block, word, group)?,
-            split: word.len(),
-        })
-    }
-
-    /// The tail takes the place of this one, in its block where it is as long.
-    pub(crate) fn retell(&mut self, alloc: Global, tail: &Tail<Span<'_>>) -> Result<(), AllocError>
-        ensures { OnOk result (self.new ≡ tail.now) }
-    {
-        let old = mem::replace(self, HeldTail::blank(alloc));
-        *self = old.retold(alloc, tail)?;
-        Ok(())
-    }
-
     /// A copy of the tail.
-    pub(crate) fn copied(&self, alloc: Global) -> Result<HeldTail, AllocError>
+    pub(crate) fn copied(&self, alloc: Global, copying: Copying) -> Result<HeldTail, AllocError>
         ensures { IfOk result (λ copy. copy ≡ self.now) }
     {
         Ok(HeldTail {
             equals: self.equals,
             has_word: self.has_word,
             has_group: self.has_group,
-            texts: Vec::from_slice(alloc, self.texts.as_slice())?,
+            texts: self.texts.copied(alloc, copying)?,
             split: self.split,
         })
     }
@@ -214,7 +168,7 @@ impl HeldTail {
     pub(crate) fn told(&self, alloc: Global) -> Result<KeptTail, AllocError>
         ensures { IfOk result (λ told. told ≡ self.now) }
     {
-        let (word, group) = self.texts.split_at(self.split);
+        let (word, group) = self.texts.as_slice().split_at(self.split);
         Ok(Tail {
             equals: self.equals,
             word: kept_if(alloc, self.has_word, word)?,

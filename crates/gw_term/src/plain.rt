@@ -7,19 +7,19 @@ ghost use Rattle.gw_desc.specs.Checks.{is_kept};
 ghost use Rattle.gw_term.specs.Merge.{each, put_part, parts_in, is_named_in, merged, merged_properties, merged_stream};
 ghost use Rattle.gw_term.specs.Named.{has_states, named_by};
 ghost use Rattle.gw_term.specs.Places.{at_number, numbered, at_kind, put_kind, of_kinds};
-ghost use Rattle.gw_term.specs.Plain.{has_choice, is_plain_stream, is_plain_part, is_plain_one, are_plain, AreKnown, stream_after, setting_after, with_stream_after, stream_or_none, with_streams_after, AreMade, is_made_at, is_properties, with_properties, is_tail_of, retold, with_tail, with_tail_after, with_tails_after};
+ghost use Rattle.gw_term.specs.Plain.{has_choice, is_plain_stream, is_plain_part, is_plain_one, are_plain, AreKnown, stream_after, setting_after, with_stream_after, stream_or_none, with_streams_after, AreMade, AreSet, is_made_at, is_properties, with_properties, is_tail_of, retold, with_tail, with_tail_after, with_tails_after};
 
+use crate::copies::{copied_stream, put};
 use crate::fault::ApplyFault;
 use crate::held::{HeldProperty, HeldTail};
-use crate::named::Named;
-use crate::places::{PerKind, PerStream};
 use crate::properties::{merged_properties, merged_service};
 use crate::record::{Stream, Termination};
+use crate::sending::Sending;
 use crate::settings::{Setting, Settings};
-use crate::streams::{Sent, begun, put_all};
-use crate::tails::kept_of;
-use gw_base::{Items, NoMemory, Rules, Span};
-use gw_desc::{Descriptor, KeptKind, MediaPart, StreamPart, Tail, same_kept};
+use crate::streams::{Sent, put_all};
+use crate::text::Copying;
+use gw_base::{Items, NoMemory, Rules};
+use gw_desc::{Descriptor, KeptKind, MediaPart, StreamPart, same_kept};
 use std::alloc::{AllocError, Global};
 
 /// What leaves a value to the gateway.
@@ -98,18 +98,18 @@ fn is_properties(setting: &Setting) -> bool
     matches!(setting, Setting::Properties(_))
 }
 
-/// A setting that is a tail of this kind becomes this one, in its block where it is as long.
+/// A setting that is a tail of this kind becomes a copy of this one.
 fn retell_setting(
     alloc: Global,
     kind: KeptKind,
-    tail: &Tail<Span<'_>>,
+    tail: &HeldTail,
     setting: &mut Setting,
 ) -> Result<(), AllocError>
     ensures { OnOk result (setting.new ≡ retold kind tail.now setting.old) }
 {
     if let Setting::Tail(other, held) = setting {
         if same_kept(kind, *other) {
-            held.retell(alloc, tail)?;
+            put(held, tail.copied(alloc, Copying::Once)?);
         }
     }
     Ok(())
@@ -119,7 +119,7 @@ fn retell_setting(
 fn retell_settings(
     alloc: Global,
     kind: KeptKind,
-    tail: &Tail<Span<'_>>,
+    tail: &HeldTail,
     settings: &mut [Setting],
 ) -> Result<(), AllocError>
     ensures { OnOk result (settings.new ≡ map (retold kind tail.now) settings.old) }
@@ -133,7 +133,7 @@ fn retell_settings(
 /// A stream of this number, which the descriptors name, becomes what it is after them, where it lies.
 fn merge_stream(
     alloc: Global,
-    sent: &Sent<'_, '_>,
+    sent: &Sent<'_, '_, '_>,
     number: u8,
     stream: &mut Stream,
 ) -> Result<(), ApplyFault>
@@ -149,7 +149,7 @@ fn merge_stream(
 /// So does a setting, if it is a stream of this number.
 fn merge_setting(
     alloc: Global,
-    sent: &Sent<'_, '_>,
+    sent: &Sent<'_, '_, '_>,
     number: u8,
     setting: &mut Setting,
 ) -> Result<(), ApplyFault>
@@ -169,7 +169,7 @@ fn merge_setting(
 /// So does each of these.
 fn merge_settings(
     alloc: Global,
-    sent: &Sent<'_, '_>,
+    sent: &Sent<'_, '_, '_>,
     number: u8,
     settings: &mut [Setting],
 ) -> Result<(), ApplyFault>
@@ -189,7 +189,7 @@ impl Settings {
     fn merge_there(
         &mut self,
         alloc: Global,
-        sent: &Sent<'_, '_>,
+        sent: &Sent<'_, '_, '_>,
         number: u8,
     ) -> Result<(), ApplyFault>
         requires first { 1 ≤ number }
@@ -202,30 +202,22 @@ impl Settings {
         merge_settings(alloc, sent, number, &mut self.list)
     }
 
-    /// A stream of this number, which is not there and which the descriptors name, comes into being.
-    #[tactic(auto, unfolding(crate::specs::Merge::merged_stream))]
+    /// A stream of this number, which is not there, comes into being, if the descriptors make one, as a copy of that.
     fn merge_new(
         &mut self,
         alloc: Global,
-        sent: &Sent<'_, '_>,
+        sending: &Sending<'_, '_>,
         number: u8,
-    ) -> Result<(), ApplyFault>
+    ) -> Result<(), AllocError>
         requires first { 1 ≤ number }
         requires last { number ≤ 4 }
-        requires named { list_any (is_named_in number) sent.now.descriptors.now ≡ true }
         requires empty { at_number number self.old.streams ≡ None }
-        ensures after { OnOk result (self.new ≡ with_stream_after (stream_or_none sent.now.rules.now sent.now.slot number sent.now.descriptors.now) number self.old) }
-        ensures made { OnOk result (is_some (merged_stream sent.now.rules.now sent.now.slot number sent.now.descriptors.now (at_number number self.old.streams)) ≡ true) }
+        ensures { OnOk result (self.new ≡ with_stream_after (λ _. at_number number sending.now.made.streams) number self.old) }
     {
-        let mut merging = begun(alloc, None)?;
-        put_all(
-            alloc,
-            sent,
-            number,
-            &mut merging.stream,
-            &mut merging.filled,
-        )?;
-        self.push(Setting::Stream(number, merging.into_stream()))?;
+        if let Some(stream) = sending.made.stream(number) {
+            let copy = copied_stream(alloc, stream, Copying::Once)?;
+            self.push(Setting::Stream(number, copy))?;
+        }
         Ok(())
     }
 
@@ -236,19 +228,28 @@ impl Settings {
     fn merge_named(
         &mut self,
         alloc: Global,
-        sent: &Sent<'_, '_>,
+        sending: &Sending<'_, '_>,
+        slot: Option<u16>,
         number: u8,
     ) -> Result<(), ApplyFault>
         requires first { 1 ≤ number }
         requires last { number ≤ 4 }
-        requires named { list_any (is_named_in number) sent.now.descriptors.now ≡ true }
-        ensures after { OnOk result (self.new ≡ with_stream_after (stream_or_none sent.now.rules.now sent.now.slot number sent.now.descriptors.now) number self.old) }
-        ensures made { OnOk result (is_some (merged_stream sent.now.rules.now sent.now.slot number sent.now.descriptors.now (at_number number self.old.streams)) ≡ true) }
+        requires plain { are_plain sending.now.descriptors.now ≡ true }
+        requires named { list_any (is_named_in number) sending.now.descriptors.now ≡ true }
+        ensures after { OnOk result (self.new ≡ with_stream_after (stream_or_none sending.now.rules.now slot number sending.now.descriptors.now) number self.old) }
+        ensures made { OnOk result (is_some (merged_stream sending.now.rules.now slot number sending.now.descriptors.now (at_number number self.old.streams)) ≡ true) }
     {
-        match self.stream(number) {
-            Some(_) => self.merge_there(alloc, sent, number),
-            None => self.merge_new(alloc, sent, number),
+        if self.stream(number).is_none() {
+            self.merge_new(alloc, sending, number)?;
+            return Ok(());
         }
+        let sent = Sent {
+            rules: sending.rules,
+            slot,
+            descriptors: sending.descriptors,
+            made: sending.made.stream(number),
+        };
+        self.merge_there(alloc, &sent, number)
     }
 
     /// The stream of this number becomes what it is after the descriptors.
@@ -257,18 +258,20 @@ impl Settings {
     fn merge_number(
         &mut self,
         alloc: Global,
-        sent: &Sent<'_, '_>,
+        sending: &Sending<'_, '_>,
+        slot: Option<u16>,
         number: u8,
         is_named: bool,
     ) -> Result<(), ApplyFault>
         requires first { 1 ≤ number }
         requires last { number ≤ 4 }
-        requires named { is_named ≡ list_any (is_named_in number) sent.now.descriptors.now }
-        ensures after { OnOk result (self.new ≡ with_stream_after (stream_or_none sent.now.rules.now sent.now.slot number sent.now.descriptors.now) number self.old) }
-        ensures made { OnOk result (is_some (merged_stream sent.now.rules.now sent.now.slot number sent.now.descriptors.now (at_number number self.old.streams)) ≡ true) }
+        requires plain { are_plain sending.now.descriptors.now ≡ true }
+        requires named { is_named ≡ list_any (is_named_in number) sending.now.descriptors.now }
+        ensures after { OnOk result (self.new ≡ with_stream_after (stream_or_none sending.now.rules.now slot number sending.now.descriptors.now) number self.old) }
+        ensures made { OnOk result (is_some (merged_stream sending.now.rules.now slot number sending.now.descriptors.now (at_number number self.old.streams)) ≡ true) }
     {
         if is_named {
-            return self.merge_named(alloc, sent, number);
+            return self.merge_named(alloc, sending, slot, number);
         }
         Ok(())
     }
@@ -277,35 +280,36 @@ impl Settings {
     fn merge_each_stream(
         &mut self,
         alloc: Global,
-        sent: &Sent<'_, '_>,
-        named: &PerStream<bool>,
+        sending: &Sending<'_, '_>,
+        slot: Option<u16>,
     ) -> Result<(), ApplyFault>
-        requires { named.now ≡ numbered (λ number. list_any (is_named_in number) sent.now.descriptors.now) }
-        ensures after { OnOk result (self.new ≡ with_streams_after (stream_or_none sent.now.rules.now sent.now.slot) sent.now.descriptors.now self.old) }
-        ensures made { OnOk result (AreMade sent.now.rules.now sent.now.slot sent.now.descriptors.now self.old.streams) }
+        requires { AreKnown sending.now.descriptors.now sending.now.named }
+        ensures after { OnOk result (self.new ≡ with_streams_after (stream_or_none sending.now.rules.now slot) sending.now.descriptors.now self.old) }
+        ensures made { OnOk result (AreMade sending.now.rules.now slot sending.now.descriptors.now self.old.streams) }
     {
-        self.merge_number(alloc, sent, 1, named.first)?;
-        self.merge_number(alloc, sent, 2, named.second)?;
-        self.merge_number(alloc, sent, 3, named.third)?;
-        self.merge_number(alloc, sent, 4, named.fourth)
+        let named = &sending.named.streams;
+        self.merge_number(alloc, sending, slot, 1, named.first)?;
+        self.merge_number(alloc, sending, slot, 2, named.second)?;
+        self.merge_number(alloc, sending, slot, 3, named.third)?;
+        self.merge_number(alloc, sending, slot, 4, named.fourth)
     }
 
-    /// So does each stream, where it is known what the descriptors name.
+    /// So does each stream, where it is known whether one is named.
     #[inline]
     fn merge_streams(
         &mut self,
         alloc: Global,
-        sent: &Sent<'_, '_>,
-        named: &Named,
+        sending: &Sending<'_, '_>,
+        slot: Option<u16>,
     ) -> Result<(), ApplyFault>
-        requires { named.now ≡ named_by sent.now.descriptors.now }
-        ensures after { OnOk result (self.new ≡ with_streams_after (stream_or_none sent.now.rules.now sent.now.slot) sent.now.descriptors.now self.old) }
-        ensures made { OnOk result (AreMade sent.now.rules.now sent.now.slot sent.now.descriptors.now self.old.streams) }
+        requires { AreKnown sending.now.descriptors.now sending.now.named }
+        ensures after { OnOk result (self.new ≡ with_streams_after (stream_or_none sending.now.rules.now slot) sending.now.descriptors.now self.old) }
+        ensures made { OnOk result (AreMade sending.now.rules.now slot sending.now.descriptors.now self.old.streams) }
     {
-        if !named.has_stream() {
+        if !sending.named.has_stream() {
             return Ok(());
         }
-        self.merge_each_stream(alloc, sent, &named.streams)
+        self.merge_each_stream(alloc, sending, slot)
     }
 
     /// These properties, and no others, are kept.
@@ -354,12 +358,12 @@ impl Settings {
         Ok(())
     }
 
-    /// The tail of this kind, which is there, becomes this one.
+    /// The tail of this kind, which is there, becomes a copy of this one.
     fn retell_tail(
         &mut self,
         alloc: Global,
         kind: KeptKind,
-        tail: &Tail<Span<'_>>,
+        tail: &HeldTail,
     ) -> Result<(), AllocError>
         requires { is_some (at_kind kind self.old.tails) ≡ true }
         ensures { OnOk result (self.new ≡ with_tail kind tail.now self.old) }
@@ -367,20 +371,20 @@ impl Settings {
         retell_settings(alloc, kind, tail, &mut self.list)
     }
 
-    /// This tail of this kind is kept.
+    /// A copy of this tail of this kind is kept.
     fn keep_tail(
         &mut self,
         alloc: Global,
         kind: KeptKind,
-        tail: &Tail<Span<'_>>,
+        tail: &HeldTail,
     ) -> Result<(), AllocError>
         ensures { OnOk result (self.new ≡ with_tail kind tail.now self.old) }
     {
         if self.tail(kind).is_some() {
             return self.retell_tail(alloc, kind, tail);
         }
-        let tail = HeldTail::of(alloc, tail)?;
-        self.push(Setting::Tail(kind, tail))
+        let copy = tail.copied(alloc, Copying::Once)?;
+        self.push(Setting::Tail(kind, copy))
     }
 
     /// No tail of this kind is kept.
@@ -390,19 +394,20 @@ impl Settings {
         self.list.retain(|setting| !is_tail_of(kind, setting));
     }
 
-    /// The tail of this kind, which the descriptors name, becomes what it is after them: the last of that kind tells it alone. Not
-    /// inlined, as that of a stream.
+    /// The tail of this kind, which the descriptors name, becomes what it is after them: that which they make, or none. Not inlined, as
+    /// that of a stream.
     #[inline(never)]
     fn merge_named_kind(
         &mut self,
         alloc: Global,
         kind: KeptKind,
-        descriptors: &[Descriptor<'_>],
+        sending: &Sending<'_, '_>,
     ) -> Result<(), AllocError>
-        requires { list_any (is_kept kind) descriptors.now ≡ true }
-        ensures { OnOk result (self.new ≡ with_tail_after kind descriptors.now self.old) }
+        requires plain { are_plain sending.now.descriptors.now ≡ true }
+        requires named { list_any (is_kept kind) sending.now.descriptors.now ≡ true }
+        ensures { OnOk result (self.new ≡ with_tail_after kind sending.now.descriptors.now self.old) }
     {
-        match kept_of(kind, descriptors) {
+        match sending.made.tail(kind) {
             Some(tail) => self.keep_tail(alloc, kind, tail),
             None => {
                 self.drop_tail(kind);
@@ -418,13 +423,14 @@ impl Settings {
         alloc: Global,
         kind: KeptKind,
         is_named: bool,
-        descriptors: &[Descriptor<'_>],
+        sending: &Sending<'_, '_>,
     ) -> Result<(), AllocError>
-        requires named { is_named ≡ list_any (is_kept kind) descriptors.now }
-        ensures { OnOk result (self.new ≡ with_tail_after kind descriptors.now self.old) }
+        requires plain { are_plain sending.now.descriptors.now ≡ true }
+        requires named { is_named ≡ list_any (is_kept kind) sending.now.descriptors.now }
+        ensures { OnOk result (self.new ≡ with_tail_after kind sending.now.descriptors.now self.old) }
     {
         if is_named {
-            return self.merge_named_kind(alloc, kind, descriptors);
+            return self.merge_named_kind(alloc, kind, sending);
         }
         Ok(())
     }
@@ -433,64 +439,64 @@ impl Settings {
     fn merge_each_kind(
         &mut self,
         alloc: Global,
-        named: &PerKind<bool>,
-        descriptors: &[Descriptor<'_>],
+        sending: &Sending<'_, '_>,
     ) -> Result<(), AllocError>
-        requires { named.now ≡ of_kinds (λ kind. list_any (is_kept kind) descriptors.now) }
-        ensures { OnOk result (self.new ≡ with_tails_after descriptors.now self.old) }
+        requires { AreKnown sending.now.descriptors.now sending.now.named }
+        ensures { OnOk result (self.new ≡ with_tails_after sending.now.descriptors.now self.old) }
     {
-        self.merge_kind(alloc, KeptKind::Events, named.events, descriptors)?;
-        self.merge_kind(alloc, KeptKind::Signals, named.signals, descriptors)?;
-        self.merge_kind(alloc, KeptKind::DigitMap, named.digit_map, descriptors)?;
-        self.merge_kind(
-            alloc,
-            KeptKind::EventBuffer,
-            named.event_buffer,
-            descriptors,
-        )
+        let named = &sending.named.tails;
+        self.merge_kind(alloc, KeptKind::Events, named.events, sending)?;
+        self.merge_kind(alloc, KeptKind::Signals, named.signals, sending)?;
+        self.merge_kind(alloc, KeptKind::DigitMap, named.digit_map, sending)?;
+        self.merge_kind(alloc, KeptKind::EventBuffer, named.event_buffer, sending)
     }
 
-    /// So does each tail, where it is known what the descriptors name.
+    /// So does each tail, where it is known whether one is named.
     #[inline]
-    fn merge_kinds(
-        &mut self,
-        alloc: Global,
-        named: &Named,
-        descriptors: &[Descriptor<'_>],
-    ) -> Result<(), AllocError>
-        requires { named.now ≡ named_by descriptors.now }
-        ensures { OnOk result (self.new ≡ with_tails_after descriptors.now self.old) }
+    fn merge_kinds(&mut self, alloc: Global, sending: &Sending<'_, '_>) -> Result<(), AllocError>
+        requires { AreKnown sending.now.descriptors.now sending.now.named }
+        ensures { OnOk result (self.new ≡ with_tails_after sending.now.descriptors.now self.old) }
     {
-        if !named.has_tail() {
+        if !sending.named.has_tail() {
             return Ok(());
         }
-        self.merge_each_kind(alloc, &named.tails, descriptors)
+        self.merge_each_kind(alloc, sending)
     }
-}
 
-/// Descriptors that are merged into many records, under the gateway's rules, with what they name, which is found once for all of them.
-#[derive(Clone, Copy)]
-pub struct Sending<'a, 'b> {
-    /// The rules.
-    pub rules: &'a Rules,
-    /// The descriptors.
-    pub descriptors: &'a [Descriptor<'b>],
-    /// What they name.
-    pub named: Named,
-}
-
-impl<'a, 'b> Sending<'a, 'b> {
-    /// The descriptors with what they name. The work is one pass over them.
-    pub fn new(rules: &'a Rules, descriptors: &'a [Descriptor<'b>]) -> Sending<'a, 'b>
-        ensures rules { result.rules.now ≡ rules.now }
-        ensures descriptors { result.descriptors.now ≡ descriptors.now }
-        ensures named { result.named ≡ named_by descriptors.now }
+    /// The properties, each stream and each tail become what they are after the descriptors, where something is set.
+    fn merge_each(
+        &mut self,
+        alloc: Global,
+        sending: &Sending<'_, '_>,
+        slot: Option<u16>,
+    ) -> Result<(), ApplyFault>
+        requires { AreKnown sending.now.descriptors.now sending.now.named }
+        ensures { OnOk result (AreSet sending.now.rules.now slot sending.now.descriptors.now self.old self.new) }
     {
-        Sending {
-            rules,
-            descriptors,
-            named: Named::by(descriptors),
+        self.merge_states(alloc, sending.named.states, sending.descriptors)?;
+        self.merge_streams(alloc, sending, slot)?;
+        self.merge_kinds(alloc, sending)?;
+        Ok(())
+    }
+
+    /// The same. Where nothing is set, they are a copy of what the descriptors make.
+    fn merge_all(
+        &mut self,
+        alloc: Global,
+        sending: &Sending<'_, '_>,
+        slot: Option<u16>,
+    ) -> Result<(), NoMemory>
+        requires { AreKnown sending.now.descriptors.now sending.now.named }
+        ensures { OnOk result (AreSet sending.now.rules.now slot sending.now.descriptors.now self.old self.new) }
+    {
+        if self.is_empty() {
+            put(self, sending.made.copied(alloc, Copying::Once)?);
+            return Ok(());
         }
+        if self.merge_each(alloc, sending, slot).is_err() {
+            return Err(NoMemory);
+        }
+        Ok(())
     }
 }
 
@@ -510,7 +516,7 @@ impl Termination {
         requires { are_plain descriptors.now ≡ true }
         ensures { OnOk result (merged rules.now descriptors.now self.old ≡ Some self.new) }
     {
-        self.merge_sending(alloc, &Sending::new(rules, descriptors))
+        self.merge_sending(alloc, &Sending::new(alloc, rules, descriptors)?)
     }
 
     /// The same, where what the descriptors name is known.
@@ -526,25 +532,10 @@ impl Termination {
         requires { AreKnown sending.now.descriptors.now sending.now.named }
         ensures { OnOk result (merged sending.now.rules.now sending.now.descriptors.now self.old ≡ Some self.new) }
     {
-        let named = &sending.named;
+        let slot = self.slot;
+        self.settings.merge_all(alloc, sending, slot)?;
         let descriptors = sending.descriptors;
-        let sent = Sent {
-            rules: sending.rules,
-            slot: self.slot,
-            descriptors,
-        };
-        let settings = &mut self.settings;
-        if settings
-            .merge_states(alloc, named.states, descriptors)
-            .is_err()
-        {
-            return Err(NoMemory);
-        }
-        if settings.merge_streams(alloc, &sent, named).is_err() {
-            return Err(NoMemory);
-        }
-        settings.merge_kinds(alloc, named, descriptors)?;
-        self.service = merged_service(named.states, descriptors, self.service);
+        self.service = merged_service(sending.named.states, descriptors, self.service);
         Ok(())
     }
 }

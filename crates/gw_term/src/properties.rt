@@ -9,6 +9,7 @@ ghost use Rattle.gw_term.specs.Applies.{Becomes, Yields};
 use crate::copies::copied_properties;
 use crate::fault::ApplyFault;
 use crate::held::HeldProperty;
+use crate::text::Copying;
 use gw_base::{Code, Items, Service, Span};
 use gw_desc::{Descriptor, MediaPart, Property, is_service_states, service_set_by};
 use std::alloc::Global;
@@ -143,7 +144,7 @@ pub(crate) fn merged_properties(
     if !is_named && old.is_empty() {
         return Ok(Items::new(alloc));
     }
-    let mut list = copied_properties(alloc, old)?;
+    let mut list = copied_properties(alloc, old, Copying::Once)?;
     if is_named {
         put_all_states(alloc, descriptors, &mut list)?;
     }

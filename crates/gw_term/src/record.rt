@@ -4,6 +4,7 @@ ghost use Rattle.std.specs.Prelude.{◌≡◌};
 
 use crate::held::HeldProperty;
 use crate::settings::Settings;
+use crate::text::Text;
 use gw_base::{CtxNum, Items, Service};
 use gw_desc::Mode;
 use std::alloc::Global;
@@ -15,9 +16,9 @@ pub struct Stream {
     /// The properties of its LocalControl but Mode: at most 32.
     pub properties: Items<HeldProperty>,
     /// Its Local, if there is one.
-    pub local: Option<Items<u8>>,
+    pub local: Text,
     /// Its Remote, if there is one.
-    pub remote: Option<Items<u8>>,
+    pub remote: Text,
 }
 
 // By hand, so that a function that lets a stream go does so by one call. A derived one would stand in it field by field.
@@ -88,6 +89,19 @@ impl Termination {
         ensures { result ≡ ephemeral slot }
     {
         Termination::unset(alloc, None, Service::InService, Some(slot))
+    }
+
+    /// What was set of it.
+    pub(crate) fn into_settings(self) -> Settings
+        ensures { result ≡ self.settings }
+    {
+        let Termination {
+            place: _,
+            service: _,
+            slot: _,
+            settings,
+        } = self;
+        settings
     }
 
     /// The context that it is in, or none for the null context.

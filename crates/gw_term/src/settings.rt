@@ -1,12 +1,13 @@
 //! What was set of a termination: its properties, its streams and its tails, in a short list.
 
-ghost use Rattle.std.specs.Prelude.{◌≡◌, ◌≤◌, IfOk, OnOk};
+ghost use Rattle.std.specs.Prelude.{◌≡◌, ◌≤◌, IfOk, OnOk, true};
 ghost use Rattle.std.specs.Option.{option_copied};
 ghost use Rattle.gw_term.specs.Places.{at_number, at_kind};
 
 use crate::copies::{copied_properties, copied_stream};
 use crate::held::{HeldProperty, HeldTail};
 use crate::record::Stream;
+use crate::text::Copying;
 use gw_base::Items;
 use gw_desc::{KeptKind, same_kept};
 use std::alloc::{AllocError, Global};
@@ -50,32 +51,36 @@ impl Model for Settings {
 }
 
 /// A copy of a setting.
-fn copied_setting(alloc: Global, setting: &Setting) -> Result<Setting, AllocError>
+fn copied_setting(alloc: Global, setting: &Setting, copying: Copying) -> Result<Setting, AllocError>
     ensures { IfOk result (λ copy. copy ≡ setting.now) }
 {
     match setting {
         Setting::Properties(list) => {
-            let copy = copied_properties(alloc, list.as_slice())?;
+            let copy = copied_properties(alloc, list.as_slice(), copying)?;
             Ok(Setting::Properties(copy))
         }
         Setting::Stream(number, stream) => {
-            let copy = copied_stream(alloc, stream)?;
+            let copy = copied_stream(alloc, stream, copying)?;
             Ok(Setting::Stream(*number, copy))
         }
         Setting::Tail(kind, tail) => {
-            let copy = tail.copied(alloc)?;
+            let copy = tail.copied(alloc, copying)?;
             Ok(Setting::Tail(*kind, copy))
         }
     }
 }
 
 /// A copy of settings, with no room for more.
-fn copied_list(alloc: Global, list: &[Setting]) -> Result<Vec<Setting>, AllocError>
+fn copied_list(
+    alloc: Global,
+    list: &[Setting],
+    copying: Copying,
+) -> Result<Vec<Setting>, AllocError>
     ensures { IfOk result (λ copy. copy.items ≡ list.now) }
 {
     let mut copy = Vec::with_capacity(alloc, list.len())?;
     for setting in list {
-        copy.push(copied_setting(alloc, setting)?)?;
+        copy.push(copied_setting(alloc, setting, copying)?)?;
     }
     Ok(copy)
 }
@@ -101,6 +106,14 @@ impl Settings {
         })
     }
 
+    /// Whether nothing is set, so that there is no block.
+    #[inline]
+    pub(crate) fn is_empty(&self) -> bool
+        ensures { result ≡ true → self.now ≡ nothing_set }
+    {
+        self.list.is_empty()
+    }
+
     /// The allocator that they lie with.
     pub(crate) fn allocator(&self) -> Global {
         *self.list.allocator()
@@ -123,11 +136,11 @@ impl Settings {
     }
 
     /// A copy, with no room for more.
-    pub(crate) fn copied(&self, alloc: Global) -> Result<Settings, AllocError>
+    pub(crate) fn copied(&self, alloc: Global, copying: Copying) -> Result<Settings, AllocError>
         ensures { IfOk result (λ copy. copy ≡ self.now) }
     {
         Ok(Settings {
-            list: copied_list(alloc, self.list.as_slice())?,
+            list: copied_list(alloc, self.list.as_slice(), copying)?,
         })
     }
 

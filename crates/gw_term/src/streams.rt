@@ -9,16 +9,17 @@ ghost use Rattle.gw_term.specs.Merge.{put_control, local_text, is_filled, put_pa
 ghost use Rattle.gw_term.specs.Applies.{Becomes, IsStreamMerged};
 ghost use Rattle.gw_term.specs.Places.{at_number, put_number};
 
-use crate::copies::{block_for, copied_stream, put};
+use crate::copies::{copied_stream, put};
 use crate::fault::ApplyFault;
 use crate::properties::{media_parts, put_property};
 use crate::record::Stream;
 use crate::settings::{Setting, Settings};
+use crate::text::{Copying, Text};
 use gw_base::{Items, NoMemory, Rules, Span};
 use gw_desc::{
     Descriptor, MediaPart, Mode, Property, StreamPart, fill_local, is_mode, mode_set_by,
 };
-use std::alloc::{AllocError, Global};
+use std::alloc::Global;
 
 /// A stream while descriptors are merged into it.
 pub(crate) struct Merging {
@@ -50,10 +51,30 @@ impl Merging {
 
 /// What is merged into a record: descriptors, under the gateway's rules, where the termination has this slot.
 #[derive(Clone, Copy)]
-pub(crate) struct Sent<'a, 'b> {
+pub(crate) struct Sent<'a, 'b, 'c> {
     pub rules: &'a Rules,
     pub slot: Option<u16>,
     pub descriptors: &'a [Descriptor<'b>],
+    /// A stream that has texts of theirs, which copies share, if there is one.
+    pub made: Option<&'c Stream>,
+}
+
+impl<'c> Sent<'_, '_, 'c> {
+    /// A Local that may be shared.
+    fn made_local(&self) -> Option<&'c Text> {
+        match self.made {
+            Some(stream) => Some(&stream.local),
+            None => None,
+        }
+    }
+
+    /// A Remote that may be shared.
+    fn made_remote(&self) -> Option<&'c Text> {
+        match self.made {
+            Some(stream) => Some(&stream.remote),
+            None => None,
+        }
+    }
 }
 
 /// A property of a LocalControl: Mode, or one of the list.
@@ -88,7 +109,7 @@ fn put_controls(
 #[inline(never)]
 fn put_local(
     alloc: Global,
-    sent: &Sent<'_, '_>,
+    sent: &Sent<'_, '_, '_>,
     number: u8,
     text: &[u8],
     stream: &mut Stream,
@@ -99,35 +120,20 @@ fn put_local(
     ensures { Becomes result (record { stream = stream.new; filled = filled.new }) (put_part sent.now.rules.now sent.now.slot number (Local text.now) (record { stream = stream.old; filled = filled.old })) }
 {
     let Some(slot) = sent.slot else {
-        put_text(alloc, text, &mut stream.local)?;
+        stream.local.put(alloc, text, sent.made_local())?;
         *filled = false;
         return Ok(());
     };
     let (local, is_filled) = fill_local(alloc, text, &sent.rules.media, slot, number)?;
-    put(&mut stream.local, Some(Items::from(local)));
+    put(&mut stream.local, Text::from_vec(local));
     *filled = is_filled;
-    Ok(())
-}
-
-/// The text takes the place of the one there, in its block where it is as long.
-fn put_text(alloc: Global, text: &[u8], place: &mut Option<Items<u8>>) -> Result<(), AllocError>
-    ensures { OnOk result (place.new ≡ Some text.now) }
-{
-    let old = match place.take() {
-        Some(old) => old.into_vec(),
-        None => Vec::new(alloc),
-    };
-    let mut texts = block_for(alloc, old, text.len())?;
-    texts.clear();
-    texts.extend_from_slice(text)?;
-    *place = Some(Items::from(texts));
     Ok(())
 }
 
 /// A part of the stream.
 fn put_part(
     alloc: Global,
-    sent: &Sent<'_, '_>,
+    sent: &Sent<'_, '_, '_>,
     number: u8,
     part: &StreamPart<'_>,
     stream: &mut Stream,
@@ -140,7 +146,8 @@ fn put_part(
     match part {
         StreamPart::Local(text) => put_local(alloc, sent, number, text.as_bytes(), stream, filled),
         StreamPart::Remote(text) => {
-            put_text(alloc, text.as_bytes(), &mut stream.remote)?;
+            let made = sent.made_remote();
+            stream.remote.put(alloc, text.as_bytes(), made)?;
             Ok(())
         }
         StreamPart::LocalControl(properties) => {
@@ -151,7 +158,7 @@ fn put_part(
 
 fn put_parts(
     alloc: Global,
-    sent: &Sent<'_, '_>,
+    sent: &Sent<'_, '_, '_>,
     number: u8,
     parts: &[StreamPart<'_>],
     stream: &mut Stream,
@@ -170,7 +177,7 @@ fn put_parts(
 /// What of a part of a Media is of the stream.
 fn put_part_of(
     alloc: Global,
-    sent: &Sent<'_, '_>,
+    sent: &Sent<'_, '_, '_>,
     number: u8,
     part: &MediaPart<'_>,
     stream: &mut Stream,
@@ -191,7 +198,7 @@ fn put_part_of(
 
 fn put_media(
     alloc: Global,
-    sent: &Sent<'_, '_>,
+    sent: &Sent<'_, '_, '_>,
     number: u8,
     parts: &[MediaPart<'_>],
     stream: &mut Stream,
@@ -209,7 +216,7 @@ fn put_media(
 
 pub(crate) fn put_all(
     alloc: Global,
-    sent: &Sent<'_, '_>,
+    sent: &Sent<'_, '_, '_>,
     number: u8,
     stream: &mut Stream,
     filled: &mut bool,
@@ -229,12 +236,12 @@ pub(crate) fn begun(alloc: Global, old: Option<&Stream>) -> Result<Merging, NoMe
     ensures { IfOk result (λ merging. merging ≡ begun (option_copied old.entry)) }
 {
     let stream = match old {
-        Some(stream) => copied_stream(alloc, stream)?,
+        Some(stream) => copied_stream(alloc, stream, Copying::Once)?,
         None => Stream {
             mode: Mode::Inactive,
             properties: Items::new(alloc),
-            local: None,
-            remote: None,
+            local: Text::none(),
+            remote: Text::none(),
         },
     };
     Ok(Merging {
@@ -249,7 +256,7 @@ pub(crate) fn begun(alloc: Global, old: Option<&Stream>) -> Result<Merging, NoMe
 #[tactic(auto, using(crate::proofs::StreamsFound::merged_there))]
 fn merge_there(
     alloc: Global,
-    sent: &Sent<'_, '_>,
+    sent: &Sent<'_, '_, '_>,
     number: u8,
     old: &Settings,
     new: &mut Settings,
@@ -278,7 +285,7 @@ fn merge_there(
 #[tactic(auto, unfolding(crate::specs::Merge::merged_stream))]
 pub(crate) fn merge_stream(
     alloc: Global,
-    sent: &Sent<'_, '_>,
+    sent: &Sent<'_, '_, '_>,
     number: u8,
     is_there: bool,
     old: &Settings,

@@ -13,6 +13,7 @@ use crate::copies::put;
 use crate::held::HeldTail;
 use crate::places::PerKind;
 use crate::settings::{Setting, Settings};
+use crate::text::Copying;
 use gw_base::Span;
 use gw_desc::{Descriptor, KeptKind, Tail, same_kept};
 use gw_text::Cursor;
@@ -67,34 +68,6 @@ fn kept_tail(alloc: Global, tail: &Tail<Span<'_>>) -> Result<Option<HeldTail>, A
     }
 }
 
-/// The tail that is kept after a descriptor, where it lies.
-fn kept_after<'a, 'b>(
-    kind: KeptKind,
-    descriptor: &'b Descriptor<'a>,
-    kept: Option<&'b Tail<Span<'a>>>,
-) -> Option<&'b Tail<Span<'a>>>
-    ensures { option_copied result ≡ tail_after kind descriptor.now (option_copied kept.entry) }
-{
-    match descriptor {
-        Descriptor::Keep(other, sent) if same_kept(kind, *other) => if_kept(sent),
-        _ => kept,
-    }
-}
-
-/// The tail of a kind that descriptors keep, where it lies; none where they keep none.
-pub(crate) fn kept_of<'a, 'b>(
-    kind: KeptKind,
-    descriptors: &'b [Descriptor<'a>],
-) -> Option<&'b Tail<Span<'a>>>
-    ensures { option_copied result ≡ merged_tail kind descriptors.now None }
-{
-    let mut kept = None;
-    for descriptor in descriptors {
-        kept = kept_after(kind, descriptor, kept);
-    }
-    kept
-}
-
 /// The tail after a descriptor.
 fn put_tail(
     alloc: Global,
@@ -141,7 +114,7 @@ fn merge_there(
     ensures { OnOk result (new.new ≡ record new.old { tails = put_kind kind (merged_tail kind descriptors.now (at_kind kind old.now.tails)) new.old.tails }) }
 {
     let mut tail = match old.tail(kind) {
-        Some(tail) => Some(tail.copied(alloc)?),
+        Some(tail) => Some(tail.copied(alloc, Copying::Once)?),
         None => None,
     };
     put_tails(alloc, kind, descriptors, &mut tail)?;

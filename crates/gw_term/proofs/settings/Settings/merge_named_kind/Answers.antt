@@ -5,6 +5,7 @@ use Rattle.gw_desc.specs.declared.descriptor.Tail.{Tail}
 use Rattle.gw_term.specs.Merge.{merged_tail}
 use Rattle.gw_term.specs.Places.{at_kind, put_kind}
 use Rattle.gw_term.specs.Settings.{Settings}
+use Rattle.gw_term.proofs.MadeOnce.{made_tail}
 use Rattle.gw_term.proofs.Taken.{named_tail}
 use Rattle.gw_term.proofs.settings.Settings.merge_named_kind.Goals as goal
 
@@ -15,15 +16,19 @@ on_ok (Err e) f p = tt
 pub returns-in-Some : goal.returns-in-Some
 returns-in-Some c =
     let kind = c.args.kind in
-    let ds = c.args.descriptors.now in
+    let a = c.args.sending.now in
+    let ds = a.descriptors.now in
     let s : Settings = c.args.self.now in
-    let tail : Some c.in-Some.tail.now ≡ merged_tail kind ds (at_kind kind s.tails) = sym (ap option_copied c.in-Some.is) ∙ c.kept_of.ensures ∙ named_tail kind ds None (at_kind kind s.tails) c.requires in
+    let made = made_tail a.rules.now None ds c.requires.plain a.made a.made_once kind in
+    let tail : Some c.in-Some.tail.now ≡ merged_tail kind ds (at_kind kind s.tails) = sym (ap option_copied c.in-Some.is) ∙ c.tail.ensures ∙ made ∙ named_tail kind ds None (at_kind kind s.tails) c.requires.named in
     on_ok c.keep_tail.result (λ e. e ∙ ap (λ (o : Option (Tail (List ℕ))). record s { tails = put_kind kind o s.tails }) tail) c.keep_tail.ensures
 
 pub returns-in-None : goal.returns-in-None
 returns-in-None c =
     let kind = c.args.kind in
-    let ds = c.args.descriptors.now in
+    let a = c.args.sending.now in
+    let ds = a.descriptors.now in
     let s : Settings = c.args.self.now in
-    let tail : None ≡ merged_tail kind ds (at_kind kind s.tails) = sym (ap option_copied c.in-None.is) ∙ c.kept_of.ensures ∙ named_tail kind ds None (at_kind kind s.tails) c.requires in
+    let made = made_tail a.rules.now None ds c.requires.plain a.made a.made_once kind in
+    let tail : None ≡ merged_tail kind ds (at_kind kind s.tails) = sym (ap option_copied c.in-None.is) ∙ c.tail.ensures ∙ made ∙ named_tail kind ds None (at_kind kind s.tails) c.requires.named in
     c.drop_tail.ensures ∙ ap (λ (o : Option (Tail (List ℕ))). record s { tails = put_kind kind o s.tails }) tail

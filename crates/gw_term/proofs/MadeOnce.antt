@@ -1,0 +1,138 @@
+-- What plain descriptors make of a record of which nothing was set is the same for each such record.
+use Rattle.std.proofs.Common.{◌≡◌, ℕ, zero, suc, ◌≤◌, arith, Bool, true, false, List, [], ◌∷◌, Option, Some, None, is_some, refl, ap, sym, ◌∙◌}
+use Rattle.std.specs.Prelude.{◌&&◌, if◌then◌else◌, decimal}
+use Rattle.std.specs.List.{list_all, list_any, flat_map}
+use Rattle.std.specs.Option.{option_map, unwrap_or}
+use Rattle.gw_base.specs.declared.command_words.Rules.{Rules}
+use Rattle.gw_desc.specs.Fill.{filled, is_fillable, port_of}
+use Rattle.gw_desc.specs.declared.descriptor.Descriptor.{Descriptor}
+use Rattle.gw_desc.specs.declared.descriptor.KeptKind.{KeptKind}
+use Rattle.gw_desc.specs.declared.descriptor.KeptKind.TheVariants.{Events, Signals, DigitMap, EventBuffer}
+use Rattle.gw_desc.specs.declared.descriptor.StreamPart.{StreamPart}
+use Rattle.gw_desc.specs.declared.descriptor.StreamPart.TheVariants as part
+use Rattle.gw_desc.proofs.FillChain.{nothing_filled}
+use Rattle.gw_term.specs.declared.places.PerStream.{PerStream}
+use Rattle.gw_term.specs.declared.record.Stream.{Stream}
+use Rattle.gw_term.specs.declared.streams.Merging.{Merging}
+use Rattle.gw_term.specs.declared.record.Termination.{Termination}
+use Rattle.gw_term.specs.Merge.{and_then, each, put_part, begun, unnamed, is_named_in, parts_in, merged_properties, merged_stream, merged_tail, merged_media, with_media, merged, stream_in}
+use Rattle.gw_term.specs.Places.{at_number, at_kind}
+use Rattle.gw_term.specs.Plain.{has_choice, is_plain_stream, is_plain_one, are_plain, IsMadeBy, AreMade, AreSet, stream_or_none, with_properties, with_streams_after, with_tails_after, with_all_after}
+use Rattle.gw_term.specs.Record.{provisioned}
+use Rattle.gw_term.specs.Settings.{Settings, nothing_set}
+use Rattle.gw_term.proofs.ByField.{by_field, parts_are}
+use Rattle.gw_term.proofs.Made.{mapped_from}
+use Rattle.gw_term.proofs.Taken.{all_in, none_there, plain_parts_in, merged_here}
+use Rattle.gw_term.proofs.Unfilled.{unfilled}
+
+both_of : (a b : Bool) → (a && b) ≡ true → (a ≡ true) × (b ≡ true)
+both_of true b h = (refl, h)
+both_of false b h = absurd cc
+
+-- ---- whatever the slot
+
+module _ (rules : Rules) (number : ℕ) where
+  text_same : (slot : ℕ) (text : List ℕ) → is_fillable text ≡ false → filled rules.media slot number text ≡ text
+  unfolding filled
+  text_same slot text h = nothing_filled rules.media (decimal (port_of slot number)) text h
+
+  part_same : (slot : Option ℕ) (p : StreamPart) (m : Merging) → is_plain_stream p ≡ true → put_part rules slot number p m ≡ put_part rules None number p m
+  part_same None p m h = refl
+  part_same (Some slot) (part.Local text) m h =
+      let none : is_fillable text ≡ false = unfilled text (none_there (has_choice text) h) in
+      (λ i. Some (let x : Merging = record { stream = (let y : Stream = record m.stream { local = Some (text_same slot text none i) } in y); filled = none i } in x))
+  part_same (Some slot) (part.Remote text) m h = refl
+  part_same (Some slot) (part.LocalControl properties) m h = refl
+
+  parts_same : (slot : Option ℕ) (ps : List StreamPart) (m : Merging) → list_all is_plain_stream ps ≡ true → each (put_part rules slot number) ps m ≡ each (put_part rules None number) ps m
+  parts_same slot [] m h = refl
+  parts_same slot (p ∷ ps) m h =
+      let a = both_of (is_plain_stream p) (list_all is_plain_stream ps) h in
+      ap (λ (o : Option Merging). and_then o (each (put_part rules slot number) ps)) (part_same slot p m a.0) ∙ by (λ t. parts_same slot ps t a.1) (put_part rules None number p m)
+    where
+      by : ((t : Merging) → each (put_part rules slot number) ps t ≡ each (put_part rules None number) ps t) → (o : Option Merging) → and_then o (each (put_part rules slot number) ps) ≡ and_then o (each (put_part rules None number) ps)
+      by later None = refl
+      by later (Some t) = later t
+
+  merged_same : (slot : Option ℕ) (ds : List Descriptor) (old : Option Stream) → are_plain ds ≡ true → merged_stream rules slot number ds old ≡ merged_stream rules None number ds old
+  unfolding merged_stream
+  merged_same slot ds old h =
+      ap (λ (o : Option Merging). if list_any (is_named_in number) ds then option_map (λ m. Some m) o else Some (unnamed old))
+      (parts_same slot (flat_map (parts_in number) ds) (begun old) (all_in is_plain_one is_plain_stream (parts_in number) (plain_parts_in number) ds h))
+
+  stream_same : (slot : Option ℕ) (ds : List Descriptor) (old : Option Stream) → are_plain ds ≡ true → stream_or_none rules slot number ds old ≡ stream_or_none rules None number ds old
+  stream_same slot ds old h = ap (λ (o : Option (Option Merging)). unwrap_or (option_map stream_in o) old) (merged_same slot ds old h)
+
+-- ---- the whole
+
+made_some : {T : Type 0} (o : Option T) (t : T) → o ≡ Some t → is_some o ≡ true
+made_some {T} o t e = ap (λ (x : Option T). is_some x) e
+
+-- of a record of which nothing was set, whatever its slot
+module _ (rules : Rules) (slot : Option ℕ) (ds : List Descriptor) (h : are_plain ds ≡ true) (made : Settings) (is : IsMadeBy rules ds made) where
+  merged_is : (r : Termination) → merged rules ds provisioned ≡ Some r → option_map (with_media ds provisioned) (merged_media rules ds provisioned) ≡ Some r
+  unfolding merged
+  merged_is r e = e
+
+  found : (r : Termination) × (merged rules ds provisioned ≡ Some r) × (made ≡ r.settings)
+  found = mapped_from (merged rules ds provisioned) (λ r. r.settings) made is
+
+  streams_taken : AreMade rules None ds nothing_set.streams
+  streams_taken =
+      let m = mapped_from (merged_media rules ds provisioned) (with_media ds provisioned) found.0 (merged_is found.0 found.1) in
+      let s = (parts_are rules ds provisioned m.0 m.1).streams in
+      record { first = made_some _ _ s.first; second = made_some _ _ s.second; third = made_some _ _ s.third; fourth = made_some _ _ s.fourth }
+
+  properties_taken : merged_properties ds [] ≡ Some made.properties
+  properties_taken = (by_field rules ds provisioned found.0 found.1).properties ∙ ap (λ (s : Settings). Some s.properties) (sym found.2)
+
+  some_is : {T : Type 0} (x y : T) → Some x ≡ Some y → x ≡ y
+  some_is x y e = cc
+
+  all_none : made ≡ with_all_after rules None ds (with_properties made.properties nothing_set)
+  all_none =
+      let here = merged_here rules ds provisioned made.properties properties_taken streams_taken in
+      found.2 ∙ ap (λ (r : Termination). r.settings) (some_is _ _ (sym found.1 ∙ here))
+
+  streams_same : (s : Settings) → s.streams ≡ nothing_set.streams → with_streams_after (stream_or_none rules None) ds s ≡ with_streams_after (stream_or_none rules slot) ds s
+  streams_same s e =
+      let one : (number : ℕ) (o : Option Stream) → stream_or_none rules None number ds o ≡ stream_or_none rules slot number ds o = λ number o. sym (stream_same rules number slot ds o h) in
+      (λ i. let streams : PerStream (Option Stream) = record { first = one 1 s.streams.first i; second = one 2 s.streams.second i; third = one 3 s.streams.third i; fourth = one 4 s.streams.fourth i } in record s { streams = streams })
+
+  -- what they make of any record of which nothing was set
+  pub made_anywhere : AreSet rules slot ds nothing_set made
+  made_anywhere = record {
+    properties = properties_taken;
+    streams = record {
+      first = ap (λ (o : Option (Option Merging)). is_some o) (merged_same rules 1 slot ds None h) ∙ streams_taken.first;
+      second = ap (λ (o : Option (Option Merging)). is_some o) (merged_same rules 2 slot ds None h) ∙ streams_taken.second;
+      third = ap (λ (o : Option (Option Merging)). is_some o) (merged_same rules 3 slot ds None h) ∙ streams_taken.third;
+      fourth = ap (λ (o : Option (Option Merging)). is_some o) (merged_same rules 4 slot ds None h) ∙ streams_taken.fourth;
+    };
+    all = all_none ∙ ap (with_tails_after ds) (streams_same (with_properties made.properties nothing_set) refl);
+  }
+
+  -- the stream of a number in it, which it takes
+  pub made_stream : (number : ℕ) → 1 ≤ number → number ≤ 4 → (at_number number made.streams ≡ stream_or_none rules slot number ds None) × (is_some (merged_stream rules slot number ds None) ≡ true)
+  made_stream number first last = by number first last
+    where
+      at : (n : ℕ) → at_number n made.streams ≡ at_number n (with_all_after rules slot ds (with_properties made.properties nothing_set)).streams
+      at n = ap (λ (s : Settings). at_number n s.streams) made_anywhere.all
+
+      by : (n : ℕ) → 1 ≤ n → n ≤ 4 → (at_number n made.streams ≡ stream_or_none rules slot n ds None) × (is_some (merged_stream rules slot n ds None) ≡ true)
+      by zero a b = absurd (omega (arith, a))
+      by (suc zero) a b = (at 1, made_anywhere.streams.first)
+      by (suc (suc zero)) a b = (at 2, made_anywhere.streams.second)
+      by (suc (suc (suc zero))) a b = (at 3, made_anywhere.streams.third)
+      by (suc (suc (suc (suc zero)))) a b = (at 4, made_anywhere.streams.fourth)
+      by (suc (suc (suc (suc (suc n))))) a b = absurd (omega (arith, b))
+
+  -- the tail of a kind in it
+  pub made_tail : (kind : KeptKind) → at_kind kind made.tails ≡ merged_tail kind ds None
+  made_tail kind = ap (λ (s : Settings). at_kind kind s.tails) made_anywhere.all ∙ by kind
+    where
+      by : (k : KeptKind) → at_kind k (with_all_after rules slot ds (with_properties made.properties nothing_set)).tails ≡ merged_tail k ds None
+      by Events = refl
+      by Signals = refl
+      by DigitMap = refl
+      by EventBuffer = refl

@@ -1,0 +1,164 @@
+//! A text that is kept: in a block of its own, or in one that copies share.
+
+ghost use Rattle.std.specs.Prelude.{◌≡◌, IfOk, OnOk, None, Some, true};
+ghost use Rattle.gw_term.specs.HeldTexts.{text_of};
+
+use gw_base::Items;
+use std::alloc::{AllocError, Global};
+use std::marker::Model;
+use std::mem;
+use std::sync::ArcSlice;
+
+/// How the texts of a copy lie.
+#[derive(Clone, Copy)]
+pub(crate) enum Copying {
+    /// As in what is copied: a text that is shared is shared again, and another is copied into a block of its own.
+    Once,
+    /// In blocks that copies of the copy share.
+    ForMany,
+}
+
+/// Where the bytes of a text lie.
+#[derive(Drop)]
+pub enum Form {
+    /// There is no text.
+    Missing,
+    /// In a block that no other text has.
+    Own(Vec<u8>),
+    /// In a block that its copies share.
+    Shared(ArcSlice<u8>),
+}
+
+/// The block of an old text, if it is as long as a new one, and else a new block.
+fn block_for(alloc: Global, old: Vec<u8>, length: usize) -> Result<Vec<u8>, AllocError> {
+    if old.len() == length {
+        return Ok(old);
+    }
+    Vec::with_capacity(alloc, length)
+}
+
+impl Form {
+    /// Its block, if it is of this length and no other text has it, and else a new one.
+    fn into_block(self, alloc: Global, length: usize) -> Result<Vec<u8>, AllocError> {
+        match self {
+            Form::Own(block) => block_for(alloc, block, length),
+            Form::Shared(_block) => Vec::with_capacity(alloc, length),
+            Form::Missing => Vec::with_capacity(alloc, length),
+        }
+    }
+}
+
+/// A text that is kept, or none. One that is made for one record takes one block; one that goes into many records is shared among
+/// them, and takes two blocks for all. Contracts see the text, or none.
+#[derive(Drop)]
+pub struct Text {
+    form: Form,
+}
+
+impl Model for Text {
+    ghost use Rattle.std.specs.Prelude.{ℕ, List, Option as OptionOf};
+    ghost use Rattle.gw_term.specs.HeldTexts.{text_in};
+
+    ghost Value = { OptionOf (List ℕ) };
+
+    ghost view = { λ t. text_in t.form };
+}
+
+impl Text {
+    /// No text.
+    pub(crate) fn none() -> Text
+        ensures { result ≡ None }
+    {
+        Text {
+            form: Form::Missing,
+        }
+    }
+
+    /// The text that stands in a block.
+    pub(crate) fn from_vec(block: Vec<u8>) -> Text
+        ensures { result ≡ Some block.items }
+    {
+        Text {
+            form: Form::Own(block),
+        }
+    }
+
+    /// Its bytes; none where there is no text.
+    #[inline]
+    pub(crate) fn as_slice(&self) -> &[u8]
+        ensures { result.now ≡ text_of self.now }
+    {
+        match &self.form {
+            Form::Missing => &[],
+            Form::Own(block) => block.as_slice(),
+            Form::Shared(block) => block.as_slice(),
+        }
+    }
+
+    /// A copy.
+    pub(crate) fn copied(&self, alloc: Global, copying: Copying) -> Result<Text, AllocError>
+        ensures { IfOk result (λ copy. copy ≡ self.now) }
+    {
+        let form = match &self.form {
+            Form::Missing => Form::Missing,
+            Form::Own(block) => match copying {
+                Copying::Once => Form::Own(Vec::from_slice(alloc, block.as_slice())?),
+                Copying::ForMany => { Form::Shared(ArcSlice::from_slice(alloc, block.as_slice())?) }
+            },
+            Form::Shared(block) => Form::Shared(block.clone()?),
+        };
+        Ok(Text { form })
+    }
+
+    /// Whether it is this text.
+    fn is(&self, text: &[u8]) -> bool
+        ensures { result ≡ true → self.now ≡ Some text.now }
+    {
+        match &self.form {
+            Form::Missing => false,
+            Form::Own(block) => block.as_slice() == text,
+            Form::Shared(block) => block.as_slice() == text,
+        }
+    }
+
+    /// This text, in its block, if that is its own and as long, and else in a new one.
+    fn written(self, alloc: Global, text: &[u8]) -> Result<Text, AllocError>
+        ensures { IfOk result (λ written. written ≡ Some text.now) }
+    {
+        let mut block = self.form.into_block(alloc, text.len())?;
+        block.clear();
+        block.extend_from_slice(text)?;
+        Ok(Text::from_vec(block))
+    }
+
+    /// A text takes its place: a copy of one that is there already, if it is that, and else in a block of its own.
+    pub(crate) fn put(
+        &mut self,
+        alloc: Global,
+        text: &[u8],
+        made: Option<&Text>,
+    ) -> Result<(), AllocError>
+        ensures { OnOk result (self.new ≡ Some text.now) }
+    {
+        if let Some(made) = made {
+            if made.is(text) {
+                *self = made.copied(alloc, Copying::Once)?;
+                return Ok(());
+            }
+        }
+        let old = mem::replace(self, Text::none());
+        *self = old.written(alloc, text)?;
+        Ok(())
+    }
+
+    /// The text as it is told, in a block of its own.
+    pub(crate) fn told(&self, alloc: Global) -> Result<Option<Items<u8>>, AllocError>
+        ensures { IfOk result (λ told. told ≡ self.now) }
+    {
+        match &self.form {
+            Form::Missing => Ok(None),
+            Form::Own(block) => Ok(Some(Items::from_slice(alloc, block.as_slice())?)),
+            Form::Shared(block) => Ok(Some(Items::from_slice(alloc, block.as_slice())?)),
+        }
+    }
+}
