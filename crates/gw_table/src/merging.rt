@@ -169,9 +169,9 @@ impl InPlace {
         ensures maps { OnOk result (self.new.maps ≡ all_changed (merged rules.now descriptors.now) (reached Free prefix.now self.old.maps) self.old.maps) }
         ensures keys { self.new.keys ≡ self.old.keys }
     {
+        let sending = Sending::new(alloc, rules, descriptors)?;
         let first = self.writes.len();
         let free = self.tables.note_all_free(alloc, prefix, &mut self.writes)?;
-        let sending = Sending::new(alloc, rules, descriptors)?;
         self.tables
             .merge_all_free(alloc, prefix, &sending, &self.writes, first, free)
     }
@@ -182,19 +182,16 @@ impl OverPart<'_> {
     fn merge_term(
         &mut self,
         alloc: Global,
-        rules: &Rules,
-        descriptors: &[Descriptor<'_>],
+        sending: &Sending<'_, '_>,
         name: &TermName,
     ) -> Result<(), NoMemory>
-        requires plain { are_plain descriptors.now ≡ true }
+        requires known { AreKnown sending.now.descriptors.now sending.now.named }
         requires key { holds self.old.keys (Term name.now) ≡ true }
-        ensures maps { OnOk result (self.new.maps ≡ put_changed (merged rules.now descriptors.now) name.now self.old.maps (term self.old.maps name.now)) }
+        ensures maps { OnOk result (self.new.maps ≡ put_changed (merged sending.now.rules.now sending.now.descriptors.now) name.now self.old.maps (term self.old.maps name.now)) }
         ensures keys { self.new.keys ≡ self.old.keys }
     {
         if let Some(mut termination) = self.take_term(alloc, name)? {
-            termination
-                .get_mut()
-                .merge_plain(alloc, rules, descriptors)?;
+            termination.get_mut().merge_sending(alloc, sending)?;
             self.set_term(*name, Some(termination))?;
         }
         Ok(())
@@ -204,17 +201,16 @@ impl OverPart<'_> {
     fn merge_each(
         &mut self,
         alloc: Global,
-        rules: &Rules,
-        descriptors: &[Descriptor<'_>],
+        sending: &Sending<'_, '_>,
         named: &[TermName],
     ) -> Result<(), NoMemory>
-        requires plain { are_plain descriptors.now ≡ true }
+        requires known { AreKnown sending.now.descriptors.now sending.now.named }
         requires term_keys { (t : List ℕ) → is_in t named.now ≡ true → holds self.old.keys (Term t) ≡ true }
-        ensures maps { OnOk result (self.new.maps ≡ all_changed (merged rules.now descriptors.now) named.now self.old.maps) }
+        ensures maps { OnOk result (self.new.maps ≡ all_changed (merged sending.now.rules.now sending.now.descriptors.now) named.now self.old.maps) }
         ensures keys { self.new.keys ≡ self.old.keys }
     {
         for name in named {
-            self.merge_term(alloc, rules, descriptors, name)?;
+            self.merge_term(alloc, sending, name)?;
         }
         Ok(())
     }
@@ -232,8 +228,9 @@ impl OverPart<'_> {
         ensures maps { OnOk result (self.new.maps ≡ all_changed (merged rules.now descriptors.now) (reached Free prefix.now self.old.maps) self.old.maps) }
         ensures keys { self.new.keys ≡ self.old.keys }
     {
+        let sending = Sending::new(alloc, rules, descriptors)?;
         let named = self.reached(alloc, Reach::Free, prefix)?;
-        self.merge_each(alloc, rules, descriptors, &named)
+        self.merge_each(alloc, &sending, &named)
     }
 }
 

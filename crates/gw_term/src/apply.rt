@@ -138,6 +138,7 @@ impl Termination {
     /// # Errors
     ///
     /// `Code(InsufficientResources)` where a list would hold more than 32 properties; `NoMemory`.
+    #[inline]
     #[tactic(auto, unfolding(crate::specs::Merge::merged, crate::specs::Merge::merged_media))]
     pub fn merged(
         &self,

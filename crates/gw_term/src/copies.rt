@@ -9,6 +9,7 @@ use gw_base::{Items, NoMemory};
 use std::alloc::{AllocError, Global};
 
 /// A copy of the properties.
+#[inline]
 pub(crate) fn copied_properties(
     alloc: Global,
     properties: &[HeldProperty],
@@ -24,6 +25,7 @@ pub(crate) fn copied_properties(
 }
 
 /// A copy of the stream.
+#[inline]
 pub(crate) fn copied_stream(
     alloc: Global,
     stream: &Stream,

@@ -519,7 +519,7 @@ impl Termination {
         self.merge_sending(alloc, &Sending::new(alloc, rules, descriptors)?)
     }
 
-    /// The same, where what the descriptors name is known.
+    /// The same, where what the descriptors name and make was found before, once for many records.
     ///
     /// # Errors
     ///

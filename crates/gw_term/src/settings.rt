@@ -51,6 +51,7 @@ impl Model for Settings {
 }
 
 /// A copy of a setting.
+#[inline]
 fn copied_setting(alloc: Global, setting: &Setting, copying: Copying) -> Result<Setting, AllocError>
     ensures { IfOk result (λ copy. copy ≡ setting.now) }
 {

@@ -19,7 +19,6 @@ pub(crate) enum Copying {
 }
 
 /// Where the bytes of a text lie.
-#[derive(Drop)]
 pub enum Form {
     /// There is no text.
     Missing,
@@ -27,6 +26,24 @@ pub enum Form {
     Own(Vec<u8>),
     /// In a block that its copies share.
     Shared(ArcSlice<u8>),
+}
+
+/// The block has an owner less. Not inlined, since most texts have a block of their own.
+#[inline(never)]
+fn let_go(block: ArcSlice<u8>) {
+    drop(block);
+}
+
+// By hand, so that where a text is let go no more stands in place than what most of them need.
+impl Drop for Form {
+    #[inline]
+    fn drop(self) {
+        match self {
+            Form::Missing => {}
+            Form::Own(_) => {}
+            Form::Shared(block) => let_go(block),
+        }
+    }
 }
 
 /// The block of an old text, if it is as long as a new one, and else a new block.
@@ -96,6 +113,7 @@ impl Text {
     }
 
     /// A copy.
+    #[inline]
     pub(crate) fn copied(&self, alloc: Global, copying: Copying) -> Result<Text, AllocError>
         ensures { IfOk result (λ copy. copy ≡ self.now) }
     {

@@ -26,7 +26,7 @@ on_ok (Err e) f p = tt
 pub returns-clause-maps : goal.returns-clause-maps
 returns-clause-maps c =
     let f : Change = merged c.args.rules.now c.args.descriptors.now in
-    let same : merged c.new-sending.result.rules.now c.new-sending.result.descriptors.now ≡ f = λ i. merged (c.new-sending.ensures.rules i) (c.new-sending.ensures.descriptors i) in
+    let same : merged _ _ ≡ f = λ i. merged (c.in_ok-sending.ensures.rules i) (c.in_ok-sending.ensures.descriptors i) in
     on_ok c.merge_all_free.result
     (λ changed. maps_changed f c.args.prefix.now c.self.inside.tables c.merge_all_free.new.self (subst (λ (g : Change). AreChanged c.args.prefix.now g c.self.inside.tables c.merge_all_free.new.self) same changed) ∙ ap (λ (p : Parted). all_changed f (reached Free c.args.prefix.now p.maps) p.maps) c.self.view_is)
     c.merge_all_free.ensures.changed

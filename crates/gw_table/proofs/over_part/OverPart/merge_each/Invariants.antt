@@ -6,6 +6,6 @@ use Rattle.gw_table.proofs.over_part.OverPart.merge_each.Given as goal
 -- the rest, done to the maps as they are now, comes to what all come to
 abbrev pub invariant-loop-name : goal.invariant-loop-name
 invariant-loop-name l = record {
-  told : all_changed (merged l.rules l.descriptors) (drop l.name-index l.named) l.self.maps ≡ all_changed (merged l.rules l.descriptors) l.named l.fn.self.maps;
+  told : all_changed (merged l.sending.rules.now l.sending.descriptors.now) (drop l.name-index l.named) l.self.maps ≡ all_changed (merged l.sending.rules.now l.sending.descriptors.now) l.named l.fn.self.maps;
   keys : l.self.keys ≡ l.fn.self.keys;
 }

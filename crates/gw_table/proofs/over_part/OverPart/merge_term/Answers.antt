@@ -9,11 +9,11 @@ use Rattle.gw_table.proofs.over_part.OverPart.merge_term.Goals as goal
 pub returns-in_ok-set_term-clause-maps : goal.returns-in_ok-set_term-clause-maps
 returns-in_ok-set_term-clause-maps c =
     let m : Maps = c.args.self.now.maps in
-    let f : Termination → Option Termination = merged c.args.rules.now c.args.descriptors.now in
+    let f : Termination → Option Termination = merged c.args.sending.now.rules.now c.args.sending.now.descriptors.now in
     let found : Some c.in-Some.termination ≡ term m c.args.name.now = sym c.in-Some.is ∙ c.in_ok-termination.ensures.termination in
-    let made : Some c.merge_plain.new.self ≡ f c.in-Some.termination = sym c.in_ok-merge_plain.ensures ∙ ap f c.get_mut.ensures.value in
-    c.in_ok-set_term.ensures.maps ∙ ap (λ (x : Maps). put_term x c.args.name.now (Some c.merge_plain.new.self)) c.in_ok-termination.ensures.maps
-    ∙ put_term-put_term m c.args.name.now None (Some c.merge_plain.new.self)
+    let made : Some c.merge_sending.new.self ≡ f c.in-Some.termination = sym c.in_ok-merge_sending.ensures ∙ ap f c.get_mut.ensures.value in
+    c.in_ok-set_term.ensures.maps ∙ ap (λ (x : Maps). put_term x c.args.name.now (Some c.merge_sending.new.self)) c.in_ok-termination.ensures.maps
+    ∙ put_term-put_term m c.args.name.now None (Some c.merge_sending.new.self)
     ∙ ap (λ (o : Option Termination). put_if c.args.name.now m o) made
     ∙ ap (λ (o : Option Termination). put_changed f c.args.name.now m o) found
 
@@ -21,4 +21,4 @@ pub returns-in_default-clause-maps : goal.returns-in_default-clause-maps
 returns-in_default-clause-maps c =
     let m : Maps = c.args.self.now.maps in
     let none : None ≡ term m c.args.name.now = sym c.in_default.is ∙ c.in_ok-termination.ensures.termination in
-    c.in_ok-termination.ensures.maps ∙ put_term-same m c.args.name.now None none ∙ ap (λ (o : Option Termination). put_changed (merged c.args.rules.now c.args.descriptors.now) c.args.name.now m o) none
+    c.in_ok-termination.ensures.maps ∙ put_term-same m c.args.name.now None none ∙ ap (λ (o : Option Termination). put_changed (merged c.args.sending.now.rules.now c.args.sending.now.descriptors.now) c.args.name.now m o) none
