@@ -1,12 +1,13 @@
 -- Descriptors that are merged into many terminations at once: what it comes to, and that the way back leads to where it led before.
-use Rattle.std.proofs.Common.{nat_eq, ◌≡◌, ℕ, suc, ◌≤◌, Bool, true, false, T, cond, List, [], ◌∷◌, map, length, bytes_eq, Option, None, Some, is_some, inl, inr, refl, sym, ap, subst, ◌∙◌, arith}
-use Rattle.std.specs.Prelude.{◌&&◌, ◌||◌, ◌⊎◌, ◌+◌, if◌then◌else◌}
+use Rattle.std.proofs.Common.{nat_eq, ◌≡◌, ℕ, Bool, true, false, T, cond, List, [], ◌∷◌, map, bytes_eq, Option, None, Some, is_some, inl, inr, refl, sym, ap, subst, ◌∙◌}
+use Rattle.std.specs.Prelude.{◌&&◌, ◌||◌, ◌⊎◌}
 use Rattle.std.specs.BTreeMap.{is_at}
 use Rattle.std.specs.Cmp.Lexicographic.{nat_list_cmp_total}
 use Rattle.std.specs.FinMap as finite
 use Rattle.std.specs.FinMap.{is_sorted, entries_sorted}
 use Rattle.std.specs.FinMap.Entries.{below_all}
-use Rattle.std.specs.List.{filter, starts_with, FoldsTo}
+use Rattle.std.specs.List.{AllByRecursion, filter, starts_with, FoldsTo}
+use Rattle.std.specs.List.Sorted.{IsStrictlySortedBy}
 use Rattle.std.specs.Map.{keys_of, lookup}
 use Rattle.std.specs.Map.Calls.{RetainsPairs}
 use Rattle.std.specs.Option.{option_map, is_none, unwrap_or}
@@ -30,12 +31,13 @@ use Rattle.gw_table.specs.declared.reach.Reach.TheVariants.{Free}
 use Rattle.gw_table.specs.Free.{is_free_at}
 use Rattle.gw_table.specs.Maps.{Maps, term, ctx, names, place_of}
 use Rattle.gw_table.specs.Marking.{AreMarked}
-use Rattle.gw_table.specs.Merged.{Change, put_if, put_changed, all_changed, changed, changed_place, changed_if, changed_at, is_away_at, WasChanged, IsPassed, IsAlike, AreAlike, AreChanged, AreAllNoted, MayNoteRecord}
+use Rattle.gw_table.specs.Merged.{Change, put_if, put_changed, all_changed, changed, changed_if, changed_at, is_away_at, WasMerged, IsPassed, or_last, last_met, is_free_in, StaysFree, IsAlike, AreAlike, AreChanged, AreAllNoted, MayNoteRecord}
 use Rattle.gw_table.specs.Originals.{keys_written, has_termination, IsInPlace}
 use Rattle.gw_table.specs.Reserved.{slot_name}
 use Rattle.gw_table.specs.Served.{is_within, is_reached, reached, is_reached_at}
 use Rattle.gw_table.specs.Stored.{Stored, stored, shown, has_left, maps_of, is_ready, is_out}
 use Rattle.gw_table.proofs.Exchanged.{term_seen}
+use Rattle.gw_table.proofs.FreeNames.{each_found}
 use Rattle.gw_table.proofs.InPlace.{noted_record}
 use Rattle.gw_table.proofs.Lookups.{term-put_term, ctx-put_term, same_maps}
 use Rattle.gw_table.proofs.Places.{term-maps_of, ctx-maps_of}
@@ -96,153 +98,123 @@ module _ (prefix : List ℕ) (f : Change) where
   abbrev meant : List ℕ → Place Termination → Bool
   meant t p = is_reached_at Free prefix t p
 
-  stands : (t : List ℕ) (p q : Place Termination) → meant t p ≡ true → WasChanged f p q → is_some (shown (Some q)) ≡ true
-  stands t Empty q h w = absurd cc
-  stands t Out q h w = absurd cc
-  stands t (Here r) q h (inl e) = ap (λ (x : Place Termination). is_some (shown (Some x))) e
-  stands t (Here r) Empty h (inr e) = absurd cc
-  stands t (Here r) (Here x) h (inr e) = refl
-  stands t (Here r) Out h (inr e) = absurd cc
+  stands : (t : List ℕ) (p q : Place Termination) (refused : Bool) → meant t p ≡ true → WasMerged f p q refused → is_some (shown (Some q)) ≡ true
+  stands t Empty q refused h w = absurd cc
+  stands t Out q refused h w = absurd cc
+  stands t (Here r) q false h e = ap (λ (x : Place Termination). is_some (shown (Some x))) e
+  stands t (Here r) Empty true h e = absurd cc
+  stands t (Here r) (Here x) true h e = refl
+  stands t (Here r) Out true h e = absurd cc
 
-  alike_one : (t : List ℕ) (p q : Place Termination) → IsPassed prefix f t p q → IsAlike prefix t (Some p) (Some q)
-  alike_one t p q passed = (q, refl, passed.rest, λ h. stands t p q h (passed.met h))
+  alike_one : (t : List ℕ) (p q : Place Termination) (before after : Bool) → IsPassed prefix f t p q before after → IsAlike prefix t (Some p) (Some q)
+  alike_one t p q before after passed = (q, refl, λ h. (passed.rest h).0, λ h. stands t p q after h (passed.met h))
 
   -- ---- place after place
 
-  pub Passed : List Named → List Named → Type 0
-  Passed [] ks = ks ≡ []
-  Passed (e ∷ es) ks = (q : Place Termination) × (rest : List Named) × IsPassed prefix f e.0 e.1 q × Passed es rest × (ks ≡ (e.0, q) ∷ rest)
+  pub Passed : Bool → List Named → List Named → Type 0
+  Passed before [] ks = ks ≡ []
+  Passed before (e ∷ es) ks = (q : Place Termination) × (rest : List Named) × (after : Bool) × IsPassed prefix f e.0 e.1 q before after × Passed after es rest × (ks ≡ (e.0, q) ∷ rest)
 
-  module _ {F : Type 0} (R : F → List ℕ → Place Termination → Bool → Place Termination → F → Type 0) (I : F → Type 0) (step : (s : F) (k : List ℕ) (v : Place Termination) (b : Bool) (w : Place Termination) (s' : F) → I s → R s k v b w s' → (b ≡ true) × IsPassed prefix f k v w × I s') where
-    pub passed_by : (s : F) (es kept : List Named) → I s → RetainsPairs R s es kept → Passed es kept
+  module _ {F : Type 0} (R : F → List ℕ → Place Termination → Bool → Place Termination → F → Type 0) (refused : F → Bool) (I : F → Type 0)
+      (step : (s : F) (k : List ℕ) (v : Place Termination) (b : Bool) (w : Place Termination) (s' : F) → I s → R s k v b w s' → (b ≡ true) × IsPassed prefix f k v w (refused s) (refused s') × I s') where
+    pub passed_by : (s : F) (es kept : List Named) → I s → RetainsPairs R s es kept → Passed (refused s) es kept
     unfolding Passed
     passed_by s [] kept i ran = ran
     passed_by s (e ∷ es) kept i ran =
         let one = step s e.0 e.1 ran.0 ran.1 ran.2 i ran.4 in
-        (ran.1, ran.3, one.1, passed_by ran.2 es ran.3 one.2 ran.5, ran.6 ∙ ap (λ (b : Bool). cond b ((e.0, ran.1) ∷ ran.3) ran.3) one.0)
+        (ran.1, ran.3, refused ran.2, one.1, passed_by ran.2 es ran.3 one.2 ran.5, ran.6 ∙ ap (λ (b : Bool). cond b ((e.0, ran.1) ∷ ran.3) ran.3) one.0)
 
-  -- the names stay
-  pub keys_kept : (es ks : List Named) → Passed es ks → keys_of ks ≡ keys_of es
+  alike_at : (b : Bool) (es ks : List Named) → Passed b es ks → (t : List ℕ) → IsAlike prefix t (lookup (is_at (name_cmp t)) es) (lookup (is_at (name_cmp t)) ks)
   unfolding Passed
-  keys_kept [] ks h = ap (λ (l : List Named). keys_of l) h
-  keys_kept (e ∷ es) ks h = ap (λ (l : List Named). keys_of l) h.4 ∙ ap (λ (l : List (List ℕ)). e.0 ∷ l) (keys_kept es h.1 h.3)
-
-  alike_at : (es ks : List Named) → Passed es ks → (t : List ℕ) → IsAlike prefix t (lookup (is_at (name_cmp t)) es) (lookup (is_at (name_cmp t)) ks)
-  unfolding Passed
-  alike_at [] ks h t = ap (λ (l : List Named). lookup (is_at (name_cmp t)) l) h
-  alike_at (e ∷ es) ks h t =
-      subst (λ (l : List Named). IsAlike prefix t (lookup (is_at (name_cmp t)) (e ∷ es)) (lookup (is_at (name_cmp t)) l)) (sym h.4) (by (alike_at es h.1 h.3 t) (is_at (name_cmp t) e.0) refl)
+  alike_at b [] ks h t = ap (λ (l : List Named). lookup (is_at (name_cmp t)) l) h
+  alike_at b (e ∷ es) ks h t =
+      subst (λ (l : List Named). IsAlike prefix t (lookup (is_at (name_cmp t)) (e ∷ es)) (lookup (is_at (name_cmp t)) l)) (sym h.5) (by (alike_at h.2 es h.1 h.4 t) (is_at (name_cmp t) e.0) refl)
     where
       by : IsAlike prefix t (lookup (is_at (name_cmp t)) es) (lookup (is_at (name_cmp t)) h.1) → (b : Bool) → is_at (name_cmp t) e.0 ≡ b → IsAlike prefix t (cond b (Some e.1) (lookup (is_at (name_cmp t)) es)) (cond b (Some h.0) (lookup (is_at (name_cmp t)) h.1))
-      by later true is = subst (λ (x : List ℕ). IsAlike prefix x (Some e.1) (Some h.0)) (sym (same_name t e.0 (sym (name_test t e.0) ∙ is))) (alike_one e.0 e.1 h.0 h.2)
+      by later true is = subst (λ (x : List ℕ). IsAlike prefix x (Some e.1) (Some h.0)) (sym (same_name t e.0 (sym (name_test t e.0) ∙ is))) (alike_one e.0 e.1 h.0 b h.2 h.3)
       by later false is = later
 
-  pub are_alike : (es ks : List Named) (cs : List (ℕ × Place ContextRecord)) → Passed es ks → AreAlike prefix (stored es cs) (stored ks cs)
-  are_alike es ks cs h = record {
+  pub are_alike : (b : Bool) (es ks : List Named) (cs : List (ℕ × Place ContextRecord)) → Passed b es ks → AreAlike prefix (stored es cs) (stored ks cs)
+  are_alike b es ks cs h = record {
     terms = λ t. subst (λ (o : Option (Place Termination)). IsAlike prefix t o (finite.get (stored ks cs).terms t)) (sym (seen nat_list_cmp_total es t))
-        (subst (λ (o : Option (Place Termination)). IsAlike prefix t (lookup (is_at (name_cmp t)) es) o) (sym (seen nat_list_cmp_total ks t)) (alike_at es ks h t));
+        (subst (λ (o : Option (Place Termination)). IsAlike prefix t (lookup (is_at (name_cmp t)) es) o) (sym (seen nat_list_cmp_total ks t)) (alike_at b es ks h t));
     contexts = refl;
   }
 
-  -- ---- as many are in the null context as before only where each was changed
+  -- ---- the last that is meant is in the null context still only where each was changed
 
-  abbrev pub count : List Named → ℕ
-  count es = length (filter (λ e. is_free_at e.1) es)
-
-  abbrev one_if : Bool → ℕ → ℕ
-  one_if true n = suc n
-  one_if false n = n
-
-  count_more : (e : Named) (es : List Named) → count (e ∷ es) ≡ one_if (is_free_at e.1) (count es)
-  count_more e es = by (is_free_at e.1)
+  not_free : (q : Place Termination) → is_away_at q ≡ true → is_free_at q ≡ false
+  not_free Empty h = refl
+  not_free Out h = refl
+  not_free (Here r) h = by r.place h
     where
-      by : (b : Bool) → length (cond b (e ∷ filter (λ e. is_free_at e.1) es) (filter (λ e. is_free_at e.1) es)) ≡ one_if b (count es)
-      by true = refl
-      by false = refl
+      by : (o : Option CtxNum) → is_some o ≡ true → is_none o ≡ false
+      by None h = absurd cc
+      by (Some n) h = refl
 
-  -- one more that was passed over, of those that are left
-  pub one_counted : (n : ℕ) (e : Named) (rest left all : List Named) → rest ≡ e ∷ left → n + count rest ≡ count all → (n + (if is_free_at e.1 then 1 else 0)) + count left ≡ count all
-  one_counted n e rest left all is so_far = by (is_free_at e.1) (sym (ap count is ∙ count_more e left))
+  abbrev AreFound : List Named → List Named → Type 0
+  AreFound all ks = AllByRecursion (λ k. lookup (is_at (name_cmp k.0)) all ≡ Some k.1) ks
+
+  -- once memory was refused
+  away_last : (es ks all : List Named) (t : List ℕ) → Passed true es ks → AreFound all ks → last_met prefix es ≡ Some t → is_free_in (lookup (is_at (name_cmp t)) all) ≡ false
+  unfolding Passed
+  away_last [] ks all t h found is = absurd cc
+  away_last (e ∷ es) ks all t h found is = by (last_met prefix es) refl (meant e.0 e.1) refl is (away_last es h.1 all t (subst (λ (b : Bool). Passed b es h.1) (h.3.once refl) h.4) there.1)
     where
-      by : (b : Bool) → one_if b (count left) ≡ count rest → (n + (if b then 1 else 0)) + count left ≡ count all
-      by true h = omega (arith, h, so_far)
-      by false h = omega (arith, h, so_far)
+      there : AreFound all ((e.0, h.0) ∷ h.1)
+      there = subst (λ (l : List Named). AreFound all l) h.5 found
 
-  module _ (keeps : (r : Termination) → (changed f r).place ≡ r.place) where
-    -- one is where it was, and was changed if it is meant; or it has left the null context
-    abbrev Went : List ℕ → Place Termination → Place Termination → Type 0
-    Went t p q = ((is_free_at q ≡ is_free_at p) × (q ≡ changed_at prefix f t p)) ⊎ ((is_free_at p ≡ true) × (is_free_at q ≡ false))
+      by : (o : Option (List ℕ)) → last_met prefix es ≡ o → (m : Bool) → meant e.0 e.1 ≡ m → or_last o (cond m (Some e.0) None) ≡ Some t → (last_met prefix es ≡ Some t → is_free_in (lookup (is_at (name_cmp t)) all) ≡ false) → is_free_in (lookup (is_at (name_cmp t)) all) ≡ false
+      by (Some u) later m met e later_so = later_so (later ∙ e)
+      by None later true met same later_so =
+          let name : e.0 ≡ t = cc in
+          ap (λ (x : List ℕ). is_free_in (lookup (is_at (name_cmp x)) all)) (sym name) ∙ ap (λ (o : Option (Place Termination)). is_free_in o) there.0
+          ∙ not_free h.0 (subst (λ (b : Bool). WasMerged f e.1 h.0 b) (h.3.once refl) (h.3.met met))
+      by None later false met same later_so = absurd cc
 
-    not_free : (q : Place Termination) → is_away_at q ≡ true → is_free_at q ≡ false
-    not_free Empty h = refl
-    not_free Out h = refl
-    not_free (Here r) h = by r.place h
-      where
-        by : (o : Option CtxNum) → is_some o ≡ true → is_none o ≡ false
-        by None h = absurd cc
-        by (Some n) h = refl
+  not_refused : (e : Named) (es ks all : List Named) (q : Place Termination) (after : Bool) → IsPassed prefix f e.0 e.1 q false after → Passed after es ks → AreFound all ks → lookup (is_at (name_cmp e.0)) all ≡ Some q → StaysFree (last_met prefix (e ∷ es)) all → after ≡ false
+  not_refused e es ks all q false passed later found here last = refl
+  not_refused e es ks all q true passed later found here last = absurd (by (last_met prefix es) refl (meant e.0 e.1) refl last)
+    where
+      by : (o : Option (List ℕ)) → last_met prefix es ≡ o → (m : Bool) → meant e.0 e.1 ≡ m → StaysFree (or_last o (cond m (Some e.0) None)) all → ⊥
+      by (Some t) is m met free = let clash : false ≡ true = sym (away_last es ks all t later found is) ∙ free in cc
+      by None is true met free = let clash : false ≡ true = sym (ap (λ (o : Option (Place Termination)). is_free_in o) here ∙ not_free q (passed.met met)) ∙ free in cc
+      by None is false met free = let clash : true ≡ false = (passed.rest met).1 in cc
 
-    met_free : (t : List ℕ) (p : Place Termination) → meant t p ≡ true → is_free_at p ≡ true
-    met_free t Empty h = absurd cc
-    met_free t Out h = absurd cc
-    met_free t (Here r) h = by (starts_with nat_eq t prefix) (is_none r.place) h
-      where
-        by : (b d : Bool) → (b && d) ≡ true → d ≡ true
-        by true d h = h
-        by false d h = absurd cc
+  one_met : (t : List ℕ) (p q : Place Termination) (after : Bool) → IsPassed prefix f t p q false after → after ≡ false → q ≡ changed_at prefix f t p
+  one_met t p q after passed clear = by (meant t p) refl
+    where
+      by : (m : Bool) → meant t p ≡ m → q ≡ changed_if (meant t p) f p
+      by true is = subst (λ (b : Bool). WasMerged f p q b) clear (passed.met is) ∙ ap (λ (m : Bool). changed_if m f p) (sym is)
+      by false is = (passed.rest is).0 ∙ ap (λ (m : Bool). changed_if m f p) (sym is)
 
-    still_free : (p : Place Termination) → is_free_at (changed_place f p) ≡ is_free_at p
-    still_free Empty = refl
-    still_free Out = refl
-    still_free (Here r) = ap (λ (o : Option CtxNum). is_none o) (keeps r)
+  last_behind : (all : List Named) (o l : Option (List ℕ)) → StaysFree (or_last o l) all → StaysFree o all
+  last_behind all None l h = tt
+  last_behind all (Some t) l h = h
 
-    went : (t : List ℕ) (p q : Place Termination) → IsPassed prefix f t p q → Went t p q
-    went t p q passed = by (meant t p) refl
-      where
-        by : (b : Bool) → meant t p ≡ b → Went t p q
-        by true e = elim (passed.met e) [
-          | inl c ↦ inl (ap (λ (x : Place Termination). is_free_at x) c ∙ still_free p, c ∙ ap (λ (b : Bool). changed_if b f p) (sym e))
-          | inr a ↦ inr (met_free t p e, not_free q a)
-        ]
-        by false e = inl (ap (λ (x : Place Termination). is_free_at x) (passed.rest e), passed.rest e ∙ ap (λ (b : Bool). changed_if b f p) (sym e))
+  all_met : (es ks all : List Named) → Passed false es ks → AreFound all ks → StaysFree (last_met prefix es) all → ks ≡ map (λ e. (e.0, changed_at prefix f e.0 e.1)) es
+  unfolding Passed
+  all_met [] ks all h found last = h
+  all_met (e ∷ es) ks all h found last =
+      let there : AreFound all ((e.0, h.0) ∷ h.1) = subst (λ (l : List Named). AreFound all l) h.5 found in
+      let clear : h.2 ≡ false = not_refused e es h.1 all h.0 h.2 h.3 h.4 there.1 there.0 last in
+      let one : h.0 ≡ changed_at prefix f e.0 e.1 = one_met e.0 e.1 h.0 h.2 h.3 clear in
+      let rest : h.1 ≡ map (λ e. (e.0, changed_at prefix f e.0 e.1)) es = all_met es h.1 all (subst (λ (b : Bool). Passed b es h.1) clear h.4) there.1 (last_behind all (last_met prefix es) (cond (meant e.0 e.1) (Some e.0) None) last) in
+      h.5 ∙ (λ i. (e.0, one i) ∷ rest i)
 
-    fewer : (es ks : List Named) → Passed es ks → count ks ≤ count es
-    unfolding Passed
-    fewer [] ks h = subst (λ (l : List Named). count l ≤ 0) (sym h) (omega arith)
-    fewer (e ∷ es) ks h =
-        let rest : count h.1 ≤ count es = fewer es h.1 h.3 in
-        subst (λ (n : ℕ). n ≤ count (e ∷ es)) (sym (ap count h.4 ∙ count_more (e.0, h.0) h.1)) (subst (λ (n : ℕ). one_if (is_free_at h.0) (count h.1) ≤ n) (sym (count_more e es)) (by (went e.0 e.1 h.0 h.2) rest))
-      where
-        of : (a b : Bool) (m n : ℕ) → (a ≡ b) ⊎ ((b ≡ true) × (a ≡ false)) → m ≤ n → one_if a m ≤ one_if b n
-        of true true m n h k = omega (arith, k)
-        of false false m n h k = k
-        of false true m n h k = omega (arith, k)
-        of true false m n (inl x) k = absurd cc
-        of true false m n (inr x) k = absurd (let clash : false ≡ true = x.0 in cc)
+  pub are_changed : (es ks : List Named) (cs : List (ℕ × Place ContextRecord)) → Passed false es ks → IsStrictlySortedBy name_cmp (keys_of ks) → StaysFree (last_met prefix es) ks → AreChanged prefix f (stored es cs) (stored ks cs)
+  are_changed es ks cs h sorted last = record { terms = λ t. got_passed (changed_at prefix f) es ks t (all_met es ks ks h (each_found ks sorted) last); contexts = refl }
 
-        by : Went e.0 e.1 h.0 → count h.1 ≤ count es → one_if (is_free_at h.0) (count h.1) ≤ one_if (is_free_at e.1) (count es)
-        by (inl x) k = of (is_free_at h.0) (is_free_at e.1) (count h.1) (count es) (inl x.0) k
-        by (inr x) k = of (is_free_at h.0) (is_free_at e.1) (count h.1) (count es) (inr x) k
+-- one more that was passed over, of those that are left
+one_more_met : (o l : Option (List ℕ)) (m : Bool) (t : List ℕ) → or_last o (cond m (Some t) l) ≡ or_last (or_last o (cond m (Some t) None)) l
+one_more_met None l true t = refl
+one_more_met None l false t = refl
+one_more_met (Some u) l m t = refl
 
-    pub all_met : (es ks : List Named) → Passed es ks → count ks ≡ count es → ks ≡ map (λ e. (e.0, changed_at prefix f e.0 e.1)) es
-    unfolding Passed
-    all_met [] ks h n = h
-    all_met (e ∷ es) ks h n = by (all_met es h.1 h.3) (went e.0 e.1 h.0 h.2) (fewer es h.1 h.3) (sym (ap count h.4 ∙ count_more (e.0, h.0) h.1) ∙ n ∙ count_more e es)
-      where
-        same : (b : Bool) (m k : ℕ) → one_if b m ≡ one_if b k → m ≡ k
-        same true m k e = omega (arith, e)
-        same false m k e = e
-
-        by : (count h.1 ≡ count es → h.1 ≡ map (λ e. (e.0, changed_at prefix f e.0 e.1)) es) → Went e.0 e.1 h.0 → count h.1 ≤ count es → one_if (is_free_at h.0) (count h.1) ≡ one_if (is_free_at e.1) (count es) → ks ≡ (e.0, changed_at prefix f e.0 e.1) ∷ map (λ e. (e.0, changed_at prefix f e.0 e.1)) es
-        by later (inl x) k n =
-            let rest = later (same (is_free_at e.1) (count h.1) (count es) (ap (λ (b : Bool). one_if b (count h.1)) (sym x.0) ∙ n)) in
-            h.4 ∙ (λ i. (e.0, x.1 i) ∷ rest i)
-        by later (inr x) k n =
-            let off : count h.1 ≡ suc (count es) = ap (λ (b : Bool). one_if b (count h.1)) (sym x.1) ∙ n ∙ ap (λ (b : Bool). one_if b (count es)) x.0 in
-            absurd (omega (arith, k, off))
-
-    pub are_changed : (es ks : List Named) (cs : List (ℕ × Place ContextRecord)) → Passed es ks → count ks ≡ count es → AreChanged prefix f (stored es cs) (stored ks cs)
-    are_changed es ks cs h n = record { terms = λ t. got_passed (changed_at prefix f) es ks t (all_met es ks h n); contexts = refl }
+pub last_so_far : (prefix : List ℕ) (all rest left : List Named) (e : Named) (l new : Option (List ℕ)) → rest ≡ e ∷ left → new ≡ cond (is_reached_at Free prefix e.0 e.1) (Some e.0) l → or_last (last_met prefix rest) l ≡ last_met prefix all → or_last (last_met prefix left) new ≡ last_met prefix all
+last_so_far prefix all rest left e l new is one so_far =
+    ap (or_last (last_met prefix left)) one ∙ one_more_met (last_met prefix left) l (is_reached_at Free prefix e.0 e.1) e.0
+    ∙ ap (λ (r : List Named). or_last (last_met prefix r) l) (sym is) ∙ so_far
 
 -- ---- what stays
 
@@ -440,14 +412,6 @@ module _ (prefix : List ℕ) where
   pub all_noted : (es rest : List Named) (cs : List (ℕ × Place ContextRecord)) (now : Stored) (ws : List Write) → stored es cs ≡ now → rest ≡ [] → NotedBut es rest ws → AreAllNoted prefix ws now
   all_noted es rest cs now ws is over noted t p stands meant =
       elim (noted t p (term_seen es cs now t is ∙ stands) meant) [ inl h ↦ absurd (let clash : None ≡ Some p = sym (ap (λ (l : List Named). lookup (is_at (name_cmp t)) l) over) ∙ h in cc) | inr n ↦ n ]
-
--- one more at most, of those that are left
-pub one_within : (n m : ℕ) (b : Bool) (e : Named) (rest left all : List Named) → rest ≡ e ∷ left → m ≡ n + (if b then 1 else 0) → n + length rest ≤ length all → m + length left ≤ length all
-one_within n m b e rest left all is more so_far = by b more (ap (λ (l : List Named). length l) is)
-  where
-    by : (b : Bool) → m ≡ n + (if b then 1 else 0) → length rest ≡ suc (length left) → m + length left ≤ length all
-    by true more k = omega (arith, more, k, so_far)
-    by false more k = omega (arith, more, k, so_far)
 
 -- the record of what stands in a place may be noted, whatever was before
 pub may_note_record : (start now : Stored) (ws vs : List Write) (t : List ℕ) (p : Place Termination) → finite.get now.terms t ≡ Some p → MayNoteRecord t p ws vs → IsInPlace start now ws → IsInPlace start now vs

@@ -1,13 +1,17 @@
 -- Descriptors that are merged into many terminations at once (RFC 3525, section 7.2.2), and what is noted of them for the way back (own).
-use Rattle.std.specs.Prelude.{◌≡◌, ℕ, ◌⊎◌, Bool, true, false, List, [], ◌∷◌, ◌++◌, Option, None, Some}
+use Rattle.std.specs.Prelude.{◌≡◌, ℕ, ◌⊎◌, Bool, true, false, cond, List, [], ◌∷◌, ◌++◌, Option, None, Some, IfSome}
 use Rattle.std.specs.Option.{option_map, is_some, unwrap_or}
+use Rattle.std.specs.BTreeMap.{is_at}
 use Rattle.std.specs.FinMap as finite
+use Rattle.std.specs.Map.{lookup}
+use Rattle.gw_base.specs.NameLists.{name_cmp}
 use Rattle.gw_term.specs.declared.record.Termination.{Termination}
 use Rattle.gw_table.specs.declared.originals.Write.{Write}
 use Rattle.gw_table.specs.declared.originals.Write.TheVariants.{OfRecord}
 use Rattle.gw_table.specs.declared.place.Place.{Place}
 use Rattle.gw_table.specs.declared.place.Place.TheVariants.{Empty, Here, Out}
 use Rattle.gw_table.specs.declared.reach.Reach.TheVariants.{Free}
+use Rattle.gw_table.specs.Free.{is_free_at}
 use Rattle.gw_table.specs.Maps.{Maps, term, put_term}
 use Rattle.gw_table.specs.Originals.{has_termination}
 use Rattle.gw_table.specs.Served.{is_reached_at}
@@ -57,13 +61,33 @@ is_away_at (Here r) = is_some r.place
 is_away_at Out = false
 
 -- what stood there was changed; or memory was refused, and it has left the null context, by which it is missed
-abbrev pub WasChanged : Change → Place Termination → Place Termination → Type 0
-WasChanged f p q = (q ≡ changed_place f p) ⊎ (is_away_at q ≡ true)
+abbrev pub WasMerged : Change → Place Termination → Place Termination → Bool → Type 0
+WasMerged f p q false = q ≡ changed_place f p
+WasMerged f p q true = is_away_at q ≡ true
 
--- so it is with what is meant, and all else stays
-pub record IsPassed (prefix : List ℕ) (f : Change) (t : List ℕ) (p q : Place Termination) : Type 0 where
-  pub met : is_reached_at Free prefix t p ≡ true → WasChanged f p q
-  pub rest : is_reached_at Free prefix t p ≡ false → q ≡ p
+-- So it is with what is meant, and all else stays. Once memory was refused, it is refused to all that are meant.
+pub record IsPassed (prefix : List ℕ) (f : Change) (t : List ℕ) (p q : Place Termination) (before after : Bool) : Type 0 where
+  pub met : is_reached_at Free prefix t p ≡ true → WasMerged f p q after
+  pub rest : is_reached_at Free prefix t p ≡ false → (q ≡ p) × (after ≡ before)
+  pub once : before ≡ true → after ≡ true
+
+-- the name of the last that is meant
+abbrev pub or_last : Option (List ℕ) → Option (List ℕ) → Option (List ℕ)
+or_last None o = o
+or_last (Some t) o = Some t
+
+abbrev pub last_met : List ℕ → List (List ℕ × Place Termination) → Option (List ℕ)
+last_met prefix [] = None
+last_met prefix (e ∷ es) = or_last (last_met prefix es) (cond (is_reached_at Free prefix e.0 e.1) (Some e.0) None)
+
+-- a termination of the null context stands there
+abbrev pub is_free_in : Option (Place Termination) → Bool
+is_free_in None = false
+is_free_in (Some p) = is_free_at p
+
+-- the termination of this name, if one is given, is in the null context
+abbrev pub StaysFree : Option (List ℕ) → List (List ℕ × Place Termination) → Type 0
+StaysFree last es = IfSome last (λ t. is_free_in (lookup (is_at (name_cmp t)) es) ≡ true)
 
 -- the places are as they were, but for terminations that are meant
 abbrev pub IsAlike : List ℕ → List ℕ → Option (Place Termination) → Option (Place Termination) → Type 0

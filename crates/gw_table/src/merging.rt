@@ -1,22 +1,20 @@
 //! Descriptors that are merged into many terminations at once.
 
-ghost use Rattle.std.specs.Prelude.{◌≡◌, ◌<◌, ◌+◌, if◌then◌else◌, ℕ, nat_eq, true, length, List, IfOk, OnOk};
+ghost use Rattle.std.specs.Prelude.{◌≡◌, ℕ, true, List, Some, is_some, IfOk, OnOk};
+ghost use Rattle.std.specs.BTreeMap.{is_at};
 ghost use Rattle.std.specs.FinMap as finite;
-ghost use Rattle.std.specs.List.{filter};
-ghost use Rattle.std.specs.List.Sorted.{IsStrictlySortedBy};
-ghost use Rattle.std.specs.Map.{keys_of};
+ghost use Rattle.std.specs.Map.{lookup};
 ghost use Rattle.gw_base.specs.declared.key.Key.TheVariants.{Term};
 ghost use Rattle.gw_base.specs.NameLists.{is_in, name_cmp};
 ghost use Rattle.gw_term.specs.Merge.{merged};
 ghost use Rattle.gw_term.specs.Plain.{are_plain, AreKnown};
 ghost use Rattle.gw_table.specs.declared.reach.Reach.TheVariants.{Free};
-ghost use Rattle.gw_table.specs.Free.{is_free_at};
 ghost use Rattle.gw_table.specs.Maps.{term};
-ghost use Rattle.gw_table.specs.Merged.{put_changed, all_changed, WasChanged, IsPassed, AreAlike, AreChanged, AreAllNoted};
+ghost use Rattle.gw_table.specs.Merged.{put_changed, all_changed, is_away_at, is_free_in, last_met, WasMerged, IsPassed, StaysFree, AreAlike, AreChanged, AreAllNoted};
 ghost use Rattle.gw_table.specs.Originals.{IsInPlace};
 ghost use Rattle.gw_table.specs.Parts.{holds};
 ghost use Rattle.gw_table.specs.Served.{reached};
-ghost use Rattle.gw_table.specs.Stored.{Stored};
+ghost use Rattle.gw_table.specs.Stored.{Stored, shown};
 
 use crate::draft::{Draft, Ground};
 use crate::free::is_free_at;
@@ -34,24 +32,36 @@ use std::alloc::Global;
 use std::collections::BTreeMap;
 
 /// The termination that stands in a place becomes what the descriptors make of it. One for which memory is refused leaves the null
-/// context: what a pass over the places met is known afterwards by what stands in them alone.
+/// context. Answers whether memory was refused.
 pub(crate) fn merge_in_place(
     place: &mut Place<Held<Termination>>,
     alloc: Global,
     sending: &Sending<'_, '_>,
-)
+) -> bool
     requires { AreKnown sending.now.descriptors.now sending.now.named }
-    ensures { WasChanged (merged sending.now.rules.now sending.now.descriptors.now) place.old place.new }
+    ensures { WasMerged (merged sending.now.rules.now sending.now.descriptors.now) place.old place.new result }
 {
     if let Place::Here(termination) = place {
         if termination.get_mut().merge_sending(alloc, sending).is_err() {
             termination.get_mut().set_place(Some(CtxNum(0)));
+            return true;
         }
+    }
+    false
+}
+
+/// The termination that stands in a place, if there is one, leaves the null context.
+pub(crate) fn put_away(place: &mut Place<Held<Termination>>)
+    ensures { is_some (shown (Some place.old)) ≡ true → is_away_at place.new ≡ true }
+{
+    if let Place::Here(termination) = place {
+        termination.get_mut().set_place(Some(CtxNum(0)));
     }
 }
 
-/// Merges the descriptors into the termination in a place, where it is meant. Answers at which index of the list of writes the next
-/// that is noted will be found.
+/// Merges the descriptors into the termination in a place, where it is meant; once memory was refused, it leaves the null context. So
+/// the last that is meant tells whether memory was refused to any. Answers at which index of the list of writes the next that is noted
+/// will be found, and whether memory was refused by then.
 fn merge_reached(
     alloc: Global,
     prefix: &[u8],
@@ -60,39 +70,42 @@ fn merge_reached(
     site: &mut Site<Held<Termination>>,
     writes: &[Write],
     next: usize,
-) -> usize
+    refused: bool,
+) -> (usize, bool)
     requires { AreKnown sending.now.descriptors.now sending.now.named }
-    ensures { IsPassed prefix.now (merged sending.now.rules.now sending.now.descriptors.now) name.now site.old site.new }
+    ensures { IsPassed prefix.now (merged sending.now.rules.now sending.now.descriptors.now) name.now site.old site.new refused result.1 }
 {
-    if is_reached_at(Reach::Free, prefix, name, site) {
-        site.merge_noted(alloc, sending, name, writes, next)
-    } else {
-        next
+    if !is_reached_at(Reach::Free, prefix, name, site) {
+        return (next, refused);
+    }
+    if refused {
+        site.put_away();
+        return (next, true);
+    }
+    site.merge_noted(alloc, sending, name, writes, next)
+}
+
+/// Whether there is a termination of this name, in the null context.
+fn is_free(terms: &BTreeMap<TermName, Site<Held<Termination>>>, name: &TermName) -> bool
+    ensures { result ≡ is_free_in (lookup (is_at (name_cmp name.now)) terms.now.entries) }
+{
+    match terms.get(name) {
+        Some(site) => is_free_at(site),
+        None => false,
     }
 }
 
-/// How many terminations are in the null context.
-fn count_free(terms: &BTreeMap<TermName, Site<Held<Termination>>>) -> usize
-    ensures count { result ≡ length (filter (λ e. is_free_at e.1) terms.now.entries) }
-    ensures ordered { IsStrictlySortedBy name_cmp (keys_of terms.now.entries) }
+/// Whether the last of those that a pass was meant for is in the null context still: then memory was refused to none of them.
+fn unless_refused(
+    terms: &BTreeMap<TermName, Site<Held<Termination>>>,
+    last: Option<TermName>,
+) -> Result<(), NoMemory>
+    ensures { OnOk result (StaysFree last terms.now.entries) }
 {
-    terms.iter().filter(|(_, site)| is_free_at(site)).count()
-}
-
-/// So many, and the termination in a place, if it is in the null context. The caller knows that they are fewer than the places.
-#[inline]
-fn with_free(free: usize, places: usize, site: &Site<Held<Termination>>) -> usize
-    requires { free < places }
-    ensures { result ≡ free + (if is_free_at site.now then 1 else 0) }
-{
-    if is_free_at(site) { free + 1 } else { free }
-}
-
-/// Whether as many are in the null context after a pass as before it.
-fn unless_fewer(before: usize, after: usize) -> Result<(), NoMemory>
-    ensures { OnOk result (after ≡ before) }
-{
-    if after == before {
+    let Some(name) = last else {
+        return Ok(());
+    };
+    if is_free(terms, &name) {
         Ok(())
     } else {
         Err(NoMemory)
@@ -100,31 +113,30 @@ fn unless_fewer(before: usize, after: usize) -> Result<(), NoMemory>
 }
 
 impl Tables {
-    /// Notes the records of those that are meant, as copies, but for those that are noted already. Answers how many terminations are in
-    /// the null context. The work is one pass over the places, without a look-up.
+    /// Notes the records of those that are meant, as copies, but for those that are noted already. Answers the name of the last. The work
+    /// is one pass over the places, without a look-up.
     fn note_all_free(
         &self,
         alloc: Global,
         prefix: &[u8],
         writes: &mut Vec<Write>,
-    ) -> Result<usize, NoMemory>
+    ) -> Result<Option<TermName>, NoMemory>
         ensures back { (start : Stored) → IsInPlace start self.now writes.old.items → IsInPlace start self.now writes.new.items }
         ensures noted { OnOk result (AreAllNoted prefix.now writes.new.items self.now) }
-        ensures counted { IfOk result (λ free. free ≡ length (filter (λ e. is_free_at e.1) (finite.entries self.now.terms))) }
+        ensures last { IfOk result (λ last. last ≡ last_met prefix.now (finite.entries self.now.terms)) }
     {
-        let places = self.terms.len();
-        let mut free = 0;
+        let mut last = None;
         for (name, site) in &self.terms {
-            free = with_free(free, places, site);
             if is_reached_at(Reach::Free, prefix, name, site) {
                 site.note_record(alloc, name, writes)?;
+                last = Some(*name);
             }
         }
-        Ok(free)
+        Ok(last)
     }
 
     /// Merges the descriptors into those that are meant, each in its place. What was noted of them stands in the list of writes from an
-    /// index on, in their order; how many are in the null context was counted. The work is two passes over the places, without a look-up.
+    /// index on, in their order; which is the last is known. The work is one pass over the places, and a look-up.
     ///
     /// # Errors
     ///
@@ -136,23 +148,28 @@ impl Tables {
         sending: &Sending<'_, '_>,
         writes: &[Write],
         first: usize,
-        free: usize,
+        last: Option<TermName>,
     ) -> Result<(), NoMemory>
-        requires counted { free ≡ length (filter (λ e. is_free_at e.1) (finite.entries self.old.terms)) }
+        requires last { last ≡ last_met prefix.now (finite.entries self.old.terms) }
         requires known { AreKnown sending.now.descriptors.now sending.now.named }
         ensures alike { AreAlike prefix.now self.old self.new }
         ensures changed { OnOk result (AreChanged prefix.now (merged sending.now.rules.now sending.now.descriptors.now) self.old self.new) }
     {
         let mut next = first;
+        let mut refused = false;
         self.terms.retain(
             move |name, site|
                 requires { AreKnown sending.now.descriptors.now sending.now.named }
             {
-                next = merge_reached(alloc, prefix, sending, name, site, writes, next);
+                let passed = merge_reached(
+                    alloc, prefix, sending, name, site, writes, next, refused,
+                );
+                next = passed.0;
+                refused = passed.1;
                 true
             },
         );
-        unless_fewer(free, count_free(&self.terms))
+        unless_refused(&self.terms, last)
     }
 }
 
@@ -171,9 +188,9 @@ impl InPlace {
     {
         let sending = Sending::new(alloc, rules, descriptors)?;
         let first = self.writes.len();
-        let free = self.tables.note_all_free(alloc, prefix, &mut self.writes)?;
+        let last = self.tables.note_all_free(alloc, prefix, &mut self.writes)?;
         self.tables
-            .merge_all_free(alloc, prefix, &sending, &self.writes, first, free)
+            .merge_all_free(alloc, prefix, &sending, &self.writes, first, last)
     }
 }
 
@@ -236,7 +253,7 @@ impl OverPart<'_> {
 
 impl Draft<'_> {
     /// The descriptors are merged into those terminations of the null context whose names begin so. The caller knows that every record
-    /// takes them, and that the names are among the draft's keys. The work is three passes over the tables, without a look-up, and the
+    /// takes them, and that the names are among the draft's keys. The work is two passes over the tables, with one look-up, and the
     /// merges; or a look-up for each key of the part, and two for each that is meant. Memory is taken for the records of those that were
     /// not noted before, as copies, and for what is new in the records.
     ///

@@ -10,7 +10,7 @@ ghost use Rattle.gw_term.specs.Plain.{AreKnown};
 ghost use Rattle.gw_table.specs.Found.{IsFound, original_of};
 ghost use Rattle.gw_table.specs.Joining.{joined_at, left_at};
 ghost use Rattle.gw_table.specs.Maps.{members_of};
-ghost use Rattle.gw_table.specs.Merged.{WasChanged, MayNoteRecord};
+ghost use Rattle.gw_table.specs.Merged.{is_away_at, WasMerged, MayNoteRecord};
 ghost use Rattle.gw_table.specs.KeptSettings.{IsKept, MayKeep};
 ghost use Rattle.gw_table.specs.Originals.{keys_written, has_properties, has_termination};
 ghost use Rattle.gw_table.specs.Records.{recorded_at};
@@ -19,7 +19,7 @@ ghost use Rattle.gw_table.specs.Settings.{set_at};
 ghost use Rattle.gw_table.specs.Stored.{shown, served, emptied};
 
 use crate::joining::{join_in_place, leave_in_place};
-use crate::merging::merge_in_place;
+use crate::merging::{merge_in_place, put_away};
 use crate::originals::Write;
 use crate::place::{Place, copied, put_record, renew, serve, set_in_place};
 use crate::setting::{self, Setting, is_set};
@@ -308,7 +308,7 @@ impl Site<Held<Termination>> {
 
     /// The descriptors are merged into the termination that stands here, in its place, if there is one; one for which memory is refused
     /// leaves the null context. Where it is noted at this index of a list of writes, that is kept for later. Answers the index behind it
-    /// then, and else this one. The caller knows that every record takes the descriptors.
+    /// then, and else this one, and whether memory was refused. The caller knows that every record takes the descriptors.
     pub(crate) fn merge_noted(
         &mut self,
         alloc: Global,
@@ -316,12 +316,20 @@ impl Site<Held<Termination>> {
         name: &TermName,
         writes: &[Write],
         next: usize,
-    ) -> usize
+    ) -> (usize, bool)
         requires { AreKnown sending.now.descriptors.now sending.now.named }
-        ensures { WasChanged (merged sending.now.rules.now sending.now.descriptors.now) self.old self.new }
+        ensures { WasMerged (merged sending.now.rules.now sending.now.descriptors.now) self.old self.new result.1 }
     {
-        merge_in_place(&mut self.place, alloc, sending);
-        self.pass_noted(name, writes, next)
+        let refused = merge_in_place(&mut self.place, alloc, sending);
+        let next = self.pass_noted(name, writes, next);
+        (next, refused)
+    }
+
+    /// The termination that stands here, if there is one, leaves the null context.
+    pub(crate) fn put_away(&mut self)
+        ensures { is_some (shown (Some self.old)) ≡ true → is_away_at self.new ≡ true }
+    {
+        put_away(&mut self.place);
     }
 }
 

@@ -11,13 +11,13 @@ use Rattle.gw_table.proofs.Merged.{alike_in_place, maps_changed}
 use Rattle.gw_table.proofs.in_place.InPlace.merge_all_free.Goals as goal
 
 pub invariant_of-self : goal.invariant_of-self
-invariant_of-self c = c.in_err-free.ensures.back (before_all c.self.inside.earlier.value c.self.inside.before.value) c.self.invariant
+invariant_of-self c = c.in_err-last.ensures.back (before_all c.self.inside.earlier.value c.self.inside.before.value) c.self.invariant
 
 pub invariant_of-self-2 : goal.invariant_of-self-2
 invariant_of-self-2 c =
     let start : Stored = before_all c.self.inside.earlier.value c.self.inside.before.value in
     alike_in_place c.args.prefix.now c.self.inside.tables c.merge_all_free.new.self c.merge_all_free.ensures.alike start c.note_all_free.new.writes.items
-    (c.in_ok-free.ensures.back start c.self.invariant) c.in_ok-free.ensures.noted
+    (c.in_ok-last.ensures.back start c.self.invariant) c.in_ok-last.ensures.noted
 
 on_ok : {X E P Q : Type 0} (r : Result X E) → (P → Q) → OnOk r P → OnOk r Q
 on_ok (Ok x) f p = f p

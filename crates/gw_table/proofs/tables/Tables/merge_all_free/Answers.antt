@@ -1,32 +1,28 @@
-use Rattle.std.proofs.Common.{◌≡◌, ℕ, List, Result, Ok, Err, refl, sym, ap, subst, ◌∙◌, rules}
+use Rattle.std.proofs.Common.{◌≡◌, ℕ, false, List, Option, Result, Ok, Err, refl, sym, ap, subst, ◌∙◌, rules}
 use Rattle.std.specs.Cmp.Lexicographic.{nat_list_cmp_total}
 use Rattle.std.specs.FinMap as finite
-use Rattle.std.specs.List.Sorted.{IsStrictlySortedBy}
-use Rattle.std.specs.Map.{keys_of}
 use Rattle.std.specs.Result.{OnOk}
-use Rattle.gw_base.specs.NameLists.{name_cmp}
 use Rattle.gw_base.proofs.NameTests.{names_same}
 use Rattle.gw_base.proofs.Views.{entries_seen}
 use Rattle.gw_term.specs.Merge.{merged}
 use Rattle.gw_term.specs.Plain.{AreKnown}
-use Rattle.gw_term.proofs.Taken.{merge_stays}
-use Rattle.gw_table.specs.Merged.{Change, AreAlike, AreChanged}
+use Rattle.gw_table.specs.Merged.{Change, AreAlike, AreChanged, StaysFree, last_met}
 use Rattle.gw_table.specs.Stored.{Stored, stored}
 use Rattle.gw_table.specs.contracts.tables.fn.Tables.merge_all_free.retain as closure
-use Rattle.gw_table.proofs.Merged.{Passed, still, passed_by, keys_kept, count, are_alike, are_changed, marked_alike}
+use Rattle.gw_table.proofs.Merged.{Passed, still, passed_by, are_alike, are_changed, marked_alike}
 use Rattle.gw_table.proofs.tables.Tables.merge_all_free.Goals as goal
 
-abbrev change : goal.After-unless_fewer → Change
+abbrev change : goal.After-unless_refused → Change
 change c = merged c.args.sending.now.rules.now c.args.sending.now.descriptors.now
 
 -- each place was passed
-passed : (c : goal.After-unless_fewer) → Passed c.args.prefix.now (change c) c.self.inside.terms.entries c.retain.new.self.entries
+passed : (c : goal.After-unless_refused) → Passed c.args.prefix.now (change c) false c.self.inside.terms.entries c.retain.new.self.entries
 passed c =
-    passed_by c.args.prefix.now (change c) _ (λ f. let l = closure.captures f in (l.prefix.now ≡ c.args.prefix.now) × (l.sending.now ≡ c.args.sending.now))
+    passed_by c.args.prefix.now (change c) _ (λ f. (closure.captures f).refused) (λ f. let l = closure.captures f in (l.prefix.now ≡ c.args.prefix.now) × (l.sending.now ≡ c.args.sending.now))
     (λ f k v b w g i t. search rules) _ c.self.inside.terms.entries c.retain.new.self.entries (refl, refl) c.retain.ensures.filtered
 
-alike : (c : goal.After-unless_fewer) → AreAlike c.args.prefix.now (stored c.self.inside.terms.entries c.self.inside.contexts.entries) (stored c.retain.new.self.entries c.self.inside.contexts.entries)
-alike c = are_alike c.args.prefix.now (change c) c.self.inside.terms.entries c.retain.new.self.entries c.self.inside.contexts.entries (passed c)
+alike : (c : goal.After-unless_refused) → AreAlike c.args.prefix.now (stored c.self.inside.terms.entries c.self.inside.contexts.entries) (stored c.retain.new.self.entries c.self.inside.contexts.entries)
+alike c = are_alike c.args.prefix.now (change c) false c.self.inside.terms.entries c.retain.new.self.entries c.self.inside.contexts.entries (passed c)
 
 pub retain-requires : goal.retain-requires
 retain-requires c = record {
@@ -52,10 +48,10 @@ returns-clause-changed c =
     let before = c.self.inside.terms.entries in
     let after = c.retain.new.self.entries in
     let cells = c.self.inside.contexts.entries in
-    let sorted : IsStrictlySortedBy name_cmp (keys_of before) = subst (λ (l : List (List ℕ)). IsStrictlySortedBy name_cmp l) (keys_kept c.args.prefix.now (change c) before after (passed c)) c.count_free.ensures.ordered in
-    let counted : c.args.free ≡ count c.args.prefix.now (change c) before =
-    c.requires.counted ∙ sym (ap (λ (s : Stored). count c.args.prefix.now (change c) (finite.entries s.terms)) c.self.view_is) ∙ ap (count c.args.prefix.now (change c)) (entries_seen nat_list_cmp_total names_same before sorted) in
-    on_ok c.unless_fewer.result
-    (λ same. subst (λ (s : Stored). AreChanged c.args.prefix.now (change c) s (stored after cells)) c.self.view_is
-    (are_changed c.args.prefix.now (change c) (merge_stays c.args.sending.now.rules.now c.args.sending.now.descriptors.now) before after cells (passed c) (sym c.count_free.ensures.count ∙ same ∙ counted)))
-    c.unless_fewer.ensures
+    let last : c.args.last ≡ last_met c.args.prefix.now before =
+    c.requires.last ∙ sym (ap (λ (s : Stored). last_met c.args.prefix.now (finite.entries s.terms)) c.self.view_is)
+    ∙ ap (last_met c.args.prefix.now) (entries_seen nat_list_cmp_total names_same before c.retain.ensures.was_ordered) in
+    on_ok c.unless_refused.result
+    (λ stays. subst (λ (s : Stored). AreChanged c.args.prefix.now (change c) s (stored after cells)) c.self.view_is
+    (are_changed c.args.prefix.now (change c) before after cells (passed c) c.retain.ensures.ordered (subst (λ (l : Option (List ℕ)). StaysFree l after) last stays)))
+    c.unless_refused.ensures
