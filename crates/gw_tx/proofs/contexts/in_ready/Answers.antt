@@ -1,6 +1,5 @@
-use Rattle.std.proofs.Common.{◌≡◌, ℕ, Bool, List, [], Option, refl, sym, ap, subst, ◌∙◌}
+use Rattle.std.proofs.Common.{◌≡◌, Bool, List, [], refl, sym, ap, subst, ◌∙◌}
 use Rattle.gw_msg.specs.declared.message.Command.{Command}
-use Rattle.gw_msg.specs.declared.message.ContextProp.{ContextProp}
 use Rattle.gw_length.specs.declared.telling.Telling.{Telling}
 use Rattle.gw_length.specs.declared.telling.Telling.TheVariants.{TooLong}
 use Rattle.gw_reply.specs.declared.context_parts.ContextPart.{ContextPart}
@@ -8,20 +7,15 @@ use Rattle.gw_reply.specs.declared.reply.ActionReply.{ActionReply}
 use Rattle.gw_reply.specs.declared.reply.CommandReply.{CommandReply}
 use Rattle.gw_reply.specs.Replies.{action_reply_text}
 use Rattle.gw_table.specs.declared.attempts.Attempts.{Attempts}
-use Rattle.gw_table.specs.Maps.{Maps, Outcome, ctx}
+use Rattle.gw_table.specs.Maps.{Outcome, ctx}
 use Rattle.gw_refusal.specs.declared.at.At.{At}
-use Rattle.gw_table.specs.Parts.{Parted, Holds}
 use Rattle.gw_cmd.specs.Nothing.{ComeToNothing}
-use Rattle.gw_cmd.proofs.Parted.{StaysPart}
 use Rattle.gw_reserve.specs.Owned.{paired_commands}
 use Rattle.gw_tx.specs.Footprints.{list_keys, Covers}
-use Rattle.gw_tx.specs.Properties.{context_parts_if, set_properties}
+use Rattle.gw_tx.specs.Properties.{context_parts_if}
 use Rattle.gw_tx.specs.Told.{counted}
 use Rattle.gw_tx.specs.declared.told.Counted.{Counted}
 use Rattle.gw_tx.specs.Transactions.{commands, replied}
-use Rattle.gw_tx.proofs.FreeSlots.{AnySlot}
-use Rattle.gw_tx.proofs.Kept.{With}
-use Rattle.gw_tx.proofs.Parts.{starts_set, covers_list}
 use Rattle.gw_tx.proofs.NoEffect.{all_to_nothing}
 use Rattle.gw_tx.proofs.contexts.in_ready.Goals as goal
 

@@ -1,4 +1,4 @@
-use Rattle.std.proofs.Common.{◌≡◌, true, false, refl, sym, ap, ◌∙◌}
+use Rattle.std.proofs.Common.{sym, ap, ◌∙◌}
 use Rattle.gw_msg.specs.declared.message.ContextProp.{ContextProp}
 use Rattle.gw_msg.specs.declared.message.ContextProp.TheVariants.{Priority, Emergency}
 use Rattle.gw_tx.specs.Properties.{set_property, put_wanted}
