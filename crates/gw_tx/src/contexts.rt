@@ -1,26 +1,26 @@
 //! An action in a context that is there, and in each that there is.
 
-ghost use Rattle.std.specs.Prelude.{◌≡◌, true, false, All, Option, IfOk, OnOk};
+ghost use Rattle.std.specs.Prelude.{◌≡◌, [], true, false, All, Option, IfOk, OnOk};
 ghost use Rattle.gw_length.specs.declared.telling.Telling.TheVariants.{TooLong};
 ghost use Rattle.std.specs.List.{list_any};
 ghost use Rattle.gw_base.specs.declared.command_words.Rules.{Rules};
 ghost use Rattle.gw_base.specs.declared.ids.CtxNum.{CtxNum};
 ghost use Rattle.gw_base.specs.declared.key.Key.TheVariants.{Ctx};
-ghost use Rattle.gw_table.specs.Maps.{Maps, numbers};
+ghost use Rattle.gw_table.specs.Maps.{Maps, ctx, numbers};
 ghost use Rattle.gw_table.specs.Parts.{holds};
 ghost use Rattle.gw_refusal.specs.declared.at.At.TheVariants.{Each};
 ghost use Rattle.gw_cmd.specs.Nothing.{ComeToNothing};
 ghost use Rattle.gw_reserve.specs.Owned.{AreFreeSlots, paired_action, paired_commands};
 ghost use Rattle.gw_tx.specs.Footprints.{list_keys, Covers};
 ghost use Rattle.gw_reply.specs.Replies.{action_reply_text};
-ghost use Rattle.gw_tx.specs.Properties.{is_too_high, ArePlain};
+ghost use Rattle.gw_tx.specs.Properties.{context_parts_if, is_too_high, ArePlain};
 ghost use Rattle.gw_tx.specs.Told.{counted};
-ghost use Rattle.gw_tx.specs.Transactions.{in_context as done_in_context, in_all, action_for_each};
+ghost use Rattle.gw_tx.specs.Transactions.{commands as all_commands, replied, in_context as done_in_context, in_all, action_for_each};
 
 use crate::alone::action_alone;
 use crate::commands::{commands_in, is_any_needed};
 use crate::replies::action_error;
-use crate::setting::set_properties;
+use crate::setting::{set_properties, set_wanted, wanted_by};
 use crate::telling::{context_parts_if, parts_within};
 use crate::told::Counted;
 use gw_base::{Code, CtxNum, CtxRef, NoMemory, Rules};
@@ -47,9 +47,41 @@ fn is_over(
     matches!(told, Telling::TooLong) && (nothing || come_to_nothing_at(draft, at, asked))
 }
 
-/// Carries an action out in a context that is there: sets its properties, tells what it then is, and carries the commands out. Where
-/// nothing more is told, the commands are carried out all the same; but where each comes to nothing, in whichever context, as `nothing`
-/// says, or in this one of an action for each, to set the properties is all.
+/// Carries an action out in a context that is there and has its properties: tells what it is, and carries the commands out. Where nothing
+/// more is told, the commands are carried out all the same; but where each comes to nothing, in whichever context, as `nothing` says, or
+/// in this one of an action for each, there is nothing to do.
+fn in_ready(
+    alloc: Global,
+    rules: &Rules,
+    draft: &mut Draft<'_>,
+    at: At,
+    number: CtxNum,
+    slots: &[Option<u16>],
+    sent: &Action<'_>,
+    nothing: bool,
+    told: Telling<ActionReply>,
+) -> Result<Counted<(), ActionReply>, NoMemory>
+    requires covered { Covers draft.old (list_keys at (paired_commands slots.now sent.now.commands) draft.old.maps) }
+    requires unused { AreFreeSlots draft.old.maps slots.now }
+    requires nothing { (rules : Rules) (m : Maps) → nothing ≡ true → ComeToNothing rules at sent.now.commands m }
+    ensures maps { OnOk result (draft.new.maps ≡ (all_commands rules.now [] at (paired_commands slots.now sent.now.commands) draft.old.maps).maps) }
+    ensures answer { IfOk result (λ done. done ≡ counted action_reply_text told (replied (context_parts_if sent.now (ctx draft.old.maps number)) (all_commands rules.now [] at (paired_commands slots.now sent.now.commands) draft.old.maps).answer)) }
+    ensures keys { draft.new.keys ≡ draft.old.keys }
+{
+    let asked = sent.commands.as_slice();
+    if is_over(&told, draft, at, asked, nothing) {
+        return Ok(Counted {
+            next: (),
+            told: Telling::TooLong,
+            stopped: is_any_needed(asked),
+        });
+    }
+    let parts = context_parts_if(alloc, draft, number, sent, &told)?;
+    let (parts, told) = parts_within(alloc, parts, told);
+    commands_in(alloc, rules, draft, &[], at, slots, asked, parts, told)
+}
+
+/// Carries an action out in a context that is there: sets its properties, tells what it then is, and carries the commands out.
 pub(crate) fn in_context(
     alloc: Global,
     rules: &Rules,
@@ -71,17 +103,7 @@ pub(crate) fn in_context(
     ensures keys { draft.new.keys ≡ draft.old.keys }
 {
     set_properties(alloc, draft, number, sent.props.as_slice())?;
-    let asked = sent.commands.as_slice();
-    if is_over(&told, draft, at, asked, nothing) {
-        return Ok(Counted {
-            next: (),
-            told: Telling::TooLong,
-            stopped: is_any_needed(asked),
-        });
-    }
-    let parts = context_parts_if(alloc, draft, number, sent, &told)?;
-    let (parts, told) = parts_within(alloc, parts, told);
-    commands_in(alloc, rules, draft, &[], at, slots, asked, parts, told)
+    in_ready(alloc, rules, draft, at, number, slots, sent, nothing, told)
 }
 
 /// Carries an action out in each of the contexts. A stop ends the commands of its context alone; that there was one is what the
@@ -103,11 +125,13 @@ fn in_all(
     ensures answer { (owned : Option CtxNum) → IfOk result (λ done. done ≡ counted action_reply_text told (in_all rules.now (paired_action owned slots.now sent.now) numbers.now draft.old.maps).answer) }
     ensures keys { draft.new.keys ≡ draft.old.keys }
 {
+    let wanted = wanted_by(sent.props.as_slice());
     let nothing = come_to_nothing(sent.commands.as_slice());
     let mut stopped = false;
     let mut told = told;
     for number in numbers {
-        let done = in_context(
+        set_wanted(alloc, draft, *number, wanted)?;
+        let done = in_ready(
             alloc,
             rules,
             draft,

@@ -5,6 +5,7 @@ ghost use Rattle.std.specs.List.{list_any};
 ghost use Rattle.gw_base.specs.declared.key.Key.TheVariants.{Ctx};
 ghost use Rattle.gw_ctx.specs.Contexts.{ContextRecord};
 ghost use Rattle.gw_msg.specs.declared.message.ContextProp.TheVariants.{Topology};
+ghost use Rattle.gw_table.specs.Maps.{Maps};
 ghost use Rattle.gw_table.specs.Parts.{holds, IsPart};
 ghost use Rattle.gw_table.specs.Settings.{with_setting};
 ghost use Rattle.gw_tx.specs.Properties.{linked_if, link_of, name_of, linked_by, is_too_high, is_topology, set_property, set_properties, with_wanted, put_wanted, ArePlain, AreSetInAll};
@@ -89,7 +90,7 @@ fn and_then(wanted: Option<Setting>, later: Setting) -> Setting
 }
 
 /// Sets what waits to be set, where the context is there.
-fn set_wanted(
+pub(crate) fn set_wanted(
     alloc: Global,
     draft: &mut Draft<'_>,
     number: CtxNum,
@@ -105,8 +106,37 @@ fn set_wanted(
     }
 }
 
-/// One property more, where the context is there, behind what waits to be set: a priority and an emergency wait too, to be set in their
-/// place together. What only asks leaves it where it lies. The caller knows that a priority is one that there is.
+/// What waits to be set behind one property more, which is no Topology: a priority and an emergency wait too, to be set in their place
+/// together. What only asks leaves it as it is. The caller knows that a priority is one that there is.
+fn wanted_behind(wanted: Option<Setting>, prop: &ContextProp) -> Option<Setting>
+    requires low { is_too_high prop.now ≡ false }
+    requires unlinked { is_topology prop.now ≡ false }
+    ensures { (n : CtxNum) (m : Maps) → put_wanted result n m ≡ set_property n prop.now (put_wanted wanted n m) }
+{
+    match prop {
+        ContextProp::Priority(priority) => {
+            Some(and_then(wanted, Setting::Priority(*priority as u8)))
+        }
+        ContextProp::Emergency => Some(and_then(wanted, Setting::Emergency)),
+        ContextProp::ContextAudit(_) => wanted,
+        ContextProp::Topology(_) => unreachable!(),
+    }
+}
+
+/// What is set of a context by properties without a Topology; nothing, where they only ask. The caller knows that each priority is one
+/// that there is.
+pub(crate) fn wanted_by(props: &[ContextProp]) -> Option<Setting>
+    requires { ArePlain props.now }
+    ensures { (n : CtxNum) (m : Maps) → put_wanted result n m ≡ set_properties n props.now m }
+{
+    let mut wanted = None;
+    for prop in props {
+        wanted = wanted_behind(wanted, prop);
+    }
+    wanted
+}
+
+/// One property more, where the context is there, behind what waits to be set. Before a Topology that is set.
 fn set_behind(
     alloc: Global,
     draft: &mut Draft<'_>,
@@ -119,18 +149,12 @@ fn set_behind(
     ensures maps { IfOk result (λ left. put_wanted left number draft.new.maps ≡ set_property number prop.now (put_wanted wanted number draft.old.maps)) }
     ensures keys { draft.new.keys ≡ draft.old.keys }
 {
-    match prop {
-        ContextProp::Priority(priority) => {
-            Ok(Some(and_then(wanted, Setting::Priority(*priority as u8))))
-        }
-        ContextProp::Emergency => Ok(Some(and_then(wanted, Setting::Emergency))),
-        ContextProp::Topology(triples) => {
-            set_wanted(alloc, draft, number, wanted)?;
-            link_in(alloc, draft, number, triples.as_slice())?;
-            Ok(None)
-        }
-        ContextProp::ContextAudit(_) => Ok(wanted),
-    }
+    let ContextProp::Topology(triples) = prop else {
+        return Ok(wanted_behind(wanted, prop));
+    };
+    set_wanted(alloc, draft, number, wanted)?;
+    link_in(alloc, draft, number, triples.as_slice())?;
+    Ok(None)
 }
 
 /// Sets what is asked of a context, in the order written, where it is there. The caller knows that its number is one of the draft's

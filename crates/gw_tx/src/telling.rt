@@ -1,7 +1,7 @@
 //! What an action is told of its context itself.
 
-ghost use Rattle.std.specs.Prelude.{◌≡◌, ◌∷◌, [], true, length, List, IfOk, option_to_list};
-ghost use Rattle.std.specs.List.{flat_map};
+ghost use Rattle.std.specs.Prelude.{◌≡◌, ◌∷◌, ◌&&◌, [], true, not, length, List, IfOk, option_to_list};
+ghost use Rattle.std.specs.List.{flat_map, list_any};
 ghost use Rattle.gw_length.specs.Rooms.{Leaves};
 ghost use Rattle.gw_length.specs.Tellings.{told_behind};
 ghost use Rattle.gw_length.specs.declared.telling.Telling.TheVariants.{TooLong};
@@ -14,7 +14,7 @@ ghost use Rattle.gw_reply.specs.declared.context_parts.ContextPart.TheVariants.{
 ghost use Rattle.gw_reply.specs.declared.reply.CommandReply.{CommandReply};
 ghost use Rattle.gw_table.specs.Maps.{ctx};
 ghost use Rattle.gw_table.specs.declared.attempts.Attempts.{Attempts};
-ghost use Rattle.gw_tx.specs.Properties.{items_in, items_of, kind_in, told_items, links_told, told_of_item, context_parts, context_parts_if};
+ghost use Rattle.gw_tx.specs.Properties.{is_audit, is_nothing, items_in, items_of, kind_in, told_items, links_told, told_of_item, context_parts, context_parts_if};
 ghost use Rattle.gw_tx.specs.Told.{counted, inside, is_nothing_told, told_so_far};
 ghost use Rattle.gw_tx.specs.Transactions.{replied};
 
@@ -199,8 +199,15 @@ fn context_parts(
     Ok(all)
 }
 
+/// Whether nothing is told of a context, whatever it is: there are commands, and no ContextAudit.
+fn asks_nothing(sent: &Action<'_>) -> bool
+    ensures { result ≡ (not (is_nothing sent.now.commands) && not (list_any is_audit sent.now.props)) }
+{
+    !sent.commands.is_empty() && !has_audit(sent.props.as_slice())
+}
+
 /// What is told of the context with this number, where it is there: no more than there is room for behind the actions before. Where
-/// those are too long, nothing is looked up. The work is that of what is told.
+/// those are too long, or nothing is told of any, nothing is looked up. The work is that of what is told.
 ///
 /// # Errors
 ///
@@ -216,6 +223,9 @@ pub(crate) fn context_parts_if(
 {
     let none = inside(alloc, told);
     if let Telling::TooLong = none {
+        return Ok(none);
+    }
+    if asks_nothing(sent) {
         return Ok(none);
     }
     match draft.ctx(number) {

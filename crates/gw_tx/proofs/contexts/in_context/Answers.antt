@@ -1,74 +1,44 @@
-use Rattle.std.proofs.Common.{◌≡◌, ℕ, Bool, List, [], Option, refl, sym, ap, subst, ◌∙◌}
+use Rattle.std.proofs.Common.{OnOk, IfOk, ◌≡◌, ℕ, List, [], Option, sym, ap, subst, ◌∙◌}
 use Rattle.gw_msg.specs.declared.message.Command.{Command}
 use Rattle.gw_msg.specs.declared.message.ContextProp.{ContextProp}
-use Rattle.gw_length.specs.declared.telling.Telling.{Telling}
-use Rattle.gw_length.specs.declared.telling.Telling.TheVariants.{TooLong}
-use Rattle.gw_reply.specs.declared.context_parts.ContextPart.{ContextPart}
-use Rattle.gw_reply.specs.declared.reply.ActionReply.{ActionReply}
-use Rattle.gw_reply.specs.declared.reply.CommandReply.{CommandReply}
 use Rattle.gw_reply.specs.Replies.{action_reply_text}
-use Rattle.gw_table.specs.declared.attempts.Attempts.{Attempts}
-use Rattle.gw_table.specs.Maps.{Maps, Outcome, ctx}
-use Rattle.gw_refusal.specs.declared.at.At.{At}
-use Rattle.gw_table.specs.Parts.{Parted, Holds}
-use Rattle.gw_cmd.specs.Nothing.{ComeToNothing}
+use Rattle.gw_table.specs.Maps.{Maps, ctx}
+use Rattle.gw_table.specs.Parts.{Parted}
 use Rattle.gw_cmd.proofs.Parted.{StaysPart}
 use Rattle.gw_reserve.specs.Owned.{paired_commands}
 use Rattle.gw_tx.specs.Footprints.{list_keys}
 use Rattle.gw_tx.specs.Properties.{context_parts_if, set_properties}
 use Rattle.gw_tx.specs.Told.{counted}
-use Rattle.gw_tx.specs.declared.told.Counted.{Counted}
 use Rattle.gw_tx.specs.Transactions.{commands, replied}
 use Rattle.gw_tx.proofs.FreeSlots.{AnySlot}
 use Rattle.gw_tx.proofs.Kept.{With}
 use Rattle.gw_tx.proofs.Parts.{starts_set, covers_list}
-use Rattle.gw_tx.proofs.NoEffect.{all_to_nothing}
 use Rattle.gw_tx.proofs.contexts.in_context.Goals as goal
 
-pub commands_in-requires-clause-covered : goal.commands_in-requires-clause-covered
-commands_in-requires-clause-covered c =
+pub in_ready-requires-clause-covered : goal.in_ready-requires-clause-covered
+in_ready-requires-clause-covered c =
     let start : Parted = c.args.draft.now in
     let slots : List (Option ℕ) = c.args.slots.now in
-    let asked : List Command = c.as_slice-asked.result.now in
-    let needed = list_keys c.args.at (paired_commands slots c.args.sent.now.commands) start.maps in
-    let w : With AnySlot (StaysPart start.keys start.maps) slots c.set_properties.new.draft.maps = subst (λ (m : Maps). With AnySlot (StaysPart start.keys start.maps) slots m) (sym c.in_ok-set_properties.ensures.maps) (starts_set start slots needed c.args.number c.as_slice.result.now c.requires.covered c.requires.unused) in
-    covers_list start c.set_properties.new.draft slots w c.in_ok-set_properties.ensures.keys c.args.at (paired_commands slots asked)
-    (subst (λ (l : List Command). Holds start.keys (list_keys c.args.at (paired_commands slots l) start.maps)) (sym c.as_slice-asked.ensures) c.requires.covered.held)
+    let asked : List (Option ℕ × Command) = paired_commands slots c.args.sent.now.commands in
+    let w : With AnySlot (StaysPart start.keys start.maps) slots c.set_properties.new.draft.maps = subst (λ (m : Maps). With AnySlot (StaysPart start.keys start.maps) slots m) (sym c.in_ok-set_properties.ensures.maps) (starts_set start slots (list_keys c.args.at asked start.maps) c.args.number c.as_slice.result.now c.requires.covered c.requires.unused) in
+    covers_list start c.set_properties.new.draft slots w c.in_ok-set_properties.ensures.keys c.args.at asked c.requires.covered.held
 
-pub commands_in-requires-clause-unused : goal.commands_in-requires-clause-unused
-commands_in-requires-clause-unused c =
+pub in_ready-requires-clause-unused : goal.in_ready-requires-clause-unused
+in_ready-requires-clause-unused c =
     let start : Parted = c.args.draft.now in
     let slots : List (Option ℕ) = c.args.slots.now in
     let needed = list_keys c.args.at (paired_commands slots c.args.sent.now.commands) start.maps in
     let w : With AnySlot (StaysPart start.keys start.maps) slots c.set_properties.new.draft.maps = subst (λ (m : Maps). With AnySlot (StaysPart start.keys start.maps) slots m) (sym c.in_ok-set_properties.ensures.maps) (starts_set start slots needed c.args.number c.as_slice.result.now c.requires.covered c.requires.unused) in
     w.free
 
-pub is_over-requires : goal.is_over-requires
-is_over-requires c = λ rules m e. subst (λ (l : List Command). ComeToNothing rules c.args.at l m) (sym c.as_slice-asked.ensures) (c.requires.nothing rules m e)
-
-pub returns-then-is_over-clause-maps : goal.returns-then-is_over-clause-maps
-returns-then-is_over-clause-maps c owned =
+pub returns-clause-maps : goal.returns-clause-maps
+returns-clause-maps c = λ owned.
     let a = c.args in
-    let asked : List Command = c.as_slice-asked.result.now in
-    let set : Maps = c.set_properties.new.draft.maps in
-    let ready : set ≡ set_properties a.number a.sent.now.props a.draft.now.maps = c.in_ok-set_properties.ensures.maps ∙ ap (λ (l : List ContextProp). set_properties a.number l a.draft.now.maps) c.as_slice.ensures in
-    sym (all_to_nothing a.rules.now a.at a.slots.now asked set (c.if-is_over.ensures.none a.rules.now refl)).0
-    ∙ ap (λ (l : List Command). (commands a.rules.now [] a.at (paired_commands a.slots.now l) set).maps) c.as_slice-asked.ensures
-    ∙ ap (λ (m : Maps). (commands a.rules.now [] a.at (paired_commands a.slots.now a.sent.now.commands) m).maps) ready
+    let ready : c.set_properties.new.draft.maps ≡ set_properties a.number a.sent.now.props a.draft.now.maps = c.in_ok-set_properties.ensures.maps ∙ ap (λ (l : List ContextProp). set_properties a.number l a.draft.now.maps) c.as_slice.ensures in
+    subst (λ (m : Maps). OnOk c.in_ready.result (c.in_ready.new.draft.maps ≡ (commands a.rules.now [] a.at (paired_commands a.slots.now a.sent.now.commands) m).maps)) ready c.in_ready.ensures.maps
 
-pub returns-then-is_over-clause-answer : goal.returns-then-is_over-clause-answer
-returns-then-is_over-clause-answer c owned =
+pub returns-clause-answer : goal.returns-clause-answer
+returns-clause-answer c = λ owned.
     let a = c.args in
-    let asked : List Command = c.as_slice-asked.result.now in
-    let set : Maps = c.set_properties.new.draft.maps in
-    let ready : Maps = set_properties a.number a.sent.now.props a.draft.now.maps in
-    let same : set ≡ ready = c.in_ok-set_properties.ensures.maps ∙ ap (λ (l : List ContextProp). set_properties a.number l a.draft.now.maps) c.as_slice.ensures in
-    let parts : List ContextPart = context_parts_if a.sent.now (ctx ready a.number) in
-    let done : Outcome (Attempts At CommandReply) = commands a.rules.now [] a.at (paired_commands a.slots.now a.sent.now.commands) ready in
-    let stops : c.is_any_needed.result ≡ done.answer.stopped =
-    c.is_any_needed.ensures
-    ∙ sym (all_to_nothing a.rules.now a.at a.slots.now asked set (c.if-is_over.ensures.none a.rules.now refl)).1
-    ∙ ap (λ (l : List Command). (commands a.rules.now [] a.at (paired_commands a.slots.now l) set).answer.stopped) c.as_slice-asked.ensures
-    ∙ ap (λ (m : Maps). (commands a.rules.now [] a.at (paired_commands a.slots.now a.sent.now.commands) m).answer.stopped) same in
-    ap (λ (b : Bool). let d : Counted Unit ActionReply = record { next = tt; told = TooLong; stopped = b } in d) stops
-    ∙ sym (ap (λ (t : Telling ActionReply). counted action_reply_text t (replied parts done.answer)) (c.if-is_over.ensures.long refl))
+    let ready : c.set_properties.new.draft.maps ≡ set_properties a.number a.sent.now.props a.draft.now.maps = c.in_ok-set_properties.ensures.maps ∙ ap (λ (l : List ContextProp). set_properties a.number l a.draft.now.maps) c.as_slice.ensures in
+    subst (λ (m : Maps). IfOk c.in_ready.result (λ done. done ≡ counted action_reply_text a.told (replied (context_parts_if a.sent.now (ctx m a.number)) (commands a.rules.now [] a.at (paired_commands a.slots.now a.sent.now.commands) m).answer))) ready c.in_ready.ensures.answer
