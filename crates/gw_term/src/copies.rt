@@ -24,8 +24,8 @@ pub(crate) fn copied_properties(
     Ok(copy)
 }
 
-/// A copy of the stream.
-#[inline]
+/// A copy of the stream. Always inlined, so that it is made where it goes to.
+#[inline(always)]
 pub(crate) fn copied_stream(
     alloc: Global,
     stream: &Stream,

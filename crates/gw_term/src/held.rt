@@ -1,6 +1,6 @@
 //! What is kept of a property and of a tail, with the texts of each in one block.
 
-ghost use Rattle.std.specs.Prelude.{◌≡◌, ◌++◌, if◌then◌else◌, IfOk, None, Some};
+ghost use Rattle.std.specs.Prelude.{◌≡◌, ◌++◌, if◌then◌else◌, true, IfOk, None, Some};
 ghost use Rattle.gw_term.specs.HeldTexts.{text_of};
 
 use crate::text::{Copying, Text};
@@ -41,6 +41,18 @@ impl Model for HeldProperty {
     ghost invariant = { λ p. p.split ≤ length (text_of p.texts) };
 }
 
+fn is_same_sign(a: Sign, b: Sign) -> bool
+    ensures { result ≡ true → a ≡ b }
+{
+    matches!(
+        (a, b),
+        (Sign::Equal, Sign::Equal)
+            | (Sign::NotEqual, Sign::NotEqual)
+            | (Sign::Less, Sign::Less)
+            | (Sign::Greater, Sign::Greater)
+    )
+}
+
 impl HeldProperty {
     /// A property with copies of these texts.
     pub(crate) fn of(
@@ -56,6 +68,16 @@ impl HeldProperty {
             texts: joined(alloc, name, value)?,
             split: name.len(),
         })
+    }
+
+    /// Whether it is this property.
+    pub(crate) fn is(&self, property: &Property<Span<'_>>) -> bool
+        ensures { result ≡ true → self.now ≡ property.now }
+    {
+        let (name, value) = self.texts.as_slice().split_at(self.split);
+        is_same_sign(self.sign, property.sign)
+            && name == property.name.as_bytes()
+            && value == property.value.as_bytes()
     }
 
     /// Its name.

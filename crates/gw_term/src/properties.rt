@@ -1,6 +1,6 @@
 //! Properties: how one takes its place in a list, and what the TerminationStates of descriptors set.
 
-ghost use Rattle.std.specs.Prelude.{◌≡◌, ◌≤◌, length};
+ghost use Rattle.std.specs.Prelude.{◌≡◌, ◌≤◌, length, IfOk};
 ghost use Rattle.std.specs.List.{flat_map, list_any};
 ghost use Rattle.gw_term.specs.Named.{has_states};
 ghost use Rattle.gw_term.specs.Merge.{property_place, put_property, put_state, service_after, last_service, merged_service, merged_properties, states_in, states_in_part, media_parts, each};
@@ -12,7 +12,7 @@ use crate::held::HeldProperty;
 use crate::text::Copying;
 use gw_base::{Code, Items, Service, Span};
 use gw_desc::{Descriptor, MediaPart, Property, is_service_states, service_set_by};
-use std::alloc::Global;
+use std::alloc::{AllocError, Global};
 
 /// How many properties a list may hold (own to this profile).
 pub const MOST_PROPERTIES: usize = 32;
@@ -30,10 +30,33 @@ fn property_place(name: &[u8], list: &[HeldProperty]) -> usize
     list.len()
 }
 
-/// The property takes the place of the one of its name, or goes last.
+/// The property as it is kept: a copy of that one of these which it is, and shares its texts if they may be shared; or else with copies of
+/// its texts.
+fn held(
+    alloc: Global,
+    property: &Property<Span<'_>>,
+    made: &[HeldProperty],
+) -> Result<HeldProperty, AllocError>
+    ensures { IfOk result (λ held. held ≡ property.now) }
+{
+    for own in made {
+        if own.is(property) {
+            return own.copied(alloc, Copying::Once);
+        }
+    }
+    HeldProperty::of(
+        alloc,
+        property.name.as_bytes(),
+        property.sign,
+        property.value.as_bytes(),
+    )
+}
+
+/// The property takes the place of the one of its name, or goes last. It may be one of these that are made already.
 pub(crate) fn put_property(
     alloc: Global,
     property: &Property<Span<'_>>,
+    made: &[HeldProperty],
     list: &mut Items<HeldProperty>,
 ) -> Result<(), ApplyFault>
     ensures { Becomes result list.new (put_property property.now list.old) }
@@ -43,12 +66,7 @@ pub(crate) fn put_property(
     if !is_there && list.len() >= MOST_PROPERTIES {
         return Err(ApplyFault::Code(Code::InsufficientResources));
     }
-    let kept = HeldProperty::of(
-        alloc,
-        property.name.as_bytes(),
-        property.sign,
-        property.value.as_bytes(),
-    )?;
+    let kept = held(alloc, property, made)?;
     if is_there {
         list.set(place, kept);
     } else {
@@ -68,7 +86,7 @@ fn put_state(
     if is_service_states(property.name.as_bytes()) {
         return Ok(());
     }
-    put_property(alloc, property, list)
+    put_property(alloc, property, &[], list)
 }
 
 fn put_states(

@@ -50,8 +50,8 @@ impl Model for Settings {
     ghost view = { λ s. set_by s.list.items };
 }
 
-/// A copy of a setting.
-#[inline]
+/// A copy of a setting. Always inlined, as that of a stream.
+#[inline(always)]
 fn copied_setting(alloc: Global, setting: &Setting, copying: Copying) -> Result<Setting, AllocError>
     ensures { IfOk result (λ copy. copy ≡ setting.now) }
 {
@@ -72,6 +72,7 @@ fn copied_setting(alloc: Global, setting: &Setting, copying: Copying) -> Result<
 }
 
 /// A copy of settings, with no room for more.
+#[inline(always)]
 fn copied_list(
     alloc: Global,
     list: &[Setting],

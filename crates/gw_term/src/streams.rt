@@ -11,6 +11,7 @@ ghost use Rattle.gw_term.specs.Places.{at_number, put_number};
 
 use crate::copies::{copied_stream, put};
 use crate::fault::ApplyFault;
+use crate::held::HeldProperty;
 use crate::properties::{media_parts, put_property};
 use crate::record::Stream;
 use crate::settings::{Setting, Settings};
@@ -68,6 +69,14 @@ impl<'c> Sent<'_, '_, 'c> {
         }
     }
 
+    /// Properties that may be shared.
+    fn made_properties(&self) -> &'c [HeldProperty] {
+        match self.made {
+            Some(stream) => stream.properties.as_slice(),
+            None => &[],
+        }
+    }
+
     /// A Remote that may be shared.
     fn made_remote(&self) -> Option<&'c Text> {
         match self.made {
@@ -81,6 +90,7 @@ impl<'c> Sent<'_, '_, 'c> {
 fn put_control(
     alloc: Global,
     property: &Property<Span<'_>>,
+    made: &[HeldProperty],
     stream: &mut Stream,
 ) -> Result<(), ApplyFault>
     ensures { Becomes result stream.new (put_control property.now stream.old) }
@@ -89,18 +99,19 @@ fn put_control(
         stream.mode = mode_set_by(property).unwrap_or(stream.mode);
         return Ok(());
     }
-    put_property(alloc, property, &mut stream.properties)
+    put_property(alloc, property, made, &mut stream.properties)
 }
 
 fn put_controls(
     alloc: Global,
     properties: &[Property<Span<'_>>],
+    made: &[HeldProperty],
     stream: &mut Stream,
 ) -> Result<(), ApplyFault>
     ensures { Becomes result stream.new (each put_control properties.now stream.old) }
 {
     for property in properties {
-        put_control(alloc, property, stream)?;
+        put_control(alloc, property, made, stream)?;
     }
     Ok(())
 }
@@ -151,7 +162,7 @@ fn put_part(
             Ok(())
         }
         StreamPart::LocalControl(properties) => {
-            put_controls(alloc, properties.as_slice(), stream)
+            put_controls(alloc, properties.as_slice(), sent.made_properties(), stream)
         }
     }
 }

@@ -113,7 +113,7 @@ impl Text {
     }
 
     /// A copy.
-    #[inline]
+    #[inline(always)]
     pub(crate) fn copied(&self, alloc: Global, copying: Copying) -> Result<Text, AllocError>
         ensures { IfOk result (λ copy. copy ≡ self.now) }
     {
