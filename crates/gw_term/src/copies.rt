@@ -9,7 +9,7 @@ use gw_base::{Items, NoMemory};
 use std::alloc::{AllocError, Global};
 
 /// A copy of the properties.
-#[inline]
+#[inline(always)]
 pub(crate) fn copied_properties(
     alloc: Global,
     properties: &[HeldProperty],

@@ -17,7 +17,7 @@ fn joined(alloc: Global, first: &[u8], second: &[u8]) -> Result<Text, AllocError
     let mut texts = Vec::with_capacity(alloc, first.len() + second.len())?;
     texts.extend_from_slice(first)?;
     texts.extend_from_slice(second)?;
-    Ok(Text::from_vec(texts))
+    Text::from_vec(texts)
 }
 
 /// A property that is kept: its name and its value stand in one block, the name first. Contracts see the property.
@@ -88,6 +88,7 @@ impl HeldProperty {
     }
 
     /// A copy of the property.
+    #[inline(always)]
     pub(crate) fn copied(&self, alloc: Global, copying: Copying) -> Result<HeldProperty, AllocError>
         ensures { IfOk result (λ copy. copy ≡ self.now) }
     {
@@ -174,6 +175,7 @@ impl HeldTail {
     }
 
     /// A copy of the tail.
+    #[inline(always)]
     pub(crate) fn copied(&self, alloc: Global, copying: Copying) -> Result<HeldTail, AllocError>
         ensures { IfOk result (λ copy. copy ≡ self.now) }
     {

@@ -136,7 +136,7 @@ fn put_local(
         return Ok(());
     };
     let (local, is_filled) = fill_local(alloc, text, &sent.rules.media, slot, number)?;
-    put(&mut stream.local, Text::from_vec(local));
+    put(&mut stream.local, Text::from_vec(local)?);
     *filled = is_filled;
     Ok(())
 }

@@ -9,6 +9,9 @@ use std::marker::Model;
 use std::mem;
 use std::sync::ArcSlice;
 
+/// How long a text is at least, in bytes, whose copies share its block from the start: so many are dearer to copy than a second block is.
+const LONG: usize = 512;
+
 /// How the texts of a copy lie.
 #[derive(Clone, Copy)]
 pub(crate) enum Copying {
@@ -36,7 +39,7 @@ fn let_go(block: ArcSlice<u8>) {
 
 // By hand, so that where a text is let go no more stands in place than what most of them need.
 impl Drop for Form {
-    #[inline]
+    #[inline(always)]
     fn drop(self) {
         match self {
             Form::Missing => {}
@@ -65,8 +68,8 @@ impl Form {
     }
 }
 
-/// A text that is kept, or none. One that is made for one record takes one block; one that goes into many records is shared among
-/// them, and takes two blocks for all. Contracts see the text, or none.
+/// A text that is kept, or none. One that is made for one record takes one block; one that is long, or goes into many records, is shared
+/// among those that have it, and takes two blocks for all. Contracts see the text, or none.
 #[derive(Drop)]
 pub struct Text {
     form: Form,
@@ -91,13 +94,16 @@ impl Text {
         }
     }
 
-    /// The text that stands in a block.
-    pub(crate) fn from_vec(block: Vec<u8>) -> Text
-        ensures { result ≡ Some block.items }
+    /// The text that stands in a block, which its copies share if it is long.
+    pub(crate) fn from_vec(block: Vec<u8>) -> Result<Text, AllocError>
+        ensures { IfOk result (λ text. text ≡ Some block.items) }
     {
-        Text {
-            form: Form::Own(block),
-        }
+        let form = if block.len() < LONG {
+            Form::Own(block)
+        } else {
+            Form::Shared(ArcSlice::from_vec(block)?)
+        };
+        Ok(Text { form })
     }
 
     /// Its bytes; none where there is no text.
@@ -146,7 +152,7 @@ impl Text {
         let mut block = self.form.into_block(alloc, text.len())?;
         block.clear();
         block.extend_from_slice(text)?;
-        Ok(Text::from_vec(block))
+        Text::from_vec(block)
     }
 
     /// A text takes its place: a copy of one that is there already, if it is that, and else in a block of its own.
