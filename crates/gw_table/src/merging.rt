@@ -252,8 +252,8 @@ impl OverPart<'_> {
 }
 
 impl Draft<'_> {
-    /// The descriptors are merged into those terminations of the null context whose names begin so. The caller knows that every record
-    /// takes them, and that the names are among the draft's keys. The work is two passes over the tables, with one look-up, and the
+    /// The descriptors are merged into those terminations of the null context whose names begin so. The caller knows that each
+    /// of these takes them, as one of which nothing was set does, and that the names are among the draft's keys. The work is two passes over the tables, with one look-up, and the
     /// merges; or a look-up for each key of the part, and two for each that is meant. Memory is taken for the records of those that were
     /// not noted before, as copies, and for what is new in the records.
     ///

@@ -308,7 +308,7 @@ impl Site<Held<Termination>> {
 
     /// The descriptors are merged into the termination that stands here, in its place, if there is one; one for which memory is refused
     /// leaves the null context. Where it is noted at this index of a list of writes, that is kept for later. Answers the index behind it
-    /// then, and else this one, and whether memory was refused. The caller knows that every record takes the descriptors.
+    /// then, and else this one, and whether memory was refused. The caller knows that it takes the descriptors.
     pub(crate) fn merge_noted(
         &mut self,
         alloc: Global,

@@ -502,7 +502,7 @@ impl Settings {
 
 impl Termination {
     /// The termination becomes its record after the descriptors, as [`Termination::merged`] tells it, where it lies: what they do not
-    /// name is not copied. The caller knows that every record takes them.
+    /// name is not copied. The caller knows that it takes them, and that a record of which nothing was set does.
     ///
     /// # Errors
     ///
