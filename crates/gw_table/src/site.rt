@@ -370,6 +370,7 @@ impl Site<Held<Context>> {
     /// # Errors
     ///
     /// Want of memory. Nothing is noted then.
+    #[inline(always)]
     pub(crate) fn note_setting(
         &self,
         number: CtxNum,

@@ -49,7 +49,8 @@ fn is_over(
 
 /// Carries an action out in a context that is there and has its properties: tells what it is, and carries the commands out. Where nothing
 /// more is told, the commands are carried out all the same; but where each comes to nothing, in whichever context, as `nothing` says, or
-/// in this one of an action for each, there is nothing to do.
+/// in this one of an action for each, there is nothing to do. Always inlined, so that what was told is not moved for each context.
+#[inline(always)]
 fn in_ready(
     alloc: Global,
     rules: &Rules,

@@ -90,6 +90,7 @@ fn and_then(wanted: Option<Setting>, later: Setting) -> Setting
 }
 
 /// Sets what waits to be set, where the context is there.
+#[inline(always)]
 pub(crate) fn set_wanted(
     alloc: Global,
     draft: &mut Draft<'_>,
