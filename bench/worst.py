@@ -245,6 +245,9 @@ def wildcards():
                b"Error=533")
     there = made([b"C=-{MF=*{M{R{v=0}}}}"])
     yield wild("4,000 terminations with a Remote, one `Modify=*` with another", there, b"C=-{MF=*{M{R{v=1}}}}", 1, 4_000, b"Error=533")
+    unlike = there + made([b"C=-{MF=T/4000{M{R{v=2}}}}"])
+    yield wild("4,000 terminations with a Remote, the last with one of its own, one `Modify=*` with another", unlike, b"C=-{MF=*{M{R{v=1}}}}", 1, 4_000,
+               b"Error=533")
     yield wild("98 KB each of 64, `Modify=*` of a property", strangers.members(), b"C=1{MF=*{M{O{a=1}}}}", 64, 64, terms=64)
     yield wild("`Modify=*` with a LocalControl in a context of 64", full, b"C=1{MF=*%s}" % MODE, 256, 64)
     yield wild("4,000 terminations, `W-AuditValue=*`", [], b"C=-{W-AV=*{AT{}}}", 8, 4_000)
@@ -273,10 +276,15 @@ def wildcards():
     yield wild("2,000 contexts, one `Context=*{Modify=*}` with a LocalControl", two, b"C=*{MF=*%s}" % MODE, 1, 4_000, b"Error=533")
     yield wild("2,000 contexts, one `Context=*{ServiceChange=*}`", two, b"C=*{SC=*%s}" % FORCED, 1, 4_000, b"Error=533")
     yield wild("2,000 contexts, one `Context=*{Subtract=*}`", two, b"C=*{S=*}", 1, 4_000, b"Error=533")
+    yield wild("2,000 contexts, one `Context=*{Subtract=T/*}`", two, b"C=*{S=T/*}", 1, 4_000, b"Error=533")
+    yield wild("2,000 contexts, one `Context=*{Modify=*}` of a property", two, b"C=*{MF=*{M{O{a=1}}}}", 1, 4_000, b"Error=533")
     yield Kind("2,000 contexts, `Context=*` with another Priority each time", two, asked([b"C=*{PR=%d}" % (n + 1) for n in range(8)]), b"Error=533", 16_000, 4_000)
     yield Kind("2,000 contexts, `Context=*` with another Priority each time and an Emergency", two,
                asked([b"C=*{PR=%d,EG}" % (n + 1) for n in range(8)]), b"Error=533", 16_000, 4_000)
     yield wild("2,000 contexts, a wildcard that matches none", two, b"C=*{O-AV=X*{AT{}}}", 8, 2_000, b"Error=533")
+    many = [context(64 * number + 1, 64 * number + 64) for number in range(62)]
+    none = [HEAD + as_often(b"T=1{C=*{", b"O-S=X/*", b"}}")]
+    yield Kind("62 contexts of 64, commands for a wildcard that matches none", made(many), none, b"Error=533", 62, 4_000)
     yield wild("no context, `Context=*`", [], b"C=*{S=*}", MOST, 0, b"Error=431")
 
 

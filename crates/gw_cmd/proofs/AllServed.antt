@@ -1,4 +1,4 @@
--- A ServiceChange or a Modify of all terminations of the null context that match: what comes of it.
+-- A ServiceChange or a Modify of all terminations that match, and of all of the null context: what comes of it.
 use Rattle.std.proofs.Common.{◌≡◌, ◌==◌, eqb-true, arith, length, ℕ, nat_eq, Bool, true, false, cond, List, [], ◌∷◌, ◌++◌, map, Option, None, Some, Result, Ok, bytes_eq, refl, sym, ap, subst, ◌∙◌}
 use Rattle.std.specs.Prelude.{◌&&◌, ◌||◌, if◌then◌else◌}
 use Rattle.std.specs.List.{filter, find, list_any, starts_with}
@@ -8,6 +8,7 @@ use Rattle.gw_base.specs.declared.command_words.Rules.{Rules}
 use Rattle.gw_base.specs.declared.command_words.Service.{Service}
 use Rattle.gw_base.specs.declared.command_words.Verb.{Verb}
 use Rattle.gw_base.specs.declared.command_words.Verb.TheVariants.{Modify, ServiceChange}
+use Rattle.gw_base.specs.declared.ids.CtxNum.{CtxNum}
 use Rattle.gw_base.specs.declared.key.Key.TheVariants.{Term}
 use Rattle.gw_base.specs.declared.term_ref.TermRef.{TermRef}
 use Rattle.gw_base.specs.declared.term_ref.TermRef.TheVariants.{Root, All, Under, Choose, Name, Other}
@@ -40,20 +41,23 @@ use Rattle.gw_table.specs.Served.{is_reached, reached, all_serviced}
 use Rattle.gw_table.proofs.Folding.{ended, in_order-more, in_order-none}
 use Rattle.gw_table.proofs.Merged.{term-put_changed, reached_once}
 use Rattle.gw_table.proofs.Served.{term-put_service, in_filtered}
+use Rattle.gw_refusal.specs.declared.at.At.{At}
 use Rattle.gw_refusal.specs.declared.at.At.TheVariants.{Null}
 use Rattle.gw_refusal.specs.Asked.{is_add, is_wildcard, matches, service_asked, audited, words_in}
 use Rattle.gw_refusal.specs.Forms.{refusal_by_form}
+use Rattle.gw_refusal.specs.Places.{place_at}
 use Rattle.gw_refusal.specs.Targets.{those_in, source, matched, targets_of, targets}
+use Rattle.gw_cmd.specs.declared.change.Decided.{Decided}
 use Rattle.gw_cmd.specs.declared.change.Merged.{Merged}
 use Rattle.gw_cmd.specs.declared.outcome.CmdOutcome.{CmdOutcome}
 use Rattle.gw_cmd.specs.declared.serving.ForAll.{ForAll}
 use Rattle.gw_cmd.specs.declared.serving.ForAll.TheVariants.{Serve, Merge}
 use Rattle.gw_cmd.specs.Commands.{reply, outcome_told, on_target, on_targets, unless_refused, carried, allowed}
-use Rattle.gw_cmd.specs.Effects.{after_service, on_found, on_name, on_record, done, decided_in_null, becomes, merging as merging_done, merging_to, merged_in, parts_of, refusal_elsewhere}
+use Rattle.gw_cmd.specs.Effects.{after_service, on_found, on_name, on_record, done, decided, decided_in, decided_in_null, is_full, modified, becomes, merging as merging_done, merging_to, merged_in, parts_of, refusal_elsewhere}
 use Rattle.gw_cmd.specs.Idle.{idle_answer, idle_reply}
 use Rattle.gw_cmd.specs.Keys.{command_keys}
 use Rattle.gw_cmd.specs.Refusals.{refusal_by_tables}
-use Rattle.gw_cmd.specs.Serving.{prefix_of, all_after, IsServing, IsMerging, IsForAll}
+use Rattle.gw_cmd.specs.Serving.{prefix_of, all_after, IsForAll}
 use Rattle.gw_cmd.proofs.AsItIs.{service_done}
 use Rattle.gw_cmd.proofs.LeftAlone.{StandsIn, free_one, stands_here, carried_on}
 use Rattle.gw_cmd.proofs.Ready.{in_filter, is_named, ready}
@@ -89,7 +93,7 @@ twice_filtered {X} p q f same (x ∷ xs) = by (f x) (q x) (same x) (twice_filter
     by false true e h = h
     by false false e h = h
 
-all_pass : {X : Type 0} (p : X → Bool) (xs : List X) → ((x : X) → p x ≡ true) → filter p xs ≡ xs
+pub all_pass : {X : Type 0} (p : X → Bool) (xs : List X) → ((x : X) → p x ≡ true) → filter p xs ≡ xs
 all_pass p [] h = refl
 all_pass {X} p (x ∷ xs) h = ap (λ (b : Bool). cond b (x ∷ filter p xs) (filter p xs)) (h x) ∙ ap (λ (l : List X). x ∷ l) (all_pass p xs h)
 
@@ -150,19 +154,19 @@ bare : (c : Command) (v : Verb) (t : List ℕ) (x : Maps) → c.verb ≡ v → i
 bare c v t x e = ap (λ (w : Verb). reply c (Name t) (idle_answer w c.descriptors (term x t))) e
 
 -- where each is as it has to be for its turn, also after the others
-module _ (rules : Rules) (c : Command) (put : List ℕ → Maps → Maps) (IsReady : List ℕ → Maps → Type 0)
-    (one : (t : List ℕ) (m x : Maps) → IsReady t m → on_target rules Null c tt t m ≡ ended (put t m) tt (idle_reply c x t ∷ []) false)
+module _ (rules : Rules) (at : At) (c : Command) (put : List ℕ → Maps → Maps) (IsReady : List ℕ → Maps → Type 0)
+    (one : (t : List ℕ) (m x : Maps) → IsReady t m → on_target rules at c tt t m ≡ ended (put t m) tt (idle_reply c x t ∷ []) false)
     (still : (t q : List ℕ) (m : Maps) → bytes_eq q t ≡ false → IsReady q m → IsReady q (put t m)) where
   all_put : List (List ℕ) → Maps → Maps
   all_put [] m = m
   all_put (t ∷ ts) m = all_put ts (put t m)
 
-  all_done : (ts : List (List ℕ)) (m x : Maps) → NoDoubles ts → ((t : List ℕ) → is_in t ts ≡ true → IsReady t m) → on_targets rules Null c ts m ≡ ended (all_put ts m) tt (map (idle_reply c x) ts) false
+  all_done : (ts : List (List ℕ)) (m x : Maps) → NoDoubles ts → ((t : List ℕ) → is_in t ts ≡ true → IsReady t m) → on_targets rules at c ts m ≡ ended (all_put ts m) tt (map (idle_reply c x) ts) false
   unfolding all_put
-  all_done [] m x d ready = in_order-none (on_target rules Null c) tt m
+  all_done [] m x d ready = in_order-none (on_target rules at c) tt m
   all_done (t ∷ ts) m x d ready =
-      in_order-more (on_target rules Null c) tt t ts m
-      ∙ ap (λ (o : Outcome (Attempts Unit CommandReply)). attempts_behind o.answer.answers (in_order (on_target rules Null c) tt ts o.maps)) (one t m x (ready t (or_left (bytes_eq t t) (is_in t ts) (itself t))))
+      in_order-more (on_target rules at c) tt t ts m
+      ∙ ap (λ (o : Outcome (Attempts Unit CommandReply)). attempts_behind o.answer.answers (in_order (on_target rules at c) tt ts o.maps)) (one t m x (ready t (or_left (bytes_eq t t) (is_in t ts) (itself t))))
       ∙ ap (λ (o : Outcome (Attempts Unit CommandReply)). attempts_behind (idle_reply c x t ∷ []) o)
       (all_done ts (put t m) x d.1 (λ q h. still t q m (other q h) (ready q (or_right (bytes_eq q t) (is_in q ts) h))))
     where
@@ -175,73 +179,82 @@ module _ (rules : Rules) (c : Command) (put : List ℕ → Maps → Maps) (IsRea
 
 -- ---- a ServiceChange
 
-module _ (rules : Rules) (c : Command) (s : Service) (serving : IsServing Null c s) where
+module _ (rules : Rules) (at : At) (c : Command) (s : Service) (verb : c.verb ≡ ServiceChange) (asked : service_asked c.descriptors ≡ Some s) where
   abbrev serve : List ℕ → Maps → Maps
   serve t m = put_service s t m (term m t)
 
-  one_served : (t : List ℕ) (m x : Maps) → StandsIn None t m → on_target rules Null c tt t m ≡ ended (serve t m) tt (idle_reply c x t ∷ []) false
+  one_served : (t : List ℕ) (m x : Maps) → StandsIn (place_at at) t m → on_target rules at c tt t m ≡ ended (serve t m) tt (idle_reply c x t ∷ []) false
   one_served t m x stands =
       let r : Termination = stands.0 in
-      let done = ap (λ (o : Option Termination). on_found rules None c t o m) stands.1 ∙ service_done rules None c t r m serving.verb stands.1
-      ∙ ap (λ (o : Option Code). after_service o (unwrap_or (service_asked c.descriptors) r.service) t m) (stands_here None r.place stands.2)
-      ∙ ap (λ (o : Option Service). after_service None (unwrap_or o r.service) t m) serving.asked in
+      let done = ap (λ (o : Option Termination). on_found rules (place_at at) c t o m) stands.1 ∙ service_done rules (place_at at) c t r m verb stands.1
+      ∙ ap (λ (o : Option Code). after_service o (unwrap_or (service_asked c.descriptors) r.service) t m) (stands_here (place_at at) r.place stands.2)
+      ∙ ap (λ (o : Option Service). after_service None (unwrap_or o r.service) t m) asked in
       ap (λ (o : Outcome (Result (List ReplyPart) Code)). ended o.maps tt (reply c (Name t) o.answer ∷ []) false) done
-      ∙ ap (λ (a : CommandReply). ended (serve t m) tt (a ∷ []) false) (sym (bare c ServiceChange t x serving.verb))
+      ∙ ap (λ (a : CommandReply). ended (serve t m) tt (a ∷ []) false) (sym (bare c ServiceChange t x verb))
 
-  still_served : (t q : List ℕ) (m : Maps) → bytes_eq q t ≡ false → StandsIn None q m → StandsIn None q (serve t m)
+  still_served : (t q : List ℕ) (m : Maps) → bytes_eq q t ≡ false → StandsIn (place_at at) q m → StandsIn (place_at at) q (serve t m)
   still_served t q m apart stands = by (bytes_eq q t) (term-put_service s t m q)
     where
-      by : (b : Bool) → term (serve t m) q ≡ cond b (option_map (λ r. serviced r s) (term m q)) (term m q) → StandsIn None q (serve t m)
+      by : (b : Bool) → term (serve t m) q ≡ cond b (option_map (λ r. serviced r s) (term m q)) (term m q) → StandsIn (place_at at) q (serve t m)
       by true e = (serviced stands.0 s, e ∙ ap (λ (o : Option Termination). option_map (λ r. serviced r s) o) stands.1, stands.2)
       by false e = (stands.0, e ∙ stands.1, stands.2)
 
-  as_served : (ts : List (List ℕ)) (m : Maps) → all_put rules c serve (StandsIn None) one_served still_served ts m ≡ all_serviced s ts m
+  as_served : (ts : List (List ℕ)) (m : Maps) → all_put rules at c serve (StandsIn (place_at at)) one_served still_served ts m ≡ all_serviced s ts m
   unfolding all_put
   as_served [] m = refl
   as_served (t ∷ ts) m = as_served ts (serve t m)
 
+  -- each of these, where each is in the action's context
+  pub each_served : (ts : List (List ℕ)) (m x : Maps) → NoDoubles ts → ((t : List ℕ) → is_in t ts ≡ true → StandsIn (place_at at) t m) → on_targets rules at c ts m ≡ ended (all_serviced s ts m) tt (map (idle_reply c x) ts) false
+  each_served ts m x once stands =
+      all_done rules at c serve (StandsIn (place_at at)) one_served still_served ts m x once stands ∙ ap (λ (y : Maps). ended y tt (map (idle_reply c x) ts) false) (as_served ts m)
+
 -- ---- a Modify whose descriptors each of them takes
 
-module _ (rules : Rules) (c : Command) (m0 : Maps) (merging : IsMerging Null c m0) where
+by_place : (rules : Rules) (place : Option CtxNum) (c : Command) (m : Maps) (r : Termination) → c.verb ≡ Modify → decided rules place c m r ≡ modified rules c.descriptors place r
+by_place rules None c m r verb = ap (λ (v : Verb). decided_in_null rules v c.descriptors r) verb
+by_place rules (Some n) c m r verb = ap (λ (v : Verb). decided_in rules v c.descriptors (is_full rules n m) n r) verb
+
+module _ (rules : Rules) (at : At) (c : Command) (verb : c.verb ≡ Modify) (plain : are_plain c.descriptors ≡ true) where
   abbrev merge : List ℕ → Maps → Maps
   merge t m = put_changed (merged rules c.descriptors) t m (term m t)
 
   -- nothing is audited
   audits_none : audited c.descriptors ≡ []
-  audits_none = no_audit c.descriptors merging.plain
+  audits_none = no_audit c.descriptors plain
 
   told_none : (r : Termination) → parts_of c.descriptors [] r ≡ []
   unfolding audit_parts
   told_none r = (λ i. (if list_any (is_asking item.Media) (audits_none i) || true then [] else part.Filled [] ∷ []) ++ audit_parts (audits_none i) r)
 
-  merging_is : (r new : Termination) → r.place ≡ None → merged rules c.descriptors r ≡ Some new → merging_done rules c.descriptors r None (refusal_elsewhere None r.place) ≡ Ok (record { record_after = new; parts = [] })
+  merging_is : (r new : Termination) → r.place ≡ place_at at → merged rules c.descriptors r ≡ Some new → merging_done rules c.descriptors r (place_at at) (refusal_elsewhere (place_at at) r.place) ≡ Ok (record { record_after = new; parts = [] })
   unfolding merging_done
   merging_is r new there is =
-      ap (λ (o : Option Code). merging_to rules c.descriptors r None o (merged rules c.descriptors r)) (stands_here None r.place there)
-      ∙ ap (λ (o : Option Termination). merging_to rules c.descriptors r None None o) is
-      ∙ ap (λ (l : List FilledStream). merged_in c.descriptors l None (placed new None)) (plain_fills_none rules c.descriptors r merging.plain)
-      ∙ (λ i. Ok (let x : Merged = record { record_after = placed new (sym here i); parts = told_none (placed new None) i } in x))
+      ap (λ (o : Option Code). merging_to rules c.descriptors r (place_at at) o (merged rules c.descriptors r)) (stands_here (place_at at) r.place there)
+      ∙ ap (λ (o : Option Termination). merging_to rules c.descriptors r (place_at at) None o) is
+      ∙ ap (λ (l : List FilledStream). merged_in c.descriptors l None (placed new (place_at at))) (plain_fills_none rules c.descriptors r plain)
+      ∙ (λ i. Ok (let x : Merged = record { record_after = placed new (sym here i); parts = told_none (placed new (place_at at)) i } in x))
     where
-      here : new.place ≡ None
+      here : new.place ≡ place_at at
       here = sym (ap (λ (o : Option Termination). (unwrap_or o r).place) is) ∙ merge_stays rules c.descriptors r ∙ there
 
-  -- a termination of the null context that takes the descriptors has the name
+  -- a termination of the action's context that takes the descriptors has the name
   IsTaking : List ℕ → Maps → Type 0
-  IsTaking t m = StandsIn None t m × ((r : Termination) → term m t ≡ Some r → (new : Termination) × (merged rules c.descriptors r ≡ Some new))
+  IsTaking t m = StandsIn (place_at at) t m × ((r : Termination) → term m t ≡ Some r → (new : Termination) × (merged rules c.descriptors r ≡ Some new))
 
-  one_merged : (t : List ℕ) (m x : Maps) → IsTaking t m → on_target rules Null c tt t m ≡ ended (merge t m) tt (idle_reply c x t ∷ []) false
+  one_merged : (t : List ℕ) (m x : Maps) → IsTaking t m → on_target rules at c tt t m ≡ ended (merge t m) tt (idle_reply c x t ∷ []) false
   unfolding on_record IsTaking
   one_merged t m x takes =
       let stands = takes.0 in
       let r : Termination = stands.0 in
       let new = takes.1 r stands.1 in
       let changed : Outcome (Result (List ReplyPart) Code) = record { maps = put_term m t (Some new.0); answer = Ok [] } in
-      let found : on_name rules None c t m ≡ changed = ap (λ (o : Option Termination). on_found rules None c t o m) stands.1
-      ∙ ap (λ (v : Verb). done t m (decided_in_null rules v c.descriptors r)) merging.verb
+      let found : on_name rules (place_at at) c t m ≡ changed = ap (λ (o : Option Termination). on_found rules (place_at at) c t o m) stands.1
+      ∙ ap (λ (y : Result Decided Code). done t m y) (by_place rules (place_at at) c m r verb)
       ∙ ap (λ (y : Result Merged Code). done t m (becomes y)) (merging_is r new.0 stands.2 new.1) in
       let maps : put_term m t (Some new.0) ≡ merge t m = ap (λ (o : Option Termination). put_if t m o) (sym new.1) ∙ ap (λ (o : Option Termination). put_changed (merged rules c.descriptors) t m o) (sym stands.1) in
       ap (λ (o : Outcome (Result (List ReplyPart) Code)). ended o.maps tt (reply c (Name t) o.answer ∷ []) false) found
-      ∙ (λ i. ended (maps i) tt (sym (bare c Modify t x merging.verb) i ∷ []) false)
+      ∙ (λ i. ended (maps i) tt (sym (bare c Modify t x verb) i ∷ []) false)
 
   still_merged : (t q : List ℕ) (m : Maps) → bytes_eq q t ≡ false → IsTaking q m → IsTaking q (merge t m)
   unfolding IsTaking
@@ -250,38 +263,43 @@ module _ (rules : Rules) (c : Command) (m0 : Maps) (merging : IsMerging Null c m
       let same : term (merge t m) q ≡ term m q = term-put_changed f t m q ∙ ap (λ (b : Bool). cond b (option_map (changed f) (term m q)) (term m q)) apart in
       ((takes.0.0, same ∙ takes.0.1, takes.0.2), λ r e. takes.1 r (sym same ∙ e))
 
-  as_merged : (ts : List (List ℕ)) (m : Maps) → all_put rules c merge IsTaking one_merged still_merged ts m ≡ all_changed (merged rules c.descriptors) ts m
+  as_merged : (ts : List (List ℕ)) (m : Maps) → all_put rules at c merge IsTaking one_merged still_merged ts m ≡ all_changed (merged rules c.descriptors) ts m
   unfolding all_put
   as_merged [] m = refl
   as_merged (t ∷ ts) m = as_merged ts (merge t m)
 
-  -- each that is meant does
-  taking : (ts : List (List ℕ)) → ((t : List ℕ) → is_in t ts ≡ true → is_in t (reached Free (prefix_of c.term) m0) ≡ true) → ((t : List ℕ) → is_in t ts ≡ true → StandsIn None t m0) → (t : List ℕ) → is_in t ts ≡ true → IsTaking t m0
+  -- each of these, where each is in the action's context and takes the descriptors
+  pub each_merged : (ts : List (List ℕ)) (m x : Maps) → NoDoubles ts → ((t : List ℕ) → is_in t ts ≡ true → StandsIn (place_at at) t m)
+      → ((t : List ℕ) → is_in t ts ≡ true → (r : Termination) → term m t ≡ Some r → (new : Termination) × (merged rules c.descriptors r ≡ Some new))
+      → on_targets rules at c ts m ≡ ended (all_changed (merged rules c.descriptors) ts m) tt (map (idle_reply c x) ts) false
   unfolding IsTaking
-  taking ts meant stands t h = (stands t h, λ r there. merging.taken rules t r (second_of (is_in t (names m0)) (is_reached Free (prefix_of c.term) m0 t) (sym (in_filtered (is_reached Free (prefix_of c.term) m0) (names m0) t) ∙ meant t h)) there)
+  each_merged ts m x once stands takes =
+      all_done rules at c merge IsTaking one_merged still_merged ts m x once (λ t h. (stands t h, takes t h)) ∙ ap (λ (y : Maps). ended y tt (map (idle_reply c x) ts) false) (as_merged ts m)
 
--- ---- either
+-- ---- either, of the null context
 
 none_twice : (prefix : List ℕ) (m : Maps) (ts : List (List ℕ)) → ts ≡ reached Free prefix m → NoDoubles ts
 none_twice prefix m ts is = subst NoDoubles (sym is) (reached_once prefix m)
 
 module _ (rules : Rules) (c : Command) (m : Maps) where
-  pub is_wild : (a : ForAll) → IsForAll Null c m a → is_wildcard c.term ≡ true
+  pub is_wild : (a : ForAll) → IsForAll rules Null c m a → is_wildcard c.term ≡ true
   is_wild (Serve s) h = h.wildcard
   is_wild Merge h = h.wildcard
 
-  is_no_add : (a : ForAll) → IsForAll Null c m a → is_add c.verb ≡ false
+  is_no_add : (a : ForAll) → IsForAll rules Null c m a → is_add c.verb ≡ false
   is_no_add (Serve s) h = ap (λ (v : Verb). is_add v) h.verb
   is_no_add Merge h = ap (λ (v : Verb). is_add v) h.verb
 
-  all_met : (a : ForAll) → IsForAll Null c m a → (ts : List (List ℕ)) (x : Maps) → ts ≡ reached Free (prefix_of c.term) m → ((t : List ℕ) → is_in t ts ≡ true → StandsIn None t m) → on_targets rules Null c ts m ≡ ended (all_after rules c a ts m) tt (map (idle_reply c x) ts) false
-  all_met (Serve s) h ts x meant stands = all_done rules c (serve rules c s h) (StandsIn None) (one_served rules c s h) (still_served rules c s h) ts m x (none_twice (prefix_of c.term) m ts meant) stands ∙ ap (λ (y : Maps). ended y tt (map (idle_reply c x) ts) false) (as_served rules c s h ts m)
-  all_met Merge h ts x meant stands =
-      all_done rules c (merge rules c m h) (IsTaking rules c m h) (one_merged rules c m h) (still_merged rules c m h) ts m x (none_twice (prefix_of c.term) m ts meant) (taking rules c m h ts (λ t i. ap (λ (l : List (List ℕ)). is_in t l) (sym meant) ∙ i) stands)
-      ∙ ap (λ (y : Maps). ended y tt (map (idle_reply c x) ts) false) (as_merged rules c m h ts m)
+  all_met : (a : ForAll) → IsForAll rules Null c m a → (ts : List (List ℕ)) (x : Maps) → ts ≡ reached Free (prefix_of c.term) m → ((t : List ℕ) → is_in t ts ≡ true → StandsIn None t m) → on_targets rules Null c ts m ≡ ended (all_after rules c a ts m) tt (map (idle_reply c x) ts) false
+  all_met (Serve s) h ts x meant stands = each_served rules Null c s h.verb h.asked ts m x (none_twice (prefix_of c.term) m ts meant) stands
+  all_met Merge h ts x meant stands = each_merged rules Null c h.verb h.plain ts m x (none_twice (prefix_of c.term) m ts meant) stands taking
+    where
+      taking : (t : List ℕ) → is_in t ts ≡ true → (r : Termination) → term m t ≡ Some r → (new : Termination) × (merged rules c.descriptors r ≡ Some new)
+      taking t i r there =
+          h.taken t r (second_of (is_in t (names m)) (is_reached Free (prefix_of c.term) m t) (sym (in_filtered (is_reached Free (prefix_of c.term) m) (names m) t) ∙ ap (λ (l : List (List ℕ)). is_in t l) (sym meant) ∙ i)) there
 
   -- each target is as it is to be, and has its reply
-  pub all_carried : (a : ForAll) → IsForAll Null c m a → (slot : Option ℕ) (x : Maps) → refusal_by_tables Null slot c m ≡ None
+  pub all_carried : (a : ForAll) → IsForAll rules Null c m a → (slot : Option ℕ) (x : Maps) → refusal_by_tables Null slot c m ≡ None
       → allowed rules Null slot c m ≡ record { maps = all_after rules c a (reached Free (prefix_of c.term) m) m; answer = outcome_told Null c (map (idle_reply c x) (targets Null c m)) }
   all_carried a h slot x none =
       ap (λ (o : Option Code). unless_refused o Null c m (carried rules Null slot c m c.term)) none ∙ carried_on Null slot c m rules c.term (is_wild a h)
@@ -289,6 +307,6 @@ module _ (rules : Rules) (c : Command) (m : Maps) where
       (all_met a h (targets Null c m) x (targets_are c m (is_wild a h) (is_no_add a h)) (each_free c m (is_wild a h) (is_no_add a h)))
       ∙ ap (λ (l : List (List ℕ)). let y : Outcome CmdOutcome = record { maps = all_after rules c a l m; answer = outcome_told Null c (map (idle_reply c x) (targets Null c m)) } in y) (targets_are c m (is_wild a h) (is_no_add a h))
 
-  pub keys_of_targets : (a : ForAll) → IsForAll Null c m a → (keys : PartKeys) (slot : Option ℕ) → Holds keys (command_keys Null slot c m) → refusal_by_form Null c ≡ None → refusal_by_tables Null slot c m ≡ None
+  pub keys_of_targets : (a : ForAll) → IsForAll rules Null c m a → (keys : PartKeys) (slot : Option ℕ) → Holds keys (command_keys Null slot c m) → refusal_by_form Null c ≡ None → refusal_by_tables Null slot c m ≡ None
       → (t : List ℕ) → is_in t (reached Free (prefix_of c.term) m) ≡ true → holds keys (Term t) ≡ true
   keys_of_targets a h keys slot = keys_of c m (is_wild a h) (is_no_add a h) keys slot

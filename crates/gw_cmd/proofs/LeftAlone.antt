@@ -6,6 +6,7 @@ use Rattle.std.proofs.lemmas.List.{take-append-drop, map-append}
 use Rattle.gw_base.specs.declared.code.Code.{Code}
 use Rattle.gw_base.specs.declared.code.Code.TheVariants.{ContextFull, NotInContext, NoWildcardMatch}
 use Rattle.gw_base.specs.declared.ids.CtxNum.{CtxNum}
+use Rattle.gw_base.specs.declared.key.Key.{Key}
 use Rattle.gw_base.specs.declared.key.Key.TheVariants.{Term}
 use Rattle.gw_base.specs.declared.command_words.Rules.{Rules}
 use Rattle.gw_base.specs.declared.command_words.Verb.{Verb}
@@ -247,14 +248,14 @@ free_one t m h = by (term m t) refl (sym (is_named m t) ∙ in_filter (is_free m
     by None e s f = absurd (let clash : false ≡ true = sym (ap (λ o. is_some o) e) ∙ s in cc)
     by (Some r) e s f = (r, e, free r.place (sym (ap (λ o. is_none (place_of o)) e) ∙ f))
 
-member_one : (t : List ℕ) (n : CtxNum) (m : Maps) → place_of (term m t) ≡ Some n → StandsIn (Some n) t m
+pub member_one : (t : List ℕ) (n : CtxNum) (m : Maps) → place_of (term m t) ≡ Some n → StandsIn (Some n) t m
 member_one t n m h = by (term m t) refl h
   where
     by : (o : Option Termination) → term m t ≡ o → place_of (term m t) ≡ Some n → StandsIn (Some n) t m
     by None e s = absurd (let clash : None ≡ Some n = sym (ap (λ o. place_of o) e) ∙ s in cc)
     by (Some r) e s = (r, e, sym (ap (λ o. place_of o) e) ∙ s)
 
-module _ (keys : PartKeys) (rules : Rules) (at : At) (slot : Option ℕ) (c : Command) (m : Maps) (sound : IsSound keys m) (covered : Holds keys (command_keys at slot c m)) (idle : IsIdle keys rules at c m) where
+module _ (keys : PartKeys) (at : At) (slot : Option ℕ) (c : Command) (m : Maps) (sound : IsSound keys m) (covered : Holds keys (command_keys at slot c m)) (wildcard : is_wildcard c.term ≡ true) (every : is_each at ≡ true → (k : Key) → holds keys k ≡ true) where
   in_matched : (t : List ℕ) (r : TermRef) → is_wildcard r ≡ true → is_in t (targets_of r at c m) ≡ true → is_in t (matched at c m) ≡ true
   in_matched t All w h = h
   in_matched t (Under x) w h = h
@@ -277,13 +278,13 @@ module _ (keys : PartKeys) (rules : Rules) (at : At) (slot : Option ℕ) (c : Co
   by_members t (Other x) w = absurd cc
 
   member_key : (t : List ℕ) → has (member_keys at m) (Term t) ≡ true → holds keys (Term t) ≡ true
-  member_key t h = covered (Term t) (among_term at slot c m (Term t) (by_members t c.term idle.wildcard ∙ h))
+  member_key t h = covered (Term t) (among_term at slot c m (Term t) (by_members t c.term wildcard ∙ h))
 
   held : (t : List ℕ) (a : At) → at ≡ a → (n : CtxNum) → place_at a ≡ Some n → is_in t (those_in (place_at a) m) ≡ true → holds keys (Term t) ≡ true
   held t Null e n is h = absurd cc
   held t (Live k) e n is h = member_key t (ap (λ (x : At). has (member_keys x m) (Term t)) e ∙ has_term (members_of (ctx m k)) t h)
   held t (Unmade k) e n is h = member_key t (ap (λ (x : At). has (member_keys x m) (Term t)) e ∙ has_term (members_of (ctx m k)) t h)
-  held t (Each k) e n is h = idle.held (ap (λ (x : At). is_each x) e) (Term t)
+  held t (Each k) e n is h = every (ap (λ (x : At). is_each x) e) (Term t)
 
   stands : (t : List ℕ) (add : Bool) → is_in t (those_in (if add then None else place_at at) m) ≡ true → StandsIn (if add then None else place_at at) t m
   stands t true h = free_one t m h
@@ -293,8 +294,13 @@ module _ (keys : PartKeys) (rules : Rules) (at : At) (slot : Option ℕ) (c : Co
       in_action None e h = free_one t m h
       in_action (Some n) e h = member_one t n m (sound.recorded t n (held t at refl n e (ap (λ (p : Option CtxNum). is_in t (those_in p m)) e ∙ h)) h)
 
+  -- each target is where the command looks for it
+  pub each_stands : (t : List ℕ) → is_in t (targets at c m) ≡ true → StandsIn (source at c) t m
+  each_stands t h = stands t (is_add c.verb) (in_place t (in_matched t c.term wildcard h))
+
+module _ (keys : PartKeys) (rules : Rules) (at : At) (slot : Option ℕ) (c : Command) (m : Maps) (sound : IsSound keys m) (covered : Holds keys (command_keys at slot c m)) (idle : IsIdle keys rules at c m) where
   each_left : (t : List ℕ) → is_in t (targets at c m) ≡ true → on_name rules (place_at at) c t m ≡ left c t m
-  each_left t h = let one = stands t (is_add c.verb) (in_place t (in_matched t c.term idle.wildcard h)) in left_one rules at c t one.0 m idle.leaves one.1 one.2
+  each_left t h = let one = each_stands keys at slot c m sound covered idle.wildcard idle.held t h in left_one rules at c t one.0 m idle.leaves one.1 one.2
 
   pub some_target : refusal_by_tables at slot c m ≡ None → is_some_list (targets at c m) ≡ true
   some_target h = some_matched at slot c m idle.wildcard h

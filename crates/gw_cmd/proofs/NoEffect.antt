@@ -1,5 +1,5 @@
 -- Commands that come to nothing in an action for each context.
-use Rattle.std.proofs.Common.{◌≡◌, ℕ, Bool, true, false, List, [], ◌∷◌, Option, None, Some, is_none, refl, sym, ap, ◌∙◌}
+use Rattle.std.proofs.Common.{◌≡◌, ℕ, Bool, true, false, List, [], ◌∷◌, Option, None, Some, is_none, Result, refl, sym, ap, ◌∙◌}
 use Rattle.std.specs.Prelude.{◌||◌, ◌&&◌, not, if◌then◌else◌}
 use Rattle.std.specs.List.{list_any, filter}
 use Rattle.gw_base.specs.declared.code.Code.{Code}
@@ -12,6 +12,7 @@ use Rattle.gw_base.specs.declared.term_ref.TermRef.{TermRef}
 use Rattle.gw_base.specs.declared.term_ref.TermRef.TheVariants.{Root, All, Under, Choose, Name, Other}
 use Rattle.gw_base.proofs.Booleans.{both, neither}
 use Rattle.gw_base.proofs.NamesInLists.{or_right}
+use Rattle.gw_ctx.specs.Contexts.{ContextRecord}
 use Rattle.gw_desc.specs.Checks.{check_code}
 use Rattle.gw_msg.specs.declared.message.Command.{Command}
 use Rattle.gw_term.specs.Audit.{audit_parts}
@@ -21,21 +22,35 @@ use Rattle.gw_table.specs.Maps.{Maps, Outcome, term, ctx, number, members_of}
 use Rattle.gw_table.specs.Reserved.{slot_name}
 use Rattle.gw_table.proofs.Folding.{kept}
 use Rattle.gw_refusal.specs.declared.at.At.{At}
-use Rattle.gw_refusal.specs.declared.at.At.TheVariants.{Each}
+use Rattle.gw_refusal.specs.declared.at.At.TheVariants.{Null, Live, Unmade, Each}
 use Rattle.gw_refusal.specs.Asked.{is_add, is_move, is_modify, is_subtract, is_service_change, brings, is_unsupported, is_root, is_choose, is_other_term, is_wildcard, matches, audited, is_some_list, method, delay, is_other_method, is_other_delay}
 use Rattle.gw_refusal.specs.Forms.{is_left_out, is_misplaced, refusal_by_form}
-use Rattle.gw_refusal.specs.Places.{place_at, is_unmade}
+use Rattle.gw_refusal.specs.Places.{place_at, is_each, is_unmade}
 use Rattle.gw_refusal.specs.Targets.{those_in, matched, targets_of, targets}
 use Rattle.gw_refusal.proofs.Matching.{any_kept}
+use Rattle.gw_reply.specs.declared.parts.ReplyPart.{ReplyPart}
 use Rattle.gw_cmd.specs.declared.change.Change.TheVariants.{Stays}
 use Rattle.gw_cmd.specs.declared.change.Decided.{Decided}
 use Rattle.gw_cmd.specs.declared.outcome.CmdOutcome.{CmdOutcome}
 use Rattle.gw_cmd.specs.Commands.{refused, on_target, on_targets, root_maps, carried, unless_refused, command}
 use Rattle.gw_cmd.specs.Effects.{refusal_elsewhere, unless, decided_in, decided_in_null, is_full, done, on_record, on_found}
-use Rattle.gw_cmd.specs.Nothing.{is_audit_value, may_act, may_act_on, ComesToNothing, ComeToNothing}
+use Rattle.gw_cmd.specs.Idle.{leaves_all}
+use Rattle.gw_cmd.specs.Nothing.{changes_nothing, may_change, may_act, may_act_on, ComesToNothing, ComeToNothing}
 use Rattle.gw_cmd.specs.Refusals.{has_ended, code_if, missing, first_code, refusal_by_tables, refusal}
+use Rattle.gw_cmd.proofs.AsItIs.{modify_alone}
 
 -- ---- tests
+
+no_items : {X : Type 0} (l : List X) → not (is_some_list l) ≡ true → l ≡ []
+no_items [] h = refl
+no_items (x ∷ xs) h = absurd cc
+
+impossible : {X : Type 0} → false ≡ true → X
+impossible h = absurd cc
+
+never : {X : Type 0} (b : Bool) → (not b && false) ≡ true → X
+never true h = absurd cc
+never false h = absurd cc
 
 last_of : (a b c d e f : Bool) → (a || b || c || d || e || f) ≡ false → f ≡ false
 last_of a b c d e f h = (neither (a || b || c || d || e) f h).1
@@ -111,6 +126,14 @@ module _ (n : CtxNum) (c : Command) where
         ap (λ (b : Bool). is_some_list (filter (matches c.term) (those_in (if b then None else Some n) m))) add
         ∙ sym (any_kept (matches c.term) (members_of (ctx m n))) ∙ h
 
+    -- where one is matched, it has not
+    not_ended : is_wildcard c.term ≡ true → is_add c.verb ≡ false → is_some_list (targets (Each n) c m) ≡ true → has_ended (Each n) m ≡ false
+    not_ended w add some = by (ctx m n) refl
+      where
+        by : (o : Option ContextRecord) → ctx m n ≡ o → has_ended (Each n) m ≡ false
+        by (Some x) e = ap (λ (o : Option ContextRecord). is_none o) e
+        by None e = impossible (sym (matched_by c.term w (none_matched add (ap (λ (o : Option ContextRecord). list_any (matches c.term) (members_of o)) e))) ∙ some)
+
     -- a context that has ended comes first
     by_tables : (slot : Option ℕ) → missing (Each n) slot c m c.term ≡ Some NoWildcardMatch → (code : Code) × (refusal_by_tables (Each n) slot c m ≡ Some code)
     unfolding refusal_by_tables
@@ -133,6 +156,12 @@ module _ (n : CtxNum) (c : Command) where
             let form = formed e in
             let tables = by_tables slot (missing_by slot c.term form.0 (matched_by c.term form.0 (none_matched form.1 h))) in
             (tables.0, ap (λ (x : Option Code). first_code x (refusal_by_tables (Each n) slot c m)) e ∙ tables.1)
+
+pub not_ended_at : (at : At) (c : Command) (m : Maps) → is_each at ≡ true → is_wildcard c.term ≡ true → is_add c.verb ≡ false → is_some_list (targets at c m) ≡ true → has_ended at m ≡ false
+not_ended_at (Each n) c m each w add some = not_ended n c m w add some
+not_ended_at Null c m each w add some = refl
+not_ended_at (Live n) c m each w add some = absurd cc
+not_ended_at (Unmade n) c m each w add some = refl
 
 -- ---- an AuditValue
 
@@ -192,36 +221,82 @@ module _ (rules : Rules) (c : Command) (verb : c.verb ≡ AuditValue) where
     failed = λ slot. or_right (command rules (Each n) slot c m).answer.failed c.optional optional;
   }
 
-audit_verb : (v : Verb) → is_audit_value v ≡ true → v ≡ AuditValue
-audit_verb AuditValue h = refl
-audit_verb Add h = absurd cc
-audit_verb Modify h = absurd cc
-audit_verb Move h = absurd cc
-audit_verb Subtract h = absurd cc
-audit_verb AuditCapability h = absurd cc
-audit_verb Notify h = absurd cc
-audit_verb ServiceChange h = absurd cc
+-- ---- a Modify without descriptors
+
+module _ (rules : Rules) (c : Command) (verb : c.verb ≡ Modify) (none : c.descriptors ≡ []) where
+  modified_stays : (place : Option CtxNum) (t : List ℕ) (m : Maps) (o : Option Termination) → term m t ≡ o → (on_found rules place c t o m).maps ≡ m
+  modified_stays place t m None e = refl
+  modified_stays place t m (Some r) e = ap (λ (o : Outcome (Result (List ReplyPart) Code)). o.maps) (modify_alone rules place c t r m verb none e)
+
+  all_unmodified : (at : At) (ts : List (List ℕ)) (m : Maps) → (on_targets rules at c ts m).maps ≡ m
+  all_unmodified at ts m = kept (on_target rules at c) (λ (x : Maps). x ≡ m) (λ u t x e. modified_stays (place_at at) t x (term x t) refl ∙ e) tt ts m refl
+
+  module _ (n : CtxNum) (slot : Option ℕ) (m : Maps) where
+    wild_stays : (r : TermRef) → is_wildcard r ≡ true → (carried rules (Each n) slot c m r).maps ≡ m
+    wild_stays All w = all_unmodified (Each n) (targets (Each n) c m) m
+    wild_stays (Under prefix) w = all_unmodified (Each n) (targets (Each n) c m) m
+    wild_stays Root w = absurd cc
+    wild_stays Choose w = absurd cc
+    wild_stays (Name t) w = absurd cc
+    wild_stays (Other text) w = absurd cc
+
+    wild_makes : (r : TermRef) → is_wildcard r ≡ true → (carried rules (Each n) slot c m r).answer.made ≡ false
+    wild_makes All w = refl
+    wild_makes (Under prefix) w = refl
+    wild_makes Root w = absurd cc
+    wild_makes Choose w = absurd cc
+    wild_makes (Name t) w = absurd cc
+    wild_makes (Other text) w = absurd cc
+
+    unless_stays : (o : Option Code) → is_wildcard c.term ≡ true → (unless_refused o (Each n) c m (carried rules (Each n) slot c m c.term)).maps ≡ m
+    unless_stays (Some code) w = refl
+    unless_stays None w = wild_stays c.term w
+
+    unless_makes : (o : Option Code) → is_wildcard c.term ≡ true → (unless_refused o (Each n) c m (carried rules (Each n) slot c m c.term)).answer.made ≡ false
+    unless_makes (Some code) w = refl
+    unless_makes None w = wild_makes c.term w
+
+  modify_nothing : (n : CtxNum) (m : Maps) → is_wildcard c.term ≡ true → c.optional ≡ true → ComesToNothing rules (Each n) c m
+  unfolding command
+  modify_nothing n m w optional = record {
+    maps = λ slot. unless_stays n slot m (refusal (Each n) slot c m) w;
+    made = λ slot. unless_makes n slot m (refusal (Each n) slot c m) w;
+    failed = λ slot. or_right (command rules (Each n) slot c m).answer.failed c.optional optional;
+  }
 
 -- ---- what does not act
 
-same_form : (n k : CtxNum) (c : Command) → refusal_by_form (Each n) c ≡ refusal_by_form (Each k) c
+pub same_form : (n k : CtxNum) (c : Command) → refusal_by_form (Each n) c ≡ refusal_by_form (Each k) c
 unfolding refusal_by_form
 same_form n k c = refl
 
 module _ (rules : Rules) (n : CtxNum) (m : Maps) where
   pub not_acting : (c : Command) → may_act c ≡ false → ComesToNothing rules (Each n) c m
-  not_acting c h = by (is_audit_value c.verb && c.optional) (refusal_by_form (Each (number 0)) c) refl refl h
+  not_acting c h = by (changes_nothing c && c.optional) (refusal_by_form (Each (number 0)) c) refl refl h
     where
-      by : (a : Bool) (o : Option Code) → (is_audit_value c.verb && c.optional) ≡ a → refusal_by_form (Each (number 0)) c ≡ o → (not a && is_none o) ≡ false → ComesToNothing rules (Each n) c m
-      by true o e f k = let two = both (is_audit_value c.verb) c.optional e in audit_nothing rules c (audit_verb c.verb two.0) n m two.1
-      by false (Some code) e f k = refused_nothing rules (Each n) c m (λ slot. (code, ap (λ (x : Option Code). first_code x (refusal_by_tables (Each n) slot c m)) (same_form n (number 0) c ∙ f)))
+      misformed : (code : Code) → refusal_by_form (Each (number 0)) c ≡ Some code → ComesToNothing rules (Each n) c m
+      misformed code f = refused_nothing rules (Each n) c m (λ slot. (code, ap (λ (x : Option Code). first_code x (refusal_by_tables (Each n) slot c m)) (same_form n (number 0) c ∙ f)))
+
+      idle : (v : Verb) → c.verb ≡ v → leaves_all v (is_some_list c.descriptors) false ≡ true → c.optional ≡ true → refusal_by_form (Each (number 0)) c ≡ None → ComesToNothing rules (Each n) c m
+      idle AuditValue e l optional f = audit_nothing rules c e n m optional
+      idle Modify e l optional f = modify_nothing rules c e (no_items c.descriptors l) n m (formed (number 0) c f).0 optional
+      idle Add e l optional f = never (is_some_list c.descriptors) l
+      idle Move e l optional f = absurd cc
+      idle Subtract e l optional f = absurd cc
+      idle AuditCapability e l optional f = absurd cc
+      idle Notify e l optional f = absurd cc
+      idle ServiceChange e l optional f = absurd cc
+
+      by : (a : Bool) (o : Option Code) → (changes_nothing c && c.optional) ≡ a → refusal_by_form (Each (number 0)) c ≡ o → (not a && is_none o) ≡ false → ComesToNothing rules (Each n) c m
+      by a (Some code) e f k = misformed code f
+      by true None e f k = let two = both (changes_nothing c) c.optional e in idle c.verb refl two.0 two.1 f
       by false None e f k = absurd cc
 
   pub not_acting_on : (members : List (List ℕ)) → members ≡ members_of (ctx m n) → (c : Command) → may_act_on members c ≡ false → ComesToNothing rules (Each n) c m
   not_acting_on members is c h = by (list_any (matches c.term) members) refl h
     where
-      by : (b : Bool) → list_any (matches c.term) members ≡ b → (b && may_act c) ≡ false → ComesToNothing rules (Each n) c m
-      by true e k = not_acting c k
+      by : (b : Bool) → list_any (matches c.term) members ≡ b → (b && may_change c) ≡ false → ComesToNothing rules (Each n) c m
+      by true e k = not_acting c (ap (λ (b : Bool). b && is_none (refusal_by_form (Each (number 0)) c)) k)
       by false e k = refused_nothing rules (Each n) c m (no_member n c m (sym (ap (λ (l : List (List ℕ)). list_any (matches c.term) l) is) ∙ e))
 
   -- each of a list

@@ -1,7 +1,7 @@
 -- What a command does to one termination, and what it tells of it (RFC 3525, section 7.2; which case gets which code, and in
 -- which order, is own). It is decided by the termination's record, and by whether the action's context is full.
 use Rattle.std.specs.Prelude.{ℕ, nat_eq, nat_le, Bool, not, ◌||◌, if◌then◌else◌, List, [], ◌∷◌, ◌++◌, length, Option, None, Some, Result, Ok, Err}
-use Rattle.std.specs.Option.{is_some, unwrap_or}
+use Rattle.std.specs.Option.{unwrap_or}
 use Rattle.gw_base.specs.declared.code.Code.{Code}
 use Rattle.gw_base.specs.declared.code.Code.TheVariants.{IllegalCombination, AlreadyInContext, ContextFull, NotInContext, InsufficientResources, UnknownCommand, UnknownTermination}
 use Rattle.gw_base.specs.declared.ids.CtxNum.{CtxNum}
@@ -15,9 +15,10 @@ use Rattle.gw_reply.specs.declared.parts.FilledStream.{FilledStream}
 use Rattle.gw_reply.specs.declared.parts.ReplyPart.{ReplyPart}
 use Rattle.gw_reply.specs.declared.parts.ReplyPart.TheVariants as part
 use Rattle.gw_term.specs.declared.record.Termination.{Termination}
-use Rattle.gw_term.specs.Record.{placed, serviced, reset}
+use Rattle.gw_term.specs.Record.{placed, serviced}
 use Rattle.gw_term.specs.Merge.{merged, filled_by}
 use Rattle.gw_term.specs.Audit.{audit_parts}
+pub use Rattle.gw_table.specs.Gone.{what_remains}
 use Rattle.gw_table.specs.Maps.{Maps, Outcome, term, ctx, members_of}
 use Rattle.gw_table.specs.Members.{put_service}
 use Rattle.gw_refusal.specs.Asked.{audited, asks_media, is_some_list, service_asked}
@@ -102,10 +103,6 @@ modified rules descriptors place r = becomes (merging rules descriptors r place 
 abbrev pub unless : Option Code → Decided → Result Decided Code
 unless (Some code) d = Err code
 unless None d = Ok d
-
--- an ephemeral termination is destroyed, another goes to the null context
-abbrev pub what_remains : Termination → Option Termination
-what_remains r = if is_some r.slot then None else Some (reset r)
 
 abbrev pub subtracted : List Descriptor → CtxNum → Termination → Result Decided Code
 subtracted descriptors n r = unless (refusal_elsewhere (Some n) r.place) (record { change = Leaves n (what_remains r); parts = audit_parts (audited descriptors) r })

@@ -1,3 +1,4 @@
+pub mod Clearing
 pub mod Commands
 pub mod Effects
 pub mod Idle
@@ -5,9 +6,11 @@ pub mod Keys
 pub mod Changes
 pub mod Needs
 pub mod Nothing
+pub mod Prepared
 pub mod Refusals
 pub mod Refused
 pub mod Serving
+pub mod ServingMembers
 pub mod Suits
 pub use Rattle.gw_refusal.specs.Asked
 pub use Rattle.gw_refusal.specs.Forms

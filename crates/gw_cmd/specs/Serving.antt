@@ -25,8 +25,8 @@ prefix_of (Under prefix) = prefix
 prefix_of _ = []
 
 -- each termination of the null context whose name begins so takes the descriptors
-abbrev pub AreTaken : Command → Maps → Type 0
-AreTaken c m = (rules : Rules) (t : List ℕ) (r : Termination) → is_reached Free (prefix_of c.term) m t ≡ true → term m t ≡ Some r → (new : Termination) × (merged rules c.descriptors r ≡ Some new)
+abbrev pub AreTaken : Rules → Command → Maps → Type 0
+AreTaken rules c m = (t : List ℕ) (r : Termination) → is_reached Free (prefix_of c.term) m t ≡ true → term m t ≡ Some r → (new : Termination) × (merged rules c.descriptors r ≡ Some new)
 
 -- a command that asks this service state of each that it matches, all of them in the null context
 pub record IsServing (at : At) (c : Command) (s : Service) : Type 0 where
@@ -36,16 +36,16 @@ pub record IsServing (at : At) (c : Command) (s : Service) : Type 0 where
   pub asked : service_asked c.descriptors ≡ Some s
 
 -- one that merges descriptors, of which nothing is told, into each that it matches, all of them in the null context; and each takes them
-pub record IsMerging (at : At) (c : Command) (m : Maps) : Type 0 where
+pub record IsMerging (rules : Rules) (at : At) (c : Command) (m : Maps) : Type 0 where
   pub null : at ≡ Null
   pub verb : c.verb ≡ Modify
   pub wildcard : is_wildcard c.term ≡ true
   pub plain : are_plain c.descriptors ≡ true
-  pub taken : AreTaken c m
+  pub taken : AreTaken rules c m
 
-abbrev pub IsForAll : At → Command → Maps → ForAll → Type 0
-IsForAll at c m (Serve s) = IsServing at c s
-IsForAll at c m Merge = IsMerging at c m
+abbrev pub IsForAll : Rules → At → Command → Maps → ForAll → Type 0
+IsForAll rules at c m (Serve s) = IsServing at c s
+IsForAll rules at c m Merge = IsMerging rules at c m
 
 -- these terminations after it, one after another
 abbrev pub all_after : Rules → Command → ForAll → List (List ℕ) → Maps → Maps

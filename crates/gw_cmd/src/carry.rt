@@ -1,6 +1,6 @@
 //! Carrying one command out.
 
-ghost use Rattle.std.specs.Prelude.{◌≡◌, ◌≢◌, true, false, ℕ, List, Option, None, IfOk, OnOk};
+ghost use Rattle.std.specs.Prelude.{◌≡◌, ◌≢◌, true, false, ℕ, List, Option, None, IfOk, IfSome, OnOk};
 ghost use Rattle.gw_base.specs.declared.key.Key.TheVariants.{Term};
 ghost use Rattle.gw_base.specs.declared.command_words.Verb.TheVariants.{ServiceChange};
 ghost use Rattle.gw_base.specs.declared.term_ref.TermRef.TheVariants.{Name};
@@ -15,23 +15,27 @@ ghost use Rattle.gw_cmd.specs.Idle.{IsIdle};
 ghost use Rattle.gw_length.specs.declared.telling.Telling.TheVariants.{TooLong};
 ghost use Rattle.gw_cmd.specs.Told.{outcome_behind, seen};
 ghost use Rattle.gw_cmd.specs.Keys.{command_keys};
+ghost use Rattle.gw_cmd.specs.Prepared.{IsJudged, IsPrepared};
 ghost use Rattle.gw_refusal.specs.Places.{place_at};
 ghost use Rattle.gw_cmd.specs.Suits.{HoldsMoved, HoldsFound, HoldsSlot, IsUnused, IsReady, HoldsNew};
 ghost use Rattle.gw_refusal.specs.Forms.{refusal_by_form};
 ghost use Rattle.gw_refusal.specs.Targets.{targets};
 
+use crate::clearing::{cleared_by, on_cleared};
 use crate::effects::{on_name, on_new};
 use crate::idle::{is_idle, on_idle};
 use crate::outcome::{CmdOutcome, CmdTold, Seen};
+use crate::prepared::{Prepared, form_of, sending_known};
 use crate::refusal::Refusal;
 use crate::replies::{code_of, has_one_reply, one, outcome_of, outcome_of_all, refused, reply};
 use crate::root::{every_serviced, root_parts};
 use crate::serving::{for_all, on_all_free};
+use crate::serving_members::{for_members, on_members};
 use crate::tables::{has_ended, is_some, refusal_by_tables, wrong_with};
 use gw_base::{Code, Items, NoMemory, Rules, TermName, TermRef, Verb};
 use gw_length::Telling;
 use gw_msg::Command;
-use gw_refusal::{At, refusal_by_form, service_asked, targets};
+use gw_refusal::{At, service_asked, targets};
 use gw_reply::CommandReply;
 use gw_table::{Draft, slot_name};
 use std::alloc::Global;
@@ -240,11 +244,13 @@ fn with_targets(
     slot: Option<u16>,
     command: &Command<'_>,
     named: &[TermName],
+    known: Option<&Prepared<'_, '_>>,
     told: Telling<CommandReply>,
 ) -> Result<CmdTold, NoMemory>
     requires sound { IsSound draft.old.keys draft.old.maps }
     requires covered { Holds draft.old.keys (command_keys at slot command.now draft.old.maps) }
     requires unused { IsUnused slot draft.old.maps }
+    requires judged { IfSome known (λ p. IsJudged p.now command.now) }
     requires form { refusal_by_form at command.now ≡ None }
     requires many { (t : List ℕ) → command.now.term ≢ Name t }
     requires named { named.now ≡ targets at command.now draft.old.maps }
@@ -252,16 +258,17 @@ fn with_targets(
     ensures answer { IfOk result (λ done. done ≡ outcome_behind told (allowed rules.now at slot command.now draft.old.maps).answer) }
     ensures keys { draft.new.keys ≡ draft.old.keys }
 {
-    if let Some(code) = refusal_by_tables(draft, at, slot, command, is_some(named)) {
+    if let Some(code) = refusal_by_tables(draft, at, slot, command, is_some(named), known) {
         return refused(told, at, command, code);
     }
     carried(alloc, rules, draft, at, slot, command, named, told)
 }
 
 /// Carries one command out as [`command`] does, and tells its replies behind those before it. Where they are too long, none is kept,
-/// and the command is carried out all the same. One that leaves each of its targets as it is ends there, and begun behind the limit it
-/// costs as little as with `W-`; so does a ServiceChange of what matches in the null context, and a Modify of it whose descriptors each of
-/// them takes, which name nothing then.
+/// and the command is carried out all the same. What is `known` of a command of an action for each context is not found again.
+/// One that leaves each of its targets as it is ends there, and begun behind the limit it costs as little as with `W-`; so does a ServiceChange of what matches in the null context, and a Modify of it whose descriptors each of
+/// them takes, which name nothing then. A ServiceChange of the members of a context that match looks each up once, and by a Subtract of
+/// all members that audits nothing they leave at once.
 ///
 /// # Errors
 ///
@@ -274,29 +281,48 @@ pub fn command_told(
     at: At,
     slot: Option<u16>,
     command: &Command<'_>,
+    known: Option<&Prepared<'_, '_>>,
     told: Telling<CommandReply>,
 ) -> Result<CmdTold, NoMemory>
     requires sound { IsSound draft.old.keys draft.old.maps }
     requires covered { Holds draft.old.keys (command_keys at slot command.now draft.old.maps) }
     requires unused { IsUnused slot draft.old.maps }
+    requires known { IfSome known (λ p. IsPrepared rules.now p.now command.now) }
     ensures maps { OnOk result (draft.new.maps ≡ (command_done rules.now at slot command.now draft.old.maps).maps) }
     ensures answer { IfOk result (λ done. done ≡ outcome_behind told (command_done rules.now at slot command.now draft.old.maps).answer) }
     ensures keys { draft.new.keys ≡ draft.old.keys }
 {
-    if let Some(code) = refusal_by_form(at, command) {
+    if let Some(code) = form_of(at, command, known) {
         return refused(told, at, command, code);
     }
     if let TermRef::Name(name) = &command.term {
         return on_one(alloc, rules, draft, at, command, name, told);
     }
     if is_idle(rules, draft, at, command) {
-        return on_idle(alloc, rules, draft, at, slot, command, told);
+        return on_idle(alloc, rules, draft, at, slot, command, known, told);
     }
-    if let Some(for_all) = for_all(draft, at, command) {
+    if let Some(for_all) = for_all(alloc, rules, draft, at, command)? {
         return on_all_free(alloc, rules, draft, slot, command, for_all, told);
     }
+    if let Some(number) = cleared_by(draft, at, command) {
+        return on_cleared(alloc, rules, draft, at, number, slot, command, known, told);
+    }
+    let sending = sending_known(known);
+    if let Some(for_members) = for_members(draft, at, command, known, sending) {
+        return on_members(
+            alloc,
+            rules,
+            draft,
+            at,
+            slot,
+            command,
+            for_members,
+            known,
+            told,
+        );
+    }
     let named = targets(alloc, draft, at, command)?;
-    with_targets(alloc, rules, draft, at, slot, command, &named, told)
+    with_targets(alloc, rules, draft, at, slot, command, &named, known, told)
 }
 
 /// Carries one command out (RFC 3525, section 7.2): its refusals in their order, and then what it does to each termination
@@ -305,8 +331,8 @@ pub fn command_told(
 /// and of an Add, of all names, and its matches. With `W-` an AuditValue, a Modify without descriptors and an Add without them into a
 /// full context cost that pass up to the first match, since each target stays as it is; in an action for each context they do so where
 /// the draft is of whole tables. A ServiceChange of what matches in the null context looks nothing up, and with `W-` it names nothing; nor
-/// does a Modify of it that sends no Local with a `$` and no Audit but an empty one, where each list has room for the properties that it
-/// sends.
+/// does a Modify of it that sends no Local with a `$` and no Audit but an empty one, where each list takes the properties that it
+/// sends. A ServiceChange of the members of a context that match takes one look-up of each in whole tables.
 ///
 /// The caller knows that the tables are sound, that the draft has the command's keys, and that no termination has the name of
 /// the slot.
@@ -331,7 +357,7 @@ pub fn command(
 {
     let told = Telling::All(Items::new(alloc));
     let CmdTold { told, failed, made } = command_told(
-        alloc, rules, draft, at, slot, command, told,
+        alloc, rules, draft, at, slot, command, None, told,
     )?;
     let Telling::All(replies) = told else {
         unreachable!()

@@ -1,9 +1,9 @@
 //! What is decided of one termination, by its record and by whether the action's context is full.
 
-ghost use Rattle.std.specs.Prelude.{◌≡◌, ◌++◌, None, Some, Ok, IfOk};
+ghost use Rattle.std.specs.Prelude.{◌≡◌, ◌++◌, None, Some, Ok};
 ghost use Rattle.gw_term.specs.Audit.{audit_parts};
 ghost use Rattle.gw_refusal.specs.Asked.{audited};
-ghost use Rattle.gw_cmd.specs.Effects.{refusal_to_add, refusal_to_move, refusal_elsewhere, added, crosses, moved, modified, what_remains, subtracted, told_of, service_changed, decided_in, decided_in_null};
+ghost use Rattle.gw_cmd.specs.Effects.{refusal_to_add, refusal_to_move, refusal_elsewhere, added, crosses, moved, modified, subtracted, told_of, service_changed, decided_in, decided_in_null};
 ghost use Rattle.gw_refusal.specs.Places.{same_place};
 ghost use Rattle.gw_cmd.specs.Refused.{Answers};
 
@@ -13,8 +13,9 @@ use crate::refusal::Refusal;
 use gw_base::{Code, CtxNum, Held, Items, Rules, Verb};
 use gw_desc::Descriptor;
 use gw_refusal::service_asked;
+use gw_table::what_remains;
 use gw_term::Termination;
-use std::alloc::{AllocError, Global};
+use std::alloc::Global;
 
 /// Whether both are the null context or one context.
 fn is_same_place(a: Option<CtxNum>, b: Option<CtxNum>) -> bool
@@ -122,18 +123,6 @@ fn modified(
         change: Change::Becomes(merged.record_after),
         parts: merged.parts,
     })
-}
-
-/// What a subtracted termination becomes: an ephemeral one is destroyed.
-fn what_remains(alloc: Global, old: &Termination) -> Result<Option<Held<Termination>>, AllocError>
-    ensures { IfOk result (λ remains. remains ≡ what_remains old.now) }
-{
-    if old.slot.is_some() {
-        return Ok(None);
-    }
-    let mut remains = Termination::provisioned(alloc);
-    remains.set_service(old.service());
-    Ok(Some(Held::new(alloc, remains)?))
 }
 
 fn subtracted(

@@ -1,6 +1,6 @@
 //! Commands for all that match which leave every termination as it is.
 
-ghost use Rattle.std.specs.Prelude.{◌≡◌, ◌&&◌, true, false, map, IfOk, OnOk};
+ghost use Rattle.std.specs.Prelude.{◌≡◌, ◌&&◌, true, false, map, IfOk, IfSome, OnOk};
 ghost use Rattle.gw_length.specs.declared.telling.Telling.TheVariants.{TooLong};
 ghost use Rattle.gw_table.specs.Maps.{term};
 ghost use Rattle.gw_table.specs.Parts.{Holds};
@@ -10,11 +10,13 @@ ghost use Rattle.gw_refusal.specs.Places.{place_at};
 ghost use Rattle.gw_cmd.specs.Commands.{allowed};
 ghost use Rattle.gw_cmd.specs.Idle.{is_full_at, leaves_all, audit_of, idle_reply, idle_seen, IsIdle};
 ghost use Rattle.gw_cmd.specs.Keys.{command_keys};
+ghost use Rattle.gw_cmd.specs.Prepared.{IsJudged};
 ghost use Rattle.gw_cmd.specs.Told.{outcome_behind, seen};
 
 use crate::members::is_full;
 use crate::merge::audit;
 use crate::outcome::{CmdTold, Seen};
+use crate::prepared::Prepared;
 use crate::replies::{has_one_reply, outcome_of, outcome_of_all, refused, reply};
 use crate::tables::{is_some, refusal_by_tables};
 use gw_base::{Code, Items, NoMemory, Rules, TermName, TermRef, Verb};
@@ -139,17 +141,19 @@ fn with_each(
     at: At,
     slot: Option<u16>,
     command: &Command<'_>,
+    known: Option<&Prepared<'_, '_>>,
     told: Telling<CommandReply>,
 ) -> Result<CmdTold, NoMemory>
     requires sound { IsSound draft.now.keys draft.now.maps }
     requires covered { Holds draft.now.keys (command_keys at slot command.now draft.now.maps) }
+    requires judged { IfSome known (λ p. IsJudged p.now command.now) }
     requires idle { IsIdle draft.now.keys rules.now at command.now draft.now.maps }
     requires told { (command.now.wild && is_wildcard command.now.term) ≡ false }
     ensures maps { OnOk result ((allowed rules.now at slot command.now draft.now.maps).maps ≡ draft.now.maps) }
     ensures answer { IfOk result (λ done. done ≡ outcome_behind told (allowed rules.now at slot command.now draft.now.maps).answer) }
 {
     let named = targets(alloc, draft, at, command)?;
-    if let Some(code) = refusal_by_tables(draft, at, slot, command, is_some(&named)) {
+    if let Some(code) = refusal_by_tables(draft, at, slot, command, is_some(&named), known) {
         return refused(told, at, command, code);
     }
     let seen = on_each(alloc, draft, command, &named, told)?;
@@ -165,17 +169,19 @@ fn with_none(
     at: At,
     slot: Option<u16>,
     command: &Command<'_>,
+    known: Option<&Prepared<'_, '_>>,
     told: Telling<CommandReply>,
 ) -> Result<CmdTold, NoMemory>
     requires sound { IsSound draft.now.keys draft.now.maps }
     requires covered { Holds draft.now.keys (command_keys at slot command.now draft.now.maps) }
+    requires judged { IfSome known (λ p. IsJudged p.now command.now) }
     requires idle { IsIdle draft.now.keys rules.now at command.now draft.now.maps }
     requires kept { (command.now.wild && is_wildcard command.now.term) ≡ false → told ≡ TooLong }
     ensures maps { (allowed rules.now at slot command.now draft.now.maps).maps ≡ draft.now.maps }
     ensures answer { IfOk result (λ done. done ≡ outcome_behind told (allowed rules.now at slot command.now draft.now.maps).answer) }
 {
     let any = has_targets(draft, at, command);
-    if let Some(code) = refusal_by_tables(draft, at, slot, command, any) {
+    if let Some(code) = refusal_by_tables(draft, at, slot, command, any, known) {
         return refused(told, at, command, code);
     }
     let seen = seen_idle(command.verb, Telling::TooLong);
@@ -202,17 +208,19 @@ pub(crate) fn on_idle(
     at: At,
     slot: Option<u16>,
     command: &Command<'_>,
+    known: Option<&Prepared<'_, '_>>,
     told: Telling<CommandReply>,
 ) -> Result<CmdTold, NoMemory>
     requires sound { IsSound draft.now.keys draft.now.maps }
     requires covered { Holds draft.now.keys (command_keys at slot command.now draft.now.maps) }
+    requires judged { IfSome known (λ p. IsJudged p.now command.now) }
     requires idle { IsIdle draft.now.keys rules.now at command.now draft.now.maps }
     ensures maps { OnOk result ((allowed rules.now at slot command.now draft.now.maps).maps ≡ draft.now.maps) }
     ensures answer { IfOk result (λ done. done ≡ outcome_behind told (allowed rules.now at slot command.now draft.now.maps).answer) }
 {
     if keeps_none(command, &told) {
-        with_none(alloc, rules, draft, at, slot, command, told)
+        with_none(alloc, rules, draft, at, slot, command, known, told)
     } else {
-        with_each(alloc, rules, draft, at, slot, command, told)
+        with_each(alloc, rules, draft, at, slot, command, known, told)
     }
 }

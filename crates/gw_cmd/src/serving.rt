@@ -1,12 +1,16 @@
 //! A ServiceChange or a Modify of all terminations of the null context that match.
 
 ghost use Rattle.std.specs.Prelude.{◌≡◌, ◌&&◌, ℕ, true, false, None, List, IfOk, IfSome, OnOk};
+ghost use Rattle.gw_base.specs.declared.command_words.Rules.{Rules as Kept};
+ghost use Rattle.gw_base.specs.declared.command_words.Verb.TheVariants.{Modify, ServiceChange};
 ghost use Rattle.gw_base.specs.declared.key.Key.TheVariants.{Term};
 ghost use Rattle.gw_base.specs.NameLists.{is_in};
 ghost use Rattle.gw_length.specs.declared.telling.Telling.TheVariants.{TooLong};
 ghost use Rattle.gw_table.specs.declared.reach.Reach.TheVariants.{Free};
+ghost use Rattle.gw_table.specs.Maps.{Maps};
 ghost use Rattle.gw_table.specs.Parts.{holds, Holds};
 ghost use Rattle.gw_table.specs.Served.{reached};
+ghost use Rattle.gw_term.specs.Plain.{are_plain};
 ghost use Rattle.gw_refusal.specs.Asked.{is_wildcard};
 ghost use Rattle.gw_refusal.specs.Forms.{refusal_by_form};
 ghost use Rattle.gw_cmd.specs.Commands.{allowed};
@@ -46,33 +50,94 @@ fn prefix_of<'a>(term: &'a TermRef) -> &'a [u8]
     }
 }
 
-/// Whether each termination of the null context that the wildcard matches surely takes the descriptors: they send no property that a list
-/// holds, or there is room for all of these.
-fn are_taken(draft: &Draft<'_>, command: &Command<'_>) -> bool
-    ensures { result ≡ true → AreTaken command.now draft.now.maps }
+/// Whether each termination of the null context that the wildcard matches surely takes the descriptors, of which nothing is told: they send
+/// no property that a list holds, or there is room for all of these, or none of them is new.
+fn are_taken(
+    alloc: Global,
+    rules: &Rules,
+    draft: &Draft<'_>,
+    command: &Command<'_>,
+) -> Result<bool, NoMemory>
+    requires { are_plain command.now.descriptors ≡ true }
+    ensures { IfOk result (λ taken. taken ≡ true → AreTaken rules.now command.now draft.now.maps) }
 {
-    match room_for(command.descriptors.as_slice()) {
-        Some(MOST_PROPERTIES) => true,
-        Some(most) => draft.have_room(prefix_of(&command.term), most),
-        None => false,
+    let descriptors = command.descriptors.as_slice();
+    match room_for(descriptors) {
+        Some(MOST_PROPERTIES) => Ok(true),
+        Some(most) => draft.have_room(alloc, prefix_of(&command.term), most, rules, descriptors),
+        None => Ok(false),
     }
+}
+
+/// Whether nothing is told of the descriptors of a command, and each termination of the null context that the wildcard matches takes them.
+fn merges_all(
+    alloc: Global,
+    rules: &Rules,
+    draft: &Draft<'_>,
+    command: &Command<'_>,
+) -> Result<bool, NoMemory>
+    ensures plain { IfOk result (λ all. all ≡ true → are_plain command.now.descriptors ≡ true) }
+    ensures taken { IfOk result (λ all. all ≡ true → AreTaken rules.now command.now draft.now.maps) }
+{
+    if !are_plain(command.descriptors.as_slice()) {
+        return Ok(false);
+    }
+    are_taken(alloc, rules, draft, command)
+}
+
+/// What a Modify for a wildcard does to all terminations of the null context that match, if each of them takes its descriptors, and nothing
+/// is told of these.
+fn merge_of(
+    alloc: Global,
+    rules: &Rules,
+    draft: &Draft<'_>,
+    command: &Command<'_>,
+) -> Result<Option<ForAll>, NoMemory>
+    requires verb { command.now.verb ≡ Modify }
+    requires wildcard { is_wildcard command.now.term ≡ true }
+    ensures { IfOk result (λ all. IfSome all (IsForAll rules.now At.Null command.now draft.now.maps)) }
+{
+    if merges_all(alloc, rules, draft, command)? {
+        Ok(Some(ForAll::Merge))
+    } else {
+        Ok(None)
+    }
+}
+
+/// What a ServiceChange does to them.
+fn service_of_all(command: &Command<'_>) -> Option<ForAll>
+    requires verb { command.now.verb ≡ ServiceChange }
+    requires wildcard { is_wildcard command.now.term ≡ true }
+    ensures { (rules : Kept) (m : Maps) → IfSome result (IsForAll rules At.Null command.now m) }
+{
+    let service = service_asked(command.descriptors.as_slice())?;
+    Some(ForAll::Serve(service))
 }
 
 /// What a command does to all terminations of the null context that a wildcard matches, if it is a ServiceChange, or a Modify whose
 /// descriptors each of them takes, and of which nothing is told; of another command none. Where properties are sent that lists hold, the
 /// work is one pass over the tables.
-pub(crate) fn for_all(draft: &Draft<'_>, at: At, command: &Command<'_>) -> Option<ForAll>
-    ensures { IfSome result (IsForAll at command.now draft.now.maps) }
+///
+/// # Errors
+///
+/// Want of memory.
+pub(crate) fn for_all(
+    alloc: Global,
+    rules: &Rules,
+    draft: &Draft<'_>,
+    at: At,
+    command: &Command<'_>,
+) -> Result<Option<ForAll>, NoMemory>
+    ensures { IfOk result (λ all. IfSome all (IsForAll rules.now at command.now draft.now.maps)) }
 {
-    let descriptors = command.descriptors.as_slice();
     match (at, command.verb) {
         (At::Null, Verb::ServiceChange) if is_wildcard(&command.term) => {
-            Some(ForAll::Serve(service_asked(descriptors)?))
+            Ok(service_of_all(command))
         }
-        (At::Null, Verb::Modify)
-            if is_wildcard(&command.term) && are_plain(descriptors) && are_taken(draft, command) =>
-            { Some(ForAll::Merge) }
-        _ => None,
+        (At::Null, Verb::Modify) if is_wildcard(&command.term) => {
+            merge_of(alloc, rules, draft, command)
+        }
+        _ => Ok(None),
     }
 }
 
@@ -84,7 +149,7 @@ fn change(
     command: &Command<'_>,
     for_all: ForAll,
 ) -> Result<(), NoMemory>
-    requires form { IsForAll At.Null command.now draft.old.maps for_all }
+    requires form { IsForAll rules.now At.Null command.now draft.old.maps for_all }
     requires term_keys { (t : List ℕ) → is_in t (reached Free (prefix_of command.now.term) draft.old.maps) ≡ true → holds draft.old.keys (Term t) ≡ true }
     ensures maps { OnOk result (draft.new.maps ≡ all_after rules.now command.now for_all (reached Free (prefix_of command.now.term) draft.old.maps) draft.old.maps) }
     ensures keys { draft.new.keys ≡ draft.old.keys }
@@ -110,14 +175,14 @@ fn with_each(
 ) -> Result<CmdTold, NoMemory>
     requires covered { Holds draft.old.keys (command_keys At.Null slot command.now draft.old.maps) }
     requires form { refusal_by_form At.Null command.now ≡ None }
-    requires for_all { IsForAll At.Null command.now draft.old.maps for_all }
+    requires for_all { IsForAll rules.now At.Null command.now draft.old.maps for_all }
     requires told { (command.now.wild && is_wildcard command.now.term) ≡ false }
     ensures maps { OnOk result (draft.new.maps ≡ (allowed rules.now At.Null slot command.now draft.old.maps).maps) }
     ensures answer { IfOk result (λ done. done ≡ outcome_behind told (allowed rules.now At.Null slot command.now draft.old.maps).answer) }
     ensures keys { draft.new.keys ≡ draft.old.keys }
 {
     let named = targets(alloc, draft, At::Null, command)?;
-    if let Some(code) = refusal_by_tables(draft, At::Null, slot, command, is_some(&named)) {
+    if let Some(code) = refusal_by_tables(draft, At::Null, slot, command, is_some(&named), None) {
         return refused(told, At::Null, command, code);
     }
     change(alloc, rules, draft, command, for_all)?;
@@ -137,14 +202,14 @@ fn with_none(
 ) -> Result<CmdTold, NoMemory>
     requires covered { Holds draft.old.keys (command_keys At.Null slot command.now draft.old.maps) }
     requires form { refusal_by_form At.Null command.now ≡ None }
-    requires for_all { IsForAll At.Null command.now draft.old.maps for_all }
+    requires for_all { IsForAll rules.now At.Null command.now draft.old.maps for_all }
     requires kept { (command.now.wild && is_wildcard command.now.term) ≡ false → told ≡ TooLong }
     ensures maps { OnOk result (draft.new.maps ≡ (allowed rules.now At.Null slot command.now draft.old.maps).maps) }
     ensures answer { IfOk result (λ done. done ≡ outcome_behind told (allowed rules.now At.Null slot command.now draft.old.maps).answer) }
     ensures keys { draft.new.keys ≡ draft.old.keys }
 {
     let any = has_targets(draft, At::Null, command);
-    if let Some(code) = refusal_by_tables(draft, At::Null, slot, command, any) {
+    if let Some(code) = refusal_by_tables(draft, At::Null, slot, command, any, None) {
         return refused(told, At::Null, command, code);
     }
     change(alloc, rules, draft, command, for_all)?;
@@ -168,7 +233,7 @@ pub(crate) fn on_all_free(
 ) -> Result<CmdTold, NoMemory>
     requires covered { Holds draft.old.keys (command_keys At.Null slot command.now draft.old.maps) }
     requires form { refusal_by_form At.Null command.now ≡ None }
-    requires for_all { IsForAll At.Null command.now draft.old.maps for_all }
+    requires for_all { IsForAll rules.now At.Null command.now draft.old.maps for_all }
     ensures maps { OnOk result (draft.new.maps ≡ (allowed rules.now At.Null slot command.now draft.old.maps).maps) }
     ensures answer { IfOk result (λ done. done ≡ outcome_behind told (allowed rules.now At.Null slot command.now draft.old.maps).answer) }
     ensures keys { draft.new.keys ≡ draft.old.keys }

@@ -1,6 +1,6 @@
 //! Commands that are refused by the tables as they are, or by what is wrong with their descriptors.
 
-ghost use Rattle.std.specs.Prelude.{◌≡◌};
+ghost use Rattle.std.specs.Prelude.{◌≡◌, IfSome};
 ghost use Rattle.std.specs.Option.{is_none};
 ghost use Rattle.gw_base.specs.declared.code.Code.TheVariants.{UnknownTermination};
 ghost use Rattle.gw_desc.specs.Checks.{check_code};
@@ -8,11 +8,13 @@ ghost use Rattle.gw_table.specs.Maps.{term};
 ghost use Rattle.gw_cmd.specs.Refusals.{has_ended, missing, code_if, first_code, refusal_by_tables};
 ghost use Rattle.gw_refusal.specs.Asked.{is_some_list};
 ghost use Rattle.gw_refusal.specs.Targets.{targets};
+ghost use Rattle.gw_cmd.specs.Prepared.{IsJudged};
 
+use crate::prepared::{Prepared, wrong_of};
 use gw_base::{Code, TermName, TermRef};
 use gw_desc::check;
 use gw_msg::Command;
-use gw_refusal::At;
+use gw_refusal::{At, is_add, is_wildcard};
 use gw_table::Draft;
 
 /// Whether the action's context has ended.
@@ -23,6 +25,18 @@ pub(crate) fn has_ended(draft: &Draft<'_>, at: At) -> bool
         At::Live(number) | At::Each(number) => draft.ctx(number).is_none(),
         At::Null | At::Unmade(_) => false,
     }
+}
+
+/// The same, before a command is carried out on its targets, of which the caller says whether there are any: in an action for each context
+/// a member that a wildcard matches shows that the context is there, without a look-up.
+fn has_ended_before(draft: &Draft<'_>, at: At, command: &Command<'_>, any: bool) -> bool
+    requires { any ≡ is_some_list (targets at command.now draft.now.maps) }
+    ensures { result ≡ has_ended at draft.now.maps }
+{
+    if any && at.is_each() && is_wildcard(&command.term) && !is_add(command.verb) {
+        return false;
+    }
+    has_ended(draft, at)
 }
 
 /// Whether there is one of them.
@@ -66,7 +80,8 @@ pub(crate) fn wrong_with(draft: &Draft<'_>, command: &Command<'_>, name: &TermNa
 }
 
 /// Why a command is refused that its form allows: the first of `UnknownContext` (the action's context has ended), what is
-/// missing, and what is wrong with its descriptors. The caller says whether the command is for any termination.
+/// missing, and what is wrong with its descriptors, which may have been found before. The caller says whether the command is for any
+/// termination.
 #[tactic(auto, unfolding(crate::specs::Refusals::refusal_by_tables))]
 pub(crate) fn refusal_by_tables(
     draft: &Draft<'_>,
@@ -74,18 +89,17 @@ pub(crate) fn refusal_by_tables(
     slot: Option<u16>,
     command: &Command<'_>,
     any: bool,
+    known: Option<&Prepared<'_, '_>>,
 ) -> Option<Code>
-    requires { any ≡ is_some_list (targets at command.now draft.now.maps) }
+    requires any { any ≡ is_some_list (targets at command.now draft.now.maps) }
+    requires judged { IfSome known (λ p. IsJudged p.now command.now) }
     ensures { result ≡ refusal_by_tables at slot command.now draft.now.maps }
 {
-    if has_ended(draft, at) {
+    if has_ended_before(draft, at, command, any) {
         return Some(Code::UnknownContext);
     }
     if let Some(code) = missing(draft, at, slot, command, any) {
         return Some(code);
     }
-    match check(command.verb, command.descriptors.as_slice()) {
-        Ok(()) => None,
-        Err(code) => Some(code),
-    }
+    wrong_of(command, known)
 }

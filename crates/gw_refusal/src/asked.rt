@@ -86,8 +86,8 @@ pub fn is_wildcard(term: &TermRef) -> bool
 }
 
 /// Whether a wildcard matches the name.
-pub fn matches(term: TermRef, name: TermName) -> bool
-    ensures { result ≡ matches term name }
+pub fn matches(term: &TermRef, name: &TermName) -> bool
+    ensures { result ≡ matches term.now name.now }
 {
     match term {
         TermRef::All => true,

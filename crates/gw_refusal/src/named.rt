@@ -18,7 +18,7 @@ fn members(alloc: Global, draft: &Draft<'_>, number: CtxNum) -> Result<Vec<TermN
     ensures { IfOk result (λ list. list.items ≡ members_of (ctx draft.now.maps number)) }
 {
     match draft.ctx(number) {
-        Some(context) => Ok(context.members().iter().copied().collect(alloc)?),
+        Some(context) => Ok(Vec::from_slice(alloc, context.members().as_slice())?),
         None => Ok(Vec::new(alloc)),
     }
 }
@@ -62,7 +62,7 @@ fn matched(
     if let TermRef::All = command.term {
         return Ok(named);
     }
-    named.retain(|name| matches(command.term, *name));
+    named.retain(|name| matches(&command.term, name));
     Ok(named)
 }
 
@@ -87,11 +87,11 @@ pub fn targets(
 }
 
 /// Whether the wildcard matches a member of the context.
-fn has_member(draft: &Draft<'_>, number: CtxNum, term: TermRef) -> bool
-    ensures { result ≡ list_any (matches term) (members_of (ctx draft.now.maps number)) }
+fn has_member(draft: &Draft<'_>, number: CtxNum, term: &TermRef) -> bool
+    ensures { result ≡ list_any (matches term.now) (members_of (ctx draft.now.maps number)) }
 {
     match draft.ctx(number) {
-        Some(context) => context.members().iter().any(|name| matches(term, *name)),
+        Some(context) => context.members().iter().any(|name| matches(term, name)),
         None => false,
     }
 }
@@ -113,7 +113,7 @@ fn has_matched(draft: &Draft<'_>, at: At, command: &Command<'_>) -> bool
     ensures { result ≡ is_some_list (matched at command.now draft.now.maps) }
 {
     match source(at, command) {
-        Some(number) => has_member(draft, number, command.term),
+        Some(number) => has_member(draft, number, &command.term),
         None => has_free(draft, command.term),
     }
 }

@@ -11,9 +11,11 @@ pub mod KeyLists
 pub mod KeyOrder
 pub mod LaidCells
 pub mod Leaving
+pub mod Gone
 pub mod Localities
 pub mod Lookups
 pub mod Merged
+pub mod Noting
 pub mod Moved
 pub mod PartLookups
 pub mod Picked
@@ -32,3 +34,4 @@ pub mod Standing
 pub mod Swept
 pub mod Undone
 pub mod Roomy
+pub mod Resets

@@ -78,7 +78,7 @@ once (e ∷ es) h = (above es (first_of _ _ h), once es (second_of _ _ h))
     above [] h = refl
     above (f ∷ fs) h = let apart = below e.0 f.0 (first_of _ _ h) in rw apart (above fs (second_of _ _ h))
 
-filtered_once : (p : List ℕ → Bool) (l : List (List ℕ)) → NoDoubles l → NoDoubles (filter p l)
+pub filtered_once : (p : List ℕ → Bool) (l : List (List ℕ)) → NoDoubles l → NoDoubles (filter p l)
 filtered_once p [] d = tt
 filtered_once p (x ∷ xs) d = by (p x) (filtered_once p xs d.1)
   where

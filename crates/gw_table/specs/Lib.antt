@@ -4,6 +4,7 @@ pub mod Drafts
 pub mod Folds
 pub mod Found
 pub mod Free
+pub mod Gone
 pub mod Grounds
 pub mod Joining
 pub mod KeptSettings
@@ -13,12 +14,14 @@ pub mod Maps
 pub mod Marking
 pub mod Members
 pub mod Merged
+pub mod Noting
 pub mod Originals
 pub mod Parts
 pub mod Records
 pub mod Reserved
 pub mod Served
 pub mod Settings
+pub mod Provided
 pub mod Stored
 pub mod TableTexts
 pub mod Unused

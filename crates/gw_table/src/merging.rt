@@ -7,6 +7,7 @@ ghost use Rattle.std.specs.Map.{lookup};
 ghost use Rattle.gw_base.specs.declared.key.Key.TheVariants.{Term};
 ghost use Rattle.gw_base.specs.NameLists.{is_in, name_cmp};
 ghost use Rattle.gw_term.specs.Merge.{merged};
+ghost use Rattle.gw_term.specs.Named.{named_by};
 ghost use Rattle.gw_term.specs.Plain.{are_plain, AreKnown};
 ghost use Rattle.gw_table.specs.declared.reach.Reach.TheVariants.{Free};
 ghost use Rattle.gw_table.specs.Maps.{term};
@@ -14,7 +15,7 @@ ghost use Rattle.gw_table.specs.Merged.{put_changed, all_changed, is_away_at, is
 ghost use Rattle.gw_table.specs.Originals.{IsInPlace};
 ghost use Rattle.gw_table.specs.Parts.{holds};
 ghost use Rattle.gw_table.specs.Served.{reached};
-ghost use Rattle.gw_table.specs.Stored.{Stored, shown};
+ghost use Rattle.gw_table.specs.Stored.{Stored, maps_of, shown};
 
 use crate::draft::{Draft, Ground};
 use crate::free::is_free_at;
@@ -135,6 +136,25 @@ impl Tables {
         Ok(last)
     }
 
+    /// The descriptors, to be merged into many records that are like that of the termination of a name, if one is given.
+    fn sending_like<'a, 'b>(
+        &self,
+        alloc: Global,
+        rules: &'a Rules,
+        descriptors: &'a [Descriptor<'b>],
+        name: &Option<TermName>,
+    ) -> Result<Sending<'a, 'b>, NoMemory>
+        ensures rules { IfOk result (λ sending. sending.rules.now ≡ rules.now) }
+        ensures descriptors { IfOk result (λ sending. sending.descriptors.now ≡ descriptors.now) }
+        ensures named { IfOk result (λ sending. sending.named ≡ named_by descriptors.now) }
+    {
+        let like = match name {
+            Some(name) => self.find_term(name),
+            None => None,
+        };
+        Sending::new(alloc, rules, descriptors, like)
+    }
+
     /// Merges the descriptors into those that are meant, each in its place. What was noted of them stands in the list of writes from an
     /// index on, in their order; which is the last is known. The work is one pass over the places, and a look-up.
     ///
@@ -171,26 +191,79 @@ impl Tables {
         );
         unless_refused(&self.terms, last)
     }
+
+    /// The descriptors are merged into the termination of a name, if there is one, in its place. Its record is noted first, unless that or
+    /// its key is noted. It is one look-up.
+    fn note_and_merge(
+        &mut self,
+        alloc: Global,
+        name: &TermName,
+        sending: &Sending<'_, '_>,
+        writes: &mut Vec<Write>,
+    ) -> Result<(), NoMemory>
+        requires { AreKnown sending.now.descriptors.now sending.now.named }
+        ensures back { (start : Stored) → IsInPlace start self.old writes.old.items → IsInPlace start self.new writes.new.items }
+        ensures maps { OnOk result (maps_of self.new ≡ put_changed (merged sending.now.rules.now sending.now.descriptors.now) name.now (maps_of self.old) (term (maps_of self.old) name.now)) }
+    {
+        let Some(site) = self.terms.get_mut(name) else {
+            return Ok(());
+        };
+        site.note_and_merge(alloc, name, sending, writes)
+    }
 }
 
 impl InPlace {
-    /// The descriptors are merged into those that are meant, each in its place. The record of one that was not noted before is noted first.
-    fn merge_all_free(
+    /// The descriptors are merged into those that are meant, each in its place. The record of one that was not noted before is noted
+    /// first. Where the last shares what was set of it, those of which the same was set will share what is made of it.
+    fn merge_all_free<'a>(
         &mut self,
         alloc: Global,
         prefix: &[u8],
-        rules: &Rules,
-        descriptors: &[Descriptor<'_>],
+        rules: &'a Rules,
+        descriptors: &'a [Descriptor<'_>],
     ) -> Result<(), NoMemory>
         requires { are_plain descriptors.now ≡ true }
         ensures maps { OnOk result (self.new.maps ≡ all_changed (merged rules.now descriptors.now) (reached Free prefix.now self.old.maps) self.old.maps) }
         ensures keys { self.new.keys ≡ self.old.keys }
     {
-        let sending = Sending::new(alloc, rules, descriptors)?;
         let first = self.writes.len();
         let last = self.tables.note_all_free(alloc, prefix, &mut self.writes)?;
+        let sending = self.tables.sending_like(alloc, rules, descriptors, &last)?;
         self.tables
             .merge_all_free(alloc, prefix, &sending, &self.writes, first, last)
+    }
+
+    /// The descriptors are merged into the termination of a name, if there is one, in its place. The record of one that was not noted
+    /// before is noted first.
+    fn merge_term(
+        &mut self,
+        alloc: Global,
+        sending: &Sending<'_, '_>,
+        name: &TermName,
+    ) -> Result<(), NoMemory>
+        requires { AreKnown sending.now.descriptors.now sending.now.named }
+        ensures maps { OnOk result (self.new.maps ≡ put_changed (merged sending.now.rules.now sending.now.descriptors.now) name.now self.old.maps (term self.old.maps name.now)) }
+        ensures keys { self.new.keys ≡ self.old.keys }
+    {
+        self.tables
+            .note_and_merge(alloc, name, sending, &mut self.writes)
+    }
+
+    /// The descriptors are merged into the terminations of these names.
+    fn merge_each(
+        &mut self,
+        alloc: Global,
+        sending: &Sending<'_, '_>,
+        named: &[TermName],
+    ) -> Result<(), NoMemory>
+        requires { AreKnown sending.now.descriptors.now sending.now.named }
+        ensures maps { OnOk result (self.new.maps ≡ all_changed (merged sending.now.rules.now sending.now.descriptors.now) named.now self.old.maps) }
+        ensures keys { self.new.keys ≡ self.old.keys }
+    {
+        for name in named {
+            self.merge_term(alloc, sending, name)?;
+        }
+        Ok(())
     }
 }
 
@@ -245,7 +318,7 @@ impl OverPart<'_> {
         ensures maps { OnOk result (self.new.maps ≡ all_changed (merged rules.now descriptors.now) (reached Free prefix.now self.old.maps) self.old.maps) }
         ensures keys { self.new.keys ≡ self.old.keys }
     {
-        let sending = Sending::new(alloc, rules, descriptors)?;
+        let sending = Sending::new(alloc, rules, descriptors, None)?;
         let named = self.reached(alloc, Reach::Free, prefix)?;
         self.merge_each(alloc, &sending, &named)
     }
@@ -253,9 +326,10 @@ impl OverPart<'_> {
 
 impl Draft<'_> {
     /// The descriptors are merged into those terminations of the null context whose names begin so. The caller knows that each
-    /// of these takes them, as one of which nothing was set does, and that the names are among the draft's keys. The work is two passes over the tables, with one look-up, and the
-    /// merges; or a look-up for each key of the part, and two for each that is meant. Memory is taken for the records of those that were
-    /// not noted before, as copies, and for what is new in the records.
+    /// of these takes them, as one of which nothing was set does, and that the names are among the draft's keys. The work is two passes
+    /// over the tables, with two look-ups, and the merges; or a look-up for each key of the part, and two for each that is meant. Memory
+    /// is taken for the records of those that were not noted before, as copies, and for what is new in the records, once for all of which
+    /// nothing was set.
     ///
     /// # Errors
     ///
@@ -275,6 +349,31 @@ impl Draft<'_> {
         match &mut self.ground {
             Ground::OfPart(ground) => ground.merge_all_free(alloc, prefix, rules, descriptors),
             Ground::OfTables(ground) => ground.merge_all_free(alloc, prefix, rules, descriptors),
+        }
+    }
+
+    /// The descriptors are merged into the terminations of these names, those of which there is one. The caller knows that each of these
+    /// takes them, and that the names are among the draft's keys. In whole tables a name takes one look-up, and what stands there is
+    /// changed where it lies; in a part it takes two. Memory is taken for the records of those that were not written before, as copies,
+    /// and for what is new in the records.
+    ///
+    /// # Errors
+    ///
+    /// Want of memory. Those of the first names may then be merged, and one may be elsewhere, or gone from a draft of a part.
+    pub fn merge_each(
+        &mut self,
+        alloc: Global,
+        named: &[TermName],
+        sending: &Sending<'_, '_>,
+    ) -> Result<(), NoMemory>
+        requires known { AreKnown sending.now.descriptors.now sending.now.named }
+        requires term_keys { (t : List ℕ) → is_in t named.now ≡ true → holds self.old.keys (Term t) ≡ true }
+        ensures maps { OnOk result (self.new.maps ≡ all_changed (merged sending.now.rules.now sending.now.descriptors.now) named.now self.old.maps) }
+        ensures keys { self.new.keys ≡ self.old.keys }
+    {
+        match &mut self.ground {
+            Ground::OfPart(ground) => ground.merge_each(alloc, sending, named),
+            Ground::OfTables(ground) => ground.merge_each(alloc, sending, named),
         }
     }
 }

@@ -4,11 +4,12 @@ ghost use Rattle.std.specs.Prelude.{◌≡◌, ℕ, nat_eq, ◌&&◌, true, List
 ghost use Rattle.std.specs.List.{starts_with};
 ghost use Rattle.gw_base.specs.declared.key.Key.TheVariants.{Term};
 ghost use Rattle.gw_base.specs.NameLists.{is_in};
-ghost use Rattle.gw_table.specs.Maps.{names};
+ghost use Rattle.gw_table.specs.Maps.{names, term};
+ghost use Rattle.gw_table.specs.Members.{put_service};
 ghost use Rattle.gw_table.specs.Originals.{IsInPlace};
 ghost use Rattle.gw_table.specs.Parts.{holds};
 ghost use Rattle.gw_table.specs.Served.{is_reached, reached, all_serviced, served_at, AreServed, AreNoted};
-ghost use Rattle.gw_table.specs.Stored.{Stored};
+ghost use Rattle.gw_table.specs.Stored.{Stored, maps_of};
 
 use crate::draft::{Draft, Ground};
 use crate::free::begins_with;
@@ -82,6 +83,24 @@ impl Tables {
             true
         });
     }
+
+    /// The termination of a name, if there is one, has this service state, in its place. Its record is noted first, unless that or its key
+    /// is noted. It is one look-up.
+    fn note_and_serve(
+        &mut self,
+        alloc: Global,
+        name: &TermName,
+        service: Service,
+        writes: &mut Vec<Write>,
+    ) -> Result<(), NoMemory>
+        ensures back { (start : Stored) → IsInPlace start self.old writes.old.items → IsInPlace start self.new writes.new.items }
+        ensures maps { OnOk result (maps_of self.new ≡ put_service service name.now (maps_of self.old) (term (maps_of self.old) name.now)) }
+    {
+        let Some(site) = self.terms.get_mut(name) else {
+            return Ok(());
+        };
+        site.note_and_serve(alloc, name, service, writes)
+    }
 }
 
 impl InPlace {
@@ -101,6 +120,37 @@ impl InPlace {
             .note_reached(alloc, reach, prefix, service, &mut self.writes)?;
         self.tables
             .serve_all_reached(reach, prefix, service, &self.writes, first);
+        Ok(())
+    }
+
+    /// The termination of a name, if there is one, has this service state, in its place. The record of one that was not noted before is
+    /// noted first.
+    fn serve_in_place(
+        &mut self,
+        alloc: Global,
+        name: &TermName,
+        service: Service,
+    ) -> Result<(), NoMemory>
+        ensures maps { OnOk result (self.new.maps ≡ put_service service name.now self.old.maps (term self.old.maps name.now)) }
+        ensures keys { self.new.keys ≡ self.old.keys }
+    {
+        self.tables
+            .note_and_serve(alloc, name, service, &mut self.writes)
+    }
+
+    /// The terminations of these names have this service state.
+    fn set_service_of_each(
+        &mut self,
+        alloc: Global,
+        named: &[TermName],
+        service: Service,
+    ) -> Result<(), NoMemory>
+        ensures maps { OnOk result (self.new.maps ≡ all_serviced service named.now self.old.maps) }
+        ensures keys { self.new.keys ≡ self.old.keys }
+    {
+        for name in named {
+            self.serve_in_place(alloc, name, service)?;
+        }
         Ok(())
     }
 }
@@ -187,6 +237,29 @@ impl Draft<'_> {
         match &mut self.ground {
             Ground::OfPart(ground) => ground.set_service_of_all(alloc, reach, prefix, service),
             Ground::OfTables(ground) => ground.set_service_of_all(alloc, reach, prefix, service),
+        }
+    }
+
+    /// The terminations of these names, those of which there is one, have this service state. The caller knows that the names are among
+    /// the draft's keys. In whole tables a name takes one look-up, and what stands there is changed where it lies; in a part it takes
+    /// two. Memory is taken for the records of those that have another service state and were not written before, as copies.
+    ///
+    /// # Errors
+    ///
+    /// Want of memory. Those of the first names may then have the service state, and one may be gone from a draft of a part.
+    pub fn set_service_of_each(
+        &mut self,
+        alloc: Global,
+        named: &[TermName],
+        service: Service,
+    ) -> Result<(), NoMemory>
+        requires { (t : List ℕ) → is_in t named.now ≡ true → holds self.old.keys (Term t) ≡ true }
+        ensures maps { OnOk result (self.new.maps ≡ all_serviced service named.now self.old.maps) }
+        ensures keys { self.new.keys ≡ self.old.keys }
+    {
+        match &mut self.ground {
+            Ground::OfPart(ground) => ground.set_service_of_each(alloc, named, service),
+            Ground::OfTables(ground) => ground.set_service_of_each(alloc, named, service),
         }
     }
 }

@@ -7,10 +7,13 @@ ghost use Rattle.gw_base.specs.Keys.{has};
 ghost use Rattle.gw_base.specs.NameLists.{is_in};
 ghost use Rattle.gw_term.specs.Merge.{merged};
 ghost use Rattle.gw_term.specs.Plain.{AreKnown};
+ghost use Rattle.gw_table.specs.declared.place.Place.TheVariants.{Empty};
 ghost use Rattle.gw_table.specs.Found.{IsFound, original_of};
+ghost use Rattle.gw_table.specs.Gone.{has_slot, reset_at};
 ghost use Rattle.gw_table.specs.Joining.{joined_at, left_at};
 ghost use Rattle.gw_table.specs.Maps.{members_of};
-ghost use Rattle.gw_table.specs.Merged.{is_away_at, WasMerged, MayNoteRecord};
+ghost use Rattle.gw_table.specs.Merged.{changed_place, is_away_at, WasMerged, MayNoteRecord};
+ghost use Rattle.gw_table.specs.Noting.{MayChange};
 ghost use Rattle.gw_table.specs.KeptSettings.{IsKept, MayKeep};
 ghost use Rattle.gw_table.specs.Originals.{keys_written, has_properties, has_termination};
 ghost use Rattle.gw_table.specs.Records.{recorded_at};
@@ -23,6 +26,7 @@ use crate::merging::{merge_in_place, put_away};
 use crate::originals::Write;
 use crate::place::{Place, copied, put_record, renew, serve, set_in_place};
 use crate::setting::{self, Setting, is_set};
+use crate::subtracting::{has_slot, reset_in_place};
 use gw_base::{CtxNum, Held, Key, NoMemory, Service, TermName};
 use gw_ctx::Context;
 use gw_term::{Sending, Termination};
@@ -299,6 +303,73 @@ impl Site<Held<Termination>> {
         Ok(())
     }
 
+    /// Whether a termination with a slot stands here.
+    pub(crate) fn has_slot(&self) -> bool
+        ensures { result ≡ has_slot (shown (Some self.now)) }
+    {
+        has_slot(&self.place)
+    }
+
+    /// The termination that stands here, if there is one, goes to the null context with nothing set, in its place. Its record is moved to
+    /// the list of writes, unless that or its key is noted already. The caller knows that it has no slot.
+    ///
+    /// # Errors
+    ///
+    /// Want of memory. Nothing has changed then.
+    pub(crate) fn reset(
+        &mut self,
+        alloc: Global,
+        name: &TermName,
+        writes: &mut Vec<Write>,
+    ) -> Result<(), NoMemory>
+        requires { has_slot (shown (Some self.old)) ≡ false }
+        ensures after { OnOk result (self.new ≡ reset_at self.old) }
+        ensures least { MayNoteRecord name.now self.old writes.old.items writes.new.items }
+        ensures noted { OnOk result (is_some (shown (Some self.old)) ≡ true → has_termination name.now writes.new.items ≡ true) }
+        ensures err { OnErr result (self.new ≡ self.old) }
+    {
+        if is_termination_at(writes, self.noted as usize, name) {
+            drop(reset_in_place(&mut self.place, alloc));
+            return Ok(());
+        }
+        let next = next_of(writes);
+        writes.reserve(1)?;
+        let Some(before) = reset_in_place(&mut self.place, alloc) else {
+            return Ok(());
+        };
+        self.noted = next;
+        let Ok(()) = writes.push(Write::OfRecord(*name, before)) else {
+            unreachable!()
+        };
+        Ok(())
+    }
+
+    /// What stands here goes, and is moved to the list of writes, unless its key is noted already.
+    ///
+    /// # Errors
+    ///
+    /// Want of memory. Nothing has changed then.
+    pub(crate) fn give_up(
+        &mut self,
+        name: &TermName,
+        writes: &mut Vec<Write>,
+    ) -> Result<(), NoMemory>
+        ensures after { OnOk result (self.new ≡ Empty) }
+        ensures least { MayNote name.now self.old writes.old.items writes.new.items }
+        ensures noted { OnOk result (has (keys_written writes.new.items) (Term name.now) ≡ true) }
+        ensures err { OnErr result (self.new ≡ self.old) }
+    {
+        writes.reserve(1)?;
+        let found = self.write(Place::Empty, writes, &Key::Term(*name));
+        let Found::Original(before) = found else {
+            return Ok(());
+        };
+        let Ok(()) = writes.push(Write::OfTerm(*name, before)) else {
+            unreachable!()
+        };
+        Ok(())
+    }
+
     /// The termination that stands here has this record, if there is one, in its place.
     pub(crate) fn put_record(&mut self, before: Termination)
         ensures { self.new ≡ recorded_at before self.old }
@@ -323,6 +394,62 @@ impl Site<Held<Termination>> {
         let refused = merge_in_place(&mut self.place, alloc, sending);
         let next = self.pass_noted(name, writes, next);
         (next, refused)
+    }
+
+    /// The termination that stands here has this service state, if there is one, in its place. Where it has another, its record is noted
+    /// first, unless that or its key is noted.
+    ///
+    /// # Errors
+    ///
+    /// Want of memory. Nothing has changed then.
+    pub(crate) fn note_and_serve(
+        &mut self,
+        alloc: Global,
+        name: &TermName,
+        service: Service,
+        writes: &mut Vec<Write>,
+    ) -> Result<(), NoMemory>
+        ensures least { MayNoteRecord name.now self.old writes.old.items writes.new.items }
+        ensures kept { MayChange name.now writes.new.items self.old self.new }
+        ensures after { OnOk result (self.new ≡ served service self.old) }
+    {
+        let Place::Here(termination) = &self.place else {
+            return Ok(());
+        };
+        if service == termination.get().service() {
+            return Ok(());
+        }
+        let next = writes.len();
+        self.note_record(alloc, name, writes)?;
+        self.serve_noted(name, service, writes, next);
+        Ok(())
+    }
+
+    /// The descriptors are merged into the termination that stands here, if there is one, in its place. Its record is noted first, unless
+    /// that or its key is noted. The caller knows that it takes the descriptors.
+    ///
+    /// # Errors
+    ///
+    /// Want of memory. Some termination stands here still, if one did.
+    pub(crate) fn note_and_merge(
+        &mut self,
+        alloc: Global,
+        name: &TermName,
+        sending: &Sending<'_, '_>,
+        writes: &mut Vec<Write>,
+    ) -> Result<(), NoMemory>
+        requires { AreKnown sending.now.descriptors.now sending.now.named }
+        ensures least { MayNoteRecord name.now self.old writes.old.items writes.new.items }
+        ensures kept { MayChange name.now writes.new.items self.old self.new }
+        ensures after { OnOk result (self.new ≡ changed_place (merged sending.now.rules.now sending.now.descriptors.now) self.old) }
+    {
+        if !self.is_here() {
+            return Ok(());
+        }
+        let next = writes.len();
+        self.note_record(alloc, name, writes)?;
+        let (_, refused) = self.merge_noted(alloc, sending, name, writes, next);
+        if refused { Err(NoMemory) } else { Ok(()) }
     }
 
     /// The termination that stands here, if there is one, leaves the null context.

@@ -14,3 +14,4 @@ pub mod SettingLists
 pub mod MadeOnce
 pub mod MadeThere
 pub mod RoomTaken
+pub mod SamePlaces

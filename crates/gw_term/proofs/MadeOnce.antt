@@ -1,4 +1,4 @@
--- What plain descriptors make of a record of which nothing was set is the same for each such record.
+-- What plain descriptors make of a record is the same for each record of which the same was set.
 use Rattle.std.proofs.Common.{◌≡◌, ℕ, zero, suc, ◌≤◌, arith, Bool, true, false, List, [], ◌∷◌, Option, Some, None, is_some, refl, ap, sym, ◌∙◌}
 use Rattle.std.specs.Prelude.{◌&&◌, if◌then◌else◌, decimal}
 use Rattle.std.specs.List.{list_all, list_any, flat_map}
@@ -17,7 +17,7 @@ use Rattle.gw_term.specs.declared.streams.Merging.{Merging}
 use Rattle.gw_term.specs.declared.record.Termination.{Termination}
 use Rattle.gw_term.specs.Merge.{and_then, each, put_part, begun, unnamed, is_named_in, parts_in, merged_properties, merged_stream, merged_tail, merged_media, with_media, merged, stream_in}
 use Rattle.gw_term.specs.Places.{at_number, at_kind}
-use Rattle.gw_term.specs.Plain.{has_choice, is_plain_stream, is_plain_one, are_plain, IsMadeBy, AreMade, AreSet, stream_or_none, with_properties, with_streams_after, with_tails_after, with_all_after}
+use Rattle.gw_term.specs.Plain.{has_choice, is_plain_stream, is_plain_one, are_plain, IsMadeBy, IsMadeOf, AreMade, AreSet, stream_or_none, with_properties, with_streams_after, with_tails_after, with_all_after}
 use Rattle.gw_term.specs.Record.{provisioned}
 use Rattle.gw_term.specs.Settings.{Settings, nothing_set}
 use Rattle.gw_term.proofs.ByField.{by_field, parts_are}
@@ -68,49 +68,61 @@ module _ (rules : Rules) (number : ℕ) where
 made_some : {T : Type 0} (o : Option T) (t : T) → o ≡ Some t → is_some o ≡ true
 made_some {T} o t e = ap (λ (x : Option T). is_some x) e
 
--- of a record of which nothing was set, whatever its slot
-module _ (rules : Rules) (slot : Option ℕ) (ds : List Descriptor) (h : are_plain ds ≡ true) (made : Settings) (is : IsMadeBy rules ds made) where
-  merged_is : (r : Termination) → merged rules ds provisioned ≡ Some r → option_map (with_media ds provisioned) (merged_media rules ds provisioned) ≡ Some r
+-- of a record of which this was set, whatever its slot
+module _ (rules : Rules) (slot : Option ℕ) (ds : List Descriptor) (h : are_plain ds ≡ true) (old new : Settings) (is : IsMadeOf rules ds old new) where
+  abbrev set_so : Termination
+  set_so = record provisioned { settings = old }
+
+  merged_is : (r : Termination) → merged rules ds set_so ≡ Some r → option_map (with_media ds set_so) (merged_media rules ds set_so) ≡ Some r
   unfolding merged
   merged_is r e = e
 
-  found : (r : Termination) × (merged rules ds provisioned ≡ Some r) × (made ≡ r.settings)
-  found = mapped_from (merged rules ds provisioned) (λ r. r.settings) made is
+  found : (r : Termination) × (merged rules ds set_so ≡ Some r) × (new ≡ r.settings)
+  found = mapped_from (merged rules ds set_so) (λ r. r.settings) new is
 
-  streams_taken : AreMade rules None ds nothing_set.streams
+  streams_taken : AreMade rules None ds old.streams
   streams_taken =
-      let m = mapped_from (merged_media rules ds provisioned) (with_media ds provisioned) found.0 (merged_is found.0 found.1) in
-      let s = (parts_are rules ds provisioned m.0 m.1).streams in
+      let m = mapped_from (merged_media rules ds set_so) (with_media ds set_so) found.0 (merged_is found.0 found.1) in
+      let s = (parts_are rules ds set_so m.0 m.1).streams in
       record { first = made_some _ _ s.first; second = made_some _ _ s.second; third = made_some _ _ s.third; fourth = made_some _ _ s.fourth }
 
-  properties_taken : merged_properties ds [] ≡ Some made.properties
-  properties_taken = (by_field rules ds provisioned found.0 found.1).properties ∙ ap (λ (s : Settings). Some s.properties) (sym found.2)
+  properties_taken : merged_properties ds old.properties ≡ Some new.properties
+  properties_taken = (by_field rules ds set_so found.0 found.1).properties ∙ ap (λ (s : Settings). Some s.properties) (sym found.2)
 
   some_is : {T : Type 0} (x y : T) → Some x ≡ Some y → x ≡ y
   some_is x y e = cc
 
-  all_none : made ≡ with_all_after rules None ds (with_properties made.properties nothing_set)
+  all_none : new ≡ with_all_after rules None ds (with_properties new.properties old)
   all_none =
-      let here = merged_here rules ds provisioned made.properties properties_taken streams_taken in
+      let here = merged_here rules ds set_so new.properties properties_taken streams_taken in
       found.2 ∙ ap (λ (r : Termination). r.settings) (some_is _ _ (sym found.1 ∙ here))
 
-  streams_same : (s : Settings) → s.streams ≡ nothing_set.streams → with_streams_after (stream_or_none rules None) ds s ≡ with_streams_after (stream_or_none rules slot) ds s
-  streams_same s e =
+  streams_same : (s : Settings) → with_streams_after (stream_or_none rules None) ds s ≡ with_streams_after (stream_or_none rules slot) ds s
+  streams_same s =
       let one : (number : ℕ) (o : Option Stream) → stream_or_none rules None number ds o ≡ stream_or_none rules slot number ds o = λ number o. sym (stream_same rules number slot ds o h) in
       (λ i. let streams : PerStream (Option Stream) = record { first = one 1 s.streams.first i; second = one 2 s.streams.second i; third = one 3 s.streams.third i; fourth = one 4 s.streams.fourth i } in record s { streams = streams })
 
-  -- what they make of any record of which nothing was set
-  pub made_anywhere : AreSet rules slot ds nothing_set made
-  made_anywhere = record {
+  taken_anywhere : (number : ℕ) (o : Option Stream) → is_some (merged_stream rules None number ds o) ≡ true → is_some (merged_stream rules slot number ds o) ≡ true
+  taken_anywhere number o e = ap (λ (m : Option (Option Merging)). is_some m) (merged_same rules number slot ds o h) ∙ e
+
+  -- what they make of any record of which this was set
+  pub made_from : AreSet rules slot ds old new
+  made_from = record {
     properties = properties_taken;
     streams = record {
-      first = ap (λ (o : Option (Option Merging)). is_some o) (merged_same rules 1 slot ds None h) ∙ streams_taken.first;
-      second = ap (λ (o : Option (Option Merging)). is_some o) (merged_same rules 2 slot ds None h) ∙ streams_taken.second;
-      third = ap (λ (o : Option (Option Merging)). is_some o) (merged_same rules 3 slot ds None h) ∙ streams_taken.third;
-      fourth = ap (λ (o : Option (Option Merging)). is_some o) (merged_same rules 4 slot ds None h) ∙ streams_taken.fourth;
+      first = taken_anywhere 1 old.streams.first streams_taken.first;
+      second = taken_anywhere 2 old.streams.second streams_taken.second;
+      third = taken_anywhere 3 old.streams.third streams_taken.third;
+      fourth = taken_anywhere 4 old.streams.fourth streams_taken.fourth;
     };
-    all = all_none ∙ ap (with_tails_after ds) (streams_same (with_properties made.properties nothing_set) refl);
+    all = all_none ∙ ap (with_tails_after ds) (streams_same (with_properties new.properties old));
   }
+
+-- of a record of which nothing was set, whatever its slot
+module _ (rules : Rules) (slot : Option ℕ) (ds : List Descriptor) (h : are_plain ds ≡ true) (made : Settings) (is : IsMadeBy rules ds made) where
+  -- what they make of any record of which nothing was set
+  pub made_anywhere : AreSet rules slot ds nothing_set made
+  made_anywhere = made_from rules slot ds h nothing_set made is
 
   -- the stream of a number in it, which it takes
   pub made_stream : (number : ℕ) → 1 ≤ number → number ≤ 4 → (at_number number made.streams ≡ stream_or_none rules slot number ds None) × (is_some (merged_stream rules slot number ds None) ≡ true)

@@ -16,7 +16,6 @@ use Rattle.gw_desc.specs.declared.descriptor.StreamPart.TheVariants as part
 use Rattle.gw_desc.specs.declared.descriptor.Property.{Property}
 use Rattle.gw_desc.specs.declared.descriptor.Tail.{Tail}
 use Rattle.gw_term.specs.declared.record.Stream.{Stream}
-use Rattle.gw_term.specs.declared.record.Termination.{Termination}
 use Rattle.gw_term.specs.declared.settings.Setting.{Setting}
 use Rattle.gw_term.specs.declared.settings.Setting.TheVariants as setting
 use Rattle.gw_term.specs.declared.named.Named.{Named}
@@ -24,7 +23,7 @@ use Rattle.gw_term.specs.Named.{named_by}
 use Rattle.gw_term.specs.Merge.{each, parts_in, put_part, merged, merged_properties, merged_stream, merged_tail, stream_in}
 use Rattle.gw_term.specs.Places.{at_number, put_number, at_kind, put_kind}
 use Rattle.gw_term.specs.Record.{provisioned}
-use Rattle.gw_term.specs.Settings.{Settings}
+use Rattle.gw_term.specs.Settings.{Settings, nothing_set}
 use Rattle.gw_term.specs.declared.places.PerStream.{PerStream}
 
 -- a `$`, which might be filled
@@ -56,9 +55,13 @@ pub record AreKnown (descriptors : List Descriptor) (named : Named) : Type 0 whe
   pub plain : are_plain descriptors ≡ true
   pub known : named ≡ named_by descriptors
 
+-- what was set of a termination that was configured, and what is after the descriptors
+abbrev pub IsMadeOf : Rules → List Descriptor → (before after : Settings) → Type 0
+IsMadeOf rules descriptors before after = option_map (λ r. r.settings) (merged rules descriptors (record provisioned { settings = before })) ≡ Some after
+
 -- what the descriptors make of a termination of which nothing was set
 abbrev pub IsMadeBy : Rules → List Descriptor → Settings → Type 0
-IsMadeBy rules descriptors made = option_map (λ r. r.settings) (merged rules descriptors provisioned) ≡ Some made
+IsMadeBy rules descriptors made = IsMadeOf rules descriptors nothing_set made
 
 -- ---- a merge in the place of a stream
 

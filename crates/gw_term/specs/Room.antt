@@ -1,7 +1,8 @@
 -- Whether every list of a record has room for the properties that descriptors send, Mode and ServiceStates apart, which no list holds
 -- (own): enough where all of them, new ones or not, find room behind each list that there is.
-use Rattle.std.specs.Prelude.{◌≡◌, ◌≤◌, ◌+◌, ℕ, not, List, length}
+use Rattle.std.specs.Prelude.{◌≡◌, ◌≤◌, ◌+◌, ℕ, not, List, length, Some}
 use Rattle.std.specs.List.{filter, flat_map}
+use Rattle.gw_base.specs.declared.command_words.Rules.{Rules}
 use Rattle.gw_desc.specs.declared.descriptor.Descriptor.{Descriptor}
 use Rattle.gw_desc.specs.declared.descriptor.MediaPart.{MediaPart}
 use Rattle.gw_desc.specs.declared.descriptor.MediaPart.TheVariants as media
@@ -9,9 +10,10 @@ use Rattle.gw_desc.specs.declared.descriptor.Property.{Property}
 use Rattle.gw_desc.specs.declared.descriptor.StreamPart.{StreamPart}
 use Rattle.gw_desc.specs.Values.{is_mode, is_service_states}
 use Rattle.gw_term.specs.Lookups.{controls_in, list_in}
-use Rattle.gw_term.specs.Merge.{media_parts, most_properties}
+use Rattle.gw_term.specs.Merge.{media_parts, most_properties, merged}
 use Rattle.gw_term.specs.Places.{AtEach}
 use Rattle.gw_term.specs.Settings.{Settings}
+use Rattle.gw_term.specs.declared.record.Termination.{Termination}
 use Rattle.gw_term.specs.declared.settings.Setting.{Setting}
 use Rattle.gw_term.specs.declared.settings.Setting.TheVariants as setting
 
@@ -46,3 +48,7 @@ abbrev pub HasRoomAt : ℕ → Setting → Type 0
 HasRoomAt most (setting.Properties list) = length list ≤ most
 HasRoomAt most (setting.Stream number s) = length s.properties ≤ most
 HasRoomAt most (setting.Tail kind tail) = Unit {0}
+
+-- a record that takes the descriptors: they can be merged into it
+abbrev pub Takes : Rules → List Descriptor → Termination → Type 0
+Takes rules descriptors r = (new : Termination) × (merged rules descriptors r ≡ Some new)

@@ -80,6 +80,16 @@ impl HeldProperty {
             && value == property.value.as_bytes()
     }
 
+    /// Whether it is the other property.
+    #[inline]
+    pub(crate) fn is_same(&self, other: &HeldProperty) -> bool
+        ensures { result ≡ true → self.now ≡ other.now }
+    {
+        is_same_sign(self.sign, other.sign)
+            && self.split == other.split
+            && self.texts.is_same(&other.texts)
+    }
+
     /// Its name.
     pub(crate) fn name(&self) -> &[u8]
         ensures { result.now ≡ self.now.name }
@@ -186,6 +196,18 @@ impl HeldTail {
             texts: self.texts.copied(alloc, copying)?,
             split: self.split,
         })
+    }
+
+    /// Whether it is the other tail.
+    #[inline]
+    pub(crate) fn is_same(&self, other: &HeldTail) -> bool
+        ensures { result ≡ true → self.now ≡ other.now }
+    {
+        self.equals == other.equals
+            && self.has_word == other.has_word
+            && self.has_group == other.has_group
+            && self.split == other.split
+            && self.texts.is_same(&other.texts)
     }
 
     /// The tail as it is told, with copies of its texts.

@@ -13,6 +13,7 @@ mod plain;
 mod properties;
 mod record;
 mod room;
+mod same;
 mod sending;
 mod settings;
 mod streams;

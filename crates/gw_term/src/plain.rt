@@ -1,6 +1,6 @@
 //! Descriptors of which nothing is told, and their merge where the record lies.
 
-ghost use Rattle.std.specs.Prelude.{◌≡◌, ◌≤◌, true, false, map, None, Some, OnOk};
+ghost use Rattle.std.specs.Prelude.{◌≡◌, ◌≤◌, true, false, [], map, None, Some, OnOk};
 ghost use Rattle.std.specs.List.{flat_map, list_all, list_any};
 ghost use Rattle.std.specs.Option.{is_some, option_map};
 ghost use Rattle.gw_desc.specs.Checks.{is_kept};
@@ -15,10 +15,10 @@ use crate::held::{HeldProperty, HeldTail};
 use crate::properties::{merged_properties, merged_service};
 use crate::record::{Stream, Termination};
 use crate::sending::Sending;
-use crate::settings::{Setting, Settings};
+use crate::settings::{Form, Setting, Settings};
 use crate::streams::{Sent, put_all};
 use crate::text::Copying;
-use gw_base::{Items, NoMemory, Rules};
+use gw_base::{Items, NoMemory};
 use gw_desc::{Descriptor, KeptKind, MediaPart, StreamPart, same_kept};
 use std::alloc::{AllocError, Global};
 
@@ -199,7 +199,11 @@ impl Settings {
         ensures after { OnOk result (self.new ≡ with_stream_after (λ old. option_map (stream_after sent.now.rules.now sent.now.slot number sent.now.descriptors.now) old) number self.old) }
         ensures made { OnOk result (is_some (merged_stream sent.now.rules.now sent.now.slot number sent.now.descriptors.now (at_number number self.old.streams)) ≡ true) }
     {
-        merge_settings(alloc, sent, number, &mut self.list)
+        self.form.own(alloc)?;
+        match &mut self.form {
+            Form::Own(list) => merge_settings(alloc, sent, number, list),
+            Form::Shared(_) => unreachable!(),
+        }
     }
 
     /// A stream of this number, which is not there, comes into being, if the descriptors make one, as a copy of that.
@@ -312,11 +316,23 @@ impl Settings {
         self.merge_each_stream(alloc, sending, slot)
     }
 
+    /// No properties are kept.
+    fn drop_properties(&mut self, alloc: Global) -> Result<(), AllocError>
+        ensures { OnOk result (self.new ≡ with_properties [] self.old) }
+    {
+        self.form.own(alloc)?;
+        match &mut self.form {
+            Form::Own(list) => list.retain(|setting| !is_properties(setting)),
+            Form::Shared(_) => unreachable!(),
+        }
+        Ok(())
+    }
+
     /// These properties, and no others, are kept.
-    fn put_properties(&mut self, list: Items<HeldProperty>) -> Result<(), AllocError>
+    fn put_properties(&mut self, alloc: Global, list: Items<HeldProperty>) -> Result<(), AllocError>
         ensures { OnOk result (self.new ≡ with_properties list self.old) }
     {
-        self.list.retain(|setting| !is_properties(setting));
+        self.drop_properties(alloc)?;
         if list.is_empty() {
             return Ok(());
         }
@@ -335,7 +351,7 @@ impl Settings {
         ensures after { OnOk result (self.new ≡ with_properties self.new.properties self.old) }
     {
         let list = merged_properties(alloc, true, descriptors, self.properties())?;
-        self.put_properties(list)?;
+        self.put_properties(alloc, list)?;
         Ok(())
     }
 
@@ -368,7 +384,11 @@ impl Settings {
         requires { is_some (at_kind kind self.old.tails) ≡ true }
         ensures { OnOk result (self.new ≡ with_tail kind tail.now self.old) }
     {
-        retell_settings(alloc, kind, tail, &mut self.list)
+        self.form.own(alloc)?;
+        match &mut self.form {
+            Form::Own(list) => retell_settings(alloc, kind, tail, list),
+            Form::Shared(_) => unreachable!(),
+        }
     }
 
     /// A copy of this tail of this kind is kept.
@@ -388,10 +408,15 @@ impl Settings {
     }
 
     /// No tail of this kind is kept.
-    fn drop_tail(&mut self, kind: KeptKind)
-        ensures { self.new ≡ record self.old { tails = put_kind kind None self.old.tails } }
+    fn drop_tail(&mut self, alloc: Global, kind: KeptKind) -> Result<(), AllocError>
+        ensures { OnOk result (self.new ≡ record self.old { tails = put_kind kind None self.old.tails }) }
     {
-        self.list.retain(|setting| !is_tail_of(kind, setting));
+        self.form.own(alloc)?;
+        match &mut self.form {
+            Form::Own(list) => list.retain(|setting| !is_tail_of(kind, setting)),
+            Form::Shared(_) => unreachable!(),
+        }
+        Ok(())
     }
 
     /// The tail of this kind, which the descriptors name, becomes what it is after them: that which they make, or none. Not inlined, as
@@ -409,10 +434,7 @@ impl Settings {
     {
         match sending.made.tail(kind) {
             Some(tail) => self.keep_tail(alloc, kind, tail),
-            None => {
-                self.drop_tail(kind);
-                Ok(())
-            }
+            None => self.drop_tail(alloc, kind),
         }
     }
 
@@ -479,7 +501,7 @@ impl Settings {
         Ok(())
     }
 
-    /// The same. Where nothing is set, they are a copy of what the descriptors make.
+    /// The same. Where nothing is set, or what others share, they are what was made of that once, in the block that all such records share.
     fn merge_all(
         &mut self,
         alloc: Global,
@@ -493,6 +515,10 @@ impl Settings {
             put(self, sending.made.copied(alloc, Copying::Once)?);
             return Ok(());
         }
+        if self.is_same(&sending.before) {
+            put(self, sending.after.copied(alloc, Copying::Once)?);
+            return Ok(());
+        }
         if self.merge_each(alloc, sending, slot).is_err() {
             return Err(NoMemory);
         }
@@ -502,24 +528,8 @@ impl Settings {
 
 impl Termination {
     /// The termination becomes its record after the descriptors, as [`Termination::merged`] tells it, where it lies: what they do not
-    /// name is not copied. The caller knows that it takes them, and that a record of which nothing was set does.
-    ///
-    /// # Errors
-    ///
-    /// Want of memory. Nothing is known then of what is kept of the termination.
-    pub fn merge_plain(
-        &mut self,
-        alloc: Global,
-        rules: &Rules,
-        descriptors: &[Descriptor<'_>],
-    ) -> Result<(), NoMemory>
-        requires { are_plain descriptors.now ≡ true }
-        ensures { OnOk result (merged rules.now descriptors.now self.old ≡ Some self.new) }
-    {
-        self.merge_sending(alloc, &Sending::new(alloc, rules, descriptors)?)
-    }
-
-    /// The same, where what the descriptors name and make was found before, once for many records.
+    /// name is not copied, and where nothing was set it shares what they make. What they name and make was found before, once for many
+    /// records. The caller knows that it takes them, and that a record of which nothing was set does.
     ///
     /// # Errors
     ///

@@ -84,6 +84,18 @@ impl Termination {
         Termination::unset(alloc, None, Service::InService, None)
     }
 
+    /// A termination that was configured, of which this was set.
+    pub(crate) fn set_so(settings: Settings) -> Termination
+        ensures { result ≡ record provisioned { settings = settings } }
+    {
+        Termination {
+            place: None,
+            service: Service::InService,
+            slot: None,
+            settings,
+        }
+    }
+
     /// One that is made for this slot, below 4,096, in the null context and in service. It takes no memory.
     pub fn ephemeral(alloc: Global, slot: u16) -> Termination
         ensures { result ≡ ephemeral slot }

@@ -1,8 +1,9 @@
-//! What was set of a termination: its properties, its streams and its tails, in a short list.
+//! What was set of a termination: its properties, its streams and its tails, in a short list of its own, or in one that copies share.
 
-ghost use Rattle.std.specs.Prelude.{◌≡◌, ◌≤◌, IfOk, OnOk, true};
+ghost use Rattle.std.specs.Prelude.{◌≡◌, ◌≤◌, ◌<◌, IfOk, OnOk, true, length};
 ghost use Rattle.std.specs.Option.{option_copied};
 ghost use Rattle.gw_term.specs.Places.{at_number, at_kind};
+ghost use Rattle.gw_term.specs.Settings.{settings_in};
 
 use crate::copies::{copied_properties, copied_stream};
 use crate::held::{HeldProperty, HeldTail};
@@ -12,6 +13,7 @@ use gw_base::Items;
 use gw_desc::{KeptKind, same_kept};
 use std::alloc::{AllocError, Global};
 use std::marker::Model;
+use std::sync::ArcSlice;
 
 /// What may be set of a termination.
 pub enum Setting {
@@ -34,20 +36,46 @@ impl Drop for Setting {
     }
 }
 
+/// Where settings lie.
+pub enum Form {
+    /// In a block that no other termination has. Where nothing is set, there is no block.
+    Own(Vec<Setting>),
+    /// In a block that copies share.
+    Shared(ArcSlice<Setting>),
+}
+
+/// The block has an owner less. Not inlined, since most terminations share no settings.
+#[inline(never)]
+fn let_go(block: ArcSlice<Setting>) {
+    drop(block);
+}
+
+// By hand, as that of a text.
+impl Drop for Form {
+    #[inline(always)]
+    fn drop(self) {
+        match self {
+            Form::Own(_) => {}
+            Form::Shared(block) => let_go(block),
+        }
+    }
+}
+
 /// What was set of a termination (RFC 3525, section 6.2): each thing once, in one block that is as long as they are. Most
-/// terminations have nothing set, and then there is no block. Contracts see the properties, four streams and four tails, there
-/// or not.
+/// terminations have nothing set, and then there is no block. What was set of many at once lies in one block for all of them, until
+/// something else is set of one. Contracts see the properties, four streams and four tails, there or not.
 #[derive(Drop)]
 pub struct Settings {
-    pub(crate) list: Vec<Setting>,
+    alloc: Global,
+    pub(crate) form: Form,
 }
 
 impl Model for Settings {
-    ghost use Rattle.gw_term.specs.Settings.{Settings as SettingsOf, set_by};
+    ghost use Rattle.gw_term.specs.Settings.{Settings as SettingsOf, set_by, settings_in};
 
     ghost Value = { SettingsOf };
 
-    ghost view = { λ s. set_by s.list.items };
+    ghost view = { λ s. set_by (settings_in s.form) };
 }
 
 /// A copy of a setting. Always inlined, as that of a stream.
@@ -71,20 +99,62 @@ fn copied_setting(alloc: Global, setting: &Setting, copying: Copying) -> Result<
     }
 }
 
-/// A copy of settings, with no room for more.
-#[inline(always)]
+/// A copy of settings, with room for so many settings, if they are as many or more.
 fn copied_list(
     alloc: Global,
     list: &[Setting],
+    room: usize,
     copying: Copying,
 ) -> Result<Vec<Setting>, AllocError>
     ensures { IfOk result (λ copy. copy.items ≡ list.now) }
 {
-    let mut copy = Vec::with_capacity(alloc, list.len())?;
+    let mut copy = Vec::with_capacity(alloc, room)?;
     for setting in list {
         copy.push(copied_setting(alloc, setting, copying)?)?;
     }
     Ok(copy)
+}
+
+/// A copy of settings that lies as is told, with no room for more. Where there are none, it takes no memory.
+fn copied_form(alloc: Global, list: &[Setting], copying: Copying) -> Result<Form, AllocError>
+    ensures { IfOk result (λ copy. settings_in copy ≡ list.now) }
+{
+    if list.is_empty() {
+        return Ok(Form::Own(Vec::new(alloc)));
+    }
+    let copy = copied_list(alloc, list, list.len(), copying)?;
+    match copying {
+        Copying::Once => Ok(Form::Own(copy)),
+        Copying::ForMany => Ok(Form::Shared(ArcSlice::from_vec(copy)?)),
+    }
+}
+
+impl Form {
+    ghost use Rattle.gw_term.specs.Settings.{is_own};
+
+    /// The settings.
+    #[inline]
+    fn list(&self) -> &[Setting]
+        ensures { result.now ≡ settings_in self.now }
+    {
+        match self {
+            Form::Own(block) => block.as_slice(),
+            Form::Shared(block) => block.as_slice(),
+        }
+    }
+
+    /// Settings that are shared are copied into a block of their own, with room for one more; their texts stay shared.
+    #[inline]
+    pub(crate) fn own(&mut self, alloc: Global) -> Result<(), AllocError>
+        ensures settings { OnOk result (settings_in self.new ≡ settings_in self.old) }
+        ensures own { OnOk result (is_own self.new ≡ true) }
+    {
+        if let Form::Shared(block) = self {
+            let list = block.as_slice();
+            *self = Form::Own(copied_list(alloc, list, list.len() + 1, Copying::Once)?);
+        }
+        Ok(())
+    }
 }
 
 impl Settings {
@@ -95,7 +165,8 @@ impl Settings {
         ensures { result ≡ nothing_set }
     {
         Settings {
-            list: Vec::new(alloc),
+            alloc,
+            form: Form::Own(Vec::new(alloc)),
         }
     }
 
@@ -104,7 +175,8 @@ impl Settings {
         ensures { IfOk result (λ settings. settings ≡ nothing_set) }
     {
         Ok(Settings {
-            list: Vec::with_capacity(alloc, count)?,
+            alloc,
+            form: Form::Own(Vec::with_capacity(alloc, count)?),
         })
     }
 
@@ -113,37 +185,54 @@ impl Settings {
     pub(crate) fn is_empty(&self) -> bool
         ensures { result ≡ true → self.now ≡ nothing_set }
     {
-        self.list.is_empty()
+        match &self.form {
+            Form::Own(block) => block.is_empty(),
+            Form::Shared(_) => false,
+        }
+    }
+
+    /// Whether they lie in a block that copies share.
+    pub(crate) fn are_shared(&self) -> bool {
+        matches!(self.form, Form::Shared(_))
     }
 
     /// The allocator that they lie with.
     pub(crate) fn allocator(&self) -> Global {
-        *self.list.allocator()
+        self.alloc
     }
 
     /// The settings.
     pub(crate) fn list(&self) -> &[Setting]
         ensures { set_by result.now ≡ self.now }
     {
-        self.list.as_slice()
+        self.form.list()
     }
 
     /// This is set too. Their block grows to what they take, and no further.
     pub(crate) fn push(&mut self, setting: Setting) -> Result<(), AllocError>
         ensures { OnOk result (self.new ≡ with_setting setting self.old) }
     {
-        self.list.reserve_exact(1)?;
-        self.list.push(setting)?;
-        Ok(())
+        self.form.own(self.alloc)?;
+        match &mut self.form {
+            Form::Own(block) => {
+                block.reserve_exact(1)?;
+                block.push(setting)?;
+                Ok(())
+            }
+            Form::Shared(_) => unreachable!(),
+        }
     }
 
-    /// A copy, with no room for more.
+    /// A copy, with no room for more: of settings that are shared the same block, and of others a block as is told.
+    #[inline]
     pub(crate) fn copied(&self, alloc: Global, copying: Copying) -> Result<Settings, AllocError>
         ensures { IfOk result (λ copy. copy ≡ self.now) }
     {
-        Ok(Settings {
-            list: copied_list(alloc, self.list.as_slice(), copying)?,
-        })
+        let form = match &self.form {
+            Form::Own(block) => copied_form(alloc, block.as_slice(), copying)?,
+            Form::Shared(block) => Form::Shared(block.clone()?),
+        };
+        Ok(Settings { alloc, form })
     }
 
     /// The properties of its TerminationState but ServiceStates.
@@ -151,7 +240,7 @@ impl Settings {
         ensures { result.now ≡ self.now.properties }
     {
         let mut found: &[HeldProperty] = &[];
-        for setting in &self.list {
+        for setting in self.list() {
             if let Setting::Properties(list) = setting {
                 found = list.as_slice();
             }
@@ -166,7 +255,7 @@ impl Settings {
         ensures { option_copied result ≡ at_number number self.now.streams }
     {
         let mut found = None;
-        for setting in &self.list {
+        for setting in self.list() {
             if let Setting::Stream(other, stream) = setting {
                 if *other == number {
                     found = Some(stream);
@@ -181,7 +270,7 @@ impl Settings {
         ensures { option_copied result ≡ at_kind kind self.now.tails }
     {
         let mut found = None;
-        for setting in &self.list {
+        for setting in self.list() {
             if let Setting::Tail(other, tail) = setting {
                 if same_kept(kind, *other) {
                     found = Some(tail);

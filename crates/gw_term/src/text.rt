@@ -145,6 +145,25 @@ impl Text {
         }
     }
 
+    /// Whether there is no text.
+    fn is_none(&self) -> bool
+        ensures { result ≡ true → self.now ≡ None }
+    {
+        matches!(self.form, Form::Missing)
+    }
+
+    /// Whether it is the other text, wherever they lie, or there is neither.
+    #[inline]
+    pub(crate) fn is_same(&self, other: &Text) -> bool
+        ensures { result ≡ true → self.now ≡ other.now }
+    {
+        match &other.form {
+            Form::Missing => self.is_none(),
+            Form::Own(block) => self.is(block.as_slice()),
+            Form::Shared(block) => self.is(block.as_slice()),
+        }
+    }
+
     /// This text, in its block, if that is its own and as long, and else in a new one.
     fn written(self, alloc: Global, text: &[u8]) -> Result<Text, AllocError>
         ensures { IfOk result (λ written. written ≡ Some text.now) }

@@ -88,7 +88,18 @@ fn action_on(
     let asked = sent.commands.as_slice();
     let none = Items::new(alloc);
     match sent.ctx {
-        CtxRef::Null => commands_in(alloc, rules, draft, &[], At::Null, slots, asked, none, told),
+        CtxRef::Null => commands_in(
+            alloc,
+            rules,
+            draft,
+            &[],
+            At::Null,
+            slots,
+            asked,
+            &[],
+            none,
+            told,
+        ),
         CtxRef::Num(number) => action_in(alloc, rules, draft, number, slots, sent, told),
         CtxRef::Choose => match number {
             Some(number) => {
@@ -101,6 +112,7 @@ fn action_on(
                     At::Unmade(number),
                     slots,
                     asked,
+                    &[],
                     none,
                     told,
                 )

@@ -10,6 +10,7 @@ ghost use Rattle.gw_table.specs.Maps.{Maps, ctx, numbers};
 ghost use Rattle.gw_table.specs.Parts.{holds};
 ghost use Rattle.gw_refusal.specs.declared.at.At.TheVariants.{Each};
 ghost use Rattle.gw_cmd.specs.Nothing.{ComeToNothing};
+ghost use Rattle.gw_cmd.specs.Prepared.{ArePrepared};
 ghost use Rattle.gw_reserve.specs.Owned.{AreFreeSlots, paired_action, paired_commands};
 ghost use Rattle.gw_tx.specs.Footprints.{list_keys, Covers};
 ghost use Rattle.gw_reply.specs.Replies.{action_reply_text};
@@ -24,7 +25,7 @@ use crate::setting::{set_properties, set_wanted, wanted_by};
 use crate::telling::{context_parts_if, parts_within};
 use crate::told::Counted;
 use gw_base::{Code, CtxNum, CtxRef, NoMemory, Rules};
-use gw_cmd::{At, come_to_nothing, come_to_nothing_at};
+use gw_cmd::{At, Prepared, all_prepared, come_to_nothing, come_to_nothing_at, surely_act};
 use gw_length::Telling;
 use gw_msg::{Action, Command};
 use gw_reply::ActionReply;
@@ -32,19 +33,20 @@ use gw_table::Draft;
 use std::alloc::Global;
 
 /// Whether nothing more is told, and nothing more to be done, since each of the commands comes to nothing in the context: `nothing` says
-/// that they do in whichever.
+/// that they do in whichever, and where one surely acts, as `acts` says, the context is not looked up.
 fn is_over(
     told: &Telling<ActionReply>,
     draft: &Draft<'_>,
     at: At,
     asked: &[Command<'_>],
     nothing: bool,
+    acts: bool,
 ) -> bool
     requires { (rules : Rules) (m : Maps) → nothing ≡ true → ComeToNothing rules at asked.now m }
     ensures long { result ≡ true → told.now ≡ TooLong }
     ensures none { (rules : Rules) → result ≡ true → ComeToNothing rules at asked.now draft.now.maps }
 {
-    matches!(told, Telling::TooLong) && (nothing || come_to_nothing_at(draft, at, asked))
+    matches!(told, Telling::TooLong) && (nothing || (!acts && come_to_nothing_at(draft, at, asked)))
 }
 
 /// Carries an action out in a context that is there and has its properties: tells what it is, and carries the commands out. Where nothing
@@ -59,18 +61,21 @@ fn in_ready(
     number: CtxNum,
     slots: &[Option<u16>],
     sent: &Action<'_>,
+    known: &[Prepared<'_, '_>],
     nothing: bool,
+    acts: bool,
     told: Telling<ActionReply>,
 ) -> Result<Counted<(), ActionReply>, NoMemory>
     requires covered { Covers draft.old (list_keys at (paired_commands slots.now sent.now.commands) draft.old.maps) }
     requires unused { AreFreeSlots draft.old.maps slots.now }
+    requires known { ArePrepared rules.now known.now sent.now.commands }
     requires nothing { (rules : Rules) (m : Maps) → nothing ≡ true → ComeToNothing rules at sent.now.commands m }
     ensures maps { OnOk result (draft.new.maps ≡ (all_commands rules.now [] at (paired_commands slots.now sent.now.commands) draft.old.maps).maps) }
     ensures answer { IfOk result (λ done. done ≡ counted action_reply_text told (replied (context_parts_if sent.now (ctx draft.old.maps number)) (all_commands rules.now [] at (paired_commands slots.now sent.now.commands) draft.old.maps).answer)) }
     ensures keys { draft.new.keys ≡ draft.old.keys }
 {
     let asked = sent.commands.as_slice();
-    if is_over(&told, draft, at, asked, nothing) {
+    if is_over(&told, draft, at, asked, nothing, acts) {
         return Ok(Counted {
             next: (),
             told: Telling::TooLong,
@@ -79,7 +84,18 @@ fn in_ready(
     }
     let parts = context_parts_if(alloc, draft, number, sent, &told)?;
     let (parts, told) = parts_within(alloc, parts, told);
-    commands_in(alloc, rules, draft, &[], at, slots, asked, parts, told)
+    commands_in(
+        alloc,
+        rules,
+        draft,
+        &[],
+        at,
+        slots,
+        asked,
+        known,
+        parts,
+        told,
+    )
 }
 
 /// Carries an action out in a context that is there: sets its properties, tells what it then is, and carries the commands out.
@@ -104,10 +120,22 @@ pub(crate) fn in_context(
     ensures keys { draft.new.keys ≡ draft.old.keys }
 {
     set_properties(alloc, draft, number, sent.props.as_slice())?;
-    in_ready(alloc, rules, draft, at, number, slots, sent, nothing, told)
+    in_ready(
+        alloc,
+        rules,
+        draft,
+        at,
+        number,
+        slots,
+        sent,
+        &[],
+        nothing,
+        false,
+        told,
+    )
 }
 
-/// Carries an action out in each of the contexts. A stop ends the commands of its context alone; that there was one is what the
+/// Carries an action out in each of the contexts. What is found of its commands alone is found once. A stop ends the commands of its context alone; that there was one is what the
 /// next would go on from.
 fn in_all(
     alloc: Global,
@@ -128,6 +156,8 @@ fn in_all(
 {
     let wanted = wanted_by(sent.props.as_slice());
     let nothing = come_to_nothing(sent.commands.as_slice());
+    let acts = surely_act(sent.commands.as_slice());
+    let known = all_prepared(alloc, rules, sent.commands.as_slice())?;
     let mut stopped = false;
     let mut told = told;
     for number in numbers {
@@ -140,7 +170,9 @@ fn in_all(
             *number,
             slots,
             sent,
+            &known,
             nothing,
+            acts,
             told,
         )?;
         stopped = stopped || done.stopped;

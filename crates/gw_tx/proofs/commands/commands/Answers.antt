@@ -11,6 +11,7 @@ use Rattle.gw_refusal.specs.declared.at.At.{At}
 use Rattle.gw_cmd.specs.Commands.{command}
 use Rattle.gw_cmd.specs.Keys.{command_keys}
 use Rattle.gw_cmd.specs.Suits.{IsUnused}
+use Rattle.gw_cmd.specs.Prepared.{ArePrepared}
 use Rattle.gw_cmd.proofs.Parted.{StaysPart}
 use Rattle.gw_reserve.specs.Owned.{first_owned, later_owned, paired_commands}
 use Rattle.gw_tx.specs.Footprints.{list_keys, Covers}
@@ -33,6 +34,7 @@ pub loop-sent-init : goal.loop-sent-init
 loop-sent-init c = record {
   told = ([], sym (told_none command_reply_text c.args.told), refl);
   held = listed c.args.draft.now.keys c.args.draft.now.maps c.args.at (paired_commands c.args.slots.now c.args.asked.now) c.requires.covered.held;
+  known = c.requires.known;
   kept = starts c.args.draft.now c.args.slots.now (list_keys c.args.at (paired_commands c.args.slots.now c.args.asked.now) c.args.draft.now.maps) c.requires.covered c.requires.unused;
   keys = refl;
 }
@@ -40,6 +42,10 @@ loop-sent-init c = record {
 pub attempt-requires-clause-unused : goal.attempt-requires-clause-unused
 attempt-requires-clause-unused c =
     subst (λ (o : Option ℕ). IsUnused o c.loop-sent.draft.maps) (sym c.next_entry-slot.ensures.own) (free_slot c.loop-sent.draft.maps c.loop-sent.left.now c.loop-sent.invariant.kept.free)
+
+pub attempt-requires-clause-known : goal.attempt-requires-clause-known
+attempt-requires-clause-known c = c.first_prepared-prepared.ensures c.args.rules.now c.sent-item.result (drop (c.loop-sent.sent-index + 1) c.args.asked.now)
+    (subst (λ (l : List Command). ArePrepared c.args.rules.now c.loop-sent.behind.now l) (rest_of c.args.asked.now c.loop-sent.sent-index c.sent-item.result c.sent-item.result c.loop-sent-test.true c.sent-item.is) c.loop-sent.invariant.known)
 
 pub attempt-requires-clause-covered : goal.attempt-requires-clause-covered
 attempt-requires-clause-covered c =
@@ -106,6 +112,7 @@ loop-sent-preserved c =
             ∙ goes_on (attempt c.args.rules.now c.args.late.now) c.loop-sent.at pair (paired_commands slots (drop i c.args.asked.now)) later c.loop-sent.draft.maps front now whole pairs did c.if-done.false c.loop-sent.invariant.told.2,
       );
       held = subst (λ (o : List (Option ℕ)). Oks (IsHeld keys start) now.answer.next (paired_commands o rest)) left (subst (λ (o : Outcome (Attempts At CommandReply)). Oks (IsHeld keys start) o.answer.next later) done lives);
+      known = c.prepared_behind-behind.ensures c.args.rules.now sent rest (subst (λ (l : List Command). ArePrepared c.args.rules.now c.loop-sent.behind.now l) split c.loop-sent.invariant.known);
       kept = subst (λ (o : List (Option ℕ)). With AnySlot (StaysPart keys start) o now.maps) left (subst (λ (o : Outcome (Attempts At CommandReply)). With AnySlot (StaysPart keys start) (later_owned slots) o.maps) done kept);
       keys = c.in_ok-done.ensures.keys ∙ c.loop-sent.invariant.keys;
     }

@@ -13,6 +13,9 @@ use Rattle.gw_table.proofs.in_place.InPlace.merge_all_free.Goals as goal
 pub invariant_of-self : goal.invariant_of-self
 invariant_of-self c = c.in_err-last.ensures.back (before_all c.self.inside.earlier.value c.self.inside.before.value) c.self.invariant
 
+pub invariant_of-self-in_err-sending : goal.invariant_of-self-in_err-sending
+invariant_of-self-in_err-sending c = c.in_ok-last.ensures.back (before_all c.self.inside.earlier.value c.self.inside.before.value) c.self.invariant
+
 pub invariant_of-self-2 : goal.invariant_of-self-2
 invariant_of-self-2 c =
     let start : Stored = before_all c.self.inside.earlier.value c.self.inside.before.value in

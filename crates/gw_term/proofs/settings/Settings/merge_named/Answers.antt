@@ -1,4 +1,4 @@
-use Rattle.std.proofs.Common.{rules, ◌≡◌, Option, None, is_some, true, sym, ap, ◌∙◌}
+use Rattle.std.proofs.Common.{rules, ◌≡◌, Option, None, is_some, sym, ap, ◌∙◌}
 use Rattle.gw_term.specs.Merge.{merged_stream}
 use Rattle.gw_term.specs.Places.{at_number, put_number}
 use Rattle.gw_term.specs.Plain.{stream_or_none}

@@ -31,4 +31,4 @@ returns-in-None c =
     let s : Settings = c.args.self.now in
     let made = made_tail a.rules.now None ds c.requires.plain a.made a.made_once kind in
     let tail : None ≡ merged_tail kind ds (at_kind kind s.tails) = sym (ap option_copied c.in-None.is) ∙ c.tail.ensures ∙ made ∙ named_tail kind ds None (at_kind kind s.tails) c.requires.named in
-    c.drop_tail.ensures ∙ ap (λ (o : Option (Tail (List ℕ))). record s { tails = put_kind kind o s.tails }) tail
+    on_ok c.drop_tail.result (λ e. e ∙ ap (λ (o : Option (Tail (List ℕ))). record s { tails = put_kind kind o s.tails }) tail) c.drop_tail.ensures

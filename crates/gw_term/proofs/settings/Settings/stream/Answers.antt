@@ -9,7 +9,7 @@ use Rattle.gw_term.proofs.settings.Settings.stream.Goals as goal
 
 pub loop-setting-preserved : goal.loop-setting-preserved
 loop-setting-preserved c =
-    let items = c.deref-setting-items.result.now in
+    let items = c.list-setting-items.result.now in
     let number = c.args.number in
     let before : Settings = set_by (take c.loop-setting.setting-index items) in
     let more = ap (λ (s : Settings). at_number number s.streams) (set_more items c.loop-setting.setting-index c.setting-item.result c.loop-setting-test.true c.setting-item.is) in

@@ -1,0 +1,144 @@
+-- A Subtract of all members of a context: what comes of each, and of all of them.
+use Rattle.std.proofs.Common.{◌≡◌, ℕ, Bool, true, false, cond, List, [], ◌∷◌, map, Option, None, Some, Result, Ok, bytes_eq, refl, sym, ap, subst, ◌∙◌}
+use Rattle.std.specs.Prelude.{if◌then◌else◌}
+use Rattle.std.specs.List.{filter}
+use Rattle.gw_base.specs.declared.code.Code.{Code}
+use Rattle.gw_base.specs.declared.command_words.Rules.{Rules}
+use Rattle.gw_base.specs.declared.command_words.Verb.{Verb}
+use Rattle.gw_base.specs.declared.ids.CtxNum.{CtxNum}
+use Rattle.gw_base.specs.declared.key.Key.TheVariants.{Term, Ctx}
+use Rattle.gw_base.specs.declared.term_ref.TermRef.{TermRef}
+use Rattle.gw_base.specs.declared.term_ref.TermRef.TheVariants.{All, Name}
+use Rattle.gw_base.specs.Keys.{has}
+use Rattle.gw_base.specs.NameLists.{is_in, NoDoubles}
+use Rattle.gw_base.proofs.NameTests.{same_name}
+use Rattle.gw_base.proofs.NamesInLists.{or_left, or_right, itself}
+use Rattle.gw_ctx.specs.Contexts.{left}
+use Rattle.gw_msg.specs.declared.message.Command.{Command}
+use Rattle.gw_reply.specs.declared.parts.ReplyPart.{ReplyPart}
+use Rattle.gw_reply.specs.declared.reply.CommandReply.{CommandReply}
+use Rattle.gw_term.specs.Audit.{audit_parts}
+use Rattle.gw_term.specs.declared.record.Termination.{Termination}
+use Rattle.gw_table.specs.declared.attempts.Attempts.{Attempts}
+use Rattle.gw_table.specs.Folds.{attempts_behind, in_order}
+use Rattle.gw_table.specs.Gone.{what_remains, put_remains, all_gone}
+use Rattle.gw_table.specs.Maps.{Maps, Outcome, term, ctx, context_of, members_of}
+use Rattle.gw_table.specs.Members.{unless_empty, without_member}
+use Rattle.gw_table.specs.Parts.{PartKeys, holds, Holds, HoldsPlace}
+use Rattle.gw_table.specs.WellFormed.{IsSound}
+use Rattle.gw_table.proofs.Folding.{ended, in_order-more, in_order-none}
+use Rattle.gw_table.proofs.Lookups.{term-put_term, term-put_ctx}
+use Rattle.gw_refusal.specs.declared.at.At.{At}
+use Rattle.gw_refusal.specs.declared.at.At.TheVariants.{Null, Live, Unmade, Each}
+use Rattle.gw_refusal.specs.Asked.{is_add, is_wildcard, matches, audited}
+use Rattle.gw_refusal.specs.Forms.{refusal_by_form}
+use Rattle.gw_refusal.specs.Places.{place_at, is_each}
+use Rattle.gw_refusal.specs.Targets.{those_in, source, matched, targets_of, targets}
+use Rattle.gw_cmd.specs.declared.change.Change.TheVariants.{Leaves}
+use Rattle.gw_cmd.specs.declared.outcome.CmdOutcome.{CmdOutcome}
+use Rattle.gw_cmd.specs.Clearing.{SubtractsAll, IsClearing}
+use Rattle.gw_cmd.specs.Commands.{reply, outcome_told, on_target, on_targets, unless_refused, carried, allowed}
+use Rattle.gw_cmd.specs.Effects.{unless, decided_in, is_full, done, on_record, on_found, on_name}
+use Rattle.gw_cmd.specs.Idle.{idle_answer, idle_reply}
+use Rattle.gw_cmd.specs.Keys.{member_keys, term_keys, command_keys}
+use Rattle.gw_cmd.specs.Refusals.{refusal_by_tables}
+use Rattle.gw_cmd.proofs.AllServed.{all_pass}
+use Rattle.gw_cmd.proofs.LeftAlone.{StandsIn, member_one, stands_here, carried_on}
+use Rattle.gw_cmd.proofs.Ready.{has_term, among_term, ready}
+
+-- ---- one after another
+
+module _ (rules : Rules) (at : At) (n : CtxNum) (c : Command) (place : place_at at ≡ Some n) (subtracts : SubtractsAll c) where
+  abbrev gone : List ℕ → Maps → Maps
+  gone t m = without_member n t (put_remains t m (term m t))
+
+  -- nothing is told of one that leaves
+  told : (r : Termination) → audit_parts (audited c.descriptors) r ≡ []
+  unfolding audit_parts
+  told r = ap (λ (words : List (List ℕ)). audit_parts words r) subtracts.bare
+
+  bare : (t : List ℕ) (x : Maps) → idle_reply c x t ≡ reply c (Name t) (Ok [])
+  bare t x = ap (λ (v : Verb). reply c (Name t) (idle_answer v c.descriptors (term x t))) subtracts.verb
+
+  left_it : (t : List ℕ) (m : Maps) → StandsIn (Some n) t m → on_name rules (place_at at) c t m ≡ record { maps = gone t m; answer = Ok [] }
+  unfolding on_record
+  left_it t m stands =
+      let r : Termination = stands.0 in
+      ap (λ (o : Option Termination). on_found rules (place_at at) c t o m) stands.1
+      ∙ ap (λ (p : Option CtxNum). on_record rules p c t r m) place
+      ∙ ap (λ (v : Verb). done t m (decided_in rules v c.descriptors (is_full rules n m) n r)) subtracts.verb
+      ∙ ap (λ (o : Option Code). done t m (unless o (record { change = Leaves n (what_remains r); parts = audit_parts (audited c.descriptors) r }))) (stands_here (Some n) r.place stands.2)
+      ∙ (λ i. let x : Outcome (Result (List ReplyPart) Code) = record { maps = without_member n t (put_remains t m (sym stands.1 i)); answer = Ok (told r i) } in x)
+
+  one_left : (t : List ℕ) (m x : Maps) → StandsIn (Some n) t m → on_target rules at c tt t m ≡ ended (gone t m) tt (idle_reply c x t ∷ []) false
+  one_left t m x stands =
+      ap (λ (o : Outcome (Result (List ReplyPart) Code)). ended o.maps tt (reply c (Name t) o.answer ∷ []) false) (left_it t m stands)
+      ∙ ap (λ (a : CommandReply). ended (gone t m) tt (a ∷ []) false) (sym (bare t x))
+
+  -- the others are where they were
+  still_there : (t q : List ℕ) (m : Maps) → bytes_eq q t ≡ false → term (gone t m) q ≡ term m q
+  still_there t q m apart =
+      let m' : Maps = put_remains t m (term m t) in
+      term-put_ctx m' n (unless_empty (left t (context_of (ctx m' n)))) q ∙ by (term m t)
+    where
+      by : (o : Option Termination) → term (put_remains t m o) q ≡ term m q
+      by None = refl
+      by (Some r) = term-put_term m t (what_remains r) q ∙ ap (λ (b : Bool). cond b (what_remains r) (term m q)) apart
+
+  all_left : (ts : List (List ℕ)) (m x : Maps) → NoDoubles ts → ((t : List ℕ) → is_in t ts ≡ true → StandsIn (Some n) t m) → on_targets rules at c ts m ≡ ended (all_gone n ts m) tt (map (idle_reply c x) ts) false
+  all_left [] m x d stands = in_order-none (on_target rules at c) tt m
+  all_left (t ∷ ts) m x d stands =
+      in_order-more (on_target rules at c) tt t ts m
+      ∙ ap (λ (o : Outcome (Attempts Unit CommandReply)). attempts_behind o.answer.answers (in_order (on_target rules at c) tt ts o.maps)) (one_left t m x (stands t (or_left (bytes_eq t t) (is_in t ts) (itself t))))
+      ∙ ap (λ (o : Outcome (Attempts Unit CommandReply)). attempts_behind (idle_reply c x t ∷ []) o)
+      (all_left ts (gone t m) x d.1 (λ q h. let s = stands q (or_right (bytes_eq q t) (is_in q ts) h) in (s.0, still_there t q m (other q h) ∙ s.1, s.2)))
+    where
+      other : (q : List ℕ) → is_in q ts ≡ true → bytes_eq q t ≡ false
+      other q h = by (bytes_eq q t) refl
+        where
+          by : (b : Bool) → bytes_eq q t ≡ b → bytes_eq q t ≡ false
+          by true e = absurd (let clash : true ≡ false = sym h ∙ ap (λ (x : List ℕ). is_in x ts) (same_name q t e) ∙ d.0 in cc)
+          by false e = e
+
+-- ---- whom it is for
+
+module _ (keys : PartKeys) (at : At) (n : CtxNum) (slot : Option ℕ) (c : Command) (m : Maps) (sound : IsSound keys m) (covered : Holds keys (command_keys at slot c m)) (clearing : IsClearing keys at n c) where
+  pub wildcard : is_wildcard c.term ≡ true
+  wildcard = ap (λ (r : TermRef). is_wildcard r) clearing.subtracts.all
+
+  pub targets_are : targets at c m ≡ members_of (ctx m n)
+  unfolding matched
+  targets_are =
+      ap (λ (r : TermRef). targets_of r at c m) clearing.subtracts.all
+      ∙ ap (λ (r : TermRef). filter (matches r) (those_in (source at c) m)) clearing.subtracts.all
+      ∙ ap (λ (v : Verb). filter (matches All) (those_in (if is_add v then None else place_at at) m)) clearing.subtracts.verb
+      ∙ ap (λ (p : Option CtxNum). filter (matches All) (those_in p m)) clearing.place
+      ∙ all_pass (matches All) (members_of (ctx m n)) (λ t. refl)
+
+  member_key : (t : List ℕ) → has (member_keys at m) (Term t) ≡ true → holds keys (Term t) ≡ true
+  member_key t h = covered (Term t) (among_term at slot c m (Term t) (ap (λ (r : TermRef). has (term_keys at slot c m r) (Term t)) clearing.subtracts.all ∙ h))
+
+  -- their keys
+  pub held : (t : List ℕ) → is_in t (members_of (ctx m n)) ≡ true → holds keys (Term t) ≡ true
+  held t h = by at refl (ap (λ (p : Option CtxNum). is_in t (those_in p m)) clearing.place ∙ h)
+    where
+      by : (a : At) → at ≡ a → is_in t (those_in (place_at a) m) ≡ true → holds keys (Term t) ≡ true
+      by Null e i = absurd (let clash : None ≡ Some n = sym (ap (λ (a : At). place_at a) e) ∙ clearing.place in cc)
+      by (Live k) e i = member_key t (ap (λ (a : At). has (member_keys a m) (Term t)) e ∙ has_term (members_of (ctx m k)) t i)
+      by (Unmade k) e i = member_key t (ap (λ (a : At). has (member_keys a m) (Term t)) e ∙ has_term (members_of (ctx m k)) t i)
+      by (Each k) e i = clearing.held (ap (λ (a : At). is_each a) e) (Term t)
+
+  pub context_held : refusal_by_form at c ≡ None → refusal_by_tables at slot c m ≡ None → holds keys (Ctx n) ≡ true
+  context_held form none = by (place_at at) clearing.place (ready keys at slot c m covered form none).place
+    where
+      by : (p : Option CtxNum) → p ≡ Some n → HoldsPlace keys p → holds keys (Ctx n) ≡ true
+      by p is h = subst (λ (p : Option CtxNum). HoldsPlace keys p) is h
+
+  -- each target leaves, and nothing is told of it
+  pub cleared : (rules : Rules) (x : Maps) → refusal_by_tables at slot c m ≡ None → allowed rules at slot c m ≡ record { maps = all_gone n (targets at c m) m; answer = outcome_told at c (map (idle_reply c x) (targets at c m)) }
+  cleared rules x none =
+      ap (λ (o : Option Code). unless_refused o at c m (carried rules at slot c m c.term)) none ∙ carried_on at slot c m rules c.term wildcard
+      ∙ ap (λ (o : Outcome (Attempts Unit CommandReply)). let y : Outcome CmdOutcome = record { maps = o.maps; answer = outcome_told at c o.answer.answers } in y)
+      (all_left rules at n c clearing.place clearing.subtracts (targets at c m) m x
+      (subst NoDoubles (sym targets_are) (sound.once n))
+      (λ t h. let inside : is_in t (members_of (ctx m n)) ≡ true = ap (λ (l : List (List ℕ)). is_in t l) (sym targets_are) ∙ h in member_one t n m (sound.recorded t n (held t inside) inside)))

@@ -1,0 +1,152 @@
+//! A Subtract of all members of the action's context, of which nothing is told one by one.
+
+ghost use Rattle.std.specs.Prelude.{◌≡◌, ◌&&◌, true, false, [], None, IfOk, IfSome, OnOk};
+ghost use Rattle.gw_length.specs.declared.telling.Telling.TheVariants.{TooLong};
+ghost use Rattle.gw_table.specs.Parts.{Holds};
+ghost use Rattle.gw_table.specs.WellFormed.{IsSound};
+ghost use Rattle.gw_refusal.specs.Asked.{audited, is_wildcard};
+ghost use Rattle.gw_refusal.specs.Forms.{refusal_by_form};
+ghost use Rattle.gw_cmd.specs.Clearing.{SubtractsAll, IsClearing};
+ghost use Rattle.gw_cmd.specs.Commands.{allowed};
+ghost use Rattle.gw_cmd.specs.Keys.{command_keys};
+ghost use Rattle.gw_cmd.specs.Prepared.{IsJudged};
+ghost use Rattle.gw_cmd.specs.Told.{outcome_behind};
+
+use crate::idle::{keeps_none, on_each, seen_idle};
+use crate::outcome::CmdTold;
+use crate::prepared::Prepared;
+use crate::replies::{has_one_reply, outcome_of, outcome_of_all, refused};
+use crate::tables::{is_some, refusal_by_tables};
+use gw_base::{CtxNum, NoMemory, Rules, TermRef, Verb};
+use gw_desc::Descriptor;
+use gw_length::Telling;
+use gw_msg::Command;
+use gw_refusal::{At, first_audit, targets};
+use gw_reply::CommandReply;
+use gw_table::Draft;
+use std::alloc::Global;
+
+/// Whether nothing is to be audited.
+fn audits_none(descriptors: &[Descriptor<'_>]) -> bool
+    ensures { result ≡ true → audited descriptors.now ≡ [] }
+{
+    match first_audit(descriptors) {
+        Some(words) => words.is_empty(),
+        None => true,
+    }
+}
+
+/// Whether the command subtracts all members, and audits nothing.
+fn subtracts_all(command: &Command<'_>) -> bool
+    ensures { result ≡ true → SubtractsAll command.now }
+{
+    match (command.verb, &command.term) {
+        (Verb::Subtract, TermRef::All) => audits_none(command.descriptors.as_slice()),
+        _ => false,
+    }
+}
+
+/// The number of the context that a command clears: it subtracts all members, and audits nothing. Of one in an action for each context that
+/// is said where the draft is of whole tables. It looks nothing up.
+pub(crate) fn cleared_by(draft: &Draft<'_>, at: At, command: &Command<'_>) -> Option<CtxNum>
+    ensures { IfSome result (λ number. IsClearing draft.now.keys at number command.now) }
+{
+    if subtracts_all(command) && (!at.is_each() || draft.has_every_key()) {
+        at.place()
+    } else {
+        None
+    }
+}
+
+/// Carries such a command out where nothing is kept of what its members would be told one by one.
+fn with_none(
+    alloc: Global,
+    rules: &Rules,
+    draft: &mut Draft<'_>,
+    at: At,
+    number: CtxNum,
+    slot: Option<u16>,
+    command: &Command<'_>,
+    known: Option<&Prepared<'_, '_>>,
+    told: Telling<CommandReply>,
+) -> Result<CmdTold, NoMemory>
+    requires sound { IsSound draft.old.keys draft.old.maps }
+    requires covered { Holds draft.old.keys (command_keys at slot command.now draft.old.maps) }
+    requires form { refusal_by_form at command.now ≡ None }
+    requires judged { IfSome known (λ p. IsJudged p.now command.now) }
+    requires clearing { IsClearing draft.old.keys at number command.now }
+    requires kept { (command.now.wild && is_wildcard command.now.term) ≡ false → told ≡ TooLong }
+    ensures maps { OnOk result (draft.new.maps ≡ (allowed rules.now at slot command.now draft.old.maps).maps) }
+    ensures answer { IfOk result (λ done. done ≡ outcome_behind told (allowed rules.now at slot command.now draft.old.maps).answer) }
+    ensures keys { draft.new.keys ≡ draft.old.keys }
+{
+    let named = targets(alloc, draft, at, command)?;
+    if let Some(code) = refusal_by_tables(draft, at, slot, command, is_some(&named), known) {
+        return refused(told, at, command, code);
+    }
+    draft.leave_all(alloc, number, &named)?;
+    let seen = seen_idle(command.verb, Telling::TooLong);
+    if !has_one_reply(command) {
+        return Ok(outcome_of(at, seen));
+    }
+    outcome_of_all(alloc, told, at, command, seen)
+}
+
+/// Carries such a command out where the reply of each member is told.
+fn with_each(
+    alloc: Global,
+    rules: &Rules,
+    draft: &mut Draft<'_>,
+    at: At,
+    number: CtxNum,
+    slot: Option<u16>,
+    command: &Command<'_>,
+    known: Option<&Prepared<'_, '_>>,
+    told: Telling<CommandReply>,
+) -> Result<CmdTold, NoMemory>
+    requires sound { IsSound draft.old.keys draft.old.maps }
+    requires covered { Holds draft.old.keys (command_keys at slot command.now draft.old.maps) }
+    requires form { refusal_by_form at command.now ≡ None }
+    requires judged { IfSome known (λ p. IsJudged p.now command.now) }
+    requires clearing { IsClearing draft.old.keys at number command.now }
+    requires told { (command.now.wild && is_wildcard command.now.term) ≡ false }
+    ensures maps { OnOk result (draft.new.maps ≡ (allowed rules.now at slot command.now draft.old.maps).maps) }
+    ensures answer { IfOk result (λ done. done ≡ outcome_behind told (allowed rules.now at slot command.now draft.old.maps).answer) }
+    ensures keys { draft.new.keys ≡ draft.old.keys }
+{
+    let named = targets(alloc, draft, at, command)?;
+    if let Some(code) = refusal_by_tables(draft, at, slot, command, is_some(&named), known) {
+        return refused(told, at, command, code);
+    }
+    draft.leave_all(alloc, number, &named)?;
+    let seen = on_each(alloc, draft, command, &named, told)?;
+    Ok(outcome_of(at, seen))
+}
+
+/// Carries out a command that its form allows and that clears this context. Its members are named once, and leave at once.
+pub(crate) fn on_cleared(
+    alloc: Global,
+    rules: &Rules,
+    draft: &mut Draft<'_>,
+    at: At,
+    number: CtxNum,
+    slot: Option<u16>,
+    command: &Command<'_>,
+    known: Option<&Prepared<'_, '_>>,
+    told: Telling<CommandReply>,
+) -> Result<CmdTold, NoMemory>
+    requires sound { IsSound draft.old.keys draft.old.maps }
+    requires covered { Holds draft.old.keys (command_keys at slot command.now draft.old.maps) }
+    requires form { refusal_by_form at command.now ≡ None }
+    requires judged { IfSome known (λ p. IsJudged p.now command.now) }
+    requires clearing { IsClearing draft.old.keys at number command.now }
+    ensures maps { OnOk result (draft.new.maps ≡ (allowed rules.now at slot command.now draft.old.maps).maps) }
+    ensures answer { IfOk result (λ done. done ≡ outcome_behind told (allowed rules.now at slot command.now draft.old.maps).answer) }
+    ensures keys { draft.new.keys ≡ draft.old.keys }
+{
+    if keeps_none(command, &told) {
+        with_none(alloc, rules, draft, at, number, slot, command, known, told)
+    } else {
+        with_each(alloc, rules, draft, at, number, slot, command, known, told)
+    }
+}

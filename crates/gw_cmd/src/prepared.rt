@@ -1,0 +1,163 @@
+//! What is found once of a command that is carried out in each context.
+
+ghost use Rattle.std.specs.Prelude.{◌≡◌, List, ◌∷◌, IfOk, IfSome};
+ghost use Rattle.gw_base.specs.declared.command_words.Rules.{Rules as Kept};
+ghost use Rattle.gw_desc.specs.Checks.{check_code};
+ghost use Rattle.gw_msg.specs.declared.message.Command.{Command as Sent};
+ghost use Rattle.gw_refusal.specs.Asked.{service_asked};
+ghost use Rattle.gw_refusal.specs.Forms.{refusal_by_form};
+ghost use Rattle.gw_cmd.specs.Prepared.{IsJudged, IsPrepared, ArePrepared};
+ghost use Rattle.gw_cmd.specs.ServingMembers.{IsSendingOf};
+
+use gw_base::{Code, CtxNum, NoMemory, Rules, Service, Verb};
+use gw_desc::check;
+use gw_msg::Command;
+use gw_refusal::{At, refusal_by_form, service_asked};
+use gw_term::{MOST_PROPERTIES, Sending, are_plain, room_for};
+use std::alloc::Global;
+
+/// What is found once of a command of an action for each context, whatever the context is.
+#[derive(Drop)]
+pub struct Prepared<'a, 'b> {
+    /// Why its form is refused there.
+    pub(crate) form: Option<Code>,
+    /// What is wrong with its descriptors.
+    pub(crate) wrong: Option<Code>,
+    /// The service state that they ask for.
+    pub(crate) service: Option<Service>,
+    /// The descriptors of a Modify, ready to be merged into many terminations, where nothing is told of them and no list grows by them.
+    pub(crate) sending: Option<Sending<'a, 'b>>,
+}
+
+/// What is wrong with the descriptors of a command.
+fn wrong_with_descriptors(command: &Command<'_>) -> Option<Code>
+    ensures { result ≡ check_code command.now.verb command.now.descriptors }
+{
+    match check(command.verb, command.descriptors.as_slice()) {
+        Ok(()) => None,
+        Err(code) => Some(code),
+    }
+}
+
+/// Why the form of a command is refused, which may have been found before.
+pub(crate) fn form_of(
+    at: At,
+    command: &Command<'_>,
+    known: Option<&Prepared<'_, '_>>,
+) -> Option<Code>
+    requires { IfSome known (λ p. IsJudged p.now command.now) }
+    ensures { result ≡ refusal_by_form at command.now }
+{
+    match (at, known) {
+        (At::Each(_), Some(known)) => known.form,
+        _ => refusal_by_form(at, command),
+    }
+}
+
+/// What is wrong with the descriptors of a command, which may have been found before.
+pub(crate) fn wrong_of(command: &Command<'_>, known: Option<&Prepared<'_, '_>>) -> Option<Code>
+    requires { IfSome known (λ p. IsJudged p.now command.now) }
+    ensures { result ≡ check_code command.now.verb command.now.descriptors }
+{
+    match known {
+        Some(known) => known.wrong,
+        None => wrong_with_descriptors(command),
+    }
+}
+
+/// The service state that a command asks for, which may have been found before.
+pub(crate) fn service_of(command: &Command<'_>, known: Option<&Prepared<'_, '_>>) -> Option<Service>
+    requires { IfSome known (λ p. IsJudged p.now command.now) }
+    ensures { result ≡ service_asked command.now.descriptors }
+{
+    match known {
+        Some(known) => known.service,
+        None => service_asked(command.descriptors.as_slice()),
+    }
+}
+
+/// The descriptors of a command that are ready to be merged into many, if they are known.
+pub(crate) fn sending_known<'k, 'a, 'b>(
+    known: Option<&'k Prepared<'a, 'b>>,
+) -> Option<&'k Sending<'a, 'b>>
+    ensures { (rules : Kept) (c : Sent) → IfSome known.entry (λ p. IsPrepared rules p.now c) → IfSome result (λ s. IsSendingOf rules c s.now) }
+{
+    match known {
+        Some(known) => known.sending.as_ref(),
+        None => None,
+    }
+}
+
+/// The descriptors of a Modify, ready to be merged into many, where nothing is told of them, and they send no property that a list holds.
+fn sending_of<'a, 'b>(
+    alloc: Global,
+    rules: &'a Rules,
+    command: &'a Command<'b>,
+) -> Result<Option<Sending<'a, 'b>>, NoMemory>
+    ensures { IfOk result (λ sending. IfSome sending (IsSendingOf rules.now command.now)) }
+{
+    let descriptors = command.descriptors.as_slice();
+    match (command.verb, room_for(descriptors)) {
+        (Verb::Modify, Some(MOST_PROPERTIES)) if are_plain(descriptors) => {
+            Ok(Some(Sending::new(alloc, rules, descriptors, None)?))
+        }
+        _ => Ok(None),
+    }
+}
+
+/// What is found once of a command.
+fn one_prepared<'a, 'b>(
+    alloc: Global,
+    rules: &'a Rules,
+    command: &'a Command<'b>,
+) -> Result<Prepared<'a, 'b>, NoMemory>
+    ensures { IfOk result (λ p. IsPrepared rules.now p command.now) }
+{
+    let form = refusal_by_form(At::Each(CtxNum(0)), command);
+    let wrong = wrong_with_descriptors(command);
+    let service = service_asked(command.descriptors.as_slice());
+    let sending = sending_of(alloc, rules, command)?;
+    Ok(Prepared {
+        form,
+        wrong,
+        service,
+        sending,
+    })
+}
+
+/// What is found once of each of the commands of an action for each context: their refusals by form, what is wrong with their
+/// descriptors, and the descriptors of a Modify made ready for many. The work is that of looking at each command.
+///
+/// # Errors
+///
+/// Want of memory.
+pub fn all_prepared<'a, 'b>(
+    alloc: Global,
+    rules: &'a Rules,
+    asked: &'a [Command<'b>],
+) -> Result<Vec<Prepared<'a, 'b>>, NoMemory>
+    ensures { IfOk result (λ list. ArePrepared rules.now list.items asked.now) }
+{
+    let mut list = Vec::with_capacity(alloc, asked.len())?;
+    for command in asked {
+        list.push(one_prepared(alloc, rules, command)?)?;
+    }
+    Ok(list)
+}
+
+/// What is known of the first command.
+pub fn first_prepared<'k, 'a, 'b>(known: &'k [Prepared<'a, 'b>]) -> Option<&'k Prepared<'a, 'b>>
+    ensures { (rules : Kept) (c : Sent) (cs : List Sent) → ArePrepared rules known.now (c ∷ cs) → IfSome result (λ p. IsPrepared rules p.now c) }
+{
+    known.first()
+}
+
+/// What is known of those behind the first.
+pub fn prepared_behind<'k, 'a, 'b>(known: &'k [Prepared<'a, 'b>]) -> &'k [Prepared<'a, 'b>]
+    ensures { (rules : Kept) (c : Sent) (cs : List Sent) → ArePrepared rules known.now (c ∷ cs) → ArePrepared rules result.now cs }
+{
+    match known {
+        [_, behind @ ..] => behind,
+        [] => known,
+    }
+}
