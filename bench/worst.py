@@ -245,7 +245,7 @@ def wildcards():
                b"Error=533")
     there = made([b"C=-{MF=*{M{R{v=0}}}}"])
     yield wild("4,000 terminations with a Remote, one `Modify=*` with another", there, b"C=-{MF=*{M{R{v=1}}}}", 1, 4_000, b"Error=533")
-    unlike = there + made([b"C=-{MF=T/4000{M{R{v=2}}}}"])
+    unlike = made([b"C=-{MF=*{M{R{v=0}}}}", b"C=-{MF=T/999{M{R{v=2}}}}"])
     yield wild("4,000 terminations with a Remote, the last with one of its own, one `Modify=*` with another", unlike, b"C=-{MF=*{M{R{v=1}}}}", 1, 4_000,
                b"Error=533")
     yield wild("98 KB each of 64, `Modify=*` of a property", strangers.members(), b"C=1{MF=*{M{O{a=1}}}}", 64, 64, terms=64)
