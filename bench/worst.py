@@ -239,6 +239,8 @@ def wildcards():
     many = b"C=-{MF=*%s}" % listed(b"{M{O{", [b"a%d=1" % n for n in range(32)], b"}}}")
     yield wild("4,000 terminations, one `Modify=*` of 32 properties", [], many, 1, 4_000, b"Error=533")
     yield wild("4,000 terminations, `Modify=*` of 32 properties twice", [], many, 2, 4_000, b"Error=533")
+    first = made([many, b"C=-{MF=T/1{M{O{a0=2}}}}"])
+    yield wild("4,000 terminations with 32 properties, the first with one of its own, one `Modify=*` of 32", first, many, 1, 4_000, b"Error=533")
     yield wild("4,000 terminations, one `Modify=*` with a Local of 8,000 bytes", [], b"C=-{MF=*{M{L{%s}}}}" % (8_000 * b"v"), 1, 4_000, b"Error=533")
     yield wild("4,000 terminations, one `Modify=*` with a Local to fill", [], b"C=-{MF=*{M{L{v=$}}}}", 1, 4_000, b"Error=533")
     yield wild("4,000 terminations, one `Modify=*` with Local, Remote, Events and Signals", [], b"C=-{MF=*{M{L{v=0},R{v=0}},E=1{al/on},SG{cg/dt}}}", 1, 4_000,
