@@ -1,14 +1,14 @@
 -- A Subtract of all members of a context: what comes of each, and of all of them.
 use Rattle.std.proofs.Common.{◌≡◌, ℕ, Bool, true, false, cond, List, [], ◌∷◌, map, Option, None, Some, Result, Ok, bytes_eq, refl, sym, ap, subst, ◌∙◌}
-use Rattle.std.specs.Prelude.{if◌then◌else◌}
-use Rattle.std.specs.List.{filter}
+use Rattle.std.specs.Prelude.{◌&&◌, if◌then◌else◌}
+use Rattle.std.specs.List.{filter, list_all}
 use Rattle.gw_base.specs.declared.code.Code.{Code}
 use Rattle.gw_base.specs.declared.command_words.Rules.{Rules}
 use Rattle.gw_base.specs.declared.command_words.Verb.{Verb}
 use Rattle.gw_base.specs.declared.ids.CtxNum.{CtxNum}
 use Rattle.gw_base.specs.declared.key.Key.TheVariants.{Term, Ctx}
 use Rattle.gw_base.specs.declared.term_ref.TermRef.{TermRef}
-use Rattle.gw_base.specs.declared.term_ref.TermRef.TheVariants.{All, Name}
+use Rattle.gw_base.specs.declared.term_ref.TermRef.TheVariants.{Root, All, Under, Choose, Name, Other}
 use Rattle.gw_base.specs.Keys.{has}
 use Rattle.gw_base.specs.NameLists.{is_in, NoDoubles}
 use Rattle.gw_base.proofs.NameTests.{same_name}
@@ -36,19 +36,18 @@ use Rattle.gw_refusal.specs.Places.{place_at, is_each}
 use Rattle.gw_refusal.specs.Targets.{those_in, source, matched, targets_of, targets}
 use Rattle.gw_cmd.specs.declared.change.Change.TheVariants.{Leaves}
 use Rattle.gw_cmd.specs.declared.outcome.CmdOutcome.{CmdOutcome}
-use Rattle.gw_cmd.specs.Clearing.{SubtractsAll, IsClearing}
+use Rattle.gw_cmd.specs.Clearing.{SubtractsMany, IsClearing}
 use Rattle.gw_cmd.specs.Commands.{reply, outcome_told, on_target, on_targets, unless_refused, carried, allowed}
 use Rattle.gw_cmd.specs.Effects.{unless, decided_in, is_full, done, on_record, on_found, on_name}
 use Rattle.gw_cmd.specs.Idle.{idle_answer, idle_reply}
 use Rattle.gw_cmd.specs.Keys.{member_keys, term_keys, command_keys}
 use Rattle.gw_cmd.specs.Refusals.{refusal_by_tables}
-use Rattle.gw_cmd.proofs.AllServed.{all_pass}
 use Rattle.gw_cmd.proofs.LeftAlone.{StandsIn, member_one, stands_here, carried_on}
 use Rattle.gw_cmd.proofs.Ready.{has_term, among_term, ready}
 
 -- ---- one after another
 
-module _ (rules : Rules) (at : At) (n : CtxNum) (c : Command) (place : place_at at ≡ Some n) (subtracts : SubtractsAll c) where
+module _ (rules : Rules) (at : At) (n : CtxNum) (c : Command) (place : place_at at ≡ Some n) (subtracts : SubtractsMany c) where
   abbrev gone : List ℕ → Maps → Maps
   gone t m = without_member n t (put_remains t m (term m t))
 
@@ -102,21 +101,50 @@ module _ (rules : Rules) (at : At) (n : CtxNum) (c : Command) (place : place_at 
 
 -- ---- whom it is for
 
-module _ (keys : PartKeys) (at : At) (n : CtxNum) (slot : Option ℕ) (c : Command) (m : Maps) (sound : IsSound keys m) (covered : Holds keys (command_keys at slot c m)) (clearing : IsClearing keys at n c) where
+-- where each passes, all are kept
+pub all_kept : {X : Type 0} (p : X → Bool) (xs : List X) → list_all p xs ≡ true → filter p xs ≡ xs
+all_kept p [] h = refl
+all_kept {X} p (x ∷ xs) h = by (p x) refl h (all_kept p xs)
+  where
+    by : (b : Bool) → p x ≡ b → (b && list_all p xs) ≡ true → (list_all p xs ≡ true → filter p xs ≡ xs) → filter p (x ∷ xs) ≡ x ∷ xs
+    by true e h rest = ap (λ (b : Bool). cond b (x ∷ filter p xs) (filter p xs)) e ∙ ap (λ (l : List X). x ∷ l) (rest h)
+    by false e h rest = absurd cc
+
+-- all pass where it is for all
+pub all_match : (ts : List (List ℕ)) → list_all (matches All) ts ≡ true
+all_match [] = refl
+all_match (t ∷ ts) = all_match ts
+
+module _ (keys : PartKeys) (at : At) (n : CtxNum) (slot : Option ℕ) (c : Command) (m : Maps) (sound : IsSound keys m) (covered : Holds keys (command_keys at slot c m)) (clearing : IsClearing keys at n c m) where
   pub wildcard : is_wildcard c.term ≡ true
-  wildcard = ap (λ (r : TermRef). is_wildcard r) clearing.subtracts.all
+  wildcard = clearing.subtracts.wildcard
 
   pub targets_are : targets at c m ≡ members_of (ctx m n)
   unfolding matched
   targets_are =
-      ap (λ (r : TermRef). targets_of r at c m) clearing.subtracts.all
-      ∙ ap (λ (r : TermRef). filter (matches r) (those_in (source at c) m)) clearing.subtracts.all
-      ∙ ap (λ (v : Verb). filter (matches All) (those_in (if is_add v then None else place_at at) m)) clearing.subtracts.verb
-      ∙ ap (λ (p : Option CtxNum). filter (matches All) (those_in p m)) clearing.place
-      ∙ all_pass (matches All) (members_of (ctx m n)) (λ t. refl)
+      by c.term wildcard
+      ∙ ap (λ (v : Verb). filter (matches c.term) (those_in (if is_add v then None else place_at at) m)) clearing.subtracts.verb
+      ∙ ap (λ (p : Option CtxNum). filter (matches c.term) (those_in p m)) clearing.place
+      ∙ all_kept (matches c.term) (members_of (ctx m n)) clearing.each
+    where
+      by : (r : TermRef) → is_wildcard r ≡ true → targets_of r at c m ≡ filter (matches c.term) (those_in (source at c) m)
+      by All w = refl
+      by (Under x) w = refl
+      by Root w = absurd cc
+      by Choose w = absurd cc
+      by (Name x) w = absurd cc
+      by (Other x) w = absurd cc
 
   member_key : (t : List ℕ) → has (member_keys at m) (Term t) ≡ true → holds keys (Term t) ≡ true
-  member_key t h = covered (Term t) (among_term at slot c m (Term t) (ap (λ (r : TermRef). has (term_keys at slot c m r) (Term t)) clearing.subtracts.all ∙ h))
+  member_key t h = covered (Term t) (among_term at slot c m (Term t) (by c.term wildcard ∙ h))
+    where
+      by : (r : TermRef) → is_wildcard r ≡ true → has (term_keys at slot c m r) (Term t) ≡ has (member_keys at m) (Term t)
+      by All w = refl
+      by (Under x) w = refl
+      by Root w = absurd cc
+      by Choose w = absurd cc
+      by (Name x) w = absurd cc
+      by (Other x) w = absurd cc
 
   -- their keys
   pub held : (t : List ℕ) → is_in t (members_of (ctx m n)) ≡ true → holds keys (Term t) ≡ true

@@ -1,7 +1,6 @@
 -- A ServiceChange or a Modify of all members of a context that match: what comes of it.
 use Rattle.std.proofs.Common.{◌≡◌, ℕ, Bool, true, false, cond, List, map, Option, None, is_some, sym, ap, subst, ◌∙◌}
 use Rattle.std.specs.List.{filter}
-use Rattle.gw_base.specs.declared.code.Code.{Code}
 use Rattle.gw_base.specs.declared.command_words.Rules.{Rules}
 use Rattle.gw_base.specs.declared.command_words.Verb.{Verb}
 use Rattle.gw_base.specs.declared.ids.CtxNum.{CtxNum}
@@ -14,6 +13,7 @@ use Rattle.gw_msg.specs.declared.message.Command.{Command}
 use Rattle.gw_reply.specs.declared.reply.CommandReply.{CommandReply}
 use Rattle.gw_term.specs.Merge.{merged}
 use Rattle.gw_term.specs.Plain.{are_plain}
+use Rattle.gw_term.specs.Room.{Takes}
 use Rattle.gw_term.specs.declared.record.Termination.{Termination}
 use Rattle.gw_table.specs.declared.attempts.Attempts.{Attempts}
 use Rattle.gw_table.specs.Maps.{Maps, Outcome}
@@ -25,20 +25,18 @@ use Rattle.gw_table.proofs.Merged.{filtered_once}
 use Rattle.gw_refusal.specs.declared.at.At.{At}
 use Rattle.gw_refusal.specs.declared.at.At.TheVariants.{Null, Live, Unmade, Each}
 use Rattle.gw_refusal.specs.Asked.{is_add, is_wildcard, matches}
-use Rattle.gw_refusal.specs.Forms.{refusal_by_form}
 use Rattle.gw_refusal.specs.Places.{place_at, is_null}
 use Rattle.gw_refusal.specs.Targets.{those_in, source, matched, targets_of, targets}
 use Rattle.gw_cmd.specs.declared.outcome.CmdOutcome.{CmdOutcome}
 use Rattle.gw_cmd.specs.declared.serving_members.ForMembers.{ForMembers}
 use Rattle.gw_cmd.specs.declared.serving_members.ForMembers.TheVariants.{Serve, Merge}
-use Rattle.gw_cmd.specs.Commands.{outcome_told, on_targets, unless_refused, carried, allowed}
+use Rattle.gw_cmd.specs.Commands.{outcome_told, on_targets, carried}
 use Rattle.gw_cmd.specs.Idle.{idle_reply}
 use Rattle.gw_cmd.specs.Keys.{command_keys}
-use Rattle.gw_cmd.specs.Refusals.{refusal_by_tables}
-use Rattle.gw_cmd.specs.ServingMembers.{IsForMany, IsForMembers, IsKnown, members_after}
+use Rattle.gw_cmd.specs.ServingMembers.{IsForMany, IsForMembers, IsKnown, EachTakes, members_after}
+use Rattle.gw_cmd.specs.Suits.{IsReady}
 use Rattle.gw_cmd.proofs.AllServed.{each_served, each_merged}
 use Rattle.gw_cmd.proofs.LeftAlone.{StandsIn, each_stands, carried_on}
-use Rattle.gw_cmd.proofs.Ready.{ready}
 
 module _ (keys : PartKeys) (rules : Rules) (at : At) (c : Command) where
   pub is_for_many : (a : ForMembers) → IsForMembers keys rules at c a → IsForMany keys at c
@@ -47,7 +45,7 @@ module _ (keys : PartKeys) (rules : Rules) (at : At) (c : Command) where
 
   pub is_known : (a : ForMembers) → IsForMembers keys rules at c a → IsKnown a
   is_known (Serve s) h = tt
-  is_known (Merge s) h = h.1.sending.known
+  is_known (Merge s) h = (h.1.sending.known, h.1.sending.room)
 
   is_no_add : (a : ForMembers) → IsForMembers keys rules at c a → is_add c.verb ≡ false
   is_no_add (Serve s) h = ap (λ (v : Verb). is_add v) h.1.verb
@@ -88,20 +86,22 @@ module _ (keys : PartKeys) (rules : Rules) (at : At) (c : Command) where
         by (Other x) w = absurd cc
 
     -- their keys
-    pub keys_of_members : refusal_by_form at c ≡ None → refusal_by_tables at slot c m ≡ None → (t : List ℕ) → is_in t (targets at c m) ≡ true → holds keys (Term t) ≡ true
-    keys_of_members form none t h = (ready keys at slot c m covered form none).targets t h (ap (λ (o : Option Termination). is_some o) (stands t h).1)
+    pub keys_of_members : IsReady keys at c m → (t : List ℕ) → is_in t (targets at c m) ≡ true → holds keys (Term t) ≡ true
+    keys_of_members ready t h = ready.targets t h (ap (λ (o : Option Termination). is_some o) (stands t h).1)
 
     -- ---- each is as it is to be, and has its reply
 
-    all_met : (x : Maps) → (b : ForMembers) → IsForMembers keys rules at c b → on_targets rules at c (targets at c m) m ≡ ended (members_after b (targets at c m) m) tt (map (idle_reply c x) (targets at c m)) false
-    all_met x (Serve s) h = each_served rules at c s h.1.verb h.1.asked (targets at c m) m x once stands
-    all_met x (Merge s) h =
+    all_met : (x : Maps) → (b : ForMembers) → IsForMembers keys rules at c b → EachTakes b (targets at c m) m
+        → on_targets rules at c (targets at c m) m ≡ ended (members_after b (targets at c m) m) tt (map (idle_reply c x) (targets at c m)) false
+    all_met x (Serve s) h takes = each_served rules at c s h.1.verb h.1.asked (targets at c m) m x once stands
+    all_met x (Merge s) h takes =
         let of = h.1.sending in
-        each_merged rules at c h.1.verb (ap (λ (ds : List Descriptor). are_plain ds) (sym of.sent) ∙ of.known.plain) (targets at c m) m x once stands (λ t i r there. h.1.taken rules r)
+        each_merged rules at c h.1.verb (ap (λ (ds : List Descriptor). are_plain ds) (sym of.sent) ∙ of.known.plain) (targets at c m) m x once stands
+        (λ t i r there. subst (λ (ds : List Descriptor). Takes rules ds r) of.sent (subst (λ (u : Rules). Takes u s.now.sending.descriptors.now r) of.ruled (takes t r i there)))
         ∙ (λ i. ended (all_changed (merged (sym of.ruled i) (sym of.sent i)) (targets at c m) m) tt (map (idle_reply c x) (targets at c m)) false)
 
-    pub all_carried : (x : Maps) → refusal_by_tables at slot c m ≡ None
-        → allowed rules at slot c m ≡ record { maps = members_after a (targets at c m) m; answer = outcome_told at c (map (idle_reply c x) (targets at c m)) }
-    all_carried x none =
-        ap (λ (o : Option Code). unless_refused o at c m (carried rules at slot c m c.term)) none ∙ carried_on at slot c m rules c.term many.wildcard
-        ∙ ap (λ (o : Outcome (Attempts Unit CommandReply)). let y : Outcome CmdOutcome = record { maps = o.maps; answer = outcome_told at c o.answer.answers } in y) (all_met x a members)
+    pub all_carried : (x : Maps) → EachTakes a (targets at c m) m
+        → carried rules at slot c m c.term ≡ record { maps = members_after a (targets at c m) m; answer = outcome_told at c (map (idle_reply c x) (targets at c m)) }
+    all_carried x takes =
+        carried_on at slot c m rules c.term many.wildcard
+        ∙ ap (λ (o : Outcome (Attempts Unit CommandReply)). let y : Outcome CmdOutcome = record { maps = o.maps; answer = outcome_told at c o.answer.answers } in y) (all_met x a members takes)

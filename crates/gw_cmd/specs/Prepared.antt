@@ -8,7 +8,7 @@ use Rattle.gw_refusal.specs.declared.at.At.TheVariants.{Each}
 use Rattle.gw_refusal.specs.Asked.{service_asked}
 use Rattle.gw_refusal.specs.Forms.{refusal_by_form}
 use Rattle.gw_cmd.specs.declared.prepared.Prepared.{Prepared}
-use Rattle.gw_cmd.specs.ServingMembers.{IsSendingOf}
+use Rattle.gw_cmd.specs.ServingMembers.{IsMergeOf}
 
 -- why its form is refused, what is wrong with its descriptors, and which service state they ask for
 pub record IsJudged (p : Prepared) (c : Command) : Type 0 where
@@ -18,7 +18,7 @@ pub record IsJudged (p : Prepared) (c : Command) : Type 0 where
 
 pub record IsPrepared (rules : Rules) (p : Prepared) (c : Command) : Type 0 where
   pub judged : IsJudged p c
-  pub sending : IfSome p.sending (IsSendingOf rules c)
+  pub merge : IfSome p.merge (IsMergeOf rules c)
 
 -- of each of the first commands, as far as it was found
 abbrev pub ArePrepared : Rules → List Prepared → List Command → Type 0

@@ -15,22 +15,25 @@ ghost use Rattle.gw_cmd.specs.Idle.{IsIdle};
 ghost use Rattle.gw_length.specs.declared.telling.Telling.TheVariants.{TooLong};
 ghost use Rattle.gw_cmd.specs.Told.{outcome_behind, seen};
 ghost use Rattle.gw_cmd.specs.Keys.{command_keys};
-ghost use Rattle.gw_cmd.specs.Prepared.{IsJudged, IsPrepared};
+ghost use Rattle.gw_cmd.specs.Prepared.{IsPrepared};
+ghost use Rattle.gw_cmd.specs.Refusals.{refusal_by_tables};
+ghost use Rattle.gw_cmd.specs.ServingMembers.{IsForMembers};
 ghost use Rattle.gw_refusal.specs.Places.{place_at};
 ghost use Rattle.gw_cmd.specs.Suits.{HoldsMoved, HoldsFound, HoldsSlot, IsUnused, IsReady, HoldsNew};
 ghost use Rattle.gw_refusal.specs.Forms.{refusal_by_form};
 ghost use Rattle.gw_refusal.specs.Targets.{targets};
 
+use crate::alike::told_alike;
 use crate::clearing::{cleared_by, on_cleared};
 use crate::effects::{on_name, on_new};
 use crate::idle::{is_idle, on_idle};
 use crate::outcome::{CmdOutcome, CmdTold, Seen};
-use crate::prepared::{Prepared, form_of, sending_known};
+use crate::prepared::{Prepared, form_of, merge_known};
 use crate::refusal::Refusal;
 use crate::replies::{code_of, has_one_reply, one, outcome_of, outcome_of_all, refused, reply};
 use crate::root::{every_serviced, root_parts};
 use crate::serving::{for_all, on_all_free};
-use crate::serving_members::{for_members, on_members};
+use crate::serving_members::{ForMembers, change_each, for_members};
 use crate::tables::{has_ended, is_some, refusal_by_tables, wrong_with};
 use gw_base::{Code, Items, NoMemory, Rules, TermName, TermRef, Verb};
 use gw_length::Telling;
@@ -235,7 +238,40 @@ fn carried(
     }
 }
 
-/// Carries out a command that its form allows and that is not by name, on its targets, unless the tables refuse it.
+/// Carries out a command that is not refused and that does this to all members of a context that match. Where each surely takes it, they are
+/// changed at once, and else one after another.
+fn on_members(
+    alloc: Global,
+    rules: &Rules,
+    draft: &mut Draft<'_>,
+    at: At,
+    slot: Option<u16>,
+    command: &Command<'_>,
+    named: &[TermName],
+    for_members: ForMembers<'_, '_, '_>,
+    told: Telling<CommandReply>,
+) -> Result<CmdTold, NoMemory>
+    requires sound { IsSound draft.old.keys draft.old.maps }
+    requires covered { Holds draft.old.keys (command_keys at slot command.now draft.old.maps) }
+    requires ready { IsReady draft.old.keys at command.now draft.old.maps }
+    requires new { HoldsNew draft.old.keys slot command.now }
+    requires unused { IsUnused slot draft.old.maps }
+    requires tables { refusal_by_tables at slot command.now draft.old.maps ≡ None }
+    requires many { (t : List ℕ) → command.now.term ≢ Name t }
+    requires named { named.now ≡ targets at command.now draft.old.maps }
+    requires members { IsForMembers draft.old.keys rules.now at command.now for_members }
+    ensures maps { OnOk result (draft.new.maps ≡ (carried_out rules.now at slot command.now draft.old.maps command.now.term).maps) }
+    ensures answer { IfOk result (λ done. done ≡ outcome_behind told (carried_out rules.now at slot command.now draft.old.maps command.now.term).answer) }
+    ensures keys { draft.new.keys ≡ draft.old.keys }
+{
+    if change_each(alloc, draft, named, for_members)? {
+        return told_alike(alloc, draft, at, command, named, told);
+    }
+    carried(alloc, rules, draft, at, slot, command, named, told)
+}
+
+/// Carries out a command that its form allows and that is not by name, on its targets, unless the tables refuse it. What it does to all
+/// members of a context that match is done at once, if it can be.
 fn with_targets(
     alloc: Global,
     rules: &Rules,
@@ -250,7 +286,7 @@ fn with_targets(
     requires sound { IsSound draft.old.keys draft.old.maps }
     requires covered { Holds draft.old.keys (command_keys at slot command.now draft.old.maps) }
     requires unused { IsUnused slot draft.old.maps }
-    requires judged { IfSome known (λ p. IsJudged p.now command.now) }
+    requires known { IfSome known (λ p. IsPrepared rules.now p.now command.now) }
     requires form { refusal_by_form at command.now ≡ None }
     requires many { (t : List ℕ) → command.now.term ≢ Name t }
     requires named { named.now ≡ targets at command.now draft.old.maps }
@@ -261,14 +297,29 @@ fn with_targets(
     if let Some(code) = refusal_by_tables(draft, at, slot, command, is_some(named), known) {
         return refused(told, at, command, code);
     }
-    carried(alloc, rules, draft, at, slot, command, named, told)
+    match for_members(draft, at, command, known, merge_known(known)) {
+        Some(for_members) => on_members(
+            alloc,
+            rules,
+            draft,
+            at,
+            slot,
+            command,
+            named,
+            for_members,
+            told,
+        ),
+        None => carried(alloc, rules, draft, at, slot, command, named, told),
+    }
 }
 
 /// Carries one command out as [`command`] does, and tells its replies behind those before it. Where they are too long, none is kept,
 /// and the command is carried out all the same. What is `known` of a command of an action for each context is not found again.
-/// One that leaves each of its targets as it is ends there, and begun behind the limit it costs as little as with `W-`; so does a ServiceChange of what matches in the null context, and a Modify of it whose descriptors each of
-/// them takes, which name nothing then. A ServiceChange of the members of a context that match looks each up once, and by a Subtract of
-/// all members that audits nothing they leave at once.
+/// One that leaves each of its targets as it is ends there, and begun behind the limit it costs as little as with `W-`; so does a
+/// ServiceChange of what matches in the null context, and a Modify of it whose descriptors each of them takes, which name nothing then.
+/// A ServiceChange of the members of a context that match, and a Modify of them that is known and that each of them takes, look the first
+/// up once, and the others once, or twice where properties are sent that lists hold; and by a Subtract of all members that audits nothing,
+/// also by a prefix that each of them has, they leave at once.
 ///
 /// # Errors
 ///
@@ -306,20 +357,6 @@ pub fn command_told(
     }
     if let Some(number) = cleared_by(draft, at, command) {
         return on_cleared(alloc, rules, draft, at, number, slot, command, known, told);
-    }
-    let sending = sending_known(known);
-    if let Some(for_members) = for_members(draft, at, command, known, sending) {
-        return on_members(
-            alloc,
-            rules,
-            draft,
-            at,
-            slot,
-            command,
-            for_members,
-            known,
-            told,
-        );
     }
     let named = targets(alloc, draft, at, command)?;
     with_targets(alloc, rules, draft, at, slot, command, &named, known, told)

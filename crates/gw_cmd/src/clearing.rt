@@ -1,12 +1,14 @@
-//! A Subtract of all members of the action's context, of which nothing is told one by one.
+//! A Subtract of all members of the action's context, of which nothing is audited.
 
 ghost use Rattle.std.specs.Prelude.{◌≡◌, ◌&&◌, true, false, [], None, IfOk, IfSome, OnOk};
+ghost use Rattle.std.specs.List.{list_all};
 ghost use Rattle.gw_length.specs.declared.telling.Telling.TheVariants.{TooLong};
+ghost use Rattle.gw_table.specs.Maps.{ctx, members_of};
 ghost use Rattle.gw_table.specs.Parts.{Holds};
 ghost use Rattle.gw_table.specs.WellFormed.{IsSound};
-ghost use Rattle.gw_refusal.specs.Asked.{audited, is_wildcard};
+ghost use Rattle.gw_refusal.specs.Asked.{audited, is_wildcard, matches};
 ghost use Rattle.gw_refusal.specs.Forms.{refusal_by_form};
-ghost use Rattle.gw_cmd.specs.Clearing.{SubtractsAll, IsClearing};
+ghost use Rattle.gw_cmd.specs.Clearing.{SubtractsMany, IsClearing};
 ghost use Rattle.gw_cmd.specs.Commands.{allowed};
 ghost use Rattle.gw_cmd.specs.Keys.{command_keys};
 ghost use Rattle.gw_cmd.specs.Prepared.{IsJudged};
@@ -21,7 +23,7 @@ use gw_base::{CtxNum, NoMemory, Rules, TermRef, Verb};
 use gw_desc::Descriptor;
 use gw_length::Telling;
 use gw_msg::Command;
-use gw_refusal::{At, first_audit, targets};
+use gw_refusal::{At, first_audit, is_wildcard, matches, targets};
 use gw_reply::CommandReply;
 use gw_table::Draft;
 use std::alloc::Global;
@@ -36,23 +38,44 @@ fn audits_none(descriptors: &[Descriptor<'_>]) -> bool
     }
 }
 
-/// Whether the command subtracts all members, and audits nothing.
-fn subtracts_all(command: &Command<'_>) -> bool
-    ensures { result ≡ true → SubtractsAll command.now }
+/// Whether the command subtracts what a wildcard matches, and audits nothing.
+fn subtracts_many(command: &Command<'_>) -> bool
+    ensures { result ≡ true → SubtractsMany command.now }
 {
-    match (command.verb, &command.term) {
-        (Verb::Subtract, TermRef::All) => audits_none(command.descriptors.as_slice()),
+    match command.verb {
+        Verb::Subtract if is_wildcard(&command.term) => {
+            audits_none(command.descriptors.as_slice())
+        }
         _ => false,
     }
 }
 
-/// The number of the context that a command clears: it subtracts all members, and audits nothing. Of one in an action for each context that
-/// is said where the draft is of whole tables. It looks nothing up.
-pub(crate) fn cleared_by(draft: &Draft<'_>, at: At, command: &Command<'_>) -> Option<CtxNum>
-    ensures { IfSome result (λ number. IsClearing draft.now.keys at number command.now) }
+/// Whether the wildcard matches each member of the context. Of one for all nothing is looked up; by a prefix it is a look-up of the context
+/// and one pass of its members.
+fn matches_each(draft: &Draft<'_>, number: CtxNum, term: &TermRef) -> bool
+    ensures { result ≡ list_all (matches term.now) (members_of (ctx draft.now.maps number)) }
 {
-    if subtracts_all(command) && (!at.is_each() || draft.has_every_key()) {
-        at.place()
+    if let TermRef::All = term {
+        return true;
+    }
+    match draft.ctx(number) {
+        Some(context) => context.members().iter().all(|name| matches(term, name)),
+        None => true,
+    }
+}
+
+/// The number of the context that a command clears: it subtracts what a wildcard matches, which each member of the context does, and
+/// audits nothing. Of one in an action for each context that is said where the draft is of whole tables. The work is that of a look at the
+/// members, where the wildcard has a prefix.
+pub(crate) fn cleared_by(draft: &Draft<'_>, at: At, command: &Command<'_>) -> Option<CtxNum>
+    ensures { IfSome result (λ number. IsClearing draft.now.keys at number command.now draft.now.maps) }
+{
+    if !subtracts_many(command) || (at.is_each() && !draft.has_every_key()) {
+        return None;
+    }
+    let number = at.place()?;
+    if matches_each(draft, number, &command.term) {
+        Some(number)
     } else {
         None
     }
@@ -74,7 +97,7 @@ fn with_none(
     requires covered { Holds draft.old.keys (command_keys at slot command.now draft.old.maps) }
     requires form { refusal_by_form at command.now ≡ None }
     requires judged { IfSome known (λ p. IsJudged p.now command.now) }
-    requires clearing { IsClearing draft.old.keys at number command.now }
+    requires clearing { IsClearing draft.old.keys at number command.now draft.old.maps }
     requires kept { (command.now.wild && is_wildcard command.now.term) ≡ false → told ≡ TooLong }
     ensures maps { OnOk result (draft.new.maps ≡ (allowed rules.now at slot command.now draft.old.maps).maps) }
     ensures answer { IfOk result (λ done. done ≡ outcome_behind told (allowed rules.now at slot command.now draft.old.maps).answer) }
@@ -108,7 +131,7 @@ fn with_each(
     requires covered { Holds draft.old.keys (command_keys at slot command.now draft.old.maps) }
     requires form { refusal_by_form at command.now ≡ None }
     requires judged { IfSome known (λ p. IsJudged p.now command.now) }
-    requires clearing { IsClearing draft.old.keys at number command.now }
+    requires clearing { IsClearing draft.old.keys at number command.now draft.old.maps }
     requires told { (command.now.wild && is_wildcard command.now.term) ≡ false }
     ensures maps { OnOk result (draft.new.maps ≡ (allowed rules.now at slot command.now draft.old.maps).maps) }
     ensures answer { IfOk result (λ done. done ≡ outcome_behind told (allowed rules.now at slot command.now draft.old.maps).answer) }
@@ -139,7 +162,7 @@ pub(crate) fn on_cleared(
     requires covered { Holds draft.old.keys (command_keys at slot command.now draft.old.maps) }
     requires form { refusal_by_form at command.now ≡ None }
     requires judged { IfSome known (λ p. IsJudged p.now command.now) }
-    requires clearing { IsClearing draft.old.keys at number command.now }
+    requires clearing { IsClearing draft.old.keys at number command.now draft.old.maps }
     ensures maps { OnOk result (draft.new.maps ≡ (allowed rules.now at slot command.now draft.old.maps).maps) }
     ensures answer { IfOk result (λ done. done ≡ outcome_behind told (allowed rules.now at slot command.now draft.old.maps).answer) }
     ensures keys { draft.new.keys ≡ draft.old.keys }

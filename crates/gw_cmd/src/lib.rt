@@ -1,6 +1,7 @@
 //! One command on a draft of the tables.
 #![tactic(auto)]
 
+mod alike;
 mod carry;
 mod change;
 mod clearing;

@@ -7,14 +7,23 @@ ghost use Rattle.gw_msg.specs.declared.message.Command.{Command as Sent};
 ghost use Rattle.gw_refusal.specs.Asked.{service_asked};
 ghost use Rattle.gw_refusal.specs.Forms.{refusal_by_form};
 ghost use Rattle.gw_cmd.specs.Prepared.{IsJudged, IsPrepared, ArePrepared};
-ghost use Rattle.gw_cmd.specs.ServingMembers.{IsSendingOf};
+ghost use Rattle.gw_cmd.specs.ServingMembers.{IsMergeOf};
 
 use gw_base::{Code, CtxNum, NoMemory, Rules, Service, Verb};
 use gw_desc::check;
 use gw_msg::Command;
 use gw_refusal::{At, refusal_by_form, service_asked};
-use gw_term::{MOST_PROPERTIES, Sending, are_plain, room_for};
+use gw_term::{Sending, are_plain, room_for};
 use std::alloc::Global;
+
+/// The descriptors of a Modify of which nothing is told, ready to be merged into many terminations.
+#[derive(Drop)]
+pub(crate) struct MergeOfMany<'a, 'b> {
+    /// The descriptors, with what is found and made once for all of these.
+    pub(crate) sending: Sending<'a, 'b>,
+    /// How many properties each list of a termination may have, so that it surely takes them.
+    pub(crate) most: usize,
+}
 
 /// What is found once of a command of an action for each context, whatever the context is.
 #[derive(Drop)]
@@ -25,8 +34,8 @@ pub struct Prepared<'a, 'b> {
     pub(crate) wrong: Option<Code>,
     /// The service state that they ask for.
     pub(crate) service: Option<Service>,
-    /// The descriptors of a Modify, ready to be merged into many terminations, where nothing is told of them and no list grows by them.
-    pub(crate) sending: Option<Sending<'a, 'b>>,
+    /// The descriptors of a Modify, ready to be merged into many terminations, where nothing is told of them and a list has room for them.
+    pub(crate) merge: Option<MergeOfMany<'a, 'b>>,
 }
 
 /// What is wrong with the descriptors of a command.
@@ -77,29 +86,31 @@ pub(crate) fn service_of(command: &Command<'_>, known: Option<&Prepared<'_, '_>>
 }
 
 /// The descriptors of a command that are ready to be merged into many, if they are known.
-pub(crate) fn sending_known<'k, 'a, 'b>(
+pub(crate) fn merge_known<'k, 'a, 'b>(
     known: Option<&'k Prepared<'a, 'b>>,
-) -> Option<&'k Sending<'a, 'b>>
-    ensures { (rules : Kept) (c : Sent) → IfSome known.entry (λ p. IsPrepared rules p.now c) → IfSome result (λ s. IsSendingOf rules c s.now) }
+) -> Option<&'k MergeOfMany<'a, 'b>>
+    ensures { (rules : Kept) (c : Sent) → IfSome known.entry (λ p. IsPrepared rules p.now c) → IfSome result (λ merge. IsMergeOf rules c merge.now) }
 {
     match known {
-        Some(known) => known.sending.as_ref(),
+        Some(known) => known.merge.as_ref(),
         None => None,
     }
 }
 
-/// The descriptors of a Modify, ready to be merged into many, where nothing is told of them, and they send no property that a list holds.
-fn sending_of<'a, 'b>(
+/// The descriptors of a Modify, ready to be merged into many, where nothing is told of them, and they send no more properties than a list
+/// may have.
+fn merge_of_many<'a, 'b>(
     alloc: Global,
     rules: &'a Rules,
     command: &'a Command<'b>,
-) -> Result<Option<Sending<'a, 'b>>, NoMemory>
-    ensures { IfOk result (λ sending. IfSome sending (IsSendingOf rules.now command.now)) }
+) -> Result<Option<MergeOfMany<'a, 'b>>, NoMemory>
+    ensures { IfOk result (λ merge. IfSome merge (IsMergeOf rules.now command.now)) }
 {
     let descriptors = command.descriptors.as_slice();
     match (command.verb, room_for(descriptors)) {
-        (Verb::Modify, Some(MOST_PROPERTIES)) if are_plain(descriptors) => {
-            Ok(Some(Sending::new(alloc, rules, descriptors, None)?))
+        (Verb::Modify, Some(most)) if are_plain(descriptors) => {
+            let sending = Sending::new(alloc, rules, descriptors)?;
+            Ok(Some(MergeOfMany { sending, most }))
         }
         _ => Ok(None),
     }
@@ -116,12 +127,12 @@ fn one_prepared<'a, 'b>(
     let form = refusal_by_form(At::Each(CtxNum(0)), command);
     let wrong = wrong_with_descriptors(command);
     let service = service_asked(command.descriptors.as_slice());
-    let sending = sending_of(alloc, rules, command)?;
+    let merge = merge_of_many(alloc, rules, command)?;
     Ok(Prepared {
         form,
         wrong,
         service,
-        sending,
+        merge,
     })
 }
 

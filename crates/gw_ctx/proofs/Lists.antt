@@ -1,6 +1,7 @@
 -- Lists that are filtered, or made of others, where tests and functions agree at each element.
 use Rattle.std.proofs.Common.{◌≡◌, ℕ, zero, suc, ◌+◌, ◌<◌, Bool, true, false, not, cond, inl, inr, ◌-◌, List, [], ◌∷◌, length, get_or, drop, take, map, filter, All, None, Some, refl, ap, ◌∙◌, sym, arith, nat_lt, ◌≤◌}
 use Rattle.std.specs.List.{remove, position, position_or_len}
+use Rattle.std.specs.List.Retain.{RetainsInTurn}
 use Rattle.std.proofs.lemmas.Bool.{cases_lt, le-ltb, lt-ltb, ltb-true, ltb-false, not-true}
 use Rattle.std.proofs.Math.Seq.{take-length}
 use Rattle.std.proofs.lemmas.List.{get_or-drop, get_or-take, length-drop}
@@ -116,3 +117,13 @@ more_fail {X} p xs row n m before fits is size fail k d h = elim (cases_lt k n) 
       ∙ get_or-take (length xs - n) (drop n xs) (k - n) d (omega arith) ∙ get_or-drop n xs (k - n) d ∙ ap (λ (i : ℕ). get_or xs i d) (omega arith) in
       ap p (sym at) ∙ fail (k - n) d (omega (arith, size))
 ]
+
+-- what is left where each call answers by a function of the element, and changes it by another
+pub retained : {S X : Type 0} (R : S → X → Bool → S → X → Type 0) (I : S → Type 0) (test : X → Bool) (change : X → X)
+    → ((s : S) (x : X) (b : Bool) (t : S) (y : X) → I s → R s x b t y → (b ≡ test x) × (y ≡ change x) × I t)
+    → (s : S) (xs ys : List X) → I s → RetainsInTurn R s xs ys → ys ≡ map change (filter test xs)
+retained R I test change says s [] ys i h = h
+retained {S} {X} R I test change says s (x ∷ xs) ys i h =
+    let said = says s x h.0 h.1 h.2 i h.3 in
+    let rest : h.4 ≡ map change (filter test xs) = retained R I test change says h.1 xs h.4 said.2 h.5 in
+    h.6 ∙ (λ j. cond (said.0 j) (said.1 j ∷ rest j) (rest j)) ∙ filter_step change x (map change (filter test xs)) (filter test xs) (test x) refl

@@ -4,7 +4,7 @@ use Rattle.std.specs.Prelude.{AllPairs}
 use Rattle.std.specs.List.{position}
 use Rattle.std.proofs.lemmas.Bool.{cases_order, eq-eqb, ne_eqb, eqb-false, not-true, or_parts, and_left, and_right, both_ways, false_from_ne_true}
 use Rattle.std.proofs.lemmas.List.{get_or_append_left, get_or-map, length-map, map_push}
-use Rattle.std.proofs.lemmas.List.Elements.{All-filter, All-push, All-weaker, All-map}
+use Rattle.std.proofs.lemmas.List.Elements.{All-filter, All-push, All-weaker, All-map, filter_passes}
 use Rattle.std.proofs.lemmas.List.Folds.{list_any_at, list_any_none}
 use Rattle.std.proofs.lemmas.List.Kept.{AllPairs-filter}
 use Rattle.std.proofs.lemmas.List.Quantifiers.{all_pairs_push, position-Some}
@@ -225,3 +225,16 @@ module _ (names : List (List ℕ)) (pairs : List Pair) (kept : AreKept names pai
       map_push (link_at second) (filter (joins_others a b) pairs) (record { a = a; b = b; flow = link.flow })
       ∙ ap (λ (l : List Link). l ++ link_at second (record { a = a; b = b; flow = link.flow }) ∷ []) (sym (beside_there second pairs kept_second link a b a_still.0 b_below a_still.1 b_there) ∙ ap (λ (l : List Link). links_beside link l) same_second)
       ∙ ap (λ (l : Link). links_beside link (links_at names pairs) ++ l ∷ []) (same_link link.flow a_still.1 b_there)
+
+-- what is left once a name is gone with its pairs, and the last one has taken its place
+pub gone_there : (names : List (List ℕ)) (pairs : List Pair) → AreKept names pairs → (name : List ℕ) (g : ℕ) → position (bytes_eq name) names ≡ Some g
+    → (left : List (List ℕ)) → IsSwapped names left g → (made : List Pair) → made ≡ map (renumbered (length left) g) (filter (is_off g) pairs)
+    → AreKept left made × (links_at left made ≡ links_without name (links_at names pairs))
+gone_there names pairs kept name g at left swapped made e =
+    let others : List Pair = filter (is_off g) pairs in
+    let still : AreKept names others = kept_filtered names pairs kept (is_off g) in
+    let within : g < length names = place_within (bytes_eq name) names g at in
+    let off : All (λ p. is_off g p ≡ true) others = filter_passes (is_off g) pairs in (
+      subst (λ (l : List Pair). AreKept left l) (sym e) (forgotten_kept names others still left g swapped within off),
+      ap (λ (l : List Pair). let r : List Link = links_at left l in r) e ∙ forgotten_same names others still left g swapped within off ∙ sym (without_there names pairs kept name g at),
+    )

@@ -4,7 +4,7 @@ ghost use Rattle.std.specs.Prelude.{◌≡◌, ◌<◌, ◌++◌, ◌∷◌, [],
 ghost use Rattle.gw_ctx.specs.Places.{IsWithin, link_at};
 ghost use Rattle.gw_ctx.specs.Contexts.{links_without, links_beside, kept_link};
 
-use crate::names::{forget, forget_unspoken, place_in, place_of};
+use crate::names::{forget_unspoken, place_in, place_of};
 use crate::pairs::{Pair, drop_at, drop_pair, put_pair};
 use gw_base::{Flow, Items, Link, NoMemory, TermName};
 use std::alloc::{AllocError, Global};
@@ -79,8 +79,8 @@ impl Links {
         ensures { self.new ≡ links_without name.now self.old }
     {
         if let Some(place) = place_of(&self.names, name) {
-            drop_at(&mut self.pairs, place);
-            forget(&mut self.names, &mut self.pairs, place);
+            self.names.swap_remove(place);
+            drop_at(&mut self.pairs, self.names.len(), place);
             forget_unspoken(&mut self.names, &mut self.pairs);
         }
     }

@@ -116,13 +116,6 @@ pub(crate) fn are_off(place: usize, pairs: &[Pair]) -> bool
     pairs.iter().all(|pair| is_off(place, pair))
 }
 
-/// The pairs that are about this place go.
-pub(crate) fn drop_at(pairs: &mut Vec<Pair>, place: usize)
-    ensures { pairs.new.items ≡ filter (is_off place) pairs.old.items }
-{
-    pairs.retain(|pair| is_off(place, pair));
-}
-
 /// Whether none of them is the pair of these two places, whose sum this is.
 fn are_others(pairs: &[Pair], a: usize, b: usize, sum: u16) -> bool
     requires { sum ≡ sum_of a b }
@@ -213,6 +206,24 @@ fn follow(pair: &mut Pair, last: usize, gone: usize)
     if !is_off(last, pair) {
         *pair = renumbered(pair, last, gone);
     }
+}
+
+/// Whether the pair is about another place than the one that is gone; it follows the names.
+fn stays(pair: &mut Pair, last: usize, gone: usize) -> bool
+    ensures stays { result ≡ is_off gone pair.old }
+    ensures pair { pair.new ≡ renumbered last gone pair.old }
+{
+    let stays = is_off(gone, pair);
+    follow(pair, last, gone);
+    stays
+}
+
+/// The pairs go that are about the place of a name that is gone, and each of the others follows the names, the last of which has taken
+/// the place. It is one pass.
+pub(crate) fn drop_at(pairs: &mut Vec<Pair>, last: usize, gone: usize)
+    ensures { pairs.new.items ≡ map (renumbered last gone) (filter (is_off gone) pairs.old.items) }
+{
+    pairs.retain_mut(move |pair| stays(pair, last, gone));
 }
 
 /// Each follows the names, once one is gone and the last one has taken its place.

@@ -35,3 +35,4 @@ pub mod Swept
 pub mod Undone
 pub mod Roomy
 pub mod Resets
+pub mod EachRoom

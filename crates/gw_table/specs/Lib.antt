@@ -29,3 +29,4 @@ pub mod WellFormed
 pub use Rattle.gw_ctx.specs.Contexts
 pub use Rattle.gw_term.specs.Record
 pub mod Room
+pub mod EachRoom

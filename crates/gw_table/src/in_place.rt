@@ -69,6 +69,9 @@ pub(crate) fn note_vacated(
     Ok(())
 }
 
+/// How many writes are noted before room is made for many.
+const FEW_WRITES: usize = 64;
+
 impl InPlace {
     /// Tables, with the originals of earlier changes.
     pub(crate) fn new(tables: Tables, originals: Originals) -> InPlace
@@ -86,6 +89,19 @@ impl InPlace {
             before,
             earlier,
         }
+    }
+
+    /// Makes room in the list of writes, where it is full and no longer short, for as many more as there are terminations: a command for all
+    /// of many contexts does not move it again and again.
+    pub(crate) fn make_room(&mut self) -> Result<(), NoMemory>
+        ensures maps { self.new.maps ≡ self.old.maps }
+        ensures keys { self.new.keys ≡ self.old.keys }
+    {
+        let count = self.writes.len();
+        if count >= FEW_WRITES && count == self.writes.capacity() {
+            self.writes.reserve(self.tables.terms.len())?;
+        }
+        Ok(())
     }
 
     /// The termination of a name.

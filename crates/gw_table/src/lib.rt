@@ -14,6 +14,7 @@ mod keys;
 mod laws;
 mod marked;
 mod merging;
+mod merging_members;
 mod moves;
 mod originals;
 mod over_part;

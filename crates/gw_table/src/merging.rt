@@ -7,8 +7,8 @@ ghost use Rattle.std.specs.Map.{lookup};
 ghost use Rattle.gw_base.specs.declared.key.Key.TheVariants.{Term};
 ghost use Rattle.gw_base.specs.NameLists.{is_in, name_cmp};
 ghost use Rattle.gw_term.specs.Merge.{merged};
-ghost use Rattle.gw_term.specs.Named.{named_by};
 ghost use Rattle.gw_term.specs.Plain.{are_plain, AreKnown};
+ghost use Rattle.gw_term.specs.Sending.{SendsTheSame};
 ghost use Rattle.gw_table.specs.declared.reach.Reach.TheVariants.{Free};
 ghost use Rattle.gw_table.specs.Maps.{term};
 ghost use Rattle.gw_table.specs.Merged.{put_changed, all_changed, is_away_at, is_free_in, last_met, WasMerged, IsPassed, StaysFree, AreAlike, AreChanged, AreAllNoted};
@@ -51,6 +51,26 @@ pub(crate) fn merge_in_place(
     false
 }
 
+/// The same, where what the descriptors make of the termination may be learnt.
+pub(crate) fn merge_and_learn(
+    place: &mut Place<Held<Termination>>,
+    alloc: Global,
+    sending: &mut Sending<'_, '_>,
+) -> bool
+    requires { AreKnown sending.old.descriptors.now sending.old.named }
+    ensures same { SendsTheSame sending.old sending.new }
+    ensures merged { WasMerged (merged sending.old.rules.now sending.old.descriptors.now) place.old place.new result }
+{
+    if let Place::Here(termination) = place {
+        let merged = termination.get_mut().merge_learning(alloc, sending);
+        if merged.is_err() {
+            termination.get_mut().set_place(Some(CtxNum(0)));
+            return true;
+        }
+    }
+    false
+}
+
 /// The termination that stands in a place, if there is one, leaves the null context.
 pub(crate) fn put_away(place: &mut Place<Held<Termination>>)
     ensures { is_some (shown (Some place.old)) ≡ true → is_away_at place.new ≡ true }
@@ -66,15 +86,16 @@ pub(crate) fn put_away(place: &mut Place<Held<Termination>>)
 fn merge_reached(
     alloc: Global,
     prefix: &[u8],
-    sending: &Sending<'_, '_>,
+    sending: &mut Sending<'_, '_>,
     name: &TermName,
     site: &mut Site<Held<Termination>>,
     writes: &[Write],
     next: usize,
     refused: bool,
 ) -> (usize, bool)
-    requires { AreKnown sending.now.descriptors.now sending.now.named }
-    ensures { IsPassed prefix.now (merged sending.now.rules.now sending.now.descriptors.now) name.now site.old site.new refused result.1 }
+    requires { AreKnown sending.old.descriptors.now sending.old.named }
+    ensures same { SendsTheSame sending.old sending.new }
+    ensures passed { IsPassed prefix.now (merged sending.old.rules.now sending.old.descriptors.now) name.now site.old site.new refused result.1 }
 {
     if !is_reached_at(Reach::Free, prefix, name, site) {
         return (next, refused);
@@ -136,27 +157,9 @@ impl Tables {
         Ok(last)
     }
 
-    /// The descriptors, to be merged into many records that are like that of the termination of a name, if one is given.
-    fn sending_like<'a, 'b>(
-        &self,
-        alloc: Global,
-        rules: &'a Rules,
-        descriptors: &'a [Descriptor<'b>],
-        name: &Option<TermName>,
-    ) -> Result<Sending<'a, 'b>, NoMemory>
-        ensures rules { IfOk result (λ sending. sending.rules.now ≡ rules.now) }
-        ensures descriptors { IfOk result (λ sending. sending.descriptors.now ≡ descriptors.now) }
-        ensures named { IfOk result (λ sending. sending.named ≡ named_by descriptors.now) }
-    {
-        let like = match name {
-            Some(name) => self.find_term(name),
-            None => None,
-        };
-        Sending::new(alloc, rules, descriptors, like)
-    }
-
     /// Merges the descriptors into those that are meant, each in its place. What was noted of them stands in the list of writes from an
-    /// index on, in their order; which is the last is known. The work is one pass over the places, and a look-up.
+    /// index on, in their order; which is the last is known. What the descriptors make of those that are met is learnt on the way. The work
+    /// is one pass over the places, and a look-up.
     ///
     /// # Errors
     ///
@@ -165,24 +168,31 @@ impl Tables {
         &mut self,
         alloc: Global,
         prefix: &[u8],
-        sending: &Sending<'_, '_>,
+        mut sending: Sending<'_, '_>,
         writes: &[Write],
         first: usize,
         last: Option<TermName>,
     ) -> Result<(), NoMemory>
         requires last { last ≡ last_met prefix.now (finite.entries self.old.terms) }
-        requires known { AreKnown sending.now.descriptors.now sending.now.named }
+        requires known { AreKnown sending.descriptors.now sending.named }
         ensures alike { AreAlike prefix.now self.old self.new }
-        ensures changed { OnOk result (AreChanged prefix.now (merged sending.now.rules.now sending.now.descriptors.now) self.old self.new) }
+        ensures changed { OnOk result (AreChanged prefix.now (merged sending.entry.rules.now sending.entry.descriptors.now) self.old self.new) }
     {
         let mut next = first;
         let mut refused = false;
         self.terms.retain(
             move |name, site|
-                requires { AreKnown sending.now.descriptors.now sending.now.named }
+                requires { AreKnown sending.descriptors.now sending.named }
             {
                 let passed = merge_reached(
-                    alloc, prefix, sending, name, site, writes, next, refused,
+                    alloc,
+                    prefix,
+                    &mut sending,
+                    name,
+                    site,
+                    writes,
+                    next,
+                    refused,
                 );
                 next = passed.0;
                 refused = passed.1;
@@ -214,7 +224,7 @@ impl Tables {
 
 impl InPlace {
     /// The descriptors are merged into those that are meant, each in its place. The record of one that was not noted before is noted
-    /// first. Where the last shares what was set of it, those of which the same was set will share what is made of it.
+    /// first. Where one shares what was set of it, those of which the same was set will share what is made of it, if few were learnt before.
     fn merge_all_free<'a>(
         &mut self,
         alloc: Global,
@@ -228,9 +238,9 @@ impl InPlace {
     {
         let first = self.writes.len();
         let last = self.tables.note_all_free(alloc, prefix, &mut self.writes)?;
-        let sending = self.tables.sending_like(alloc, rules, descriptors, &last)?;
+        let sending = Sending::new(alloc, rules, descriptors)?;
         self.tables
-            .merge_all_free(alloc, prefix, &sending, &self.writes, first, last)
+            .merge_all_free(alloc, prefix, sending, &self.writes, first, last)
     }
 
     /// The descriptors are merged into the termination of a name, if there is one, in its place. The record of one that was not noted
@@ -250,7 +260,7 @@ impl InPlace {
     }
 
     /// The descriptors are merged into the terminations of these names.
-    fn merge_each(
+    pub(crate) fn merge_each(
         &mut self,
         alloc: Global,
         sending: &Sending<'_, '_>,
@@ -260,6 +270,7 @@ impl InPlace {
         ensures maps { OnOk result (self.new.maps ≡ all_changed (merged sending.now.rules.now sending.now.descriptors.now) named.now self.old.maps) }
         ensures keys { self.new.keys ≡ self.old.keys }
     {
+        self.make_room()?;
         for name in named {
             self.merge_term(alloc, sending, name)?;
         }
@@ -318,7 +329,7 @@ impl OverPart<'_> {
         ensures maps { OnOk result (self.new.maps ≡ all_changed (merged rules.now descriptors.now) (reached Free prefix.now self.old.maps) self.old.maps) }
         ensures keys { self.new.keys ≡ self.old.keys }
     {
-        let sending = Sending::new(alloc, rules, descriptors, None)?;
+        let sending = Sending::new(alloc, rules, descriptors)?;
         let named = self.reached(alloc, Reach::Free, prefix)?;
         self.merge_each(alloc, &sending, &named)
     }
@@ -327,9 +338,9 @@ impl OverPart<'_> {
 impl Draft<'_> {
     /// The descriptors are merged into those terminations of the null context whose names begin so. The caller knows that each
     /// of these takes them, as one of which nothing was set does, and that the names are among the draft's keys. The work is two passes
-    /// over the tables, with two look-ups, and the merges; or a look-up for each key of the part, and two for each that is meant. Memory
+    /// over the tables, with a look-up, and the merges; or a look-up for each key of the part, and two for each that is meant. Memory
     /// is taken for the records of those that were not noted before, as copies, and for what is new in the records, once for all of which
-    /// nothing was set.
+    /// nothing was set, or which share what was set of them, as far as that was learnt.
     ///
     /// # Errors
     ///

@@ -148,6 +148,7 @@ impl InPlace {
         ensures maps { OnOk result (self.new.maps ≡ all_serviced service named.now self.old.maps) }
         ensures keys { self.new.keys ≡ self.old.keys }
     {
+        self.make_room()?;
         for name in named {
             self.serve_in_place(alloc, name, service)?;
         }

@@ -7,6 +7,7 @@ ghost use Rattle.gw_base.specs.Keys.{has};
 ghost use Rattle.gw_base.specs.NameLists.{is_in};
 ghost use Rattle.gw_term.specs.Merge.{merged};
 ghost use Rattle.gw_term.specs.Plain.{AreKnown};
+ghost use Rattle.gw_term.specs.Sending.{SendsTheSame};
 ghost use Rattle.gw_table.specs.declared.place.Place.TheVariants.{Empty};
 ghost use Rattle.gw_table.specs.Found.{IsFound, original_of};
 ghost use Rattle.gw_table.specs.Gone.{has_slot, reset_at};
@@ -22,7 +23,7 @@ ghost use Rattle.gw_table.specs.Settings.{set_at};
 ghost use Rattle.gw_table.specs.Stored.{shown, served, emptied};
 
 use crate::joining::{join_in_place, leave_in_place};
-use crate::merging::{merge_in_place, put_away};
+use crate::merging::{merge_and_learn, merge_in_place, put_away};
 use crate::originals::Write;
 use crate::place::{Place, copied, put_record, renew, serve, set_in_place};
 use crate::setting::{self, Setting, is_set};
@@ -383,15 +384,16 @@ impl Site<Held<Termination>> {
     pub(crate) fn merge_noted(
         &mut self,
         alloc: Global,
-        sending: &Sending<'_, '_>,
+        sending: &mut Sending<'_, '_>,
         name: &TermName,
         writes: &[Write],
         next: usize,
     ) -> (usize, bool)
-        requires { AreKnown sending.now.descriptors.now sending.now.named }
-        ensures { WasMerged (merged sending.now.rules.now sending.now.descriptors.now) self.old self.new result.1 }
+        requires { AreKnown sending.old.descriptors.now sending.old.named }
+        ensures same { SendsTheSame sending.old sending.new }
+        ensures merged { WasMerged (merged sending.old.rules.now sending.old.descriptors.now) self.old self.new result.1 }
     {
-        let refused = merge_in_place(&mut self.place, alloc, sending);
+        let refused = merge_and_learn(&mut self.place, alloc, sending);
         let next = self.pass_noted(name, writes, next);
         (next, refused)
     }
@@ -448,7 +450,8 @@ impl Site<Held<Termination>> {
         }
         let next = writes.len();
         self.note_record(alloc, name, writes)?;
-        let (_, refused) = self.merge_noted(alloc, sending, name, writes, next);
+        let refused = merge_in_place(&mut self.place, alloc, sending);
+        self.pass_noted(name, writes, next);
         if refused { Err(NoMemory) } else { Ok(()) }
     }
 

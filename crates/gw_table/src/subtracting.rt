@@ -139,6 +139,7 @@ impl InPlace {
         if named.is_empty() {
             return Ok(());
         }
+        self.make_room()?;
         self.set_ctx(number, None)?;
         self.put_all_remains(alloc, named)
     }

@@ -15,3 +15,4 @@ pub mod MadeOnce
 pub mod MadeThere
 pub mod RoomTaken
 pub mod SamePlaces
+pub mod PrintEnds

@@ -1,6 +1,6 @@
 -- What plain descriptors make of a record is the same for each record of which the same was set.
 use Rattle.std.proofs.Common.{◌≡◌, ℕ, zero, suc, ◌≤◌, arith, Bool, true, false, List, [], ◌∷◌, Option, Some, None, is_some, refl, ap, sym, ◌∙◌}
-use Rattle.std.specs.Prelude.{◌&&◌, if◌then◌else◌, decimal}
+use Rattle.std.specs.Prelude.{◌&&◌, if◌then◌else◌, decimal, IfSome}
 use Rattle.std.specs.List.{list_all, list_any, flat_map}
 use Rattle.std.specs.Option.{option_map, unwrap_or}
 use Rattle.gw_base.specs.declared.command_words.Rules.{Rules}
@@ -19,11 +19,17 @@ use Rattle.gw_term.specs.Merge.{and_then, each, put_part, begun, unnamed, is_nam
 use Rattle.gw_term.specs.Places.{at_number, at_kind}
 use Rattle.gw_term.specs.Plain.{has_choice, is_plain_stream, is_plain_one, are_plain, IsMadeBy, IsMadeOf, AreMade, AreSet, stream_or_none, with_properties, with_streams_after, with_tails_after, with_all_after}
 use Rattle.gw_term.specs.Record.{provisioned}
+use Rattle.gw_term.specs.Room.{Takes}
 use Rattle.gw_term.specs.Settings.{Settings, nothing_set}
 use Rattle.gw_term.proofs.ByField.{by_field, parts_are}
 use Rattle.gw_term.proofs.Made.{mapped_from}
 use Rattle.gw_term.proofs.Taken.{all_in, none_there, plain_parts_in, merged_here}
 use Rattle.gw_term.proofs.Unfilled.{unfilled}
+
+-- what is said of what is there, where something is
+pub of_some : {X Q : Type 0} (P : X → Type 0) (o : Option X) → is_some o ≡ true → IfSome o P → ((x : X) → P x → Q) → Q
+of_some P (Some x) h p f = f x p
+of_some P None h p f = absurd cc
 
 both_of : (a b : Bool) → (a && b) ≡ true → (a ≡ true) × (b ≡ true)
 both_of true b h = (refl, h)
@@ -148,3 +154,9 @@ module _ (rules : Rules) (slot : Option ℕ) (ds : List Descriptor) (h : are_pla
       by Signals = refl
       by DigitMap = refl
       by EventBuffer = refl
+
+-- a record of which this was set takes them
+pub made_takes : (rules : Rules) (ds : List Descriptor) (r : Termination) (after : Settings) → are_plain ds ≡ true → IsMadeOf rules ds r.settings after → Takes rules ds r
+made_takes rules ds r after h is =
+    let set = made_from rules r.slot ds h r.settings after is in
+    (_, merged_here rules ds r after.properties set.properties set.streams)

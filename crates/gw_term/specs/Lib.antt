@@ -1,4 +1,6 @@
 pub mod Places
+pub mod Numbers
+pub mod Prints
 pub mod Settings
 pub mod HeldTexts
 pub mod Record
@@ -13,3 +15,4 @@ pub mod KeptRecords
 pub mod Named
 pub mod Plain
 pub mod Room
+pub mod Sending

@@ -1,6 +1,6 @@
 -- What was set of a termination (RFC 3525, section 6.2), and how a short list of settings has it (own).
 use Rattle.std.specs.Prelude.{ℕ, Bool, true, false, List, [], ◌∷◌, Option, Some, None}
-use Rattle.std.specs.Arc.{arc_slice_items}
+use Rattle.std.specs.Arc.{arc_value}
 use Rattle.gw_desc.specs.declared.descriptor.Property.{Property}
 use Rattle.gw_desc.specs.declared.descriptor.Tail.{Tail}
 use Rattle.gw_term.specs.Places.{numbered, put_number, of_kinds, put_kind}
@@ -39,7 +39,7 @@ set_by list = with_settings list nothing_set
 -- the settings of a list, wherever it lies
 abbrev pub settings_in : Form → List Setting
 settings_in (form.Own block) = block.items
-settings_in (form.Shared block) = arc_slice_items block
+settings_in (form.Shared block) = arc_value block
 
 -- no other termination has the block that it lies in
 abbrev pub is_own : Form → Bool

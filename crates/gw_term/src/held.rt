@@ -1,8 +1,10 @@
 //! What is kept of a property and of a tail, with the texts of each in one block.
 
-ghost use Rattle.std.specs.Prelude.{◌≡◌, ◌++◌, if◌then◌else◌, true, IfOk, None, Some};
+ghost use Rattle.std.specs.Prelude.{◌≡◌, ◌++◌, if◌then◌else◌, true, IfOk, OnOk, None, Some};
 ghost use Rattle.gw_term.specs.HeldTexts.{text_of};
+ghost use Rattle.gw_term.specs.Prints.{property_print, tail_print};
 
+use crate::print::Print;
 use crate::text::{Copying, Text};
 use gw_base::{Items, Span};
 use gw_desc::{Property, Sign, Tail};
@@ -109,6 +111,17 @@ impl HeldProperty {
         })
     }
 
+    /// It goes last in a print.
+    #[tactic(auto, unfolding(crate::specs::Prints::property_print))]
+    pub(crate) fn push_to(&self, print: &mut Print) -> Result<(), AllocError>
+        ensures { OnOk result (print.new ≡ print.old ++ property_print self.now) }
+    {
+        let (name, value) = self.texts.as_slice().split_at(self.split);
+        print.push_sign(self.sign)?;
+        print.push_text(name)?;
+        print.push_text(value)
+    }
+
     /// The property as it is told, with copies of its texts.
     pub(crate) fn told(&self, alloc: Global) -> Result<KeptProperty, AllocError>
         ensures { IfOk result (λ told. told ≡ self.now) }
@@ -208,6 +221,17 @@ impl HeldTail {
             && self.has_group == other.has_group
             && self.split == other.split
             && self.texts.is_same(&other.texts)
+    }
+
+    /// It goes last in a print.
+    #[tactic(auto, unfolding(crate::specs::Prints::tail_print))]
+    pub(crate) fn push_to(&self, print: &mut Print) -> Result<(), AllocError>
+        ensures { OnOk result (print.new ≡ print.old ++ tail_print self.now) }
+    {
+        let (word, group) = self.texts.as_slice().split_at(self.split);
+        print.push_flag(self.equals)?;
+        print.push_text_if(self.has_word, word)?;
+        print.push_text_if(self.has_group, group)
     }
 
     /// The tail as it is told, with copies of its texts.

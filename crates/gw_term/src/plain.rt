@@ -1,13 +1,13 @@
 //! Descriptors of which nothing is told, and their merge where the record lies.
 
-ghost use Rattle.std.specs.Prelude.{◌≡◌, ◌≤◌, true, false, [], map, None, Some, OnOk};
+ghost use Rattle.std.specs.Prelude.{◌≡◌, ◌≤◌, true, false, [], map, None, Some, IfSome, OnOk};
 ghost use Rattle.std.specs.List.{flat_map, list_all, list_any};
 ghost use Rattle.std.specs.Option.{is_some, option_map};
 ghost use Rattle.gw_desc.specs.Checks.{is_kept};
 ghost use Rattle.gw_term.specs.Merge.{each, put_part, parts_in, is_named_in, merged, merged_properties, merged_stream};
 ghost use Rattle.gw_term.specs.Named.{has_states, named_by};
 ghost use Rattle.gw_term.specs.Places.{at_number, numbered, at_kind, put_kind, of_kinds};
-ghost use Rattle.gw_term.specs.Plain.{has_choice, is_plain_stream, is_plain_part, is_plain_one, are_plain, AreKnown, stream_after, setting_after, with_stream_after, stream_or_none, with_streams_after, AreMade, AreSet, is_made_at, is_properties, with_properties, is_tail_of, retold, with_tail, with_tail_after, with_tails_after};
+ghost use Rattle.gw_term.specs.Plain.{has_choice, is_plain_stream, is_plain_part, is_plain_one, are_plain, AreKnown, IsMadeOf, stream_after, setting_after, with_stream_after, stream_or_none, with_streams_after, AreMade, AreSet, is_made_at, is_properties, with_properties, is_tail_of, retold, with_tail, with_tail_after, with_tails_after};
 
 use crate::copies::{copied_stream, put};
 use crate::fault::ApplyFault;
@@ -501,22 +501,21 @@ impl Settings {
         Ok(())
     }
 
-    /// The same. Where nothing is set, or what others share, they are what was made of that once, in the block that all such records share.
+    /// The same. Where it is known what they will be, they are that.
+    #[inline]
     fn merge_all(
         &mut self,
         alloc: Global,
         sending: &Sending<'_, '_>,
         slot: Option<u16>,
+        known: Option<Settings>,
     ) -> Result<(), NoMemory>
-        requires { AreKnown sending.now.descriptors.now sending.now.named }
+        requires named { AreKnown sending.now.descriptors.now sending.now.named }
+        requires known { IfSome known (IsMadeOf sending.now.rules.now sending.now.descriptors.now self.old) }
         ensures { OnOk result (AreSet sending.now.rules.now slot sending.now.descriptors.now self.old self.new) }
     {
-        if self.is_empty() {
-            put(self, sending.made.copied(alloc, Copying::Once)?);
-            return Ok(());
-        }
-        if self.is_same(&sending.before) {
-            put(self, sending.after.copied(alloc, Copying::Once)?);
+        if let Some(after) = known {
+            put(self, after);
             return Ok(());
         }
         if self.merge_each(alloc, sending, slot).is_err() {
@@ -527,6 +526,27 @@ impl Settings {
 }
 
 impl Termination {
+    ghost use Rattle.gw_term.specs.Sending.{SendsTheSame};
+
+    /// The termination becomes its record after the descriptors, where it may be known what was set of it then.
+    #[inline]
+    fn merge_known(
+        &mut self,
+        alloc: Global,
+        sending: &Sending<'_, '_>,
+        known: Option<Settings>,
+    ) -> Result<(), NoMemory>
+        requires named { AreKnown sending.now.descriptors.now sending.now.named }
+        requires known { IfSome known (IsMadeOf sending.now.rules.now sending.now.descriptors.now self.old.settings) }
+        ensures { OnOk result (merged sending.now.rules.now sending.now.descriptors.now self.old ≡ Some self.new) }
+    {
+        let slot = self.slot;
+        self.settings.merge_all(alloc, sending, slot, known)?;
+        let descriptors = sending.descriptors;
+        self.service = merged_service(sending.named.states, descriptors, self.service);
+        Ok(())
+    }
+
     /// The termination becomes its record after the descriptors, as [`Termination::merged`] tells it, where it lies: what they do not
     /// name is not copied, and where nothing was set it shares what they make. What they name and make was found before, once for many
     /// records. The caller knows that it takes them, and that a record of which nothing was set does.
@@ -542,10 +562,26 @@ impl Termination {
         requires { AreKnown sending.now.descriptors.now sending.now.named }
         ensures { OnOk result (merged sending.now.rules.now sending.now.descriptors.now self.old ≡ Some self.new) }
     {
-        let slot = self.slot;
-        self.settings.merge_all(alloc, sending, slot)?;
-        let descriptors = sending.descriptors;
-        self.service = merged_service(sending.named.states, descriptors, self.service);
-        Ok(())
+        let known = sending.known_after(alloc, &self.settings)?;
+        self.merge_known(alloc, sending, known)
+    }
+
+    /// The same, and where others share what was set of the termination, what the descriptors make of that is learnt, once for all of these,
+    /// while few were learnt.
+    ///
+    /// # Errors
+    ///
+    /// Want of memory. Nothing is known then of what is kept of the termination.
+    pub fn merge_learning(
+        &mut self,
+        alloc: Global,
+        sending: &mut Sending<'_, '_>,
+    ) -> Result<(), NoMemory>
+        requires { AreKnown sending.old.descriptors.now sending.old.named }
+        ensures same { SendsTheSame sending.old sending.new }
+        ensures merged { OnOk result (merged sending.old.rules.now sending.old.descriptors.now self.old ≡ Some self.new) }
+    {
+        let known = sending.learnt_after(alloc, &self.settings)?;
+        self.merge_known(alloc, sending, known)
     }
 }

@@ -1,6 +1,6 @@
 //! Properties: how one takes its place in a list, and what the TerminationStates of descriptors set.
 
-ghost use Rattle.std.specs.Prelude.{◌≡◌, ◌≤◌, length, IfOk};
+ghost use Rattle.std.specs.Prelude.{◌≡◌, ◌≤◌, length, IfOk, IfSome};
 ghost use Rattle.std.specs.List.{flat_map, list_any};
 ghost use Rattle.gw_term.specs.Named.{has_states};
 ghost use Rattle.gw_term.specs.Merge.{property_place, put_property, put_state, service_after, last_service, merged_service, merged_properties, states_in, states_in_part, media_parts, each};
@@ -30,19 +30,35 @@ fn property_place(name: &[u8], list: &[HeldProperty]) -> usize
     list.len()
 }
 
-/// The property as it is kept: a copy of that one of these which it is, and shares its texts if they may be shared; or else with copies of
-/// its texts.
+/// That one of these which the property is, if one is. The one at this place is looked at first, since properties are mostly sent in
+/// the order in which they are kept.
+fn made_already<'a>(
+    property: &Property<Span<'_>>,
+    made: &'a [HeldProperty],
+    place: usize,
+) -> Option<&'a HeldProperty>
+    ensures { IfSome result (λ own. own.now ≡ property.now) }
+{
+    if let Some(own) = made.get(place) {
+        if own.is(property) {
+            return Some(own);
+        }
+    }
+    made.iter().find(|own| own.is(property))
+}
+
+/// The property as it is kept at a place: a copy of that one of these which it is, and shares its texts if they may be shared; or else
+/// with copies of its texts.
 fn held(
     alloc: Global,
     property: &Property<Span<'_>>,
     made: &[HeldProperty],
+    place: usize,
 ) -> Result<HeldProperty, AllocError>
     ensures { IfOk result (λ held. held ≡ property.now) }
 {
-    for own in made {
-        if own.is(property) {
-            return own.copied(alloc, Copying::Once);
-        }
+    if let Some(own) = made_already(property, made, place) {
+        return own.copied(alloc, Copying::Once);
     }
     HeldProperty::of(
         alloc,
@@ -66,7 +82,7 @@ pub(crate) fn put_property(
     if !is_there && list.len() >= MOST_PROPERTIES {
         return Err(ApplyFault::Code(Code::InsufficientResources));
     }
-    let kept = held(alloc, property, made)?;
+    let kept = held(alloc, property, made, place)?;
     if is_there {
         list.set(place, kept);
     } else {

@@ -1,10 +1,11 @@
 //! Whether the same was set of two terminations, wherever it lies.
 
 ghost use Rattle.std.specs.Prelude.{◌≡◌, true};
+ghost use Rattle.gw_term.specs.Settings.{settings_in};
 
 use crate::held::HeldProperty;
 use crate::record::Stream;
-use crate::settings::{Setting, Settings};
+use crate::settings::{Form, Setting, Settings};
 use gw_desc::{Mode, same_kept};
 
 fn is_same_mode(a: Mode, b: Mode) -> bool
@@ -88,12 +89,24 @@ fn are_same_settings(settings: &[Setting], others: &[Setting]) -> bool
     true
 }
 
+impl Form {
+    /// Whether they are the same settings in the same order. Of two that are shared only the prints are compared.
+    fn is_same(&self, other: &Form) -> bool
+        ensures { result ≡ true → settings_in self.now ≡ settings_in other.now }
+    {
+        match (self, other) {
+            (Form::Shared(block), Form::Shared(other)) => block.is_same(other),
+            _ => are_same_settings(self.list(), other.list()),
+        }
+    }
+}
+
 impl Settings {
     /// Whether the same was set in the same order. It may not be found where the same was set in another order.
     #[inline]
     pub(crate) fn is_same(&self, other: &Settings) -> bool
         ensures { result ≡ true → self.now ≡ other.now }
     {
-        are_same_settings(self.list(), other.list())
+        self.form.is_same(&other.form)
     }
 }

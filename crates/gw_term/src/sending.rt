@@ -1,6 +1,7 @@
 //! Descriptors that are merged into many records, with what is found and made once for all of them.
 
-ghost use Rattle.std.specs.Prelude.{◌≡◌, true, IfOk};
+ghost use Rattle.std.specs.Prelude.{◌≡◌, true, IfOk, IfSome};
+ghost use Rattle.std.specs.List.{All};
 ghost use Rattle.gw_term.specs.Named.{named_by};
 ghost use Rattle.gw_term.specs.Plain.{AreKnown, IsMadeBy, IsMadeOf};
 ghost use Rattle.gw_term.specs.Room.{Takes};
@@ -11,7 +12,15 @@ use crate::settings::Settings;
 use crate::text::Copying;
 use gw_base::{NoMemory, Rules};
 use gw_desc::Descriptor;
-use std::alloc::Global;
+use std::alloc::{AllocError, Global};
+
+/// Of how many records at most is kept what the descriptors make of them. A record that is met is compared with each of these, and four
+/// comparisons cost less than most merges.
+const MOST_LEARNT: usize = 4;
+
+/// Into how many records at most the descriptors are merged to learn what they make of them, or whether they are taken. One that is unlike
+/// its neighbours takes a command that made it so. Where more are, the tries would come to what each record costs by itself.
+const MOST_TRIED: usize = 16;
 
 /// What the descriptors make of what was set of a termination, in a block that copies share. Where a list would hold too many
 /// properties, memory is wanting.
@@ -32,32 +41,16 @@ fn made_of(
     }
 }
 
-/// What was set of a termination, if others share it, and what the descriptors make of that; where no others do, or it does not take
-/// them, nothing, and what they make of a termination of which nothing was set.
-fn before_and_after(
-    alloc: Global,
-    rules: &Rules,
-    descriptors: &[Descriptor<'_>],
-    like: Option<&Termination>,
-    made: &Settings,
-) -> Result<(Settings, Settings), NoMemory>
-    requires { IsMadeBy rules.now descriptors.now made.now }
-    ensures { IfOk result (λ both. IsMadeOf rules.now descriptors.now both.0 both.1) }
-{
-    if let Some(record) = like {
-        if record.settings.are_shared() {
-            let before = record.settings.copied(alloc, Copying::Once)?;
-            let again = before.copied(alloc, Copying::Once)?;
-            if let Ok(after) = made_of(alloc, rules, descriptors, again) {
-                return Ok((before, after));
-            }
-        }
-    }
-    Ok((Settings::new(alloc), made.copied(alloc, Copying::Once)?))
+/// What was set of some record, and what the descriptors make of that.
+#[derive(Drop)]
+pub(crate) struct Learnt {
+    pub(crate) before: Settings,
+    pub(crate) after: Settings,
 }
 
-/// Descriptors that are merged into many records, under the gateway's rules, with what they name and what they make of a record of
-/// which nothing was set, and of one that is like many of the others: each is found once for all records, and these share it.
+/// Descriptors that are merged into many records, under the gateway's rules, with what they name, what they make of a record of which
+/// nothing was set, and what they make of a few others that was learnt where such a record was met: each is found once for all records,
+/// and these share it.
 #[derive(Drop)]
 pub struct Sending<'a, 'b> {
     /// The rules.
@@ -68,15 +61,16 @@ pub struct Sending<'a, 'b> {
     pub named: Named,
     pub(crate) made: Settings,
     ghost made_once: { IsMadeBy rules.now descriptors.now made },
-    pub(crate) before: Settings,
-    pub(crate) after: Settings,
-    ghost made_again: { IsMadeOf rules.now descriptors.now before after },
+    pub(crate) learnt: Vec<Learnt>,
+    ghost made_again: { All (λ l. IsMadeOf rules.now descriptors.now l.before l.after) learnt.items },
+    tries: usize,
 }
 
 impl<'a, 'b> Sending<'a, 'b> {
-    /// The descriptors with what they name and make. The caller knows that a record of which nothing was set takes them, and gives one
-    /// that is like many of those into which they will be merged, if there is one: where others share what was set of it, what the
-    /// descriptors make of that is made once for all of these. The work is linear in the descriptors and in that record.
+    ghost use Rattle.gw_term.specs.Sending.{SendsTheSame};
+
+    /// The descriptors with what they name and make. The caller knows that a record of which nothing was set takes them. The work is
+    /// linear in the descriptors.
     ///
     /// # Errors
     ///
@@ -85,30 +79,134 @@ impl<'a, 'b> Sending<'a, 'b> {
         alloc: Global,
         rules: &'a Rules,
         descriptors: &'a [Descriptor<'b>],
-        like: Option<&Termination>,
     ) -> Result<Sending<'a, 'b>, NoMemory>
         ensures rules { IfOk result (λ sending. sending.rules.now ≡ rules.now) }
         ensures descriptors { IfOk result (λ sending. sending.descriptors.now ≡ descriptors.now) }
         ensures named { IfOk result (λ sending. sending.named ≡ named_by descriptors.now) }
     {
         let made = made_of(alloc, rules, descriptors, Settings::new(alloc))?;
-        let (before, after) = before_and_after(alloc, rules, descriptors, like, &made)?;
         Ok(Sending {
             rules,
             descriptors,
             named: Named::by(descriptors),
             made,
-            before,
-            after,
+            learnt: Vec::new(alloc),
+            tries: MOST_TRIED,
         })
     }
 
-    /// Whether a termination surely takes the descriptors, since the same was set of it as of the one that is like many, which takes them.
-    /// The work is that of looking at what was set of both.
-    pub fn takes(&self, termination: &Termination) -> bool
+    /// What the descriptors make of these settings, if that was learnt. The work is a comparison with each of the few that were.
+    fn find(&self, settings: &Settings) -> Option<&Settings>
+        ensures { IfSome result (λ after. IsMadeOf self.now.rules.now self.now.descriptors.now settings.now after.now) }
+    {
+        for learnt in &self.learnt {
+            if settings.is_same(&learnt.before) {
+                return Some(&learnt.after);
+            }
+        }
+        None
+    }
+
+    /// Whether it was learnt that a termination takes the descriptors. The work is that of looking at what was set of it and of the few
+    /// that were learnt.
+    pub fn knows(&self, termination: &Termination) -> bool
         requires { AreKnown self.now.descriptors.now self.now.named }
         ensures { result ≡ true → Takes self.now.rules.now self.now.descriptors.now termination.now }
     {
-        termination.settings.is_same(&self.before)
+        self.find(&termination.settings).is_some()
+    }
+
+    /// What they make of these settings, if nothing is set or it was learnt, in the block that all such records share.
+    #[inline]
+    pub(crate) fn known_after(
+        &self,
+        alloc: Global,
+        settings: &Settings,
+    ) -> Result<Option<Settings>, AllocError>
+        ensures { IfOk result (λ known. IfSome known (IsMadeOf self.now.rules.now self.now.descriptors.now settings.now)) }
+    {
+        if settings.is_empty() {
+            return Ok(Some(self.made.copied(alloc, Copying::Once)?));
+        }
+        match self.find(settings) {
+            Some(after) => Ok(Some(after.copied(alloc, Copying::Once)?)),
+            None => Ok(None),
+        }
+    }
+
+    /// Learns what they make of these settings, which is not known, if others share these, they take the descriptors, and fewer records were
+    /// tried than may be. Answers that, if it was learnt. Where no more is kept, what was learnt before is let go. The work is that of
+    /// merging them into one record.
+    #[inline(never)]
+    fn learn(&mut self, alloc: Global, settings: &Settings) -> Result<Option<Settings>, NoMemory>
+        ensures same { SendsTheSame self.old self.new }
+        ensures after { IfOk result (λ learnt. IfSome learnt (IsMadeOf self.old.rules.now self.old.descriptors.now settings.now)) }
+    {
+        if self.tries == 0 || !settings.are_shared() {
+            return Ok(None);
+        }
+        self.tries -= 1;
+        let before = settings.copied(alloc, Copying::Once)?;
+        let again = settings.copied(alloc, Copying::Once)?;
+        let Ok(after) = made_of(alloc, self.rules, self.descriptors, again) else {
+            return Ok(None);
+        };
+        let copy = after.copied(alloc, Copying::Once)?;
+        if self.learnt.len() == MOST_LEARNT {
+            self.learnt.clear();
+        }
+        self.learnt.push(Learnt { before, after })?;
+        Ok(Some(copy))
+    }
+
+    /// What they make of these settings, if that is known, or else can be learnt.
+    #[inline]
+    pub(crate) fn learnt_after(
+        &mut self,
+        alloc: Global,
+        settings: &Settings,
+    ) -> Result<Option<Settings>, NoMemory>
+        ensures same { SendsTheSame self.old self.new }
+        ensures after { IfOk result (λ known. IfSome known (IsMadeOf self.old.rules.now self.old.descriptors.now settings.now)) }
+    {
+        if let Some(after) = self.known_after(alloc, settings)? {
+            return Ok(Some(after));
+        }
+        self.learn(alloc, settings)
+    }
+
+    /// Whether a termination takes the descriptors, by a merge into a copy, if fewer records were tried than may be.
+    fn tries_to_merge(&mut self, alloc: Global, termination: &Termination) -> bool
+        ensures same { SendsTheSame self.old self.new }
+        ensures takes { result ≡ true → Takes self.old.rules.now self.old.descriptors.now termination.now }
+    {
+        if self.tries == 0 {
+            return false;
+        }
+        self.tries -= 1;
+        let merged = termination.merged(alloc, self.rules, self.descriptors);
+        merged.is_ok()
+    }
+
+    /// Whether a termination surely takes the descriptors: what they make of what was set of it was learnt, or is learnt now; or it shares
+    /// that with none, and they are merged into a copy. The work is that of looking at what was set of it and of the few that were learnt,
+    /// but for the few that are tried.
+    ///
+    /// # Errors
+    ///
+    /// Want of memory.
+    pub fn takes(&mut self, alloc: Global, termination: &Termination) -> Result<bool, NoMemory>
+        requires { AreKnown self.old.descriptors.now self.old.named }
+        ensures same { SendsTheSame self.old self.new }
+        ensures takes { IfOk result (λ takes. takes ≡ true → Takes self.old.rules.now self.old.descriptors.now termination.now) }
+    {
+        if self.knows(termination) {
+            return Ok(true);
+        }
+        if !termination.settings.are_shared() {
+            return Ok(self.tries_to_merge(alloc, termination));
+        }
+        let learnt = self.learn(alloc, &termination.settings)?;
+        Ok(learnt.is_some())
     }
 }

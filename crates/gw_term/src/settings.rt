@@ -8,12 +8,13 @@ ghost use Rattle.gw_term.specs.Settings.{settings_in};
 use crate::copies::{copied_properties, copied_stream};
 use crate::held::{HeldProperty, HeldTail};
 use crate::record::Stream;
+use crate::shared::SharedSettings;
 use crate::text::Copying;
 use gw_base::Items;
 use gw_desc::{KeptKind, same_kept};
 use std::alloc::{AllocError, Global};
 use std::marker::Model;
-use std::sync::ArcSlice;
+use std::sync::Arc;
 
 /// What may be set of a termination.
 pub enum Setting {
@@ -41,12 +42,12 @@ pub enum Form {
     /// In a block that no other termination has. Where nothing is set, there is no block.
     Own(Vec<Setting>),
     /// In a block that copies share.
-    Shared(ArcSlice<Setting>),
+    Shared(Arc<SharedSettings>),
 }
 
 /// The block has an owner less. Not inlined, since most terminations share no settings.
 #[inline(never)]
-fn let_go(block: ArcSlice<Setting>) {
+fn let_go(block: Arc<SharedSettings>) {
     drop(block);
 }
 
@@ -125,7 +126,10 @@ fn copied_form(alloc: Global, list: &[Setting], copying: Copying) -> Result<Form
     let copy = copied_list(alloc, list, list.len(), copying)?;
     match copying {
         Copying::Once => Ok(Form::Own(copy)),
-        Copying::ForMany => Ok(Form::Shared(ArcSlice::from_vec(copy)?)),
+        Copying::ForMany => {
+            let shared = SharedSettings::of(alloc, copy)?;
+            Ok(Form::Shared(Arc::new(alloc, shared)?))
+        }
     }
 }
 
@@ -134,7 +138,7 @@ impl Form {
 
     /// The settings.
     #[inline]
-    fn list(&self) -> &[Setting]
+    pub(crate) fn list(&self) -> &[Setting]
         ensures { result.now ≡ settings_in self.now }
     {
         match self {

@@ -1,8 +1,10 @@
 //! A text that is kept: in a block of its own, or in one that copies share.
 
-ghost use Rattle.std.specs.Prelude.{◌≡◌, IfOk, OnOk, None, Some, true};
+ghost use Rattle.std.specs.Prelude.{◌≡◌, ◌++◌, IfOk, OnOk, None, Some, true};
 ghost use Rattle.gw_term.specs.HeldTexts.{text_of};
+ghost use Rattle.gw_term.specs.Prints.{option_print};
 
+use crate::print::Print;
 use gw_base::Items;
 use std::alloc::{AllocError, Global};
 use std::marker::Model;
@@ -161,6 +163,17 @@ impl Text {
             Form::Missing => self.is_none(),
             Form::Own(block) => self.is(block.as_slice()),
             Form::Shared(block) => self.is(block.as_slice()),
+        }
+    }
+
+    /// It goes last in a print.
+    pub(crate) fn push_to(&self, print: &mut Print) -> Result<(), AllocError>
+        ensures { OnOk result (print.new ≡ print.old ++ option_print self.now) }
+    {
+        match &self.form {
+            Form::Missing => print.push_text_if(false, &[]),
+            Form::Own(block) => print.push_text_if(true, block.as_slice()),
+            Form::Shared(block) => print.push_text_if(true, block.as_slice()),
         }
     }
 

@@ -7,6 +7,3 @@ use Rattle.gw_cmd.proofs.carry.command_told.Goals as goal
 pub on_one-requires-clause-covered : goal.on_one-requires-clause-covered
 on_one-requires-clause-covered c = λ k h.
     c.requires.covered k (ap (λ (keys : List Key). has keys k) (keys_by_name c.args.at c.args.slot None c.args.command.now c.args.draft.now.maps c.in-Name.name c.in-Name.is) ∙ h)
-
-pub on_members-requires-clause-members : goal.on_members-requires-clause-members
-on_members-requires-clause-members c = c.in-Some-for_members.ensures c.args.rules.now (c.sending_known-sending.ensures c.args.rules.now c.args.command.now c.requires.known)

@@ -12,5 +12,5 @@ returns c = record {
     wrong = c.wrong_with_descriptors-wrong.ensures;
     service = c.service_asked-service.ensures ∙ ap (λ (ds : List Descriptor). service_asked ds) c.as_slice.ensures;
   };
-  sending = c.in_ok-sending.ensures;
+  merge = c.in_ok-merge.ensures;
 }

@@ -1,7 +1,13 @@
-use Rattle.std.proofs.Common.{rules}
-use Rattle.std.proofs.lemmas.Fn.{filter_same}
-use Rattle.gw_ctx.specs.Places.{is_off}
+use Rattle.std.proofs.Common.{◌≡◌, refl, of_calls, rules}
+use Rattle.gw_ctx.specs.Places.{is_off, renumbered}
+use Rattle.gw_ctx.specs.contracts.pairs.fn.drop_at.retain_mut as closure
+use Rattle.gw_ctx.proofs.Lists.{retained}
 use Rattle.gw_ctx.proofs.pairs.drop_at.Goals as goal
 
+pub retain_mut-requires : goal.retain_mut-requires
+retain_mut-requires c = search of_calls parts 8
+
 pub returns : goal.returns
-returns c = filter_same _ (is_off c.args.place) _ (λ x b f' k. search rules) _ _ c.retain.ensures.filtered
+returns c =
+    retained _ (λ f. let l = closure.captures f in (l.last ≡ c.args.last) × (l.gone ≡ c.args.gone)) (is_off c.args.gone) (renumbered c.args.last c.args.gone)
+    (λ s x b t y i h. search rules) _ _ _ (refl, refl) c.retain_mut.ensures.filtered

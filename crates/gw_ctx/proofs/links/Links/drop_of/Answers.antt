@@ -1,25 +1,43 @@
-use Rattle.std.proofs.Common.{◌≡◌, ◌∙◌, ℕ, List, bytes_eq, Some, None, true, sym, ap, subst}
-use Rattle.std.specs.List.{position, All}
-use Rattle.std.proofs.lemmas.List.Elements.{filter_passes}
+use Rattle.std.proofs.Common.{◌≡◌, ◌∙◌, ◌<◌, ℕ, List, length, bytes_eq, get_or, map, filter, Some, None, arith, sym, ap}
+use Rattle.std.specs.List.{position}
 use Rattle.gw_base.specs.declared.context_words.Link.{Link}
 use Rattle.gw_ctx.specs.Contexts.{links_without}
-use Rattle.gw_ctx.specs.Places.{Pair, AreKept, is_off, links_at}
-use Rattle.gw_ctx.proofs.Places.{kept_filtered, without_there, without_none}
+use Rattle.gw_ctx.specs.Places.{Pair, AreKept, is_off, links_at, renumbered}
+use Rattle.gw_ctx.proofs.Lists.{place_within}
+use Rattle.gw_ctx.proofs.Places.{gone_there, without_none}
 use Rattle.gw_ctx.proofs.links.Links.drop_of.Goals as goal
 
-pub forget-requires-clause-kept : goal.forget-requires-clause-kept
-forget-requires-clause-kept c = subst (λ (l : List Pair). AreKept c.self.inside.names.items l) (sym c.drop_at.ensures) (kept_filtered c.self.inside.names.items c.self.inside.pairs.items c.self.invariant (is_off c.in-Some.place))
+-- where the name stands
+there : (c : goal.After-swap_remove-arg-1) → position (bytes_eq c.args.name.now) c.self.inside.names.items ≡ Some c.in-Some.place
+there c = ap (λ (l : List (List ℕ)). position (bytes_eq c.args.name.now) l) (sym c.deref.ensures.value) ∙ sym c.place_of.ensures ∙ c.in-Some.is
 
-pub forget-requires-clause-unspoken : goal.forget-requires-clause-unspoken
-forget-requires-clause-unspoken c = subst (λ (l : List Pair). All (λ p. is_off c.in-Some.place p ≡ true) l) (sym c.drop_at.ensures) (filter_passes (is_off c.in-Some.place) c.self.inside.pairs.items)
+pub swap_remove-requires : goal.swap_remove-requires
+swap_remove-requires c =
+    let within : c.in-Some.place < length c.self.inside.names.items = place_within (bytes_eq c.args.name.now) c.self.inside.names.items c.in-Some.place (there c) in
+    let old : c.self.inside.names.len ≡ length c.self.inside.names.items = c.self.inside.names.ok.0 in
+    omega (arith, within, old)
+
+-- what is left of the links: the last name has taken the place
+left : (c : goal.After-forget_unspoken-arg-in-Some-1) → AreKept c.swap_remove.new.self.items c.drop_at.new.pairs.items × (links_at c.swap_remove.new.self.items c.drop_at.new.pairs.items ≡ links_without c.args.name.now (links_at c.self.inside.names.items c.self.inside.pairs.items))
+left c =
+    let names : List (List ℕ) = c.self.inside.names.items in let pairs : List Pair = c.self.inside.pairs.items in
+    let others : List Pair = filter (is_off c.in-Some.place) pairs in
+    let new : c.swap_remove.new.self.len ≡ length c.swap_remove.new.self.items = c.swap_remove.new.self.ok.0 in
+    let old : c.self.inside.names.len ≡ length names = c.self.inside.names.ok.0 in
+    let at : position (bytes_eq c.args.name.now) names ≡ Some c.in-Some.place = ap (λ (l : List (List ℕ)). position (bytes_eq c.args.name.now) l) (sym c.deref.ensures.value) ∙ sym c.place_of.ensures ∙ c.in-Some.is in
+    gone_there names pairs c.self.invariant c.args.name.now c.in-Some.place at c.swap_remove.new.self.items
+    (record {
+      fewer = omega (arith, c.swap_remove.ensures.len, new, old);
+      taken = λ d h. c.swap_remove.ensures.by_index.0 d (omega (arith, h, old)) ∙ ap (λ (k : ℕ). get_or names k d) (omega (arith, old));
+      others = λ k d n h. c.swap_remove.ensures.by_index.1 k d n (omega (arith, h, old));
+    })
+    c.drop_at.new.pairs.items (c.drop_at.ensures ∙ ap (λ (k : ℕ). map (renumbered k c.in-Some.place) others) (c.len.ensures ∙ new))
+
+pub forget_unspoken-requires : goal.forget_unspoken-requires
+forget_unspoken-requires c = (left c).0
 
 pub returns-in-Some : goal.returns-in-Some
-returns-in-Some c =
-    let names : List (List ℕ) = c.self.inside.names.items in let pairs : List Pair = c.self.inside.pairs.items in
-    let at : position (bytes_eq c.args.name.now) names ≡ Some c.in-Some.place = ap (λ (l : List (List ℕ)). position (bytes_eq c.args.name.now) l) (sym c.deref.ensures.value) ∙ sym c.place_of.ensures ∙ c.in-Some.is in
-    c.forget_unspoken.ensures.same ∙ c.forget.ensures.same ∙ ap (λ (l : List Pair). links_at names l) c.drop_at.ensures
-    ∙ sym (without_there names pairs c.self.invariant c.args.name.now c.in-Some.place at)
-    ∙ ap (λ (l : List Link). links_without c.args.name.now l) c.self.view_is
+returns-in-Some c = c.forget_unspoken.ensures.same ∙ (left c.before).1 ∙ ap (λ (l : List Link). links_without c.args.name.now l) c.self.view_is
 
 pub returns-in_default : goal.returns-in_default
 returns-in_default c =

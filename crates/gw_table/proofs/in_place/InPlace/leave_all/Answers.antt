@@ -19,5 +19,6 @@ returns-clause-maps c =
     let a = c.args in
     on_ok c.put_all_remains.result
     (λ e. e ∙ ap (λ (m : Maps). all_remains a.named.now m) c.in_ok-set_ctx.ensures.maps
+    ∙ ap (λ (m : Maps). all_remains a.named.now (put_ctx m a.number None)) c.in_ok-make_room.ensures.maps
     ∙ some_out a.number a.named.now a.self.now.maps (sym c.is_empty.ensures ∙ c.if-is_empty.false) c.requires)
     c.put_all_remains.ensures.maps

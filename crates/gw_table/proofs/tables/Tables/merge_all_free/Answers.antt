@@ -6,6 +6,7 @@ use Rattle.gw_base.proofs.NameTests.{names_same}
 use Rattle.gw_base.proofs.Views.{entries_seen}
 use Rattle.gw_term.specs.Merge.{merged}
 use Rattle.gw_term.specs.Plain.{AreKnown}
+use Rattle.gw_term.specs.Sending.{SendsTheSame}
 use Rattle.gw_table.specs.Merged.{Change, AreAlike, AreChanged, StaysFree, last_met}
 use Rattle.gw_table.specs.Stored.{Stored, stored}
 use Rattle.gw_table.specs.contracts.tables.fn.Tables.merge_all_free.retain as closure
@@ -13,13 +14,13 @@ use Rattle.gw_table.proofs.Merged.{Passed, still, passed_by, are_alike, are_chan
 use Rattle.gw_table.proofs.tables.Tables.merge_all_free.Goals as goal
 
 abbrev change : goal.After-unless_refused → Change
-change c = merged c.args.sending.now.rules.now c.args.sending.now.descriptors.now
+change c = merged c.args.sending.rules.now c.args.sending.descriptors.now
 
 -- each place was passed
 passed : (c : goal.After-unless_refused) → Passed c.args.prefix.now (change c) false c.self.inside.terms.entries c.retain.new.self.entries
 passed c =
-    passed_by c.args.prefix.now (change c) _ (λ f. (closure.captures f).refused) (λ f. let l = closure.captures f in (l.prefix.now ≡ c.args.prefix.now) × (l.sending.now ≡ c.args.sending.now))
-    (λ f k v b w g i t. search rules) _ c.self.inside.terms.entries c.retain.new.self.entries (refl, refl) c.retain.ensures.filtered
+    passed_by c.args.prefix.now (change c) _ (λ f. (closure.captures f).refused) (λ f. let l = closure.captures f in (l.prefix.now ≡ c.args.prefix.now) × SendsTheSame c.args.sending l.sending)
+    (λ f k v b w g i t. search rules) _ c.self.inside.terms.entries c.retain.new.self.entries (refl, record { rules = refl; descriptors = refl; named = refl }) c.retain.ensures.filtered
 
 alike : (c : goal.After-unless_refused) → AreAlike c.args.prefix.now (stored c.self.inside.terms.entries c.self.inside.contexts.entries) (stored c.retain.new.self.entries c.self.inside.contexts.entries)
 alike c = are_alike c.args.prefix.now (change c) false c.self.inside.terms.entries c.retain.new.self.entries c.self.inside.contexts.entries (passed c)
@@ -27,8 +28,9 @@ alike c = are_alike c.args.prefix.now (change c) false c.self.inside.terms.entri
 pub retain-requires : goal.retain-requires
 retain-requires c = record {
   at = λ before after f k v e ran p q key value.
-      let same = still (λ f. let l = closure.captures f in l.sending.now ≡ c.args.sending.now) _ (λ s x t i r. search rules) before _ f refl ran in
-      subst (λ s. AreKnown s.descriptors.now s.named) (sym same) c.requires.known;
+      let same = still (λ f. SendsTheSame c.args.sending (closure.captures f).sending) _ (λ s x t i r. search rules) before _ f (record { rules = refl; descriptors = refl; named = refl }) ran in
+      let l = closure.captures f in
+      subst (λ d. AreKnown d l.sending.named) (sym same.descriptors) (subst (λ n. AreKnown c.args.sending.descriptors.now n) (sym same.named) c.requires.known);
 }
 
 pub invariant_of-self : goal.invariant_of-self

@@ -1,5 +1,5 @@
-use Rattle.std.proofs.Common.{List, ℕ, sym, ap, subst, ◌∙◌}
-use Rattle.gw_table.specs.Maps.{Maps, new_maps}
+use Rattle.std.proofs.Common.{sym, ap, subst, ◌∙◌}
+use Rattle.gw_table.specs.Maps.{Maps}
 use Rattle.gw_table.specs.Provided.{AreAmong}
 use Rattle.gw_table.specs.Stored.{Stored, maps_of, NoneIsOut}
 use Rattle.gw_table.proofs.Places.{maps_of_nothing, nothing_out}

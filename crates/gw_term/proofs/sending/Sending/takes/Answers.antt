@@ -1,14 +1,10 @@
-use Rattle.std.proofs.Common.{sym, subst}
-use Rattle.gw_term.specs.Plain.{AreSet}
-use Rattle.gw_term.specs.Settings.{Settings}
-use Rattle.gw_term.proofs.MadeOnce.{made_from}
-use Rattle.gw_term.proofs.Taken.{merged_here}
+use Rattle.std.proofs.Common.{◌≡◌, true}
+use Rattle.std.specs.Prelude.{is_some}
+use Rattle.gw_term.proofs.MadeOnce.{of_some, made_takes}
 use Rattle.gw_term.proofs.sending.Sending.takes.Goals as goal
 
-pub returns : goal.returns
-returns c = λ same.
-    let a = c.args.self.now in
-    let r = c.args.termination.now in
-    let set : AreSet a.rules.now r.slot a.descriptors.now r.settings a.after =
-    subst (λ (s : Settings). AreSet a.rules.now r.slot a.descriptors.now s a.after) (sym (c.is_same.ensures same)) (made_from a.rules.now r.slot a.descriptors.now c.requires.plain a.before a.after a.made_again) in
-    (_, merged_here a.rules.now a.descriptors.now r a.after.properties set.properties set.streams)
+pub returns-clause-takes : goal.returns-clause-takes
+returns-clause-takes c = λ h.
+    let a = c.args in
+    let learnt : is_some c.in_ok-learnt.learnt ≡ true = cc in
+    of_some _ c.in_ok-learnt.learnt learnt c.in_ok-learnt.ensures.after (λ after made. made_takes a.self.now.rules.now a.self.now.descriptors.now a.termination.now after c.requires.plain made)

@@ -1,7 +1,7 @@
-use Rattle.std.proofs.Common.{◌≡◌, Some, sym, ap, ◌∙◌}
+use Rattle.std.proofs.Common.{◌≡◌, Some, sym, ◌∙◌}
 use Rattle.gw_term.specs.Merge.{merged_service}
 use Rattle.gw_term.proofs.Taken.{merged_here}
-use Rattle.gw_term.proofs.record.Termination.merge_sending.Goals as goal
+use Rattle.gw_term.proofs.record.Termination.merge_known.Goals as goal
 
 pub returns : goal.returns
 returns c =
