@@ -241,6 +241,8 @@ def wildcards():
     yield wild("4,000 terminations, `Modify=*` of 32 properties twice", [], many, 2, 4_000, b"Error=533")
     first = made([many, b"C=-{MF=T/1{M{O{a0=2}}}}"])
     yield wild("4,000 terminations with 32 properties, the first with one of its own, one `Modify=*` of 32", first, many, 1, 4_000, b"Error=533")
+    unlike_all = made([many] + [b"C=-{MF=T/%d{M{O{a0=%d}}}}" % (n, n + 1) for n in range(1, 18)])
+    yield wild("4,000 terminations with 32 properties, seventeen each with one of its own, one `Modify=*` of 32", unlike_all, many, 1, 4_000, b"Error=533")
     yield wild("4,000 terminations, one `Modify=*` with a Local of 8,000 bytes", [], b"C=-{MF=*{M{L{%s}}}}" % (8_000 * b"v"), 1, 4_000, b"Error=533")
     yield wild("4,000 terminations, one `Modify=*` with a Local to fill", [], b"C=-{MF=*{M{L{v=$}}}}", 1, 4_000, b"Error=533")
     yield wild("4,000 terminations, one `Modify=*` with Local, Remote, Events and Signals", [], b"C=-{MF=*{M{L{v=0},R{v=0}},E=1{al/on},SG{cg/dt}}}", 1, 4_000,
@@ -280,6 +282,11 @@ def wildcards():
     yield wild("2,000 contexts, one `Context=*{Subtract=*}`", two, b"C=*{S=*}", 1, 4_000, b"Error=533")
     yield wild("2,000 contexts, one `Context=*{Subtract=T/*}`", two, b"C=*{S=T/*}", 1, 4_000, b"Error=533")
     yield wild("2,000 contexts, one `Context=*{Modify=*}` of a property", two, b"C=*{MF=*{M{O{a=1}}}}", 1, 4_000, b"Error=533")
+    some = contexts(600)
+    yield wild("600 contexts, one `Context=*{Subtract=T/*}`", some, b"C=*{S=T/*}", 1, 1_200, b"Error=533")
+    yield wild("1,000 contexts, one `Context=*{Modify=*}` of a property", contexts(1_000), b"C=*{MF=*{M{O{a=1}}}}", 1, 2_000, b"Error=533")
+    yield wild("2,000 contexts, one `Context=*` with a Modify of a LocalControl and one of a property", two, b"C=*{MF=*%s,MF=*{M{O{a=1}}}}" % MODE, 1, 8_000,
+               b"Error=533")
     yield Kind("2,000 contexts, `Context=*` with another Priority each time", two, asked([b"C=*{PR=%d}" % (n + 1) for n in range(8)]), b"Error=533", 16_000, 4_000)
     yield Kind("2,000 contexts, `Context=*` with another Priority each time and an Emergency", two,
                asked([b"C=*{PR=%d,EG}" % (n + 1) for n in range(8)]), b"Error=533", 16_000, 4_000)
@@ -287,6 +294,15 @@ def wildcards():
     many = [context(64 * number + 1, 64 * number + 64) for number in range(62)]
     none = [HEAD + as_often(b"T=1{C=*{", b"O-S=X/*", b"}}")]
     yield Kind("62 contexts of 64, commands for a wildcard that matches none", made(many), none, b"Error=533", 62, 4_000)
+    all_of_each = b"SC=*%s" % FORCED
+    front = [HEAD + as_often(b"T=1{C=*{%s," % all_of_each, b"O-S=X/*", b"}}")]
+    yield Kind("62 contexts of 64, a ServiceChange of all in front of them", made(many), front, b"Error=533", 62 * 65, 4_000)
+    behind = [HEAD + as_often(b"T=1{C=*{", b"O-S=X/*", b",%s}}" % all_of_each)]
+    yield Kind("62 contexts of 64, a ServiceChange of all behind them", made(many), behind, b"Error=533", 62 * 65, 4_000)
+    short = in_one(b"C=*{O-S=X/*}")
+    yield Kind("62 contexts of 64, actions of one of them each", made(many), short, b"Error=533", 62 * short[0].count(b"C=*"), 4_000)
+    ended = [HEAD + as_often(b"T=1{C=*{", b"O-S=T/*", b"}}")]
+    yield Kind("62 contexts of 64, Subtracts of all of a context that ends with the first", made(many), ended, b"Error=533", 62 * 65, 4_000)
     yield wild("no context, `Context=*`", [], b"C=*{S=*}", MOST, 0, b"Error=431")
 
 

@@ -1,11 +1,14 @@
 -- A Subtract of all members of a context: what comes of each, and of all of them.
 use Rattle.std.proofs.Common.{◌≡◌, ℕ, Bool, true, false, cond, List, [], ◌∷◌, map, Option, None, Some, Result, Ok, bytes_eq, refl, sym, ap, subst, ◌∙◌}
-use Rattle.std.specs.Prelude.{◌&&◌, if◌then◌else◌}
-use Rattle.std.specs.List.{filter, list_all}
+use Rattle.std.specs.Prelude.{◌≢◌, nat_eq, not, ◌&&◌, if◌then◌else◌}
+use Rattle.std.specs.List.{filter, list_all, starts_with}
+use Rattle.std.specs.Option.{is_none, is_some, unwrap_or}
 use Rattle.gw_base.specs.declared.code.Code.{Code}
+use Rattle.gw_base.specs.declared.code.Code.TheVariants.{UnknownContext, NoWildcardMatch}
 use Rattle.gw_base.specs.declared.command_words.Rules.{Rules}
 use Rattle.gw_base.specs.declared.command_words.Verb.{Verb}
 use Rattle.gw_base.specs.declared.ids.CtxNum.{CtxNum}
+use Rattle.gw_base.specs.declared.key.Key.{Key}
 use Rattle.gw_base.specs.declared.key.Key.TheVariants.{Term, Ctx}
 use Rattle.gw_base.specs.declared.term_ref.TermRef.{TermRef}
 use Rattle.gw_base.specs.declared.term_ref.TermRef.TheVariants.{Root, All, Under, Choose, Name, Other}
@@ -13,7 +16,8 @@ use Rattle.gw_base.specs.Keys.{has}
 use Rattle.gw_base.specs.NameLists.{is_in, NoDoubles}
 use Rattle.gw_base.proofs.NameTests.{same_name}
 use Rattle.gw_base.proofs.NamesInLists.{or_left, or_right, itself}
-use Rattle.gw_ctx.specs.Contexts.{left}
+use Rattle.gw_ctx.specs.Contexts.{ContextRecord, left}
+use Rattle.gw_desc.specs.Checks.{check_code}
 use Rattle.gw_msg.specs.declared.message.Command.{Command}
 use Rattle.gw_reply.specs.declared.parts.ReplyPart.{ReplyPart}
 use Rattle.gw_reply.specs.declared.reply.CommandReply.{CommandReply}
@@ -30,7 +34,7 @@ use Rattle.gw_table.proofs.Folding.{ended, in_order-more, in_order-none}
 use Rattle.gw_table.proofs.Lookups.{term-put_term, term-put_ctx}
 use Rattle.gw_refusal.specs.declared.at.At.{At}
 use Rattle.gw_refusal.specs.declared.at.At.TheVariants.{Null, Live, Unmade, Each}
-use Rattle.gw_refusal.specs.Asked.{is_add, is_wildcard, matches, audited}
+use Rattle.gw_refusal.specs.Asked.{is_add, is_some_list, is_wildcard, matches, audited}
 use Rattle.gw_refusal.specs.Forms.{refusal_by_form}
 use Rattle.gw_refusal.specs.Places.{place_at, is_each}
 use Rattle.gw_refusal.specs.Targets.{those_in, source, matched, targets_of, targets}
@@ -41,7 +45,8 @@ use Rattle.gw_cmd.specs.Commands.{reply, outcome_told, on_target, on_targets, un
 use Rattle.gw_cmd.specs.Effects.{unless, decided_in, is_full, done, on_record, on_found, on_name}
 use Rattle.gw_cmd.specs.Idle.{idle_answer, idle_reply}
 use Rattle.gw_cmd.specs.Keys.{member_keys, term_keys, command_keys}
-use Rattle.gw_cmd.specs.Refusals.{refusal_by_tables}
+use Rattle.gw_cmd.specs.Refusals.{has_ended, missing, code_if, first_code, refusal_by_tables}
+use Rattle.gw_cmd.specs.Serving.{prefix_of}
 use Rattle.gw_cmd.proofs.LeftAlone.{StandsIn, member_one, stands_here, carried_on}
 use Rattle.gw_cmd.proofs.Ready.{has_term, among_term, ready}
 
@@ -170,3 +175,79 @@ module _ (keys : PartKeys) (at : At) (n : CtxNum) (slot : Option ℕ) (c : Comma
       (all_left rules at n c clearing.place clearing.subtracts (targets at c m) m x
       (subst NoDoubles (sym targets_are) (sound.once n))
       (λ t h. let inside : is_in t (members_of (ctx m n)) ≡ true = ap (λ (l : List (List ℕ)). is_in t l) (sym targets_are) ∙ h in member_one t n m (sound.recorded t n (held t inside) inside)))
+
+  -- ---- it is not refused, where it is known that there are members
+
+  pub some_targets : members_of (ctx m n) ≢ [] → is_some_list (targets at c m) ≡ true
+  some_targets live = ap (λ (l : List (List ℕ)). is_some_list l) targets_are ∙ by (members_of (ctx m n)) live
+    where
+      by : (l : List (List ℕ)) → l ≢ [] → is_some_list l ≡ true
+      by [] some = absurd (some refl)
+      by (t ∷ ts) some = refl
+
+  lives : members_of (ctx m n) ≢ [] → is_none (ctx m n) ≡ false
+  lives live = by (ctx m n) live
+    where
+      by : (o : Option ContextRecord) → members_of o ≢ [] → is_none o ≡ false
+      by None some = absurd (some refl)
+      by (Some r) some = refl
+
+  not_ended : members_of (ctx m n) ≢ [] → has_ended at m ≡ false
+  not_ended live = by at clearing.place
+    where
+      of_ctx : (k : CtxNum) → Some k ≡ Some n → is_none (ctx m k) ≡ false
+      of_ctx k e = let same : k ≡ n = ap (λ (o : Option CtxNum). unwrap_or o n) e in ap (λ (x : CtxNum). is_none (ctx m x)) same ∙ lives live
+
+      by : (a : At) → place_at a ≡ Some n → has_ended a m ≡ false
+      by Null e = refl
+      by (Live k) e = of_ctx k e
+      by (Unmade k) e = refl
+      by (Each k) e = of_ctx k e
+
+  nothing_missing : is_some_list (targets at c m) ≡ true → missing at slot c m c.term ≡ None
+  nothing_missing some = by c.term wildcard
+    where
+      by : (r : TermRef) → is_wildcard r ≡ true → missing at slot c m r ≡ None
+      by All w = ap (λ (b : Bool). code_if NoWildcardMatch (not b)) some
+      by (Under x) w = ap (λ (b : Bool). code_if NoWildcardMatch (not b)) some
+      by Root w = absurd cc
+      by Choose w = absurd cc
+      by (Name x) w = absurd cc
+      by (Other x) w = absurd cc
+
+  pub not_refused : members_of (ctx m n) ≢ [] → check_code c.verb c.descriptors ≡ None → refusal_by_tables at slot c m ≡ None
+  unfolding refusal_by_tables
+  not_refused live right =
+      ap (λ (b : Bool). first_code (code_if UnknownContext b) (first_code (missing at slot c m c.term) (check_code c.verb c.descriptors))) (not_ended live)
+      ∙ ap (λ (o : Option Code). first_code o (check_code c.verb c.descriptors)) (nothing_missing (some_targets live)) ∙ right
+
+  -- what the tables come to when they leave at once
+  pub cleared_at_once : (rules : Rules) (after : Maps) → members_of (ctx m n) ≢ [] → check_code c.verb c.descriptors ≡ None → after ≡ all_gone n (members_of (ctx m n)) m
+      → allowed rules at slot c m ≡ record { maps = after; answer = outcome_told at c (map (idle_reply c m) (targets at c m)) }
+  cleared_at_once rules after live right is =
+      cleared rules m (not_refused live right)
+      ∙ ap (λ (x : Maps). let y : Outcome CmdOutcome = record { maps = x; answer = outcome_told at c (map (idle_reply c m) (targets at c m)) } in y)
+      (ap (λ (l : List (List ℕ)). all_gone n l m) targets_are ∙ sym is)
+
+-- where all names begin as it says, the wildcard matches each
+pub matched_by_prefix : (r : TermRef) (ts : List (List ℕ)) → is_wildcard r ≡ true → list_all (λ t. starts_with nat_eq t (prefix_of r)) ts ≡ true → list_all (matches r) ts ≡ true
+matched_by_prefix All ts w h = all_match ts
+matched_by_prefix (Under x) ts w h = h
+matched_by_prefix Root ts w h = absurd cc
+matched_by_prefix Choose ts w h = absurd cc
+matched_by_prefix (Name x) ts w h = absurd cc
+matched_by_prefix (Other x) ts w h = absurd cc
+
+-- a command that clears a context of tables which have each key
+pub clearing_of : (keys : PartKeys) (at : At) (n : CtxNum) (c : Command) (m : Maps) (prefix : List ℕ) → SubtractsMany c → place_at at ≡ Some n → ((k : Key) → holds keys k ≡ true) → prefix ≡ prefix_of c.term
+    → list_all (λ t. starts_with nat_eq t prefix) (members_of (ctx m n)) ≡ true → IsClearing keys at n c m
+clearing_of keys at n c m prefix subtracts place every is meant = record {
+  subtracts = subtracts;
+  place = place;
+  each = matched_by_prefix c.term (members_of (ctx m n)) subtracts.wildcard (ap (λ (p : List ℕ). list_all (λ t. starts_with nat_eq t p) (members_of (ctx m n))) (sym is) ∙ meant);
+  held = λ each. every;
+}
+
+pub no_code : (o : Option Code) → is_some o ≡ false → o ≡ None
+no_code None h = refl
+no_code (Some x) h = absurd cc

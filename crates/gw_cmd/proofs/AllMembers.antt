@@ -12,9 +12,9 @@ use Rattle.gw_desc.specs.declared.descriptor.Descriptor.{Descriptor}
 use Rattle.gw_msg.specs.declared.message.Command.{Command}
 use Rattle.gw_reply.specs.declared.reply.CommandReply.{CommandReply}
 use Rattle.gw_term.specs.Merge.{merged}
-use Rattle.gw_term.specs.Plain.{are_plain}
 use Rattle.gw_term.specs.Room.{Takes}
 use Rattle.gw_term.specs.declared.record.Termination.{Termination}
+use Rattle.gw_term.proofs.Taken.{plain_fill, plain_silent, fills_none}
 use Rattle.gw_table.specs.declared.attempts.Attempts.{Attempts}
 use Rattle.gw_table.specs.Maps.{Maps, Outcome}
 use Rattle.gw_table.specs.Merged.{all_changed}
@@ -96,8 +96,10 @@ module _ (keys : PartKeys) (rules : Rules) (at : At) (c : Command) where
     all_met x (Serve s) h takes = each_served rules at c s h.1.verb h.1.asked (targets at c m) m x once stands
     all_met x (Merge s) h takes =
         let of = h.1.sending in
-        each_merged rules at c h.1.verb (ap (λ (ds : List Descriptor). are_plain ds) (sym of.sent) ∙ of.known.plain) (targets at c m) m x once stands
-        (λ t i r there. subst (λ (ds : List Descriptor). Takes rules ds r) of.sent (subst (λ (u : Rules). Takes u s.now.sending.descriptors.now r) of.ruled (takes t r i there)))
+        each_merged rules at c h.1.verb (plain_silent c.descriptors of.plain) (targets at c m) m x once stands
+        (λ t i r there.
+        let new : Takes rules c.descriptors r = subst (λ (ds : List Descriptor). Takes rules ds r) of.sent (subst (λ (u : Rules). Takes u s.now.sending.descriptors.now r) of.ruled (takes t r i there)) in
+        (new.0, new.1, fills_none rules c.descriptors r (plain_fill c.descriptors r.slot of.plain)))
         ∙ (λ i. ended (all_changed (merged (sym of.ruled i) (sym of.sent i)) (targets at c m) m) tt (map (idle_reply c x) (targets at c m)) false)
 
     pub all_carried : (x : Maps) → EachTakes a (targets at c m) m

@@ -1,6 +1,6 @@
 -- A ServiceChange or a Modify of all terminations that match, and of all of the null context: what comes of it.
 use Rattle.std.proofs.Common.{◌≡◌, ◌==◌, eqb-true, arith, length, ℕ, nat_eq, Bool, true, false, cond, List, [], ◌∷◌, ◌++◌, map, Option, None, Some, Result, Ok, bytes_eq, refl, sym, ap, subst, ◌∙◌}
-use Rattle.std.specs.Prelude.{◌&&◌, ◌||◌, if◌then◌else◌}
+use Rattle.std.specs.Prelude.{◌&&◌, ◌||◌, not, if◌then◌else◌}
 use Rattle.std.specs.List.{filter, find, list_any, starts_with}
 use Rattle.std.specs.Option.{option_map, unwrap_or}
 use Rattle.gw_base.specs.declared.code.Code.{Code}
@@ -26,10 +26,10 @@ use Rattle.gw_reply.specs.declared.parts.ReplyPart.TheVariants as part
 use Rattle.gw_reply.specs.declared.reply.CommandReply.{CommandReply}
 use Rattle.gw_term.specs.declared.record.Termination.{Termination}
 use Rattle.gw_term.specs.Audit.{audit_parts}
-use Rattle.gw_term.specs.Merge.{merged}
-use Rattle.gw_term.specs.Plain.{are_plain, is_plain_one}
+use Rattle.gw_term.specs.Merge.{merged, filled_by}
+use Rattle.gw_term.specs.Plain.{are_plain, are_silent, fill_none}
 use Rattle.gw_term.specs.Record.{placed, serviced}
-use Rattle.gw_term.proofs.Taken.{plain_fills_none, merge_stays}
+use Rattle.gw_term.proofs.Taken.{none_there, none_fills, plain_fill, plain_silent, fills_none, merge_stays}
 use Rattle.gw_table.specs.declared.attempts.Attempts.{Attempts}
 use Rattle.gw_table.specs.declared.reach.Reach.TheVariants.{Every, Free}
 use Rattle.gw_table.specs.Folds.{attempts_behind, in_order}
@@ -38,9 +38,11 @@ use Rattle.gw_table.specs.Merged.{put_if, put_changed, all_changed, changed}
 use Rattle.gw_table.specs.Members.{put_service}
 use Rattle.gw_table.specs.Parts.{PartKeys, holds, Holds}
 use Rattle.gw_table.specs.Served.{is_reached, reached, all_serviced}
+use Rattle.gw_table.specs.Slotted.{has_slot_under}
 use Rattle.gw_table.proofs.Folding.{ended, in_order-more, in_order-none}
 use Rattle.gw_table.proofs.Merged.{term-put_changed, reached_once}
 use Rattle.gw_table.proofs.Served.{term-put_service, in_filtered}
+use Rattle.gw_table.proofs.SlotsFound.{slotless}
 use Rattle.gw_refusal.specs.declared.at.At.{At}
 use Rattle.gw_refusal.specs.declared.at.At.TheVariants.{Null}
 use Rattle.gw_refusal.specs.Asked.{is_add, is_wildcard, matches, service_asked, audited, words_in}
@@ -57,7 +59,7 @@ use Rattle.gw_cmd.specs.Effects.{after_service, on_found, on_name, on_record, do
 use Rattle.gw_cmd.specs.Idle.{idle_answer, idle_reply}
 use Rattle.gw_cmd.specs.Keys.{command_keys}
 use Rattle.gw_cmd.specs.Refusals.{refusal_by_tables}
-use Rattle.gw_cmd.specs.Serving.{prefix_of, all_after, IsForAll}
+use Rattle.gw_cmd.specs.Serving.{prefix_of, tells_nothing, all_after, IsForAll}
 use Rattle.gw_cmd.proofs.AsItIs.{service_done}
 use Rattle.gw_cmd.proofs.LeftAlone.{StandsIn, free_one, stands_here, carried_on}
 use Rattle.gw_cmd.proofs.Ready.{in_filter, is_named, ready}
@@ -70,13 +72,13 @@ first_of : (a b : Bool) → (a && b) ≡ true → a ≡ true
 first_of true b h = refl
 first_of false b h = absurd cc
 
-no_audit : (ds : List Descriptor) → are_plain ds ≡ true → words_in (find is_audit ds) ≡ []
+no_audit : (ds : List Descriptor) → are_silent ds ≡ true → words_in (find is_audit ds) ≡ []
 no_audit [] h = refl
-no_audit (descriptor.Media parts ∷ ds) h = no_audit ds (second_of (is_plain_one (descriptor.Media parts)) (are_plain ds) h)
+no_audit (descriptor.Media parts ∷ ds) h = no_audit ds h
 no_audit (descriptor.Keep kind tail ∷ ds) h = no_audit ds h
 no_audit (descriptor.Audit [] ∷ ds) h = refl
 no_audit (descriptor.Audit (word ∷ words) ∷ ds) h =
-    let none : length (word ∷ words) ≡ 0 = eqb-true (length (word ∷ words)) 0 (first_of (length (word ∷ words) == 0) (are_plain ds) h) in
+    let none : length (word ∷ words) ≡ 0 = eqb-true (length (word ∷ words)) 0 (first_of (length (word ∷ words) == 0) (are_silent ds) h) in
     absurd (omega (arith, none))
 no_audit (descriptor.Services parms ∷ ds) h = no_audit ds h
 no_audit (descriptor.Other text ∷ ds) h = no_audit ds h
@@ -215,32 +217,36 @@ by_place : (rules : Rules) (place : Option CtxNum) (c : Command) (m : Maps) (r :
 by_place rules None c m r verb = ap (λ (v : Verb). decided_in_null rules v c.descriptors r) verb
 by_place rules (Some n) c m r verb = ap (λ (v : Verb). decided_in rules v c.descriptors (is_full rules n m) n r) verb
 
-module _ (rules : Rules) (at : At) (c : Command) (verb : c.verb ≡ Modify) (plain : are_plain c.descriptors ≡ true) where
+module _ (rules : Rules) (at : At) (c : Command) (verb : c.verb ≡ Modify) (silent : are_silent c.descriptors ≡ true) where
   abbrev merge : List ℕ → Maps → Maps
   merge t m = put_changed (merged rules c.descriptors) t m (term m t)
 
   -- nothing is audited
   audits_none : audited c.descriptors ≡ []
-  audits_none = no_audit c.descriptors plain
+  audits_none = no_audit c.descriptors silent
 
   told_none : (r : Termination) → parts_of c.descriptors [] r ≡ []
   unfolding audit_parts
   told_none r = (λ i. (if list_any (is_asking item.Media) (audits_none i) || true then [] else part.Filled [] ∷ []) ++ audit_parts (audits_none i) r)
 
-  merging_is : (r new : Termination) → r.place ≡ place_at at → merged rules c.descriptors r ≡ Some new → merging_done rules c.descriptors r (place_at at) (refusal_elsewhere (place_at at) r.place) ≡ Ok (record { record_after = new; parts = [] })
+  merging_is : (r new : Termination) → r.place ≡ place_at at → merged rules c.descriptors r ≡ Some new → filled_by rules c.descriptors r ≡ [] → merging_done rules c.descriptors r (place_at at) (refusal_elsewhere (place_at at) r.place) ≡ Ok (record { record_after = new; parts = [] })
   unfolding merging_done
-  merging_is r new there is =
+  merging_is r new there is none =
       ap (λ (o : Option Code). merging_to rules c.descriptors r (place_at at) o (merged rules c.descriptors r)) (stands_here (place_at at) r.place there)
       ∙ ap (λ (o : Option Termination). merging_to rules c.descriptors r (place_at at) None o) is
-      ∙ ap (λ (l : List FilledStream). merged_in c.descriptors l None (placed new (place_at at))) (plain_fills_none rules c.descriptors r plain)
+      ∙ ap (λ (l : List FilledStream). merged_in c.descriptors l None (placed new (place_at at))) none
       ∙ (λ i. Ok (let x : Merged = record { record_after = placed new (sym here i); parts = told_none (placed new (place_at at)) i } in x))
     where
       here : new.place ≡ place_at at
       here = sym (ap (λ (o : Option Termination). (unwrap_or o r).place) is) ∙ merge_stays rules c.descriptors r ∙ there
 
-  -- a termination of the action's context that takes the descriptors has the name
+  -- a termination that takes the descriptors, and of which they fill nothing
+  abbrev pub TakesUntold : Termination → Type 0
+  TakesUntold r = (new : Termination) × (merged rules c.descriptors r ≡ Some new) × (filled_by rules c.descriptors r ≡ [])
+
+  -- such a one of the action's context has the name
   IsTaking : List ℕ → Maps → Type 0
-  IsTaking t m = StandsIn (place_at at) t m × ((r : Termination) → term m t ≡ Some r → (new : Termination) × (merged rules c.descriptors r ≡ Some new))
+  IsTaking t m = StandsIn (place_at at) t m × ((r : Termination) → term m t ≡ Some r → TakesUntold r)
 
   one_merged : (t : List ℕ) (m x : Maps) → IsTaking t m → on_target rules at c tt t m ≡ ended (merge t m) tt (idle_reply c x t ∷ []) false
   unfolding on_record IsTaking
@@ -251,7 +257,7 @@ module _ (rules : Rules) (at : At) (c : Command) (verb : c.verb ≡ Modify) (pla
       let changed : Outcome (Result (List ReplyPart) Code) = record { maps = put_term m t (Some new.0); answer = Ok [] } in
       let found : on_name rules (place_at at) c t m ≡ changed = ap (λ (o : Option Termination). on_found rules (place_at at) c t o m) stands.1
       ∙ ap (λ (y : Result Decided Code). done t m y) (by_place rules (place_at at) c m r verb)
-      ∙ ap (λ (y : Result Merged Code). done t m (becomes y)) (merging_is r new.0 stands.2 new.1) in
+      ∙ ap (λ (y : Result Merged Code). done t m (becomes y)) (merging_is r new.0 stands.2 new.1 new.2) in
       let maps : put_term m t (Some new.0) ≡ merge t m = ap (λ (o : Option Termination). put_if t m o) (sym new.1) ∙ ap (λ (o : Option Termination). put_changed (merged rules c.descriptors) t m o) (sym stands.1) in
       ap (λ (o : Outcome (Result (List ReplyPart) Code)). ended o.maps tt (reply c (Name t) o.answer ∷ []) false) found
       ∙ (λ i. ended (maps i) tt (sym (bare c Modify t x verb) i ∷ []) false)
@@ -268,13 +274,32 @@ module _ (rules : Rules) (at : At) (c : Command) (verb : c.verb ≡ Modify) (pla
   as_merged [] m = refl
   as_merged (t ∷ ts) m = as_merged ts (merge t m)
 
-  -- each of these, where each is in the action's context and takes the descriptors
+  -- each of these, where each is in the action's context and takes the descriptors, which fill nothing of it
   pub each_merged : (ts : List (List ℕ)) (m x : Maps) → NoDoubles ts → ((t : List ℕ) → is_in t ts ≡ true → StandsIn (place_at at) t m)
-      → ((t : List ℕ) → is_in t ts ≡ true → (r : Termination) → term m t ≡ Some r → (new : Termination) × (merged rules c.descriptors r ≡ Some new))
+      → ((t : List ℕ) → is_in t ts ≡ true → (r : Termination) → term m t ≡ Some r → TakesUntold r)
       → on_targets rules at c ts m ≡ ended (all_changed (merged rules c.descriptors) ts m) tt (map (idle_reply c x) ts) false
   unfolding IsTaking
   each_merged ts m x once stands takes =
       all_done rules at c merge IsTaking one_merged still_merged ts m x once (λ t h. (stands t h, takes t h)) ∙ ap (λ (y : Maps). ended y tt (map (idle_reply c x) ts) false) (as_merged ts m)
+
+-- ---- where nothing is told
+
+module _ (c : Command) (m : Maps) (nothing : tells_nothing c m ≡ true) where
+  is_silent : are_silent c.descriptors ≡ true
+  is_silent = by (are_plain c.descriptors) refl nothing
+    where
+      by : (b : Bool) → are_plain c.descriptors ≡ b → (b || (are_silent c.descriptors && not (has_slot_under (prefix_of c.term) m))) ≡ true → are_silent c.descriptors ≡ true
+      by true e h = plain_silent c.descriptors e
+      by false e h = first_of (are_silent c.descriptors) (not (has_slot_under (prefix_of c.term) m)) h
+
+  unfilled : (rules : Rules) (t : List ℕ) (r : Termination) → is_reached Free (prefix_of c.term) m t ≡ true → term m t ≡ Some r → filled_by rules c.descriptors r ≡ []
+  unfilled rules t r meant there = fills_none rules c.descriptors r (by (are_plain c.descriptors) refl nothing)
+    where
+      by : (b : Bool) → are_plain c.descriptors ≡ b → (b || (are_silent c.descriptors && not (has_slot_under (prefix_of c.term) m))) ≡ true → fill_none c.descriptors r.slot ≡ true
+      by true e h = plain_fill c.descriptors r.slot e
+      by false e h =
+          let none : has_slot_under (prefix_of c.term) m ≡ false = none_there (has_slot_under (prefix_of c.term) m) (second_of (are_silent c.descriptors) (not (has_slot_under (prefix_of c.term) m)) h) in
+          ap (λ (o : Option ℕ). fill_none c.descriptors o) (slotless (prefix_of c.term) m none t r meant there) ∙ none_fills c.descriptors
 
 -- ---- either, of the null context
 
@@ -292,11 +317,13 @@ module _ (rules : Rules) (c : Command) (m : Maps) where
 
   all_met : (a : ForAll) → IsForAll rules Null c m a → (ts : List (List ℕ)) (x : Maps) → ts ≡ reached Free (prefix_of c.term) m → ((t : List ℕ) → is_in t ts ≡ true → StandsIn None t m) → on_targets rules Null c ts m ≡ ended (all_after rules c a ts m) tt (map (idle_reply c x) ts) false
   all_met (Serve s) h ts x meant stands = each_served rules Null c s h.verb h.asked ts m x (none_twice (prefix_of c.term) m ts meant) stands
-  all_met Merge h ts x meant stands = each_merged rules Null c h.verb h.plain ts m x (none_twice (prefix_of c.term) m ts meant) stands taking
+  all_met Merge h ts x meant stands = each_merged rules Null c h.verb (is_silent c m h.nothing) ts m x (none_twice (prefix_of c.term) m ts meant) stands taking
     where
-      taking : (t : List ℕ) → is_in t ts ≡ true → (r : Termination) → term m t ≡ Some r → (new : Termination) × (merged rules c.descriptors r ≡ Some new)
+      taking : (t : List ℕ) → is_in t ts ≡ true → (r : Termination) → term m t ≡ Some r → (new : Termination) × (merged rules c.descriptors r ≡ Some new) × (filled_by rules c.descriptors r ≡ [])
       taking t i r there =
-          h.taken t r (second_of (is_in t (names m)) (is_reached Free (prefix_of c.term) m t) (sym (in_filtered (is_reached Free (prefix_of c.term) m) (names m) t) ∙ ap (λ (l : List (List ℕ)). is_in t l) (sym meant) ∙ i)) there
+          let reach = second_of (is_in t (names m)) (is_reached Free (prefix_of c.term) m t) (sym (in_filtered (is_reached Free (prefix_of c.term) m) (names m) t) ∙ ap (λ (l : List (List ℕ)). is_in t l) (sym meant) ∙ i) in
+          let takes = h.taken t r reach there in
+          (takes.0, takes.1, unfilled c m h.nothing rules t r reach there)
 
   -- each target is as it is to be, and has its reply
   pub all_carried : (a : ForAll) → IsForAll rules Null c m a → (slot : Option ℕ) (x : Maps) → refusal_by_tables Null slot c m ≡ None

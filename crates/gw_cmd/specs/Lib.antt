@@ -1,6 +1,7 @@
 pub mod Clearing
 pub mod Commands
 pub mod Effects
+pub mod Heads
 pub mod Idle
 pub mod Keys
 pub mod Changes
@@ -11,6 +12,7 @@ pub mod Refusals
 pub mod Refused
 pub mod Serving
 pub mod ServingMembers
+pub mod Sorted
 pub mod Suits
 pub use Rattle.gw_refusal.specs.Asked
 pub use Rattle.gw_refusal.specs.Forms

@@ -1,5 +1,5 @@
 -- A ServiceChange or a Modify of all terminations of the null context that match (RFC 3525, sections 7.2.2 and 7.2.8).
-use Rattle.std.specs.Prelude.{◌≡◌, ℕ, true, List, [], Some}
+use Rattle.std.specs.Prelude.{◌≡◌, ◌&&◌, ◌||◌, ℕ, Bool, true, not, List, [], Some}
 use Rattle.gw_base.specs.declared.command_words.Rules.{Rules}
 use Rattle.gw_base.specs.declared.command_words.Service.{Service}
 use Rattle.gw_base.specs.declared.command_words.Verb.TheVariants.{Modify, ServiceChange}
@@ -7,12 +7,13 @@ use Rattle.gw_base.specs.declared.term_ref.TermRef.{TermRef}
 use Rattle.gw_base.specs.declared.term_ref.TermRef.TheVariants.{Under}
 use Rattle.gw_msg.specs.declared.message.Command.{Command}
 use Rattle.gw_term.specs.Merge.{merged}
-use Rattle.gw_term.specs.Plain.{are_plain}
+use Rattle.gw_term.specs.Plain.{are_plain, are_silent}
 use Rattle.gw_term.specs.declared.record.Termination.{Termination}
 use Rattle.gw_table.specs.declared.reach.Reach.TheVariants.{Free}
 use Rattle.gw_table.specs.Maps.{Maps, term}
 use Rattle.gw_table.specs.Merged.{all_changed}
 use Rattle.gw_table.specs.Served.{is_reached, all_serviced}
+use Rattle.gw_table.specs.Slotted.{has_slot_under}
 use Rattle.gw_refusal.specs.declared.at.At.{At}
 use Rattle.gw_refusal.specs.declared.at.At.TheVariants.{Null}
 use Rattle.gw_refusal.specs.Asked.{is_wildcard, service_asked}
@@ -23,6 +24,11 @@ use Rattle.gw_cmd.specs.declared.serving.ForAll.TheVariants.{Serve, Merge}
 abbrev pub prefix_of : TermRef → List ℕ
 prefix_of (Under prefix) = prefix
 prefix_of _ = []
+
+-- nothing is told of the descriptors, at whichever termination of the null context that the wildcard matches: they are plain, or no Audit is
+-- sent and none of these has a slot
+abbrev pub tells_nothing : Command → Maps → Bool
+tells_nothing c m = are_plain c.descriptors || (are_silent c.descriptors && not (has_slot_under (prefix_of c.term) m))
 
 -- each termination of the null context whose name begins so takes the descriptors
 abbrev pub AreTaken : Rules → Command → Maps → Type 0
@@ -40,7 +46,7 @@ pub record IsMerging (rules : Rules) (at : At) (c : Command) (m : Maps) : Type 0
   pub null : at ≡ Null
   pub verb : c.verb ≡ Modify
   pub wildcard : is_wildcard c.term ≡ true
-  pub plain : are_plain c.descriptors ≡ true
+  pub nothing : tells_nothing c m ≡ true
   pub taken : AreTaken rules c m
 
 abbrev pub IsForAll : Rules → At → Command → Maps → ForAll → Type 0

@@ -7,7 +7,7 @@ use Rattle.gw_base.specs.declared.key.Key.{Key}
 use Rattle.gw_base.specs.NameLists.{is_in}
 use Rattle.gw_msg.specs.declared.message.Command.{Command}
 use Rattle.gw_term.specs.Merge.{merged}
-use Rattle.gw_term.specs.Plain.{AreKnown}
+use Rattle.gw_term.specs.Plain.{are_plain, AreKnown}
 use Rattle.gw_term.specs.Room.{IsRoomFor, Takes}
 use Rattle.gw_term.specs.declared.record.Termination.{Termination}
 use Rattle.gw_table.specs.Maps.{Maps, term}
@@ -21,10 +21,12 @@ use Rattle.gw_cmd.specs.declared.prepared.MergeOfMany.{MergeOfMany}
 use Rattle.gw_cmd.specs.declared.serving_members.ForMembers.{ForMembers}
 use Rattle.gw_cmd.specs.declared.serving_members.ForMembers.TheVariants.{Serve, Merge}
 
--- the descriptors of a command, as they are merged into many records under the rules: each whose lists have no more properties takes them
+-- the descriptors of a command, of which nothing is told, as they are merged into many records under the rules: each whose lists have no more
+-- properties takes them
 pub record IsMergeOf (rules : Rules) (c : Command) (merge : MergeOfMany) : Type 0 where
   pub ruled : merge.sending.rules.now ≡ rules
   pub sent : merge.sending.descriptors.now ≡ c.descriptors
+  pub plain : are_plain c.descriptors ≡ true
   pub known : AreKnown merge.sending.descriptors.now merge.sending.named
   pub room : IsRoomFor merge.sending.descriptors.now merge.most
 

@@ -20,7 +20,8 @@ use gw_table::Draft;
 use std::alloc::Global;
 
 /// What comes of such targets where nothing is kept of what they would be told one by one: it is the same whichever they are.
-fn told_at_once(
+#[inline(always)]
+pub(crate) fn told_at_once(
     alloc: Global,
     at: At,
     command: &Command<'_>,

@@ -23,8 +23,8 @@ ghost use Rattle.gw_cmd.specs.Suits.{HoldsMoved, HoldsFound, HoldsSlot, IsUnused
 ghost use Rattle.gw_refusal.specs.Forms.{refusal_by_form};
 ghost use Rattle.gw_refusal.specs.Targets.{targets};
 
-use crate::alike::told_alike;
-use crate::clearing::{cleared_by, on_cleared};
+use crate::alike::{told_alike, told_at_once};
+use crate::clearing::{clear_at_once, cleared_by, on_cleared};
 use crate::effects::{on_name, on_new};
 use crate::idle::{is_idle, on_idle};
 use crate::outcome::{CmdOutcome, CmdTold, Seen};
@@ -319,7 +319,8 @@ fn with_targets(
 /// ServiceChange of what matches in the null context, and a Modify of it whose descriptors each of them takes, which name nothing then.
 /// A ServiceChange of the members of a context that match, and a Modify of them that is known and that each of them takes, look the first
 /// up once, and the others once, or twice where properties are sent that lists hold; and by a Subtract of all members that audits nothing,
-/// also by a prefix that each of them has, they leave at once.
+/// also by a prefix that each of them has, they leave at once. Where nothing is kept of their replies, in whole tables, they are not named
+/// either: it is one look-up of the context, and one of each member.
 ///
 /// # Errors
 ///
@@ -354,6 +355,9 @@ pub fn command_told(
     }
     if let Some(for_all) = for_all(alloc, rules, draft, at, command)? {
         return on_all_free(alloc, rules, draft, slot, command, for_all, told);
+    }
+    if clear_at_once(alloc, rules, draft, at, slot, command, known, &told)? {
+        return told_at_once(alloc, at, command, told);
     }
     if let Some(number) = cleared_by(draft, at, command) {
         return on_cleared(alloc, rules, draft, at, number, slot, command, known, told);

@@ -1,23 +1,26 @@
 //! A Subtract of all members of the action's context, of which nothing is audited.
 
-ghost use Rattle.std.specs.Prelude.{◌≡◌, ◌&&◌, true, false, [], None, IfOk, IfSome, OnOk};
+ghost use Rattle.std.specs.Prelude.{◌≡◌, ◌&&◌, true, false, [], None, map, IfOk, IfSome, OnOk};
 ghost use Rattle.std.specs.List.{list_all};
 ghost use Rattle.gw_length.specs.declared.telling.Telling.TheVariants.{TooLong};
 ghost use Rattle.gw_table.specs.Maps.{ctx, members_of};
 ghost use Rattle.gw_table.specs.Parts.{Holds};
 ghost use Rattle.gw_table.specs.WellFormed.{IsSound};
-ghost use Rattle.gw_refusal.specs.Asked.{audited, is_wildcard, matches};
+ghost use Rattle.gw_refusal.specs.Asked.{audited, is_some_list, is_wildcard, matches};
 ghost use Rattle.gw_refusal.specs.Forms.{refusal_by_form};
+ghost use Rattle.gw_refusal.specs.Targets.{targets};
 ghost use Rattle.gw_cmd.specs.Clearing.{SubtractsMany, IsClearing};
-ghost use Rattle.gw_cmd.specs.Commands.{allowed};
+ghost use Rattle.gw_cmd.specs.Commands.{allowed, outcome_told};
+ghost use Rattle.gw_cmd.specs.Idle.{idle_reply};
 ghost use Rattle.gw_cmd.specs.Keys.{command_keys};
 ghost use Rattle.gw_cmd.specs.Prepared.{IsJudged};
 ghost use Rattle.gw_cmd.specs.Told.{outcome_behind};
 
 use crate::idle::{keeps_none, on_each, seen_idle};
 use crate::outcome::CmdTold;
-use crate::prepared::Prepared;
+use crate::prepared::{Prepared, wrong_of};
 use crate::replies::{has_one_reply, outcome_of, outcome_of_all, refused};
+use crate::serving::prefix_of;
 use crate::tables::{is_some, refusal_by_tables};
 use gw_base::{CtxNum, NoMemory, Rules, TermRef, Verb};
 use gw_desc::Descriptor;
@@ -79,6 +82,41 @@ pub(crate) fn cleared_by(draft: &Draft<'_>, at: At, command: &Command<'_>) -> Op
     } else {
         None
     }
+}
+
+/// Carries a command that its form allows out at once, if it clears its context in whole tables, and nothing is kept of what the members
+/// would be told one by one: they are not named then. Answers whether that was done; where it was not, nothing has changed. It is one
+/// look-up of the context, and one of each member. Never inlined, so that other commands do not pay for its locals.
+#[inline(never)]
+pub(crate) fn clear_at_once(
+    alloc: Global,
+    rules: &Rules,
+    draft: &mut Draft<'_>,
+    at: At,
+    slot: Option<u16>,
+    command: &Command<'_>,
+    known: Option<&Prepared<'_, '_>>,
+    told: &Telling<CommandReply>,
+) -> Result<bool, NoMemory>
+    requires sound { IsSound draft.old.keys draft.old.maps }
+    requires covered { Holds draft.old.keys (command_keys at slot command.now draft.old.maps) }
+    requires judged { IfSome known (λ p. IsJudged p.now command.now) }
+    ensures done { IfOk result (λ done. done ≡ true → allowed rules.now at slot command.now draft.old.maps ≡ record { maps = draft.new.maps; answer = outcome_told at command.now (map (idle_reply command.now draft.old.maps) (targets at command.now draft.old.maps)) }) }
+    ensures some { IfOk result (λ done. done ≡ true → is_some_list (targets at command.now draft.old.maps) ≡ true) }
+    ensures kept { IfOk result (λ done. done ≡ true → (command.now.wild && is_wildcard command.now.term) ≡ false → told.now ≡ TooLong) }
+    ensures stays { IfOk result (λ done. done ≡ false → draft.new.maps ≡ draft.old.maps) }
+    ensures keys { draft.new.keys ≡ draft.old.keys }
+{
+    if !subtracts_many(command) || !keeps_none(command, told) || !draft.has_every_key() {
+        return Ok(false);
+    }
+    let Some(number) = at.place() else {
+        return Ok(false);
+    };
+    if wrong_of(command, known).is_some() {
+        return Ok(false);
+    }
+    draft.clear_context(alloc, number, prefix_of(&command.term))
 }
 
 /// Carries such a command out where nothing is kept of what its members would be told one by one.

@@ -7,6 +7,7 @@ mod change;
 mod clearing;
 mod decide;
 mod effects;
+mod heads;
 mod idle;
 mod laws;
 mod members;
@@ -19,6 +20,7 @@ mod replies;
 mod root;
 mod serving;
 mod serving_members;
+mod sorted;
 mod tables;
 
 pub use carry::{command, command_told};
@@ -27,6 +29,6 @@ pub use laws::{
     commands_keep_forms, commands_keep_tables_well_formed, commands_keep_to_their_keys,
     commands_on_other_keys_change_places, keys_are_needed, the_whole_is_a_key_of_commands_for_all,
 };
-pub use nothing::{come_to_nothing, come_to_nothing_at, surely_act};
+pub use nothing::{come_to_nothing, come_to_nothing_at, nothing_in_front, surely_act};
 pub use outcome::{CmdOutcome, CmdTold};
 pub use prepared::{Prepared, all_prepared, first_prepared, prepared_behind};

@@ -10,12 +10,11 @@ ghost use Rattle.gw_table.specs.declared.reach.Reach.TheVariants.{Free};
 ghost use Rattle.gw_table.specs.Maps.{Maps};
 ghost use Rattle.gw_table.specs.Parts.{holds, Holds};
 ghost use Rattle.gw_table.specs.Served.{reached};
-ghost use Rattle.gw_term.specs.Plain.{are_plain};
 ghost use Rattle.gw_refusal.specs.Asked.{is_wildcard};
 ghost use Rattle.gw_refusal.specs.Forms.{refusal_by_form};
 ghost use Rattle.gw_cmd.specs.Commands.{allowed};
 ghost use Rattle.gw_cmd.specs.Keys.{command_keys};
-ghost use Rattle.gw_cmd.specs.Serving.{prefix_of, all_after, AreTaken, IsForAll};
+ghost use Rattle.gw_cmd.specs.Serving.{prefix_of, tells_nothing, all_after, AreTaken, IsForAll};
 ghost use Rattle.gw_cmd.specs.Told.{outcome_behind};
 
 use crate::idle::{keeps_none, on_each, seen_idle};
@@ -28,7 +27,7 @@ use gw_msg::Command;
 use gw_refusal::{At, has_targets, is_wildcard, service_asked, targets};
 use gw_reply::CommandReply;
 use gw_table::{Draft, Reach};
-use gw_term::{MOST_PROPERTIES, are_plain, room_for};
+use gw_term::{MOST_PROPERTIES, are_plain, are_silent, room_for};
 use std::alloc::Global;
 
 /// What a command does to all terminations of the null context that match.
@@ -41,7 +40,7 @@ pub(crate) enum ForAll {
 }
 
 /// How the names begin that a wildcard matches.
-fn prefix_of<'a>(term: &'a TermRef) -> &'a [u8]
+pub(crate) fn prefix_of<'a>(term: &'a TermRef) -> &'a [u8]
     ensures { result.now ≡ prefix_of term.now }
 {
     match term {
@@ -50,15 +49,25 @@ fn prefix_of<'a>(term: &'a TermRef) -> &'a [u8]
     }
 }
 
-/// Whether each termination of the null context that the wildcard matches surely takes the descriptors, of which nothing is told: they send
-/// no property that a list holds, or there is room for all of these, or none of them is new.
+/// Whether nothing is told of the descriptors of a command, at whichever termination of the null context that the wildcard matches: they are
+/// plain; or they send no Audit but an empty one, and none of these has a slot, by which a Local is filled. That is looked up, in one pass
+/// over the tables, where they are not plain.
+fn tells_nothing(draft: &Draft<'_>, command: &Command<'_>) -> bool
+    ensures { result ≡ tells_nothing command.now draft.now.maps }
+{
+    let descriptors = command.descriptors.as_slice();
+    are_plain(descriptors)
+        || (are_silent(descriptors) && !draft.has_slot_under(prefix_of(&command.term)))
+}
+
+/// Whether each termination of the null context that the wildcard matches surely takes the descriptors: they send no property that a list
+/// holds, or there is room for all of these, or none of them is new.
 fn are_taken(
     alloc: Global,
     rules: &Rules,
     draft: &Draft<'_>,
     command: &Command<'_>,
 ) -> Result<bool, NoMemory>
-    requires { are_plain command.now.descriptors ≡ true }
     ensures { IfOk result (λ taken. taken ≡ true → AreTaken rules.now command.now draft.now.maps) }
 {
     let descriptors = command.descriptors.as_slice();
@@ -76,10 +85,10 @@ fn merges_all(
     draft: &Draft<'_>,
     command: &Command<'_>,
 ) -> Result<bool, NoMemory>
-    ensures plain { IfOk result (λ all. all ≡ true → are_plain command.now.descriptors ≡ true) }
+    ensures nothing { IfOk result (λ all. all ≡ true → tells_nothing command.now draft.now.maps ≡ true) }
     ensures taken { IfOk result (λ all. all ≡ true → AreTaken rules.now command.now draft.now.maps) }
 {
-    if !are_plain(command.descriptors.as_slice()) {
+    if !tells_nothing(draft, command) {
         return Ok(false);
     }
     are_taken(alloc, rules, draft, command)
@@ -116,7 +125,7 @@ fn service_of_all(command: &Command<'_>) -> Option<ForAll>
 
 /// What a command does to all terminations of the null context that a wildcard matches, if it is a ServiceChange, or a Modify whose
 /// descriptors each of them takes, and of which nothing is told; of another command none. Where properties are sent that lists hold, the
-/// work is one pass over the tables.
+/// work is one pass over the tables; and another where a Local is sent that has a `$`.
 ///
 /// # Errors
 ///

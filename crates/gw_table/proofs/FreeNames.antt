@@ -57,7 +57,7 @@ those_free look ((t, Here r) ∷ es) h =
     λ i. cond (is_none (place_of (h.0 i))) (t ∷ rest i) (rest i)
 those_free look ((t, Out) ∷ es) h = those_free look es h.1
 
-shown_each : (look : List ℕ → Option Termination) (es fs : List Named) → ((t : List ℕ) → look t ≡ shown (lookup (is_at (name_cmp t)) es)) → AllByRecursion (λ e. lookup (is_at (name_cmp e.0)) es ≡ Some e.1) fs → AllByRecursion (λ e. look e.0 ≡ shown (Some e.1)) fs
+pub shown_each : (look : List ℕ → Option Termination) (es fs : List Named) → ((t : List ℕ) → look t ≡ shown (lookup (is_at (name_cmp t)) es)) → AllByRecursion (λ e. lookup (is_at (name_cmp e.0)) es ≡ Some e.1) fs → AllByRecursion (λ e. look e.0 ≡ shown (Some e.1)) fs
 shown_each look es [] g h = tt
 shown_each look es (f ∷ fs) g h = (g f.0 ∙ ap (λ o. shown o) h.0, shown_each look es fs g h.1)
 

@@ -75,6 +75,11 @@ pub all_out : (n : CtxNum) (t : List ℕ) (ts : List (List ℕ)) (m : Maps) → 
 all_out n t [] m is = remains_behind m n None t ∙ last_gone n t [] m is refl
 all_out n t (u ∷ us) m is = first_out n t (u ∷ us) m is (u ∷ us) ∙ all_out n u us (gone n t m) (members_gone n t (u ∷ us) m is)
 
+-- behind whatever became of the context
+pub all_behind : (ts : List (List ℕ)) (m : Maps) (n : CtxNum) (o : Option ContextRecord) → all_remains ts (put_ctx m n o) ≡ put_ctx (all_remains ts m) n o
+all_behind [] m n o = refl
+all_behind (t ∷ ts) m n o = ap (all_remains ts) (remains_behind m n o t) ∙ all_behind ts (put_remains t m (term m t)) n o
+
 -- and it has ended then
 ctx-all_remains : (ts : List (List ℕ)) (m : Maps) (q : CtxNum) → ctx (all_remains ts m) q ≡ ctx m q
 ctx-all_remains [] m q = refl

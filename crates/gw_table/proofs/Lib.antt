@@ -1,5 +1,6 @@
 pub mod Celled
 pub mod Drafted
+pub mod Ending
 pub mod Exchanged
 pub mod Folding
 pub mod Frames
@@ -32,7 +33,9 @@ pub mod AllSettings
 pub mod SlotNames
 pub mod Standing
 pub mod Swept
+pub mod SweptAtOnce
 pub mod Undone
 pub mod Roomy
+pub mod SlotsFound
 pub mod Resets
 pub mod EachRoom

@@ -190,7 +190,7 @@ shown_same (Some Empty) = refl
 shown_same (Some (Here a)) = refl
 shown_same (Some Out) = refl
 
-none_left : {A : Type 0} (o : Option (Place A)) → has_left (if_shown o) ≡ false
+pub none_left : {A : Type 0} (o : Option (Place A)) → has_left (if_shown o) ≡ false
 none_left None = refl
 none_left (Some Empty) = refl
 none_left (Some (Here a)) = refl

@@ -1,5 +1,6 @@
 pub mod Accesses
 pub mod Cells
+pub mod Cleared
 pub mod Drafts
 pub mod Folds
 pub mod Found
@@ -29,4 +30,5 @@ pub mod WellFormed
 pub use Rattle.gw_ctx.specs.Contexts
 pub use Rattle.gw_term.specs.Record
 pub mod Room
+pub mod Slotted
 pub mod EachRoom

@@ -4,6 +4,7 @@
 mod attempts;
 mod cell;
 mod changes;
+mod clearing;
 mod draft;
 mod free;
 mod in_place;
@@ -27,10 +28,12 @@ mod serving;
 mod setting;
 mod site;
 mod slots;
+mod slotted;
 mod subtracting;
 mod tables;
 mod text;
 mod unused;
+mod vacated;
 mod whole;
 mod writes;
 

@@ -7,7 +7,7 @@ ghost use Rattle.std.specs.Map.{lookup};
 ghost use Rattle.gw_base.specs.declared.key.Key.TheVariants.{Term};
 ghost use Rattle.gw_base.specs.NameLists.{is_in, name_cmp};
 ghost use Rattle.gw_term.specs.Merge.{merged};
-ghost use Rattle.gw_term.specs.Plain.{are_plain, AreKnown};
+ghost use Rattle.gw_term.specs.Plain.{AreKnown};
 ghost use Rattle.gw_term.specs.Sending.{SendsTheSame};
 ghost use Rattle.gw_table.specs.declared.reach.Reach.TheVariants.{Free};
 ghost use Rattle.gw_table.specs.Maps.{term};
@@ -232,7 +232,6 @@ impl InPlace {
         rules: &'a Rules,
         descriptors: &'a [Descriptor<'_>],
     ) -> Result<(), NoMemory>
-        requires { are_plain descriptors.now ≡ true }
         ensures maps { OnOk result (self.new.maps ≡ all_changed (merged rules.now descriptors.now) (reached Free prefix.now self.old.maps) self.old.maps) }
         ensures keys { self.new.keys ≡ self.old.keys }
     {
@@ -324,8 +323,7 @@ impl OverPart<'_> {
         rules: &Rules,
         descriptors: &[Descriptor<'_>],
     ) -> Result<(), NoMemory>
-        requires plain { are_plain descriptors.now ≡ true }
-        requires term_keys { (t : List ℕ) → is_in t (reached Free prefix.now self.old.maps) ≡ true → holds self.old.keys (Term t) ≡ true }
+        requires { (t : List ℕ) → is_in t (reached Free prefix.now self.old.maps) ≡ true → holds self.old.keys (Term t) ≡ true }
         ensures maps { OnOk result (self.new.maps ≡ all_changed (merged rules.now descriptors.now) (reached Free prefix.now self.old.maps) self.old.maps) }
         ensures keys { self.new.keys ≡ self.old.keys }
     {
@@ -352,8 +350,7 @@ impl Draft<'_> {
         rules: &Rules,
         descriptors: &[Descriptor<'_>],
     ) -> Result<(), NoMemory>
-        requires plain { are_plain descriptors.now ≡ true }
-        requires term_keys { (t : List ℕ) → is_in t (reached Free prefix.now self.old.maps) ≡ true → holds self.old.keys (Term t) ≡ true }
+        requires { (t : List ℕ) → is_in t (reached Free prefix.now self.old.maps) ≡ true → holds self.old.keys (Term t) ≡ true }
         ensures maps { OnOk result (self.new.maps ≡ all_changed (merged rules.now descriptors.now) (reached Free prefix.now self.old.maps) self.old.maps) }
         ensures keys { self.new.keys ≡ self.old.keys }
     {

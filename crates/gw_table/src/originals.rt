@@ -178,12 +178,13 @@ impl Tables {
     }
 
     /// Gives up the places of those keys that were left without an entry and still have none. The caller knows that nothing is out.
-    /// Such a key takes two look-ups; memory is given back and none is taken.
+    /// Such a key takes two look-ups; of many keys it is one pass over all places, which gives up each that has no entry. Memory is given
+    /// back and none is taken.
     pub fn sweep_vacated(&mut self, originals: &Originals)
         requires { NoneIsOut self.old }
         ensures maps { maps_of self.new ≡ maps_of self.old }
         ensures here { NoneIsOut self.new }
     {
-        self.sweep_keys(&originals.vacated);
+        self.sweep_vacant(&originals.vacated);
     }
 }

@@ -1,7 +1,7 @@
 //! Whether many terminations at once take descriptors.
 
 ghost use Rattle.std.specs.Prelude.{◌≡◌, true, IfOk};
-ghost use Rattle.gw_term.specs.Plain.{are_plain, AreKnown};
+ghost use Rattle.gw_term.specs.Plain.{AreKnown};
 ghost use Rattle.gw_term.specs.Sending.{SendsTheSame};
 ghost use Rattle.gw_table.specs.Room.{HaveRoom, HasRoomIn};
 ghost use Rattle.gw_table.specs.Stored.{maps_of};
@@ -73,7 +73,6 @@ impl InPlace {
         rules: &Rules,
         descriptors: &[Descriptor<'_>],
     ) -> Result<bool, NoMemory>
-        requires { are_plain descriptors.now ≡ true }
         ensures { IfOk result (λ have. have ≡ true → HaveRoom rules.now descriptors.now prefix.now most self.now.maps) }
     {
         let mut sending = Sending::new(alloc, rules, descriptors)?;
@@ -98,7 +97,6 @@ impl Draft<'_> {
         rules: &Rules,
         descriptors: &[Descriptor<'_>],
     ) -> Result<bool, NoMemory>
-        requires { are_plain descriptors.now ≡ true }
         ensures { IfOk result (λ have. have ≡ true → HaveRoom rules.now descriptors.now prefix.now most self.now.maps) }
     {
         match &self.ground {

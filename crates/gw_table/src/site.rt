@@ -2,6 +2,7 @@
 
 ghost use Rattle.std.specs.Prelude.{◌≡◌, ◌<◌, true, false, length, Some, is_some, IfOk, OnOk, OnErr, option_copied};
 ghost use Rattle.std.specs.Bool.{OnTrue};
+ghost use Rattle.std.specs.FinMap as finite;
 ghost use Rattle.gw_base.specs.declared.key.Key.TheVariants.{Term};
 ghost use Rattle.gw_base.specs.Keys.{has};
 ghost use Rattle.gw_base.specs.NameLists.{is_in};
@@ -16,11 +17,11 @@ ghost use Rattle.gw_table.specs.Maps.{members_of};
 ghost use Rattle.gw_table.specs.Merged.{changed_place, is_away_at, WasMerged, MayNoteRecord};
 ghost use Rattle.gw_table.specs.Noting.{MayChange};
 ghost use Rattle.gw_table.specs.KeptSettings.{IsKept, MayKeep};
-ghost use Rattle.gw_table.specs.Originals.{keys_written, has_properties, has_termination};
+ghost use Rattle.gw_table.specs.Originals.{keys_written, has_properties, has_termination, IsInPlace};
 ghost use Rattle.gw_table.specs.Records.{recorded_at};
 ghost use Rattle.gw_table.specs.Served.{IsNoted, MayNote};
 ghost use Rattle.gw_table.specs.Settings.{set_at};
-ghost use Rattle.gw_table.specs.Stored.{shown, served, emptied};
+ghost use Rattle.gw_table.specs.Stored.{Stored, shown, served, emptied, put_ctx_place};
 
 use crate::joining::{join_in_place, leave_in_place};
 use crate::merging::{merge_and_learn, merge_in_place, put_away};
@@ -483,6 +484,27 @@ impl Site<Held<Context>> {
         let copy = copied(&self.place, alloc)?;
         self.noted = next_of(writes);
         Ok((copy, Found::Original(self.place.take())))
+    }
+
+    /// The context that stands here goes, and is moved to the list of writes, unless its number is noted already.
+    ///
+    /// # Errors
+    ///
+    /// Want of memory. Nothing has changed then.
+    pub(crate) fn end(&mut self, number: CtxNum, writes: &mut Vec<Write>) -> Result<(), NoMemory>
+        ensures after { OnOk result (self.new ≡ Empty) }
+        ensures back { (start now : Stored) → finite.get now.contexts number.0 ≡ Some self.old → IsInPlace start now writes.old.items → IsInPlace start (put_ctx_place now number self.new) writes.new.items }
+        ensures err { OnErr result (self.new ≡ self.old) }
+    {
+        writes.reserve(1)?;
+        let found = self.write(Place::Empty, writes, &Key::Ctx(number));
+        let Found::Original(before) = found else {
+            return Ok(());
+        };
+        let Ok(()) = writes.push(Write::OfCtx(number, before)) else {
+            unreachable!()
+        };
+        Ok(())
     }
 }
 

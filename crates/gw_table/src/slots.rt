@@ -1,14 +1,31 @@
 //! Places for entries: made for keys that may get an entry, and swept where none came.
 
-ghost use Rattle.std.specs.Prelude.{◌≡◌, ℕ, false, List, [], ◌∷◌, OnOk, OnErr};
+ghost use Rattle.std.specs.Prelude.{◌≡◌, ℕ, true, false, List, [], ◌∷◌, None, OnOk, OnErr};
+ghost use Rattle.std.specs.BTreeMap.{is_at};
 ghost use Rattle.std.specs.FinMap as finite;
+ghost use Rattle.std.specs.Map.{lookup};
+ghost use Rattle.std.specs.Ordering.{nat_cmp};
 ghost use Rattle.gw_base.specs.declared.key.Key.TheVariants.{Term, Ctx};
-ghost use Rattle.gw_table.specs.Stored.{maps_of, is_out, if_shown, ArePrepared, AreAsOut, AreIn, AreReady, KeepReady, NoOtherReady, NoneIsOut, AreSwept, AreSweptAt, WereSwept};
+ghost use Rattle.gw_table.specs.Stored.{maps_of, is_out, shown, if_shown, ArePrepared, AreAsOut, AreIn, AreReady, KeepReady, NoOtherReady, NoneIsOut, AreSwept, AreSweptAt, WereSwept};
 
 use crate::place::{Place, is_vacant};
 use crate::site::{Site, place_at};
 use crate::tables::Tables;
-use gw_base::{CtxNum, Key, NoMemory, TermName};
+use gw_base::{CtxNum, Held, Key, NoMemory, TermName};
+use gw_ctx::Context;
+use std::collections::BTreeMap;
+
+/// Whether no context stands in any of these places.
+fn none_stands(contexts: &BTreeMap<u32, Site<Held<Context>>>) -> bool
+    ensures { result ≡ true → (n : ℕ) → shown (lookup (is_at (nat_cmp n)) contexts.now.entries) ≡ None }
+{
+    for (_, site) in contexts {
+        if site.is_here() {
+            return false;
+        }
+    }
+    true
+}
 
 impl Tables {
     /// Makes a place for a termination. A refused growth changes nothing.
@@ -84,7 +101,7 @@ impl Tables {
     }
 
     /// Ends the preparation of a key, if it has no entry. The caller knows that it is not out.
-    fn sweep_key(&mut self, key: &Key)
+    pub(crate) fn sweep_key(&mut self, key: &Key)
         requires { is_out self.old key.now ≡ false }
         ensures { WereSwept (key.now ∷ []) self.old self.new }
     {
@@ -109,18 +126,22 @@ impl Tables {
     }
 
     /// Ends the preparation of names without a termination.
-    fn sweep_terms(&mut self)
+    pub(crate) fn sweep_terms(&mut self)
         ensures terms { (t : List ℕ) → finite.get self.new.terms t ≡ if_shown (finite.get self.old.terms t) }
         ensures contexts { self.new.contexts ≡ self.old.contexts }
     {
         self.terms.retain(|_, site| site.is_here());
     }
 
-    /// Ends the preparation of numbers without a context.
-    fn sweep_contexts(&mut self)
+    /// Ends the preparation of numbers without a context. Where there is no context, all places go at once.
+    pub(crate) fn sweep_contexts(&mut self)
         ensures terms { self.new.terms ≡ self.old.terms }
         ensures contexts { (n : ℕ) → finite.get self.new.contexts n ≡ if_shown (finite.get self.old.contexts n) }
     {
+        if none_stands(&self.contexts) {
+            self.contexts.clear();
+            return;
+        }
         self.contexts.retain(|_, site| site.is_here());
     }
 

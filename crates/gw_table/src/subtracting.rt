@@ -11,9 +11,9 @@ ghost use Rattle.gw_table.specs.Originals.{IsInPlace};
 ghost use Rattle.gw_table.specs.Parts.{holds};
 ghost use Rattle.gw_table.specs.Stored.{Stored, shown, maps_of};
 
+use crate::clearing::put_remains;
 use crate::draft::{Draft, Ground};
 use crate::in_place::{InPlace, note_vacated};
-use crate::marked::note_slot;
 use crate::originals::Write;
 use crate::over_part::OverPart;
 use crate::place::Place;
@@ -91,16 +91,7 @@ impl Tables {
         ensures back { (start : Stored) → IsInPlace start self.old writes.old.items → IsInPlace start self.new writes.new.items }
         ensures maps { OnOk result (maps_of self.new ≡ put_remains name.now (maps_of self.old) (term (maps_of self.old) name.now)) }
     {
-        let Some(site) = self.terms.get_mut(name) else {
-            return Ok(false);
-        };
-        if !site.has_slot() {
-            site.reset(alloc, name, writes)?;
-            return Ok(false);
-        }
-        site.give_up(name, writes)?;
-        note_slot(&mut self.slots, name, false);
-        Ok(true)
+        put_remains(&mut self.terms, &mut self.slots, alloc, name, writes)
     }
 }
 

@@ -1,4 +1,4 @@
--- What plain descriptors make of a record is the same for each record of which the same was set.
+-- What descriptors make of a record of which they fill nothing is the same for each such record of which the same was set.
 use Rattle.std.proofs.Common.{◌≡◌, ℕ, zero, suc, ◌≤◌, arith, Bool, true, false, List, [], ◌∷◌, Option, Some, None, is_some, refl, ap, sym, ◌∙◌}
 use Rattle.std.specs.Prelude.{◌&&◌, if◌then◌else◌, decimal, IfSome}
 use Rattle.std.specs.List.{list_all, list_any, flat_map}
@@ -17,13 +17,13 @@ use Rattle.gw_term.specs.declared.streams.Merging.{Merging}
 use Rattle.gw_term.specs.declared.record.Termination.{Termination}
 use Rattle.gw_term.specs.Merge.{and_then, each, put_part, begun, unnamed, is_named_in, parts_in, merged_properties, merged_stream, merged_tail, merged_media, with_media, merged, stream_in}
 use Rattle.gw_term.specs.Places.{at_number, at_kind}
-use Rattle.gw_term.specs.Plain.{has_choice, is_plain_stream, is_plain_one, are_plain, IsMadeBy, IsMadeOf, AreMade, AreSet, stream_or_none, with_properties, with_streams_after, with_tails_after, with_all_after}
+use Rattle.gw_term.specs.Plain.{has_choice, is_plain_stream, is_plain_one, are_plain, fill_none, IsMadeBy, IsMadeOf, AreMade, AreSet, stream_or_none, with_properties, with_streams_after, with_tails_after, with_all_after}
 use Rattle.gw_term.specs.Record.{provisioned}
 use Rattle.gw_term.specs.Room.{Takes}
 use Rattle.gw_term.specs.Settings.{Settings, nothing_set}
 use Rattle.gw_term.proofs.ByField.{by_field, parts_are}
 use Rattle.gw_term.proofs.Made.{mapped_from}
-use Rattle.gw_term.proofs.Taken.{all_in, none_there, plain_parts_in, merged_here}
+use Rattle.gw_term.proofs.Taken.{all_in, none_there, only_plain, none_fills, plain_parts_in, merged_here}
 use Rattle.gw_term.proofs.Unfilled.{unfilled}
 
 -- what is said of what is there, where something is
@@ -60,13 +60,14 @@ module _ (rules : Rules) (number : ℕ) where
       by later None = refl
       by later (Some t) = later t
 
-  merged_same : (slot : Option ℕ) (ds : List Descriptor) (old : Option Stream) → are_plain ds ≡ true → merged_stream rules slot number ds old ≡ merged_stream rules None number ds old
+  merged_same : (slot : Option ℕ) (ds : List Descriptor) (old : Option Stream) → fill_none ds slot ≡ true → merged_stream rules slot number ds old ≡ merged_stream rules None number ds old
   unfolding merged_stream
-  merged_same slot ds old h =
+  merged_same None ds old h = refl
+  merged_same (Some slot) ds old h =
       ap (λ (o : Option Merging). if list_any (is_named_in number) ds then option_map (λ m. Some m) o else Some (unnamed old))
-      (parts_same slot (flat_map (parts_in number) ds) (begun old) (all_in is_plain_one is_plain_stream (parts_in number) (plain_parts_in number) ds h))
+      (parts_same (Some slot) (flat_map (parts_in number) ds) (begun old) (all_in is_plain_one is_plain_stream (parts_in number) (plain_parts_in number) ds (only_plain (are_plain ds) h)))
 
-  stream_same : (slot : Option ℕ) (ds : List Descriptor) (old : Option Stream) → are_plain ds ≡ true → stream_or_none rules slot number ds old ≡ stream_or_none rules None number ds old
+  stream_same : (slot : Option ℕ) (ds : List Descriptor) (old : Option Stream) → fill_none ds slot ≡ true → stream_or_none rules slot number ds old ≡ stream_or_none rules None number ds old
   stream_same slot ds old h = ap (λ (o : Option (Option Merging)). unwrap_or (option_map stream_in o) old) (merged_same slot ds old h)
 
 -- ---- the whole
@@ -74,8 +75,8 @@ module _ (rules : Rules) (number : ℕ) where
 made_some : {T : Type 0} (o : Option T) (t : T) → o ≡ Some t → is_some o ≡ true
 made_some {T} o t e = ap (λ (x : Option T). is_some x) e
 
--- of a record of which this was set, whatever its slot
-module _ (rules : Rules) (slot : Option ℕ) (ds : List Descriptor) (h : are_plain ds ≡ true) (old new : Settings) (is : IsMadeOf rules ds old new) where
+-- of a record of which this was set, and nothing is filled
+module _ (rules : Rules) (slot : Option ℕ) (ds : List Descriptor) (h : fill_none ds slot ≡ true) (old new : Settings) (is : IsMadeOf rules ds old new) where
   abbrev set_so : Termination
   set_so = record provisioned { settings = old }
 
@@ -124,8 +125,8 @@ module _ (rules : Rules) (slot : Option ℕ) (ds : List Descriptor) (h : are_pla
     all = all_none ∙ ap (with_tails_after ds) (streams_same (with_properties new.properties old));
   }
 
--- of a record of which nothing was set, whatever its slot
-module _ (rules : Rules) (slot : Option ℕ) (ds : List Descriptor) (h : are_plain ds ≡ true) (made : Settings) (is : IsMadeBy rules ds made) where
+-- of a record of which nothing was set, and nothing is filled
+module _ (rules : Rules) (slot : Option ℕ) (ds : List Descriptor) (h : fill_none ds slot ≡ true) (made : Settings) (is : IsMadeBy rules ds made) where
   -- what they make of any record of which nothing was set
   pub made_anywhere : AreSet rules slot ds nothing_set made
   made_anywhere = made_from rules slot ds h nothing_set made is
@@ -155,8 +156,12 @@ module _ (rules : Rules) (slot : Option ℕ) (ds : List Descriptor) (h : are_pla
       by DigitMap = refl
       by EventBuffer = refl
 
+-- the tail of a kind in what they make of a record of which nothing was set
+pub made_tail_anywhere : (rules : Rules) (ds : List Descriptor) (made : Settings) → IsMadeBy rules ds made → (kind : KeptKind) → at_kind kind made.tails ≡ merged_tail kind ds None
+made_tail_anywhere rules ds made is kind = made_tail rules None ds (none_fills ds) made is kind
+
 -- a record of which this was set takes them
-pub made_takes : (rules : Rules) (ds : List Descriptor) (r : Termination) (after : Settings) → are_plain ds ≡ true → IsMadeOf rules ds r.settings after → Takes rules ds r
+pub made_takes : (rules : Rules) (ds : List Descriptor) (r : Termination) (after : Settings) → fill_none ds r.slot ≡ true → IsMadeOf rules ds r.settings after → Takes rules ds r
 made_takes rules ds r after h is =
     let set = made_from rules r.slot ds h r.settings after is in
     (_, merged_here rules ds r after.properties set.properties set.streams)

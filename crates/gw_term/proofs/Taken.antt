@@ -29,7 +29,7 @@ use Rattle.gw_term.specs.declared.places.PerStream.{PerStream}
 use Rattle.gw_term.specs.Merge.{Media, local_text, is_filled, and_then, each, put_control, put_part, begun, unnamed, is_named_in, names_stream, parts_in, parts_in_part, merged_properties, merged_stream, merged_media, with_media, merged, filled_in, filled_of, filled_by, stream_in, merged_service, merged_tail, tail_after}
 use Rattle.gw_term.specs.declared.settings.Setting.{Setting}
 use Rattle.gw_term.specs.declared.settings.Setting.TheVariants as setting
-use Rattle.gw_term.specs.Plain.{has_choice, is_plain_stream, is_plain_part, is_plain_one, are_plain, setting_after, with_stream_after, with_streams_after, stream_or_none, AreMade, with_properties, is_tail_of, retold, with_tail, with_tail_after, with_tails_after}
+use Rattle.gw_term.specs.Plain.{has_choice, is_plain_stream, is_plain_part, is_plain_one, are_plain, is_silent_one, are_silent, fill_none, setting_after, with_stream_after, with_streams_after, stream_or_none, AreMade, with_properties, is_tail_of, retold, with_tail, with_tail_after, with_tails_after}
 use Rattle.gw_term.specs.Settings.{Settings, nothing_set, with_setting, with_settings, set_by}
 
 abbrev P : Type 0
@@ -85,6 +85,48 @@ part_keeps rules slot number (part.Remote text) m t h i e =
     ap (λ (n : Merging). n.filled) (sym same) ∙ i
 part_keeps rules slot number (part.LocalControl properties) m t h i e = stays_unfilled (each put_control properties m.stream) m t i e
 
+-- where there is no slot, whatever the part is
+slotless_keeps : (rules : Rules) (number : ℕ) (p : StreamPart) (m t : Merging) → true ≡ true → m.filled ≡ false → put_part rules None number p m ≡ Some t → t.filled ≡ false
+slotless_keeps rules number (part.Local text) m t h i e =
+    let put : Merging = record { stream = record m.stream { local = Some text }; filled = false } in
+    let same : put ≡ t = cc in
+    ap (λ (n : Merging). n.filled) (sym same)
+slotless_keeps rules number (part.Remote text) m t h i e =
+    let put : Merging = record m { stream = record m.stream { remote = Some text } } in
+    let same : put ≡ t = cc in
+    ap (λ (n : Merging). n.filled) (sym same) ∙ i
+slotless_keeps rules number (part.LocalControl properties) m t h i e = stays_unfilled (each put_control properties m.stream) m t i e
+
+any_at_all : {X : Type 0} (xs : List X) → list_all (λ _. true) xs ≡ true
+any_at_all [] = refl
+any_at_all (x ∷ xs) = any_at_all xs
+
+pub only_plain : (b : Bool) → (b || false) ≡ true → b ≡ true
+only_plain true h = refl
+only_plain false h = absurd cc
+
+pub none_fills : (ds : List Descriptor) → fill_none ds None ≡ true
+none_fills ds = by (are_plain ds)
+  where
+    by : (b : Bool) → (b || true) ≡ true
+    by true = refl
+    by false = refl
+
+pub plain_fill : (ds : List Descriptor) (slot : Option ℕ) → are_plain ds ≡ true → fill_none ds slot ≡ true
+plain_fill ds slot h = ap (λ (b : Bool). b || not (is_some slot)) h
+
+-- such descriptors are silent
+pub plain_silent : (ds : List Descriptor) → are_plain ds ≡ true → are_silent ds ≡ true
+plain_silent [] h = refl
+plain_silent (d ∷ ds) h = let a = both_of (is_plain_one d) (are_plain ds) h in two (is_silent_one d) (are_silent ds) (by d a.0) (plain_silent ds a.1)
+  where
+    by : (x : Descriptor) → is_plain_one x ≡ true → is_silent_one x ≡ true
+    by (descriptor.Media parts) k = refl
+    by (descriptor.Keep kind tail) k = refl
+    by (descriptor.Audit words) k = k
+    by (descriptor.Services parms) k = refl
+    by (descriptor.Other text) k = refl
+
 plain_parts : (number : ℕ) (m : MediaPart) → is_plain_part m ≡ true → list_all is_plain_stream (parts_in_part number m) ≡ true
 plain_parts number (media.Outside p) h = by (names_stream number (media.Outside p))
   where
@@ -105,8 +147,15 @@ plain_parts_in number (descriptor.Audit words) h = refl
 plain_parts_in number (descriptor.Services parms) h = refl
 plain_parts_in number (descriptor.Other text) h = refl
 
+-- nothing of the parts of a stream is filled
+parts_unfilled : (rules : Rules) (slot : Option ℕ) (number : ℕ) (ds : List Descriptor) (s t : Merging) → fill_none ds slot ≡ true → s.filled ≡ false → each (put_part rules slot number) (flat_map (parts_in number) ds) s ≡ Some t → t.filled ≡ false
+parts_unfilled rules None number ds s t h i is = all_keep (put_part rules None number) (λ _. true) (λ m. m.filled ≡ false) (slotless_keeps rules number) (flat_map (parts_in number) ds) s t (any_at_all (flat_map (parts_in number) ds)) i is
+parts_unfilled rules (Some slot) number ds s t h i is =
+    all_keep (put_part rules (Some slot) number) is_plain_stream (λ m. m.filled ≡ false) (part_keeps rules (Some slot) number) (flat_map (parts_in number) ds) s t
+    (all_in is_plain_one is_plain_stream (parts_in number) (plain_parts_in number) ds (only_plain (are_plain ds) h)) i is
+
 -- nothing of a stream is filled
-stream_unfilled : (rules : Rules) (slot : Option ℕ) (number : ℕ) (ds : List Descriptor) (old : Option Stream) (t : Option Merging) → are_plain ds ≡ true → merged_stream rules slot number ds old ≡ Some t → filled_in number t ≡ []
+stream_unfilled : (rules : Rules) (slot : Option ℕ) (number : ℕ) (ds : List Descriptor) (old : Option Stream) (t : Option Merging) → fill_none ds slot ≡ true → merged_stream rules slot number ds old ≡ Some t → filled_in number t ≡ []
 unfolding merged_stream
 stream_unfilled rules slot number ds old t h e = by (list_any (is_named_in number) ds) refl
   where
@@ -121,7 +170,7 @@ stream_unfilled rules slot number ds old t h e = by (list_any (is_named_in numbe
     made None is k = absurd cc
     made (Some m) is k =
         let same : Some m ≡ t = cc in
-        ap (filled_in number) (sym same) ∙ none m (all_keep (put_part rules slot number) is_plain_stream (λ m. m.filled ≡ false) (part_keeps rules slot number) (flat_map (parts_in number) ds) (begun old) m (all_in is_plain_one is_plain_stream (parts_in number) (plain_parts_in number) ds h) refl is)
+        ap (filled_in number) (sym same) ∙ none m (parts_unfilled rules slot number ds (begun old) m h refl is)
 
     by : (b : Bool) → list_any (is_named_in number) ds ≡ b → filled_in number t ≡ []
     by true n = made (each (put_part rules slot number) (flat_map (parts_in number) ds) (begun old)) refl (rw n at e)
@@ -129,7 +178,7 @@ stream_unfilled rules slot number ds old t h e = by (list_any (is_named_in numbe
 
 -- ---- the whole
 
-media_unfilled : (rules : Rules) (ds : List Descriptor) (r : Termination) (o : Option Media) → are_plain ds ≡ true → merged_media rules ds r ≡ o → filled_of o ≡ []
+media_unfilled : (rules : Rules) (ds : List Descriptor) (r : Termination) (o : Option Media) → fill_none ds r.slot ≡ true → merged_media rules ds r ≡ o → filled_of o ≡ []
 media_unfilled rules ds r None h e = refl
 media_unfilled rules ds r (Some m) h e =
     let made = (parts_are rules ds r m e).streams in
@@ -138,9 +187,9 @@ media_unfilled rules ds r (Some m) h e =
     ++ stream_unfilled rules r.slot 3 ds r.settings.streams.third m.streams.third h made.third i
     ++ stream_unfilled rules r.slot 4 ds r.settings.streams.fourth m.streams.fourth h made.fourth i)
 
-pub plain_fills_none : (rules : Rules) (ds : List Descriptor) (r : Termination) → are_plain ds ≡ true → filled_by rules ds r ≡ []
+pub fills_none : (rules : Rules) (ds : List Descriptor) (r : Termination) → fill_none ds r.slot ≡ true → filled_by rules ds r ≡ []
 unfolding filled_by
-plain_fills_none rules ds r h = media_unfilled rules ds r (merged_media rules ds r) h refl
+fills_none rules ds r h = media_unfilled rules ds r (merged_media rules ds r) h refl
 
 -- after any merge the termination is where it was
 pub merge_stays : (rules : Rules) (ds : List Descriptor) (r : Termination) → (unwrap_or (merged rules ds r) r).place ≡ r.place

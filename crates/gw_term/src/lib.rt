@@ -28,7 +28,7 @@ pub use held::{HeldProperty, HeldTail};
 pub use laws::{look_ups_after_a_merge, merges_go_by_field, merges_keep_forms};
 pub use named::Named;
 pub use places::{PerKind, PerStream};
-pub use plain::are_plain;
+pub use plain::{are_plain, are_silent};
 pub use properties::MOST_PROPERTIES;
 pub use record::{Stream, Termination};
 pub use room::room_for;

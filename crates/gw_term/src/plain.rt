@@ -1,4 +1,4 @@
-//! Descriptors of which nothing is told, and their merge where the record lies.
+//! Descriptors of which nothing is told, and a merge where the record lies.
 
 ghost use Rattle.std.specs.Prelude.{◌≡◌, ◌≤◌, true, false, [], map, None, Some, IfSome, OnOk};
 ghost use Rattle.std.specs.List.{flat_map, list_all, list_any};
@@ -7,7 +7,7 @@ ghost use Rattle.gw_desc.specs.Checks.{is_kept};
 ghost use Rattle.gw_term.specs.Merge.{each, put_part, parts_in, is_named_in, merged, merged_properties, merged_stream};
 ghost use Rattle.gw_term.specs.Named.{has_states, named_by};
 ghost use Rattle.gw_term.specs.Places.{at_number, numbered, at_kind, put_kind, of_kinds};
-ghost use Rattle.gw_term.specs.Plain.{has_choice, is_plain_stream, is_plain_part, is_plain_one, are_plain, AreKnown, IsMadeOf, stream_after, setting_after, with_stream_after, stream_or_none, with_streams_after, AreMade, AreSet, is_made_at, is_properties, with_properties, is_tail_of, retold, with_tail, with_tail_after, with_tails_after};
+ghost use Rattle.gw_term.specs.Plain.{has_choice, is_plain_stream, is_plain_part, is_plain_one, are_plain, is_silent_one, are_silent, fill_none, AreKnown, IsMadeOf, stream_after, setting_after, with_stream_after, stream_or_none, with_streams_after, AreMade, AreSet, is_made_at, is_properties, with_properties, is_tail_of, retold, with_tail, with_tail_after, with_tails_after};
 
 use crate::copies::{copied_stream, put};
 use crate::fault::ApplyFault;
@@ -79,6 +79,23 @@ pub fn are_plain(descriptors: &[Descriptor<'_>]) -> bool
     ensures { result ≡ are_plain descriptors.now }
 {
     descriptors.iter().all(is_plain_one)
+}
+
+fn is_silent_one(descriptor: &Descriptor<'_>) -> bool
+    ensures { result ≡ is_silent_one descriptor.now }
+{
+    match descriptor {
+        Descriptor::Audit(items) => items.is_empty(),
+        _ => true,
+    }
+}
+
+/// Whether the descriptors send no Audit but an empty one: then nothing is told of them where they fill nothing, as at a termination without
+/// a slot. The work is one pass over them.
+pub fn are_silent(descriptors: &[Descriptor<'_>]) -> bool
+    ensures { result ≡ are_silent descriptors.now }
+{
+    descriptors.iter().all(is_silent_one)
 }
 
 /// Whether a setting is a tail of this kind.
@@ -238,7 +255,7 @@ impl Settings {
     ) -> Result<(), ApplyFault>
         requires first { 1 ≤ number }
         requires last { number ≤ 4 }
-        requires plain { are_plain sending.now.descriptors.now ≡ true }
+        requires plain { fill_none sending.now.descriptors.now slot ≡ true }
         requires named { list_any (is_named_in number) sending.now.descriptors.now ≡ true }
         ensures after { OnOk result (self.new ≡ with_stream_after (stream_or_none sending.now.rules.now slot number sending.now.descriptors.now) number self.old) }
         ensures made { OnOk result (is_some (merged_stream sending.now.rules.now slot number sending.now.descriptors.now (at_number number self.old.streams)) ≡ true) }
@@ -269,7 +286,7 @@ impl Settings {
     ) -> Result<(), ApplyFault>
         requires first { 1 ≤ number }
         requires last { number ≤ 4 }
-        requires plain { are_plain sending.now.descriptors.now ≡ true }
+        requires plain { fill_none sending.now.descriptors.now slot ≡ true }
         requires named { is_named ≡ list_any (is_named_in number) sending.now.descriptors.now }
         ensures after { OnOk result (self.new ≡ with_stream_after (stream_or_none sending.now.rules.now slot number sending.now.descriptors.now) number self.old) }
         ensures made { OnOk result (is_some (merged_stream sending.now.rules.now slot number sending.now.descriptors.now (at_number number self.old.streams)) ≡ true) }
@@ -287,7 +304,8 @@ impl Settings {
         sending: &Sending<'_, '_>,
         slot: Option<u16>,
     ) -> Result<(), ApplyFault>
-        requires { AreKnown sending.now.descriptors.now sending.now.named }
+        requires named { AreKnown sending.now.descriptors.now sending.now.named }
+        requires plain { fill_none sending.now.descriptors.now slot ≡ true }
         ensures after { OnOk result (self.new ≡ with_streams_after (stream_or_none sending.now.rules.now slot) sending.now.descriptors.now self.old) }
         ensures made { OnOk result (AreMade sending.now.rules.now slot sending.now.descriptors.now self.old.streams) }
     {
@@ -306,7 +324,8 @@ impl Settings {
         sending: &Sending<'_, '_>,
         slot: Option<u16>,
     ) -> Result<(), ApplyFault>
-        requires { AreKnown sending.now.descriptors.now sending.now.named }
+        requires named { AreKnown sending.now.descriptors.now sending.now.named }
+        requires plain { fill_none sending.now.descriptors.now slot ≡ true }
         ensures after { OnOk result (self.new ≡ with_streams_after (stream_or_none sending.now.rules.now slot) sending.now.descriptors.now self.old) }
         ensures made { OnOk result (AreMade sending.now.rules.now slot sending.now.descriptors.now self.old.streams) }
     {
@@ -428,8 +447,7 @@ impl Settings {
         kind: KeptKind,
         sending: &Sending<'_, '_>,
     ) -> Result<(), AllocError>
-        requires plain { are_plain sending.now.descriptors.now ≡ true }
-        requires named { list_any (is_kept kind) sending.now.descriptors.now ≡ true }
+        requires { list_any (is_kept kind) sending.now.descriptors.now ≡ true }
         ensures { OnOk result (self.new ≡ with_tail_after kind sending.now.descriptors.now self.old) }
     {
         match sending.made.tail(kind) {
@@ -447,8 +465,7 @@ impl Settings {
         is_named: bool,
         sending: &Sending<'_, '_>,
     ) -> Result<(), AllocError>
-        requires plain { are_plain sending.now.descriptors.now ≡ true }
-        requires named { is_named ≡ list_any (is_kept kind) sending.now.descriptors.now }
+        requires { is_named ≡ list_any (is_kept kind) sending.now.descriptors.now }
         ensures { OnOk result (self.new ≡ with_tail_after kind sending.now.descriptors.now self.old) }
     {
         if is_named {
@@ -492,7 +509,8 @@ impl Settings {
         sending: &Sending<'_, '_>,
         slot: Option<u16>,
     ) -> Result<(), ApplyFault>
-        requires { AreKnown sending.now.descriptors.now sending.now.named }
+        requires named { AreKnown sending.now.descriptors.now sending.now.named }
+        requires plain { fill_none sending.now.descriptors.now slot ≡ true }
         ensures { OnOk result (AreSet sending.now.rules.now slot sending.now.descriptors.now self.old self.new) }
     {
         self.merge_states(alloc, sending.named.states, sending.descriptors)?;
@@ -511,6 +529,7 @@ impl Settings {
         known: Option<Settings>,
     ) -> Result<(), NoMemory>
         requires named { AreKnown sending.now.descriptors.now sending.now.named }
+        requires plain { fill_none sending.now.descriptors.now slot ≡ true }
         requires known { IfSome known (IsMadeOf sending.now.rules.now sending.now.descriptors.now self.old) }
         ensures { OnOk result (AreSet sending.now.rules.now slot sending.now.descriptors.now self.old self.new) }
     {
@@ -537,6 +556,7 @@ impl Termination {
         known: Option<Settings>,
     ) -> Result<(), NoMemory>
         requires named { AreKnown sending.now.descriptors.now sending.now.named }
+        requires plain { fill_none sending.now.descriptors.now self.old.slot ≡ true }
         requires known { IfSome known (IsMadeOf sending.now.rules.now sending.now.descriptors.now self.old.settings) }
         ensures { OnOk result (merged sending.now.rules.now sending.now.descriptors.now self.old ≡ Some self.new) }
     {
@@ -547,9 +567,24 @@ impl Termination {
         Ok(())
     }
 
+    /// The termination becomes its record after the descriptors, whatever they fill. Not inlined, since few fill anything.
+    #[inline(never)]
+    fn merge_filling(&mut self, alloc: Global, sending: &Sending<'_, '_>) -> Result<(), NoMemory>
+        ensures { OnOk result (merged sending.now.rules.now sending.now.descriptors.now self.old ≡ Some self.new) }
+    {
+        match self.merged(alloc, sending.rules, sending.descriptors) {
+            Ok(applied) => {
+                put(self, applied.record.into_inner());
+                Ok(())
+            }
+            Err(_) => Err(NoMemory),
+        }
+    }
+
     /// The termination becomes its record after the descriptors, as [`Termination::merged`] tells it, where it lies: what they do not
     /// name is not copied, and where nothing was set it shares what they make. What they name and make was found before, once for many
-    /// records. The caller knows that it takes them, and that a record of which nothing was set does.
+    /// records. One that has a slot by which they may fill a Local becomes a copy. The caller knows that it takes them, and that a record of
+    /// which nothing was set does.
     ///
     /// # Errors
     ///
@@ -562,6 +597,9 @@ impl Termination {
         requires { AreKnown sending.now.descriptors.now sending.now.named }
         ensures { OnOk result (merged sending.now.rules.now sending.now.descriptors.now self.old ≡ Some self.new) }
     {
+        if !sending.fills_none(self.slot) {
+            return self.merge_filling(alloc, sending);
+        }
         let known = sending.known_after(alloc, &self.settings)?;
         self.merge_known(alloc, sending, known)
     }
@@ -581,6 +619,9 @@ impl Termination {
         ensures same { SendsTheSame sending.old sending.new }
         ensures merged { OnOk result (merged sending.old.rules.now sending.old.descriptors.now self.old ≡ Some self.new) }
     {
+        if !sending.fills_none(self.slot) {
+            return self.merge_filling(alloc, sending);
+        }
         let known = sending.learnt_after(alloc, &self.settings)?;
         self.merge_known(alloc, sending, known)
     }

@@ -3,10 +3,11 @@
 ghost use Rattle.std.specs.Prelude.{◌≡◌, true, IfOk, IfSome};
 ghost use Rattle.std.specs.List.{All};
 ghost use Rattle.gw_term.specs.Named.{named_by};
-ghost use Rattle.gw_term.specs.Plain.{AreKnown, IsMadeBy, IsMadeOf};
+ghost use Rattle.gw_term.specs.Plain.{are_plain, fill_none, AreKnown, IsMadeBy, IsMadeOf};
 ghost use Rattle.gw_term.specs.Room.{Takes};
 
 use crate::named::Named;
+use crate::plain::are_plain;
 use crate::record::Termination;
 use crate::settings::Settings;
 use crate::text::Copying;
@@ -59,6 +60,8 @@ pub struct Sending<'a, 'b> {
     pub descriptors: &'a [Descriptor<'b>],
     /// What they name.
     pub named: Named,
+    is_plain: bool,
+    ghost plain_once: { is_plain ≡ are_plain descriptors.now },
     pub(crate) made: Settings,
     ghost made_once: { IsMadeBy rules.now descriptors.now made },
     pub(crate) learnt: Vec<Learnt>,
@@ -89,10 +92,19 @@ impl<'a, 'b> Sending<'a, 'b> {
             rules,
             descriptors,
             named: Named::by(descriptors),
+            is_plain: are_plain(descriptors),
             made,
             learnt: Vec::new(alloc),
             tries: MOST_TRIED,
         })
+    }
+
+    /// Whether the descriptors fill nothing of a termination with this slot, or with none.
+    #[inline]
+    pub(crate) fn fills_none(&self, slot: Option<u16>) -> bool
+        ensures { result ≡ fill_none self.now.descriptors.now slot }
+    {
+        self.is_plain || slot.is_none()
     }
 
     /// What the descriptors make of these settings, if that was learnt. The work is a comparison with each of the few that were.
@@ -113,7 +125,7 @@ impl<'a, 'b> Sending<'a, 'b> {
         requires { AreKnown self.now.descriptors.now self.now.named }
         ensures { result ≡ true → Takes self.now.rules.now self.now.descriptors.now termination.now }
     {
-        self.find(&termination.settings).is_some()
+        self.fills_none(termination.slot) && self.find(&termination.settings).is_some()
     }
 
     /// What they make of these settings, if nothing is set or it was learnt, in the block that all such records share.
@@ -189,8 +201,8 @@ impl<'a, 'b> Sending<'a, 'b> {
     }
 
     /// Whether a termination surely takes the descriptors: what they make of what was set of it was learnt, or is learnt now; or it shares
-    /// that with none, and they are merged into a copy. The work is that of looking at what was set of it and of the few that were learnt,
-    /// but for the few that are tried.
+    /// that with none, or they may fill a Local of it, and they are merged into a copy. The work is that of looking at what was set of it
+    /// and of the few that were learnt, but for the few that are tried.
     ///
     /// # Errors
     ///
@@ -203,7 +215,7 @@ impl<'a, 'b> Sending<'a, 'b> {
         if self.knows(termination) {
             return Ok(true);
         }
-        if !termination.settings.are_shared() {
+        if !self.fills_none(termination.slot) || !termination.settings.are_shared() {
             return Ok(self.tries_to_merge(alloc, termination));
         }
         let learnt = self.learn(alloc, &termination.settings)?;

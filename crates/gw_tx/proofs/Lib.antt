@@ -8,6 +8,7 @@ pub mod FormsKept
 pub mod FreeSlots
 pub mod HeldKeys
 pub mod Kept
+pub mod OneCommand
 pub mod Parts
 pub mod NoEffect
 pub mod RequestKeys
@@ -15,4 +16,5 @@ pub mod RoomCounted
 pub mod SetProperties
 pub mod Steps
 pub mod TooLong
+pub mod TooMany
 pub mod Unowned

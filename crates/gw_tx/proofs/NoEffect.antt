@@ -26,7 +26,7 @@ module _ (rules : Rules) where
   stops false true h = refl
   stops false false h = absurd cc
 
-  one_to_nothing : (at : At) (slot : Option ℕ) (c : Command) (m : Maps) → ComesToNothing rules at c m → attempt rules [] at (slot, c) m ≡ ended m at (command rules at slot c m).answer.replies (not c.optional)
+  pub one_to_nothing : (at : At) (slot : Option ℕ) (c : Command) (m : Maps) → ComesToNothing rules at c m → attempt rules [] at (slot, c) m ≡ ended m at (command rules at slot c m).answer.replies (not c.optional)
   one_to_nothing at slot c m h =
       let o : Outcome CmdOutcome = command rules at slot c m in
       ap (λ (b : Bool). ended (set_when_made b at [] o.maps) (if b then made at else at) o.answer.replies (o.answer.failed && not c.optional)) (h.made slot)

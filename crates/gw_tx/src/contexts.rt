@@ -1,6 +1,6 @@
 //! An action in a context that is there, and in each that there is.
 
-ghost use Rattle.std.specs.Prelude.{◌≡◌, [], true, false, All, Option, IfOk, OnOk};
+ghost use Rattle.std.specs.Prelude.{◌≡◌, [], true, false, length, All, List, Option, IfOk, OnOk};
 ghost use Rattle.gw_length.specs.declared.telling.Telling.TheVariants.{TooLong};
 ghost use Rattle.std.specs.List.{list_any};
 ghost use Rattle.gw_base.specs.declared.command_words.Rules.{Rules};
@@ -11,7 +11,9 @@ ghost use Rattle.gw_table.specs.Parts.{holds};
 ghost use Rattle.gw_refusal.specs.declared.at.At.TheVariants.{Each};
 ghost use Rattle.gw_cmd.specs.Nothing.{ComeToNothing};
 ghost use Rattle.gw_cmd.specs.Prepared.{ArePrepared};
-ghost use Rattle.gw_reserve.specs.Owned.{AreFreeSlots, paired_action, paired_commands};
+ghost use Rattle.gw_length.specs.Tellings.{told_behind};
+ghost use Rattle.gw_reply.specs.declared.context_parts.ContextPart.{ContextPart};
+ghost use Rattle.gw_reserve.specs.Owned.{AreFreeSlots, OwnedAction, paired_action, paired_commands};
 ghost use Rattle.gw_tx.specs.Footprints.{list_keys, Covers};
 ghost use Rattle.gw_reply.specs.Replies.{action_reply_text};
 ghost use Rattle.gw_tx.specs.Properties.{context_parts_if, is_too_high, ArePlain};
@@ -19,34 +21,41 @@ ghost use Rattle.gw_tx.specs.Told.{counted};
 ghost use Rattle.gw_tx.specs.Transactions.{commands as all_commands, replied, in_context as done_in_context, in_all, action_for_each};
 
 use crate::alone::action_alone;
-use crate::commands::{commands_in, is_any_needed};
+use crate::commands::commands_in;
 use crate::replies::action_error;
 use crate::setting::{set_properties, set_wanted, wanted_by};
 use crate::telling::{context_parts_if, parts_within};
 use crate::told::Counted;
+use crate::untold::untold;
 use gw_base::{Code, CtxNum, CtxRef, NoMemory, Rules};
-use gw_cmd::{At, Prepared, all_prepared, come_to_nothing, come_to_nothing_at, surely_act};
+use gw_cmd::{At, Prepared, all_prepared, come_to_nothing, surely_act};
 use gw_length::Telling;
-use gw_msg::{Action, Command};
+use gw_msg::Action;
 use gw_reply::ActionReply;
 use gw_table::Draft;
 use std::alloc::Global;
 
-/// Whether nothing more is told, and nothing more to be done, since each of the commands comes to nothing in the context: `nothing` says
-/// that they do in whichever, and where one surely acts, as `acts` says, the context is not looked up.
-fn is_over(
-    told: &Telling<ActionReply>,
-    draft: &Draft<'_>,
-    at: At,
-    asked: &[Command<'_>],
-    nothing: bool,
-    acts: bool,
-) -> bool
-    requires { (rules : Rules) (m : Maps) → nothing ≡ true → ComeToNothing rules at asked.now m }
-    ensures long { result ≡ true → told.now ≡ TooLong }
-    ensures none { (rules : Rules) → result ≡ true → ComeToNothing rules at asked.now draft.now.maps }
+/// How many bytes the reply in a context has at least, with the comma before it: `,Context={}`.
+const LEAST: usize = 11;
+
+/// Whether there is surely no room for the replies in so many contexts.
+fn are_too_many(told: &Telling<ActionReply>, count: usize) -> bool
+    ensures { (rules : Rules) (a : OwnedAction) (ns : List CtxNum) (m : Maps) → length ns ≡ count → result ≡ true → told_behind action_reply_text told.now (in_all rules a ns m).answer.answers ≡ TooLong }
 {
-    matches!(told, Telling::TooLong) && (nothing || (!acts && come_to_nothing_at(draft, at, asked)))
+    match told {
+        Telling::Within(_, room) => room / LEAST < count,
+        Telling::All(_) | Telling::TooLong => false,
+    }
+}
+
+/// What is told before the replies in so many contexts: nothing more, where there is surely no room for all of them.
+fn told_before(told: Telling<ActionReply>, count: usize) -> Telling<ActionReply>
+    ensures { (rules : Rules) (a : OwnedAction) (ns : List CtxNum) (m : Maps) → length ns ≡ count → told_behind action_reply_text result (in_all rules a ns m).answer.answers ≡ told_behind action_reply_text told (in_all rules a ns m).answer.answers }
+{
+    if are_too_many(&told, count) {
+        return Telling::TooLong;
+    }
+    told
 }
 
 /// Carries an action out in a context that is there and has its properties: tells what it is, and carries the commands out. Where nothing
@@ -75,12 +84,8 @@ fn in_ready(
     ensures keys { draft.new.keys ≡ draft.old.keys }
 {
     let asked = sent.commands.as_slice();
-    if is_over(&told, draft, at, asked, nothing, acts) {
-        return Ok(Counted {
-            next: (),
-            told: Telling::TooLong,
-            stopped: is_any_needed(asked),
-        });
+    if let Telling::TooLong = told {
+        return untold(alloc, rules, draft, at, slots, asked, known, nothing, acts);
     }
     let parts = context_parts_if(alloc, draft, number, sent, &told)?;
     let (parts, told) = parts_within(alloc, parts, told);
@@ -208,6 +213,7 @@ pub(crate) fn action_for_each(
     let done = if sent.commands.is_empty() {
         action_alone(alloc, draft, sent, &numbers, told)?
     } else {
+        let told = told_before(told, numbers.len());
         in_all(alloc, rules, draft, slots, sent, &numbers, told)?
     };
     Ok(Counted {

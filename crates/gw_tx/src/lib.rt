@@ -15,6 +15,7 @@ mod requests;
 mod setting;
 mod telling;
 mod told;
+mod untold;
 
 pub use laws::{
     answers_can_be_read, keys_of_requests, later_slots_stay_free,

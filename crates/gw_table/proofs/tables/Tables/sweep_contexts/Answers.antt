@@ -6,7 +6,24 @@ use Rattle.gw_table.specs.Stored.{Stored, stored, shown, if_shown, maps_of}
 use Rattle.gw_table.proofs.Prepared.{swept, shown_same}
 use Rattle.gw_table.proofs.Places.{shown_alike}
 use Rattle.gw_table.proofs.Standing.{marked_still}
+use Rattle.gw_table.proofs.SweptAtOnce.{cleared, contexts_alike}
 use Rattle.gw_table.proofs.tables.Tables.sweep_contexts.Goals as goal
+
+-- ---- where no context stands
+
+pub returns-then-none_stands-clause-contexts : goal.returns-then-none_stands-clause-contexts
+returns-then-none_stands-clause-contexts c q =
+    cleared c.self.inside.terms.entries c.self.inside.contexts.entries c.clear.new.self.entries c.clear.ensures.empty (c.none_stands.ensures c.if-none_stands.true) q
+    ∙ ap (λ (s : Stored). if_shown (finite.get s.contexts q)) c.self.view_is
+
+pub invariant_of-self : goal.invariant_of-self
+invariant_of-self c =
+    let now : Stored = stored c.self.inside.terms.entries c.self.inside.contexts.entries in
+    let after : Stored = stored c.self.inside.terms.entries c.clear.new.self.entries in
+    marked_still c.self.inside.numbers c.self.inside.slots (maps_of now) (maps_of after)
+    (contexts_alike now after refl (cleared c.self.inside.terms.entries c.self.inside.contexts.entries c.clear.new.self.entries c.clear.ensures.empty (c.none_stands.ensures c.if-none_stands.true))) c.self.invariant
+
+-- ---- where one does
 
 pub returns-clause-contexts : goal.returns-clause-contexts
 returns-clause-contexts c q =
@@ -14,8 +31,8 @@ returns-clause-contexts c q =
     (filter_from_retain_pairs _ (λ _. Unit {0}) (λ e. is_some (shown (Some e.1))) (λ g k v b w h i t. search rules) _ _ _ tt c.retain.ensures.filtered) q
     ∙ ap (λ (s : Stored). if_shown (finite.get s.contexts q)) c.self.view_is
 
-pub invariant_of-self : goal.invariant_of-self
-invariant_of-self c =
+pub invariant_of-self-2 : goal.invariant_of-self-2
+invariant_of-self-2 c =
     let now : Stored = stored c.self.inside.terms.entries c.self.inside.contexts.entries in
     let after : Stored = stored c.self.inside.terms.entries c.retain.new.self.entries in
     let left = swept nat_cmp_total c.self.inside.contexts.entries c.retain.new.self.entries c.retain.ensures.was_ordered

@@ -1,4 +1,4 @@
-use Rattle.std.proofs.Common.{◌≡◌, true}
+use Rattle.std.proofs.Common.{◌≡◌, true, sym, ◌∙◌}
 use Rattle.std.specs.Prelude.{is_some}
 use Rattle.gw_term.proofs.MadeOnce.{of_some, made_takes}
 use Rattle.gw_term.proofs.sending.Sending.takes.Goals as goal
@@ -7,4 +7,4 @@ pub returns-clause-takes : goal.returns-clause-takes
 returns-clause-takes c = λ h.
     let a = c.args in
     let learnt : is_some c.in_ok-learnt.learnt ≡ true = cc in
-    of_some _ c.in_ok-learnt.learnt learnt c.in_ok-learnt.ensures.after (λ after made. made_takes a.self.now.rules.now a.self.now.descriptors.now a.termination.now after c.requires.plain made)
+    of_some _ c.in_ok-learnt.learnt learnt c.in_ok-learnt.ensures.after (λ after made. made_takes a.self.now.rules.now a.self.now.descriptors.now a.termination.now after (sym c.fills_none.ensures ∙ cc) made)

@@ -14,7 +14,7 @@ pub returns-in-Some : goal.returns-in-Some
 returns-in-Some c =
     let a = c.args.sending.now in
     let made : IsMadeOf a.rules.now a.descriptors.now c.args.self.now c.in-Some.after = subst (λ (o : Option Settings). IfSome o (IsMadeOf a.rules.now a.descriptors.now c.args.self.now)) c.in-Some.is c.requires.known in
-    subst (λ (s : Settings). AreSet a.rules.now c.args.slot a.descriptors.now c.args.self.now s) (sym c.put.ensures) (made_from a.rules.now c.args.slot a.descriptors.now c.requires.named.plain c.args.self.now c.in-Some.after made)
+    subst (λ (s : Settings). AreSet a.rules.now c.args.slot a.descriptors.now c.args.self.now s) (sym c.put.ensures) (made_from a.rules.now c.args.slot a.descriptors.now c.requires.plain c.args.self.now c.in-Some.after made)
 
 pub returns : goal.returns
 returns c = of_ok c.merge_each.result (sym c.is_err.ensures.value ∙ c.if-is_err.false) c.merge_each.ensures
