@@ -243,6 +243,8 @@ def wildcards():
     yield wild("4,000 terminations with 32 properties, the first with one of its own, one `Modify=*` of 32", first, many, 1, 4_000, b"Error=533")
     unlike_all = made([many] + [b"C=-{MF=T/%d{M{O{a0=%d}}}}" % (n, n + 1) for n in range(1, 18)])
     yield wild("4,000 terminations with 32 properties, seventeen each with one of its own, one `Modify=*` of 32", unlike_all, many, 1, 4_000, b"Error=533")
+    own_each = made([many] + [b"C=-{MF=T/%d{M{O{a0=%d}}}}" % (n, n + 1) for n in range(1, 4_001)])
+    yield wild("4,000 terminations with 32 properties, each with one of its own, one `Modify=*` of 32", own_each, many, 1, 4_000, b"Error=533")
     yield wild("4,000 terminations, one `Modify=*` with a Local of 8,000 bytes", [], b"C=-{MF=*{M{L{%s}}}}" % (8_000 * b"v"), 1, 4_000, b"Error=533")
     yield wild("4,000 terminations, one `Modify=*` with a Local to fill", [], b"C=-{MF=*{M{L{v=$}}}}", 1, 4_000, b"Error=533")
     yield wild("4,000 terminations, one `Modify=*` with Local, Remote, Events and Signals", [], b"C=-{MF=*{M{L{v=0},R{v=0}},E=1{al/on},SG{cg/dt}}}", 1, 4_000,

@@ -6,6 +6,7 @@ ghost use Rattle.gw_table.specs.Unused.{AreUnused};
 ghost use Rattle.gw_reserve.specs.Reservations.{slots_left};
 ghost use Rattle.gw_board.specs.Results.{slots_of};
 
+use bumpalo::Bump;
 use gw_base::{Mid, NoMemory};
 use gw_board::{Asked, Lent};
 use gw_msg::{Item, Message};
@@ -38,11 +39,13 @@ fn add_asked<'h, 'a>(
     let Item::Request(passage) = item else {
         return Ok(());
     };
-    let tree = passage.tree(alloc)?;
-    let owned = reservation.own(alloc, tables, tree.get())?;
+    let request = Lent::new(passage);
+    let scratch = Bump::new(alloc);
+    let tree = request.tree(&scratch)?;
+    let owned = reservation.own(alloc, tables, tree)?;
     asked.push(Asked {
         mid,
-        request: Lent::new(passage),
+        request: request.again(),
         owned,
     })?;
     Ok(())

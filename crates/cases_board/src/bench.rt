@@ -10,6 +10,7 @@ use crate::asking::{Limits, asks_in};
 use crate::play::play;
 use crate::tell::write_keys;
 use crate::waves::carried_out;
+use bumpalo::Bump;
 use cases_text::{CaseFault, Page};
 use gw_base::{Config, Rules, TermName};
 use gw_board::Manner;
@@ -71,7 +72,8 @@ fn carried_in(
     requires whole { AreWellFormed manner.now.rules.members (maps_of tables) }
     requires here { NoneIsOut tables }
 {
-    let Ok(message) = read_message(alloc, text) else {
+    let bump = Bump::new(alloc);
+    let Ok(message) = read_message(&bump, text) else {
         return Err(CaseFault::Form);
     };
     let Ok(asked) = asks_in(alloc, &tables, limits, &message) else {
@@ -101,7 +103,8 @@ fn play_in(
     requires here { NoneIsOut tables }
 {
     let alloc = out.alloc();
-    let Ok(message) = read_message(alloc, text) else {
+    let bump = Bump::new(alloc);
+    let Ok(message) = read_message(&bump, text) else {
         return Err(CaseFault::Form);
     };
     let Ok(asked) = asks_in(alloc, &tables, limits, &message) else {
@@ -178,17 +181,18 @@ impl Bench {
         out: &mut Page,
     ) -> Result<(), CaseFault> {
         let alloc = out.alloc();
-        let Ok(message) = read_message(alloc, text) else {
+        let bump = Bump::new(alloc);
+        let Ok(message) = read_message(&bump, text) else {
             return Err(CaseFault::Form);
         };
         let Ok(asked) = asks_in(alloc, &self.tables, self.limits, &message) else {
             return Err(CaseFault::NoMemory);
         };
         let one = asked.get(place).ok_or(CaseFault::Form)?;
-        let Ok(tree) = one.request.tree(alloc) else {
+        let Ok(tree) = one.request.tree(&bump) else {
             return Err(CaseFault::NoMemory);
         };
-        let Ok(keys) = footprint(alloc, &self.tables, tree.get(), &one.owned) else {
+        let Ok(keys) = footprint(alloc, &self.tables, tree, &one.owned) else {
             return Err(CaseFault::NoMemory);
         };
         write_keys(out, keys.list());

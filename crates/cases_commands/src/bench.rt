@@ -10,6 +10,7 @@ ghost use Rattle.gw_cmd.specs.Suits.{IsUnused};
 
 use crate::keys::enough_keys;
 use crate::places::Place;
+use bumpalo::Bump;
 use cases_text::{CaseFault, Page};
 use gw_base::{Config, NoMemory, Rules, TermName};
 use gw_cmd::{CmdOutcome, command};
@@ -161,7 +162,8 @@ impl Bench {
         place: Place,
         message: &[u8],
     ) -> Result<(CmdOutcome, Bench), CaseFault> {
-        let Ok(message) = read_message(alloc, message) else {
+        let bump = Bump::new(alloc);
+        let Ok(message) = read_message(&bump, message) else {
             return Err(CaseFault::Form);
         };
         match command_of(&message) {

@@ -1,5 +1,6 @@
 //! Which entries of the tables a request may touch, and whether two requests may touch the same.
 
+use bumpalo::Bump;
 use cases_text::{CaseFault, Page, decoded, split_at_byte};
 use gw_base::Key;
 use gw_foot::{footprint, meets};
@@ -37,7 +38,8 @@ fn request_of<'m, 'a>(message: &'m Message<'a>) -> Option<&'m Request<'a>> {
 
 /// The keys of the request of a message.
 fn keys_in(alloc: Global, tables: &Tables, message: &[u8]) -> Result<Keys, CaseFault> {
-    let Ok(message) = read_message(alloc, message) else {
+    let bump = Bump::new(alloc);
+    let Ok(message) = read_message(&bump, message) else {
         return Err(CaseFault::Form);
     };
     match request_of(&message) {

@@ -1,12 +1,13 @@
 //! A descriptor as one line: what is kept as sent stands in it as sent.
 
+use bumpalo::Bump;
 use cases_text::Page;
 use gw_base::Span;
 use gw_desc::{
     Descriptor, KeptKind, MediaPart, Property, ServiceParm, ServiceValue, Sign, StreamPart, Tail,
 };
-use gw_text::Cursor;
 use gw_text::parts::Parse;
+use gw_text::{Cursor, ParseFault};
 
 fn write_property(out: &mut Page, property: &Property<Span<'_>>) {
     out.put(b"(");
@@ -125,13 +126,20 @@ pub fn write_descriptor(out: &mut Page, descriptor: &Descriptor<'_>) {
     }
 }
 
+/// The descriptor that the text begins with, and whether nothing is left behind it.
+fn first<'a>(bump: &'a Bump, text: &'a [u8]) -> Result<(Descriptor<'a>, bool), ParseFault> {
+    let mut cursor = Cursor::new(text);
+    let descriptor = Descriptor::read(bump, &mut cursor)?;
+    Ok((descriptor, cursor.is_empty()))
+}
+
 /// What the text is read as: its tree in one line, with ` ..` where something is left; or the fault.
 fn write_read(out: &mut Page, text: &[u8]) {
-    let mut cursor = Cursor::new(text);
-    match Descriptor::read(out.alloc(), &mut cursor) {
-        Ok(descriptor) => {
+    let bump = Bump::new(out.alloc());
+    match first(&bump, text) {
+        Ok((descriptor, is_whole)) => {
             write_descriptor(out, &descriptor);
-            if !cursor.is_empty() {
+            if !is_whole {
                 out.put(b" ..");
             }
         }
@@ -143,8 +151,8 @@ fn write_read(out: &mut Page, text: &[u8]) {
 fn write_prefixes(out: &mut Page, text: &[u8]) {
     let mut none = 0u64;
     for end in 0..text.len() {
-        let mut cursor = Cursor::new(&text[..end]);
-        if Descriptor::read(out.alloc(), &mut cursor).is_err() {
+        let bump = Bump::new(out.alloc());
+        if first(&bump, &text[..end]).is_err() {
             none = none.saturating_add(1);
         }
     }

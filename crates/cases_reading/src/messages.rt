@@ -1,6 +1,7 @@
 //! A message as one line: its sender, and its tree.
 
 use crate::descriptors::write_descriptor;
+use bumpalo::Bump;
 use cases_text::Page;
 use gw_base::CtxRef;
 use gw_msg::{
@@ -45,7 +46,7 @@ fn write_triple(out: &mut Page, triple: &Triple) {
     out.put(b")");
 }
 
-fn write_prop(out: &mut Page, prop: &ContextProp) {
+fn write_prop(out: &mut Page, prop: &ContextProp<'_>) {
     match prop {
         ContextProp::Priority(number) => {
             out.put(b"Priority ");
@@ -98,8 +99,14 @@ fn write_ack(out: &mut Page, ranges: &[AckRange]) {
 }
 
 fn write_passage(out: &mut Page, passage: &Passage<'_>) {
-    match passage.tree(out.alloc()) {
-        Ok(tree) => write_request(out, tree.get()),
+    let bump = Bump::new(out.alloc());
+    match passage.tree(&bump) {
+        Ok(tree) => {
+            if passage.id().0 != tree.id.0 {
+                out.put(b"another number is kept than that of ");
+            }
+            write_request(out, tree);
+        }
         Err(_) => out.put(b"no memory"),
     }
 }
@@ -126,10 +133,11 @@ fn write_found(out: &mut Page, found: &Result<Message<'_>, ReadFault>) {
 
 /// What the text is read as; and what it is read as without trees, if that is anything else.
 fn write_read(out: &mut Page, text: &[u8]) {
+    let bump = Bump::new(out.alloc());
     let mut read = Page::new(out.alloc());
-    write_found(&mut read, &read_message(out.alloc(), text));
+    write_found(&mut read, &read_message(&bump, text));
     let mut skimmed = Page::new(out.alloc());
-    write_found(&mut skimmed, &skim_message(out.alloc(), text));
+    write_found(&mut skimmed, &skim_message(out.alloc(), &bump, text));
     out.put(read.as_bytes());
     if skimmed.as_bytes() != read.as_bytes() {
         out.put(b" without trees: ");
@@ -153,7 +161,8 @@ fn write_between(out: &mut Page, front: &[u8], text: &[u8], behind: &[u8]) {
 fn write_prefixes(out: &mut Page, text: &[u8]) {
     let mut none = 0u64;
     for end in 0..text.len() {
-        if let Err(ReadFault::Syntax) = read_message(out.alloc(), &text[..end]) {
+        let bump = Bump::new(out.alloc());
+        if let Err(ReadFault::Syntax) = read_message(&bump, &text[..end]) {
             none = none.saturating_add(1);
         }
     }

@@ -1,5 +1,6 @@
 //! The descriptors of a text, as those of a Modify.
 
+use bumpalo::Bump;
 use cases_text::{CaseFault, Page};
 use gw_desc::Descriptor;
 use gw_msg::{Command, Item, Message, read_message};
@@ -29,7 +30,8 @@ fn command_of<'m, 'a>(message: &'m Message<'a>) -> Option<&'m Command<'a>> {
 
 /// The answer to what is asked of the descriptors of a message.
 fn ask_message<A: Asks>(text: &[u8], asks: &mut A, out: &mut Page) -> Result<(), CaseFault> {
-    let Ok(message) = read_message(out.alloc(), text) else {
+    let bump = Bump::new(out.alloc());
+    let Ok(message) = read_message(&bump, text) else {
         return Err(CaseFault::Form);
     };
     match command_of(&message) {

@@ -6,11 +6,11 @@ ghost use Rattle.gw_base.specs.Keys.{has};
 ghost use Rattle.gw_table.specs.Maps.{Maps};
 ghost use Rattle.gw_board.specs.Carried.{keys_of};
 
+use bumpalo::Bump;
 use gw_base::{Mid, NoMemory, TxId};
 use gw_foot::is_for_all;
-use gw_msg::{Passage, Request, Tree};
+use gw_msg::{Passage, Request};
 use gw_reserve::Owned;
-use std::alloc::Global;
 use std::marker::Model;
 
 /// A request, lent by the message that it came in, which keeps its tree, or where its text begins. Contracts see the request itself.
@@ -58,15 +58,15 @@ impl<'h, 'a> Lent<'h, 'a> {
         self.passage.kept_tree()
     }
 
-    /// Its tree. Where the message does not keep it, it is read again; the work is linear in its text.
+    /// Its tree. Where the message does not keep it, it is read again, into this arena; the work is linear in its text.
     ///
     /// # Errors
     ///
     /// Want of memory, where it is read again.
-    pub fn tree(&self, alloc: Global) -> Result<Tree<'h, 'a>, NoMemory>
-        ensures { IfOk result (λ tree. tree ≡ self.now) }
+    pub fn tree<'s>(&'s self, bump: &'s Bump) -> Result<&'s Request<'s>, NoMemory>
+        ensures { IfOk result (λ tree. tree.now ≡ self.now) }
     {
-        self.passage.tree(alloc)
+        self.passage.tree(bump)
     }
 }
 

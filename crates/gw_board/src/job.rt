@@ -10,6 +10,7 @@ ghost use Rattle.gw_board.specs.Jobs.{new_part};
 use crate::asked::{Asked, Task};
 use crate::manner::Manner;
 use crate::reply::{reply_limit, text_told};
+use bumpalo::Bump;
 use gw_base::{Items, NoMemory};
 use gw_table::{Draft, Part};
 use gw_tx::transaction_within;
@@ -70,8 +71,8 @@ pub(crate) fn carry_on(
     ensures reply { IfOk result (λ text. text ≡ (done manner.now asked.now draft.old.maps).answer) }
     ensures keys { draft.new.keys ≡ draft.old.keys }
 {
-    let tree = asked.request.tree(alloc)?;
-    let request = tree.get();
+    let scratch = Bump::new(alloc);
+    let request = asked.request.tree(&scratch)?;
     let mid = &manner.mid;
     let limit = reply_limit(mid);
     let told = transaction_within(alloc, &manner.rules, draft, request, &asked.owned, limit)?;

@@ -12,6 +12,7 @@ ghost use Rattle.gw_board.specs.Named.{names_term, names_number, names_in_comman
 use crate::asked::{Asked, Task};
 use crate::namers::{Namers, Naming};
 use crate::touch::{Link, does_hold, note_contexts};
+use bumpalo::Bump;
 use gw_base::{CtxNum, CtxRef, Key, NoMemory, TermRef};
 use gw_foot::one_context;
 use gw_msg::{Action, Command};
@@ -61,8 +62,9 @@ fn names_of(alloc: Global, asked: &Asked<'_, '_>) -> Result<Vec<Key>, NoMemory>
 {
     let mut names = Vec::new(alloc);
     let mut left = asked.owned.contexts.as_slice();
-    let tree = asked.request.tree(alloc)?;
-    let actions = tree.get().actions.as_slice();
+    let scratch = Bump::new(alloc);
+    let tree = asked.request.tree(&scratch)?;
+    let actions = tree.actions.as_slice();
     for action in actions {
         let (own, later) = next_entry(left);
         left = later;

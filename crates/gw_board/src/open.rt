@@ -20,6 +20,7 @@ use crate::fault::OpenFault;
 use crate::job::Job;
 use crate::planned::Planned;
 use crate::seat::{Seat, Stage, set_stage};
+use bumpalo::Bump;
 use gw_base::{Key, NoMemory};
 use gw_foot::{footprint, meets};
 use gw_table::{Keys, Tables};
@@ -35,8 +36,9 @@ pub(crate) fn keys_of(
     ensures { IfOk result (λ keys. IsListOf keys (keys_of task.now (maps_of tables.now))) }
 {
     let asked = task.get();
-    let tree = asked.request.tree(alloc)?;
-    footprint(alloc, tables, tree.get(), &asked.owned)
+    let scratch = Bump::new(alloc);
+    let tree = asked.request.tree(&scratch)?;
+    footprint(alloc, tables, tree, &asked.owned)
 }
 
 /// Whether two keys are the same.

@@ -1,11 +1,11 @@
 -- A name that begins with a prefix has a head that is near the prefix's.
-use Rattle.std.proofs.Common.{◌≡◌, ℕ, zero, suc, ◌+◌, ◌*◌, ◌^◌, ◌-◌, ◌<◌, ◌≤◌, List, [], ◌∷◌, ◌++◌, length, slice_index, slice_index_or, get_or, Bool, drop, true, false, nat_eq, nat_lt, refl, ap, subst, arith}
+use Rattle.std.proofs.Common.{◌≡◌, ℕ, zero, suc, ◌+◌, ◌*◌, ◌^◌, ◌-◌, ◌<◌, ◌≤◌, List, [], ◌∷◌, ◌++◌, length, slice_index, slice_index_or, get_or, Bool, drop, true, false, nat_eq, nat_le, nat_lt, refl, ap, subst, arith}
 use Rattle.std.specs.List.{AllWithin, Contains, list_any, starts_with}
 use Rattle.std.specs.List.Sorted.{IsNonDecreasing}
 use Rattle.std.proofs.Math.Nat.{mul_assoc}
 use Rattle.std.proofs.lemmas.List.Folds.{list_any_none}
 use Rattle.std.proofs.lemmas.Slice.Eq.{starts_is}
-use Rattle.std.proofs.lemmas.Bool.{false_from_ne_true, ltb-true, ltb-false}
+use Rattle.std.proofs.lemmas.Bool.{false_from_ne_true, leb-false, ltb-true, ltb-false}
 use Rattle.std.proofs.lemmas.Bool.Decides.{Decides-eqb}
 use Rattle.std.proofs.lemmas.List.{get_or_default}
 use Rattle.gw_base.specs.Heads.{worth, head_of}
@@ -85,3 +85,13 @@ none_begins names heads prefix low at is low_is before far =
     (omega (arith, low_is, same, head_least 8 prefix rest))
     (omega (arith, low_is, same, head_most 8 prefix rest bytes))
     (is.each k d l)))
+
+-- nor does one by itself begin with it whose first four bytes come before the prefix's, or are not near
+pub begins_not : (name prefix : List ℕ) (low spread : ℕ) → AreBytes name → low ≡ head_of 4 prefix → spread + 1 ≡ worth (4 - length prefix) → (low ≤ head_of 4 name → nat_le (head_of 4 name) (low + spread) ≡ false) → starts_with nat_eq name prefix ≡ false
+begins_not name prefix low spread b low_is far h =
+    let rest : List ℕ = drop (length prefix) name in
+    false_from_ne_true (starts_with nat_eq name prefix) (λ e.
+    let begins : name ≡ prefix ++ rest = (starts_is Decides-eqb name prefix (starts_with nat_eq name prefix) refl).0 e in
+    let same : head_of 4 name ≡ head_of 4 (prefix ++ rest) = ap (head_of 4) begins in
+    let least : low ≤ head_of 4 name = omega (arith, low_is, same, head_least 4 prefix rest) in
+    omega (arith, low_is, far, same, leb-false (head_of 4 name) (low + spread) (h least), head_most 4 prefix rest (bytes_behind prefix rest (subst AreBytes begins b))))

@@ -88,20 +88,27 @@ module _ (n : CtxNum) (c : Command) where
   for_many : is_left_out (Each n) c ≡ false → is_wildcard c.term ≡ true
   for_many h = not_false (is_wildcard c.term) (last_of (is_other_term c.term) (is_move c.verb && (is_wildcard c.term || is_choose c.term)) (is_modify c.verb && is_root c.term) (c.wild && is_wildcard c.term && is_some_list (audited c.descriptors)) (is_service_change c.verb && (is_other_method (method c.descriptors) || is_other_delay (delay c.descriptors))) (not (is_wildcard c.term)) h)
 
-  no_add : is_misplaced (Each n) c ≡ false → is_add c.verb ≡ false
-  no_add h = (neither (is_add c.verb) (is_move c.verb) (second_of false (brings c.verb) false (is_root c.term && (brings c.verb || is_subtract c.verb)) (is_choose c.term && not (brings c.verb)) (is_root c.term && true) h)).0
+  no_bring : is_misplaced (Each n) c ≡ false → brings c.verb ≡ false
+  no_bring h = second_of false (brings c.verb) false (is_root c.term && (brings c.verb || is_subtract c.verb)) (is_choose c.term && not (brings c.verb)) (is_root c.term && true) h
 
-  -- what the form allows is for a wildcard, and no Add
-  formed : refusal_by_form (Each n) c ≡ None → (is_wildcard c.term ≡ true) × (is_add c.verb ≡ false)
+  allowed_form : refusal_by_form (Each n) c ≡ None → (is_wildcard c.term ≡ true) × (brings c.verb ≡ false)
   unfolding refusal_by_form
-  formed h = by (is_unsupported c.verb) (is_left_out (Each n) c) (is_misplaced (Each n) c) refl refl h
+  allowed_form h = by (is_unsupported c.verb) (is_left_out (Each n) c) (is_misplaced (Each n) c) refl refl h
     where
       by : (u l p : Bool) → is_left_out (Each n) c ≡ l → is_misplaced (Each n) c ≡ p → (if u then Some UnknownCommand else if l then Some NotImplemented else if p then Some IllegalCombination else None) ≡ None
-          → (is_wildcard c.term ≡ true) × (is_add c.verb ≡ false)
+          → (is_wildcard c.term ≡ true) × (brings c.verb ≡ false)
       by true l p e f k = absurd cc
       by false true p e f k = absurd cc
       by false false true e f k = absurd cc
-      by false false false e f k = (for_many e, no_add f)
+      by false false false e f k = (for_many e, no_bring f)
+
+  -- what the form allows brings no termination into a context
+  pub brings_none : refusal_by_form (Each n) c ≡ None → brings c.verb ≡ false
+  brings_none h = (allowed_form h).1
+
+  -- it is for a wildcard, and no Add
+  pub formed : refusal_by_form (Each n) c ≡ None → (is_wildcard c.term ≡ true) × (is_add c.verb ≡ false)
+  formed h = let form = allowed_form h in (form.0, (neither (is_add c.verb) (is_move c.verb) form.1).0)
 
   module _ (m : Maps) where
     matched_by : (r : TermRef) → is_wildcard r ≡ true → is_some_list (matched (Each n) c m) ≡ false → is_some_list (targets_of r (Each n) c m) ≡ false

@@ -4,6 +4,7 @@ pub mod Effects
 pub mod Heads
 pub mod Idle
 pub mod Keys
+pub mod Least
 pub mod Changes
 pub mod Needs
 pub mod Nothing

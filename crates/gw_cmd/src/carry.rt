@@ -38,7 +38,7 @@ use crate::tables::{has_ended, is_some, refusal_by_tables, wrong_with};
 use gw_base::{Code, Items, NoMemory, Rules, TermName, TermRef, Verb};
 use gw_length::Telling;
 use gw_msg::Command;
-use gw_refusal::{At, service_asked, targets};
+use gw_refusal::{At, has_targets, is_add, service_asked, targets};
 use gw_reply::CommandReply;
 use gw_table::{Draft, slot_name};
 use std::alloc::Global;
@@ -270,6 +270,22 @@ fn on_members(
     carried(alloc, rules, draft, at, slot, command, named, told)
 }
 
+/// The names of the terminations that a command is for. Where no member of a context begins with its prefix, no name is copied.
+fn named_by(
+    alloc: Global,
+    draft: &Draft<'_>,
+    at: At,
+    command: &Command<'_>,
+) -> Result<Vec<TermName>, NoMemory>
+    ensures { IfOk result (λ named. named.items ≡ targets at command.now draft.now.maps) }
+{
+    let may_match_none = matches!(command.term, TermRef::Under(_)) && !at.is_null();
+    if may_match_none && !is_add(command.verb) && !has_targets(draft, at, command) {
+        return Ok(Vec::new(alloc));
+    }
+    targets(alloc, draft, at, command)
+}
+
 /// Carries out a command that its form allows and that is not by name, on its targets, unless the tables refuse it. What it does to all
 /// members of a context that match is done at once, if it can be.
 fn with_targets(
@@ -362,7 +378,7 @@ pub fn command_told(
     if let Some(number) = cleared_by(draft, at, command) {
         return on_cleared(alloc, rules, draft, at, number, slot, command, known, told);
     }
-    let named = targets(alloc, draft, at, command)?;
+    let named = named_by(alloc, draft, at, command)?;
     with_targets(alloc, rules, draft, at, slot, command, &named, known, told)
 }
 

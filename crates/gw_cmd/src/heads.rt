@@ -1,10 +1,11 @@
-//! Which members of a context may begin with a prefix, told by the first eight bytes of each as one number.
+//! Which members of a context may begin with a prefix, told by the first bytes of each as one number.
 
 ghost use Rattle.std.specs.Prelude.{◌≡◌, ◌≤◌, ◌-◌, ◌+◌, ℕ, List, Some, length, nat_eq, nat_le, false, slice_index};
 ghost use Rattle.std.specs.List.{list_any, starts_with, slice_get};
 ghost use Rattle.gw_base.specs.Heads.{head_of, worth};
 ghost use Rattle.gw_cmd.specs.Heads.{AreBytes, AreHeadsOf};
 
+use gw_base::TermName;
 use gw_ctx::Context;
 use std::array;
 
@@ -21,13 +22,14 @@ fn byte_at(text: &[u8], at: usize) -> u8
     }
 }
 
-/// The first eight bytes as one number, the first byte worth most, and zeros behind a shorter text.
-fn head(text: &[u8]) -> u64
-    ensures head { result ≡ head_of 8 text.now }
+/// The first so many bytes as one number, the first byte worth most, and zeros behind a shorter text.
+fn head(count: usize, text: &[u8]) -> u64
+    requires { count ≤ 8 }
+    ensures head { result ≡ head_of count text.now }
     ensures bytes { AreBytes text.now }
 {
     let mut head = 0;
-    for at in 0..8 {
+    for at in 0..count {
         head = head * 256 + u64::from(byte_at(text, at));
     }
     head
@@ -57,12 +59,58 @@ fn is_near(low: u64, spread: u64, head: u64) -> bool
     head <= low.saturating_add(spread)
 }
 
+/// What names begin with, if they begin with a prefix: the first four bytes of these, as one number, are no less than those of the prefix,
+/// and no further above than so far.
+#[derive(Drop)]
+pub(crate) struct Begin {
+    prefix: TermName,
+    low: u64,
+    ghost lowest: { low ≡ head_of 4 prefix },
+    spread: u64,
+    ghost furthest: { spread + 1 ≡ worth (4 - length prefix) },
+}
+
+impl Begin {
+    /// What names begin with that begin with the prefix.
+    pub(crate) fn of(prefix: &TermName) -> Begin
+        ensures { result.prefix ≡ prefix.now }
+    {
+        let bytes = prefix.as_bytes();
+        Begin {
+            prefix: *prefix,
+            low: head(4, bytes),
+            spread: spread(bytes.len().saturating_add(4)),
+        }
+    }
+
+    /// Whether a name may begin with the prefix, as its first four bytes tell. A shorter one may.
+    fn may_begin(&self, name: &[u8]) -> bool
+        ensures { result ≡ false → starts_with nat_eq name.now self.now.prefix ≡ false }
+    {
+        match name {
+            [a, b, c, d, ..] => {
+                let head = u64::from(u32::from_be_bytes([*a, *b, *c, *d]));
+                self.low <= head && is_near(self.low, self.spread, head)
+            }
+            _ => true,
+        }
+    }
+
+    /// Whether a name begins with the prefix. Of most that do not the first four bytes tell.
+    pub(crate) fn begins(&self, name: &TermName) -> bool
+        ensures { result ≡ starts_with nat_eq name.now self.now.prefix }
+    {
+        let bytes = name.as_bytes();
+        self.may_begin(bytes) && bytes.starts_with(self.prefix.as_bytes())
+    }
+}
+
 /// The head of the member at a place; behind the last the greatest number.
 fn head_at(context: &Context, at: usize) -> u64
     ensures { (name : List ℕ) → slice_get context.now.members at ≡ Some name → (result ≡ head_of 8 name) × AreBytes name }
 {
     match context.members().get_index(at) {
-        Some(name) => head(name.as_bytes()),
+        Some(name) => head(8, name.as_bytes()),
         None => u64::MAX,
     }
 }
@@ -89,7 +137,7 @@ impl Heads {
     pub(crate) fn may_begin(&self, prefix: &[u8]) -> bool
         ensures { (names : List (List ℕ)) → AreHeadsOf names self.now.sorted → result ≡ false → list_any (λ name. starts_with nat_eq name prefix.now) names ≡ false }
     {
-        let low = head(prefix);
+        let low = head(8, prefix);
         let at = self.sorted.partition_point(|head| *head < low);
         match self.sorted.get(at) {
             Some(head) => is_near(low, spread(prefix.len()), *head),

@@ -1,7 +1,7 @@
 //! Commands that come to nothing in an action for each context.
 
-ghost use Rattle.std.specs.Prelude.{◌≡◌, ◌≤◌, ◌&&◌, ◌++◌, ℕ, List, length, take, true, false, not};
-ghost use Rattle.std.specs.List.{Contains, list_any, position_or_len};
+ghost use Rattle.std.specs.Prelude.{◌≡◌, ◌≤◌, ◌&&◌, ◌++◌, ℕ, List, length, take, true, false, nat_eq, not};
+ghost use Rattle.std.specs.List.{Contains, list_any, position_or_len, starts_with};
 ghost use Rattle.gw_base.specs.declared.command_words.Rules.{Rules};
 ghost use Rattle.gw_base.specs.declared.ids.CtxNum.{CtxNum};
 ghost use Rattle.gw_refusal.specs.declared.at.At.TheVariants.{Each};
@@ -11,7 +11,7 @@ ghost use Rattle.gw_cmd.specs.Heads.{AreHeadsOf};
 ghost use Rattle.gw_cmd.specs.Sorted.{AreInOrder};
 ghost use Rattle.gw_cmd.specs.Nothing.{changes_nothing, may_change, may_act, may_act_on, ComeToNothing};
 
-use crate::heads::{Heads, ROOM};
+use crate::heads::{Begin, Heads, ROOM};
 use crate::sorted::Sorted;
 use gw_base::{CtxNum, TermName, TermRef, Verb};
 use gw_ctx::Context;
@@ -54,11 +54,22 @@ fn may_act(command: &Command<'_>) -> bool
     may_change(command) && refusal_by_form(At::Each(CtxNum(0)), command).is_none()
 }
 
+/// Whether a member of the context begins with the prefix. Most names are told apart by their first four bytes.
+fn is_any_under(context: &Context, prefix: &TermName) -> bool
+    ensures { result ≡ list_any (λ name. starts_with nat_eq name prefix.now) context.now.members }
+{
+    let begin = Begin::of(prefix);
+    context.members().iter().any(|name| begin.begins(name))
+}
+
 /// Whether the command is for a member of the context.
 fn is_for_member(context: &Context, term: &TermRef) -> bool
     ensures { result ≡ list_any (matches term.now) context.now.members }
 {
-    context.members().iter().any(|name| matches(term, name))
+    match term {
+        TermRef::Under(prefix) => is_any_under(context, prefix),
+        _ => context.members().iter().any(|name| matches(term, name)),
+    }
 }
 
 /// Whether a command may come to something in this context: it is for a member, and may change it. Its form is not looked at.

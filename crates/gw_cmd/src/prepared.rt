@@ -7,13 +7,15 @@ ghost use Rattle.gw_msg.specs.declared.message.Command.{Command as Sent};
 ghost use Rattle.gw_refusal.specs.Asked.{service_asked};
 ghost use Rattle.gw_refusal.specs.Forms.{refusal_by_form};
 ghost use Rattle.gw_cmd.specs.Prepared.{IsJudged, IsPrepared, ArePrepared};
+ghost use Rattle.gw_term.specs.Plain.{AreKnown};
+ghost use Rattle.gw_term.specs.Sending.{SendsTheSame};
 ghost use Rattle.gw_cmd.specs.ServingMembers.{IsMergeOf};
 
 use gw_base::{Code, CtxNum, NoMemory, Rules, Service, Verb};
 use gw_desc::check;
 use gw_msg::Command;
 use gw_refusal::{At, refusal_by_form, service_asked};
-use gw_term::{Sending, are_plain, room_for};
+use gw_term::{Sending, Termination, are_plain, room_for};
 use std::alloc::Global;
 
 /// The descriptors of a Modify of which nothing is told, ready to be merged into many terminations.
@@ -39,7 +41,7 @@ pub struct Prepared<'a, 'b> {
 }
 
 /// What is wrong with the descriptors of a command.
-fn wrong_with_descriptors(command: &Command<'_>) -> Option<Code>
+pub(crate) fn wrong_with_descriptors(command: &Command<'_>) -> Option<Code>
     ensures { result ≡ check_code command.now.verb command.now.descriptors }
 {
     match check(command.verb, command.descriptors.as_slice()) {
@@ -97,37 +99,60 @@ pub(crate) fn merge_known<'k, 'a, 'b>(
     }
 }
 
+/// Learns what the descriptors make of a termination that the commands before them left so, and merges them into it, if it takes them.
+fn learn_behind(
+    alloc: Global,
+    sending: &mut Sending<'_, '_>,
+    left: &mut Termination,
+) -> Result<(), NoMemory>
+    requires { AreKnown sending.old.descriptors.now sending.old.named }
+    ensures { SendsTheSame sending.old sending.new }
+{
+    if sending.takes(alloc, left)? {
+        left.merge_sending(alloc, sending)?;
+    }
+    Ok(())
+}
+
 /// The descriptors of a Modify, ready to be merged into many, where nothing is told of them, and they send no more properties than a list
-/// may have.
+/// may have. Where there are other commands, what they make of the termination that those before it left is learnt: so are the members of
+/// which nothing else was set.
 fn merge_of_many<'a, 'b>(
     alloc: Global,
     rules: &'a Rules,
     command: &'a Command<'b>,
+    others: bool,
+    left: &mut Termination,
 ) -> Result<Option<MergeOfMany<'a, 'b>>, NoMemory>
     ensures { IfOk result (λ merge. IfSome merge (IsMergeOf rules.now command.now)) }
 {
     let descriptors = command.descriptors.as_slice();
     match (command.verb, room_for(descriptors)) {
         (Verb::Modify, Some(most)) if are_plain(descriptors) => {
-            let sending = Sending::new(alloc, rules, descriptors)?;
+            let mut sending = Sending::new(alloc, rules, descriptors)?;
+            if others {
+                learn_behind(alloc, &mut sending, left)?;
+            }
             Ok(Some(MergeOfMany { sending, most }))
         }
         _ => Ok(None),
     }
 }
 
-/// What is found once of a command.
+/// What is found once of a command, among others or alone, behind those that left a termination so.
 fn one_prepared<'a, 'b>(
     alloc: Global,
     rules: &'a Rules,
     command: &'a Command<'b>,
+    others: bool,
+    left: &mut Termination,
 ) -> Result<Prepared<'a, 'b>, NoMemory>
     ensures { IfOk result (λ p. IsPrepared rules.now p command.now) }
 {
     let form = refusal_by_form(At::Each(CtxNum(0)), command);
     let wrong = wrong_with_descriptors(command);
     let service = service_asked(command.descriptors.as_slice());
-    let merge = merge_of_many(alloc, rules, command)?;
+    let merge = merge_of_many(alloc, rules, command, others, left)?;
     Ok(Prepared {
         form,
         wrong,
@@ -137,7 +162,8 @@ fn one_prepared<'a, 'b>(
 }
 
 /// What is found once of each of the commands of an action for each context: their refusals by form, what is wrong with their
-/// descriptors, and the descriptors of a Modify made ready for many. The work is that of looking at each command.
+/// descriptors, and the descriptors of a Modify made ready for many. Of one among others it is learnt what it makes of a termination of
+/// which nothing was set but by the commands before it. The work is that of looking at each command, and of at most three merges.
 ///
 /// # Errors
 ///
@@ -149,9 +175,11 @@ pub fn all_prepared<'a, 'b>(
 ) -> Result<Vec<Prepared<'a, 'b>>, NoMemory>
     ensures { IfOk result (λ list. ArePrepared rules.now list.items asked.now) }
 {
+    let others = asked.len() > 1;
+    let mut left = Termination::provisioned(alloc);
     let mut list = Vec::with_capacity(alloc, asked.len())?;
     for command in asked {
-        list.push(one_prepared(alloc, rules, command)?)?;
+        list.push(one_prepared(alloc, rules, command, others, &mut left)?)?;
     }
     Ok(list)
 }

@@ -1,21 +1,21 @@
 //! The tree of a descriptor (RFC 3525, section 7.1 and Annex B.2), as it is read: what is kept is kept as sent.
 
-use gw_base::{Items, Span};
+use gw_base::{Listed, Span};
 
 /// The words of an Audit, in the order sent.
-pub type AuditItems<'a> = Items<Span<'a>>;
+pub type AuditItems<'a> = Listed<'a, Span<'a>>;
 
 /// A descriptor of a command, of a datagram that lives as long as `'a`.
 #[derive(Drop)]
 pub enum Descriptor<'a> {
     /// `Media`: its parts in the order sent, at least one.
-    Media(Items<MediaPart<'a>>),
+    Media(Listed<'a, MediaPart<'a>>),
     /// `Events`, `Signals`, `DigitMap` or `EventBuffer`: kept and audited, and not looked into.
     Keep(KeptKind, Tail<Span<'a>>),
     /// `Audit`: its words, perhaps none.
     Audit(AuditItems<'a>),
     /// `Services`: its parameters in the order sent, at least one.
-    Services(Items<ServiceParm<'a>>),
+    Services(Listed<'a, ServiceParm<'a>>),
     /// Any other word; what follows it is read and dropped.
     Other(Span<'a>),
 }
@@ -39,9 +39,9 @@ pub enum MediaPart<'a> {
     /// A stream part outside a Stream, which is of stream 1.
     Outside(StreamPart<'a>),
     /// `Stream`: its number, at most 65,535, and its parts, at least one.
-    Stream(u16, Items<StreamPart<'a>>),
+    Stream(u16, Listed<'a, StreamPart<'a>>),
     /// `TerminationState`: its properties, at least one.
-    TerminationState(Items<Property<Span<'a>>>),
+    TerminationState(Listed<'a, Property<Span<'a>>>),
 }
 
 /// A part of a stream (RFC 3525, sections 7.1.6 to 7.1.8).
@@ -52,7 +52,7 @@ pub enum StreamPart<'a> {
     /// `Remote`: the same.
     Remote(Span<'a>),
     /// `LocalControl`: its properties, at least one.
-    LocalControl(Items<Property<Span<'a>>>),
+    LocalControl(Listed<'a, Property<Span<'a>>>),
 }
 
 /// A property: its name, the sign behind it and its value, as sent. A message has them as spans of its datagram; what keeps a

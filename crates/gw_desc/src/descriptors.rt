@@ -5,10 +5,10 @@ ghost use Rattle.gw_text.specs.Parts.{Finds};
 
 use crate::descriptor::{Descriptor, KeptKind, Tail};
 use crate::tails::tail;
+use bumpalo::Bump;
 use gw_base::Span;
 use gw_text::parts::{Parse, braced, braced_or_empty};
 use gw_text::{Cursor, ParseFault, Token, token_of};
-use std::alloc::Global;
 
 /// What follows another word, which is dropped: a bracket perhaps, and the tail that is answered.
 #[tactic(auto, unfolding(crate::specs::Reading::dropped_at, gw_text::specs::SpaceScan::skip))]
@@ -33,16 +33,16 @@ impl<'a> Parse<'a> for Descriptor<'a> {
     ghost read_at = { descriptor_at };
 
     #[tactic(auto, unfolding(crate::specs::Reading::descriptor_at))]
-    fn read(alloc: Global, cursor: &mut Cursor<'a>) -> Result<Descriptor<'a>, ParseFault> {
+    fn read(bump: &'a Bump, cursor: &mut Cursor<'a>) -> Result<Descriptor<'a>, ParseFault> {
         let word = cursor.word()?;
         match token_of(word) {
-            Some(Token::Media) => Ok(Descriptor::Media(braced(alloc, cursor)?)),
+            Some(Token::Media) => Ok(Descriptor::Media(braced(bump, cursor)?)),
             Some(Token::Events) => keep(cursor, KeptKind::Events),
             Some(Token::Signals) => keep(cursor, KeptKind::Signals),
             Some(Token::DigitMap) => keep(cursor, KeptKind::DigitMap),
             Some(Token::EventBuffer) => keep(cursor, KeptKind::EventBuffer),
-            Some(Token::Audit) => Ok(Descriptor::Audit(braced_or_empty(alloc, cursor)?)),
-            Some(Token::Services) => Ok(Descriptor::Services(braced(alloc, cursor)?)),
+            Some(Token::Audit) => Ok(Descriptor::Audit(braced_or_empty(bump, cursor)?)),
+            Some(Token::Services) => Ok(Descriptor::Services(braced(bump, cursor)?)),
             _ => {
                 dropped(cursor)?;
                 Ok(Descriptor::Other(Span::new(word)))

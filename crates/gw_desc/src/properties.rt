@@ -5,10 +5,10 @@ ghost use Rattle.gw_text.specs.Parts.{Finds};
 
 use crate::descriptor::{Property, Sign};
 use crate::spans::group;
+use bumpalo::Bump;
 use gw_base::Span;
 use gw_text::parts::{Parse, sign, word};
 use gw_text::{Cursor, ParseFault};
-use std::alloc::Global;
 
 /// The value of a property, as sent.
 #[tactic(auto, unfolding(crate::specs::Reading::value_at))]
@@ -49,7 +49,7 @@ impl<'a> Parse<'a> for Property<Span<'a>> {
     ghost read_at = { property_at };
 
     #[tactic(auto, unfolding(crate::specs::Reading::property_at))]
-    fn read(_alloc: Global, cursor: &mut Cursor<'a>) -> Result<Property<Span<'a>>, ParseFault> {
+    fn read(_bump: &'a Bump, cursor: &mut Cursor<'a>) -> Result<Property<Span<'a>>, ParseFault> {
         let name = word(cursor)?;
         let sign = relation(cursor)?;
         let value = value(cursor)?;

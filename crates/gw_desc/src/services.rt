@@ -4,10 +4,10 @@ ghost use Rattle.gw_desc.specs.Reading.{service_parm_at, service_value_at};
 ghost use Rattle.gw_text.specs.Parts.{Finds};
 
 use crate::descriptor::{ServiceParm, ServiceValue};
+use bumpalo::Bump;
 use gw_base::Span;
 use gw_text::parts::{Parse, word};
 use gw_text::{Cursor, ParseFault};
-use std::alloc::Global;
 
 /// What stands behind `=`.
 #[tactic(auto, unfolding(crate::specs::Reading::service_value_at))]
@@ -24,7 +24,7 @@ impl<'a> Parse<'a> for ServiceParm<'a> {
     ghost read_at = { service_parm_at };
 
     #[tactic(auto, unfolding(crate::specs::Reading::service_parm_at))]
-    fn read(_alloc: Global, cursor: &mut Cursor<'a>) -> Result<ServiceParm<'a>, ParseFault> {
+    fn read(_bump: &'a Bump, cursor: &mut Cursor<'a>) -> Result<ServiceParm<'a>, ParseFault> {
         let name = word(cursor)?;
         if !cursor.sign(b'=') {
             return Ok(ServiceParm { name, value: None });

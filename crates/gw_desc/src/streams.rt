@@ -4,10 +4,10 @@ ghost use Rattle.gw_desc.specs.Reading.{media_part_at, octets_text_at, stream_at
 ghost use Rattle.gw_text.specs.Parts.{Gives, Finds};
 
 use crate::descriptor::{MediaPart, StreamPart};
+use bumpalo::Bump;
 use gw_base::Span;
 use gw_text::parts::{Parse, braced, sign, token};
 use gw_text::{Cursor, ParseFault, Token};
-use std::alloc::Global;
 
 /// The most digits of a stream's number (RFC 3525, section 7.1.6).
 const STREAM_DIGITS: usize = 5;
@@ -34,7 +34,7 @@ fn octets<'a>(cursor: &mut Cursor<'a>) -> Result<Span<'a>, ParseFault>
 
 /// What follows the word of a part of a stream.
 fn stream_part<'a>(
-    alloc: Global,
+    bump: &'a Bump,
     cursor: &mut Cursor<'a>,
     word: Token,
 ) -> Result<StreamPart<'a>, ParseFault>
@@ -43,7 +43,7 @@ fn stream_part<'a>(
     match word {
         Token::Local => Ok(StreamPart::Local(octets(cursor)?)),
         Token::Remote => Ok(StreamPart::Remote(octets(cursor)?)),
-        Token::LocalControl => Ok(StreamPart::LocalControl(braced(alloc, cursor)?)),
+        Token::LocalControl => Ok(StreamPart::LocalControl(braced(bump, cursor)?)),
         _ => Err(ParseFault::Syntax),
     }
 }
@@ -52,20 +52,20 @@ impl<'a> Parse<'a> for StreamPart<'a> {
     ghost read_at = { stream_part_at };
 
     #[tactic(auto, unfolding(crate::specs::Reading::stream_part_at))]
-    fn read(alloc: Global, cursor: &mut Cursor<'a>) -> Result<StreamPart<'a>, ParseFault> {
+    fn read(bump: &'a Bump, cursor: &mut Cursor<'a>) -> Result<StreamPart<'a>, ParseFault> {
         let word = token(cursor)?;
-        stream_part(alloc, cursor, word)
+        stream_part(bump, cursor, word)
     }
 }
 
 /// What follows the word `Stream`: its number and its parts.
 #[tactic(auto, unfolding(crate::specs::Reading::stream_at))]
-fn stream<'a>(alloc: Global, cursor: &mut Cursor<'a>) -> Result<MediaPart<'a>, ParseFault>
+fn stream<'a>(bump: &'a Bump, cursor: &mut Cursor<'a>) -> Result<MediaPart<'a>, ParseFault>
     ensures { Gives result cursor.new (stream_at cursor.old) }
 {
     sign(cursor, b'=')?;
     let id = cursor.number(STREAM_DIGITS, STREAM_MAX)?;
-    let parts = braced(alloc, cursor)?;
+    let parts = braced(bump, cursor)?;
     Ok(MediaPart::Stream(id.value as u16, parts))
 }
 
@@ -73,11 +73,11 @@ impl<'a> Parse<'a> for MediaPart<'a> {
     ghost read_at = { media_part_at };
 
     #[tactic(auto, unfolding(crate::specs::Reading::media_part_at))]
-    fn read(alloc: Global, cursor: &mut Cursor<'a>) -> Result<MediaPart<'a>, ParseFault> {
+    fn read(bump: &'a Bump, cursor: &mut Cursor<'a>) -> Result<MediaPart<'a>, ParseFault> {
         match token(cursor)? {
-            Token::Stream => stream(alloc, cursor),
-            Token::TerminationState => Ok(MediaPart::TerminationState(braced(alloc, cursor)?)),
-            word => Ok(MediaPart::Outside(stream_part(alloc, cursor, word)?)),
+            Token::Stream => stream(bump, cursor),
+            Token::TerminationState => Ok(MediaPart::TerminationState(braced(bump, cursor)?)),
+            word => Ok(MediaPart::Outside(stream_part(bump, cursor, word)?)),
         }
     }
 }

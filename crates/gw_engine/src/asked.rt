@@ -94,7 +94,7 @@ fn push_asks<'h, 'a>(asks: &mut Items<Ask<'h, 'a>>, datagram: &'h Heard<'a>) -> 
                 peer,
                 said: Said::Ack(Removal {
                     mid,
-                    ranges: Ranges::new(ranges),
+                    ranges: Ranges::new(ranges.as_slice()),
                 }),
             })?,
             Item::Ignored => {}

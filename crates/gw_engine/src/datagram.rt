@@ -1,10 +1,8 @@
 //! What comes from a controller, and what goes back.
 
-ghost use Rattle.std.specs.Prelude.{◌≡◌, IfOk};
+ghost use Rattle.std.specs.Prelude.{◌≡◌};
 
-use gw_base::{Items, NoMemory};
-use std::alloc::Global;
-use std::marker::Model;
+use gw_base::Items;
 
 /// A datagram: bytes from, or to, a peer.
 pub struct Datagram {
@@ -21,43 +19,12 @@ impl Drop for Datagram {
     }
 }
 
-/// A datagram, lent by the burst that it came in. Contracts see the datagram itself.
-#[derive(Drop)]
-pub(crate) struct LentDatagram<'a> {
-    datagram: &'a Datagram,
-}
-
-impl<'a> Model for LentDatagram<'a> {
-    ghost use Rattle.gw_engine.specs.declared.datagram.Datagram.{Datagram as Whole};
-
-    ghost Value = { Whole };
-
-    ghost view = { λ a. a.datagram.now };
-}
-
-impl<'a> LentDatagram<'a> {
-    /// The datagram, to look at.
-    pub(crate) fn get(&self) -> &'a Datagram
-        ensures { result.now ≡ self.now }
+impl Datagram {
+    /// Its bytes alone.
+    pub fn into_bytes(self) -> Items<u8>
+        ensures { result ≡ self.bytes }
     {
-        self.datagram
-    }
-
-    /// Each datagram, lent.
-    ///
-    /// # Errors
-    ///
-    /// Want of memory.
-    pub(crate) fn each_of(
-        alloc: Global,
-        burst: &'a [Datagram],
-    ) -> Result<Items<LentDatagram<'a>>, NoMemory>
-        ensures { IfOk result (λ lent. lent ≡ burst.now) }
-    {
-        let mut lent = Items::from(Vec::with_capacity(alloc, burst.len())?);
-        for datagram in burst {
-            lent.push(LentDatagram { datagram })?;
-        }
-        Ok(lent)
+        let Datagram { peer: _, bytes } = self;
+        bytes
     }
 }

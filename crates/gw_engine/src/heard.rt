@@ -1,18 +1,15 @@
 //! The datagrams of a burst as they are read.
 
-ghost use Rattle.std.specs.Prelude.{◌≡◌, ◌<◌, ◌≤◌, ◌^◌, ℕ, List, Err, IfOk, length};
+ghost use Rattle.std.specs.Prelude.{ℕ, List, Err, IfOk};
 ghost use Rattle.std.specs.List.{AllZip};
 ghost use Rattle.gw_msg.specs.Grammar.{IsReadingOf};
 ghost use Rattle.gw_engine.specs.Bursts.{IsHeard, IsMessageOf};
 
-use crate::crew::Crew;
-use crate::datagram::{Datagram, LentDatagram};
-use crate::drawn::{MOST_DRAWN, all_of};
+use crate::datagram::Datagram;
+use bumpalo::Bump;
 use gw_base::{Code, Items, NoMemory};
-use gw_draw::{Gate, OpenGate, draw_map};
 use gw_msg::{Message, ReadFault, read_message, skim_message};
 use std::alloc::Global;
-use std::thread::Threads;
 
 /// A datagram that was read: who sent it, and its message, or the error that it is answered with.
 #[derive(Drop)]
@@ -21,11 +18,11 @@ pub(crate) struct Heard<'a> {
     pub(crate) message: Result<Message<'a>, Code>,
 }
 
-/// So many bytes of a burst are worth one more worker.
-const BYTES_FOR_ONE: usize = 4096;
-
 /// Of a burst of more bytes no trees are kept: those of commands may take some 16 times the bytes of their texts.
 const MOST_WITH_TREES: usize = 1_048_576;
+
+/// The lists of a typical transaction take up to so many bytes for each byte of its text.
+const ROOM_FOR_ONE: usize = 8;
 
 /// The error that a text without a message is answered with.
 fn code_of(fault: ReadFault) -> Result<Code, NoMemory>
@@ -39,26 +36,32 @@ fn code_of(fault: ReadFault) -> Result<Code, NoMemory>
 }
 
 /// Reads a text, and keeps the trees of its requests, or not.
-fn read<'a>(alloc: Global, text: &'a [u8], keeps_trees: bool) -> Result<Message<'a>, ReadFault>
+fn read<'a>(
+    alloc: Global,
+    bump: &'a Bump,
+    text: &'a [u8],
+    keeps_trees: bool,
+) -> Result<Message<'a>, ReadFault>
     ensures { IsReadingOf text.now result }
 {
     if keeps_trees {
-        read_message(alloc, text)
+        read_message(bump, text)
     } else {
-        skim_message(alloc, text)
+        skim_message(alloc, bump, text)
     }
 }
 
 /// Reads a datagram.
 fn heard_of<'a>(
     alloc: Global,
+    bump: &'a Bump,
     datagram: &'a Datagram,
     keeps_trees: bool,
 ) -> Result<Heard<'a>, NoMemory>
     ensures { IfOk result (IsHeard datagram.now) }
 {
     let peer = datagram.peer;
-    match read(alloc, datagram.bytes.as_slice(), keeps_trees) {
+    match read(alloc, bump, datagram.bytes.as_slice(), keeps_trees) {
         Ok(message) => Ok(Heard {
             peer,
             message: Ok(message),
@@ -68,57 +71,6 @@ fn heard_of<'a>(
             message: Err(code_of(fault)?),
         }),
     }
-}
-
-/// Reads a datagram that is lent.
-fn heard_of_lent<'a>(
-    alloc: Global,
-    datagram: &LentDatagram<'a>,
-    keeps_trees: bool,
-) -> Result<Heard<'a>, NoMemory>
-    ensures { IfOk result (IsHeard datagram.now) }
-{
-    heard_of(alloc, datagram.get(), keeps_trees)
-}
-
-/// Reads datagrams, one after another.
-fn in_turn<'a>(
-    alloc: Global,
-    burst: &'a [Datagram],
-    keeps_trees: bool,
-) -> Result<Items<Heard<'a>>, NoMemory>
-    ensures { IfOk result (AllZip IsHeard burst.now) }
-{
-    let mut heard = Items::from(Vec::with_capacity(alloc, burst.len())?);
-    for datagram in burst {
-        heard.push(heard_of(alloc, datagram, keeps_trees)?)?;
-    }
-    Ok(heard)
-}
-
-/// Reads datagrams by so many workers.
-fn by_workers<'a, R: Threads + Sync>(
-    rt: &R,
-    alloc: Global,
-    workers: u32,
-    burst: &'a [Datagram],
-    keeps_trees: bool,
-) -> Result<Items<Heard<'a>>, NoMemory>
-    requires some { 1 ≤ workers }
-    requires limit { workers ≤ 64 }
-    requires few { length burst.now < 2 ^ 32 }
-    ensures { IfOk result (AllZip IsHeard burst.now) }
-{
-    let lent = LentDatagram::each_of(alloc, burst)?;
-    let heard = draw_map(
-        rt,
-        alloc,
-        workers,
-        lent.as_slice(),
-        move |datagram| heard_of_lent(alloc, datagram, keeps_trees),
-        &OpenGate,
-    )?;
-    all_of(alloc, heard)
 }
 
 /// How long the datagrams are, together.
@@ -134,26 +86,42 @@ pub(crate) fn keeps_trees(burst: &[Datagram]) -> bool {
     bytes_in(burst) <= MOST_WITH_TREES
 }
 
-/// Reads the datagrams of a burst, by as many workers as its length is worth, and keeps the trees of their requests, or not. One needs
-/// no thread.
+/// An arena for what is read of a burst whose trees are kept, or not. Where they are, it begins with room for those of typical
+/// transactions.
 ///
 /// # Errors
 ///
 /// Want of memory.
-pub(crate) fn hear<'a, R: Threads + Sync, G: Gate>(
-    crew: &Crew<'_, R, G>,
+pub(crate) fn arena_for(
     alloc: Global,
+    burst: &[Datagram],
+    keeps_trees: bool,
+) -> Result<Bump, NoMemory> {
+    let room = if keeps_trees {
+        bytes_in(burst).saturating_mul(ROOM_FOR_ONE)
+    } else {
+        0
+    };
+    Ok(Bump::try_with_capacity(alloc, room)?)
+}
+
+/// Reads the datagrams of a burst, one after another, and keeps the trees of their requests, or not. The lists of what is read lie in the
+/// arena.
+///
+/// # Errors
+///
+/// Want of memory.
+pub(crate) fn hear<'a>(
+    alloc: Global,
+    bump: &'a Bump,
     burst: &'a [Datagram],
     keeps_trees: bool,
 ) -> Result<Items<Heard<'a>>, NoMemory>
     ensures { IfOk result (AllZip IsHeard burst.now) }
 {
-    if crew.workers == 1 || burst.len() > MOST_DRAWN {
-        return in_turn(alloc, burst, keeps_trees);
+    let mut heard = Items::from(Vec::with_capacity(alloc, burst.len())?);
+    for datagram in burst {
+        heard.push(heard_of(alloc, bump, datagram, keeps_trees)?)?;
     }
-    let workers = crew.for_work(bytes_in(burst), BYTES_FOR_ONE);
-    if workers == 1 {
-        return in_turn(alloc, burst, keeps_trees);
-    }
-    by_workers(crew.rt, alloc, workers, burst, keeps_trees)
+    Ok(heard)
 }

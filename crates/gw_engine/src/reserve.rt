@@ -7,6 +7,7 @@ ghost use Rattle.gw_engine.specs.Phases.{ids_in, AreJobs};
 
 use crate::asked::Sent;
 use crate::gateway::Gateway;
+use bumpalo::Bump;
 use gw_base::{Items, NoMemory};
 use gw_board::Asked;
 use gw_reserve::{Cursors, Reservation};
@@ -33,8 +34,9 @@ impl Gateway {
         let mut reservation = Reservation::new(self.contexts, self.slots, &self.cursors);
         let mut jobs = Items::from(Vec::with_capacity(alloc, new.len())?);
         for sent in new {
-            let tree = sent.request.tree(alloc)?;
-            let owned = reservation.own(alloc, &self.tables, tree.get())?;
+            let scratch = Bump::new(alloc);
+            let tree = sent.request.tree(&scratch)?;
+            let owned = reservation.own(alloc, &self.tables, tree)?;
             jobs.push(Asked {
                 mid: sent.mid,
                 request: sent.request.again(),

@@ -16,7 +16,7 @@ use crate::classify::{Task, classify};
 use crate::crew::Crew;
 use crate::datagram::Datagram;
 use crate::gateway::Gateway;
-use crate::heard::{Heard, hear, keeps_trees};
+use crate::heard::{Heard, arena_for, hear, keeps_trees};
 use gw_base::{Items, NoMemory};
 use gw_board::{Asked, Manner};
 use gw_draw::Gate;
@@ -131,8 +131,8 @@ impl Gateway {
     /// others. Each draws the next request until none is left, and passes the gate just before it, with the request's number within
     /// its wave, from 0. A wave has as many workers as requests at most, and with one no thread is started. Answers and state are the
     /// same for every number of workers, however they are scheduled. A worker that cannot be started is no fault. A `pass` that never
-    /// returns holds up the call. A burst of 4,096 bytes or more is read by workers too, and 128 answers or more are written by them;
-    /// there they pass no gate.
+    /// returns holds up the call. 128 answers or more are written by workers too; there they pass no gate. The lists of what is read lie in
+    /// an arena, which is let go when the burst is over, so a burst is read by the caller alone.
     ///
     /// Of a burst of more than 1,048,576 bytes the trees of requests are not kept: each request is read when the burst comes in, once more
     /// for what it owns and once more to be carried out, and one worker carries all of them out, one after another. So a burst takes
@@ -160,7 +160,8 @@ impl Gateway {
         let _ = &self.tables;
         let crew = Crew::new(rt, workers, gate);
         let keeps_trees = keeps_trees(burst);
-        let heard = hear(&crew, alloc, burst, keeps_trees)?;
+        let bump = arena_for(alloc, burst, keeps_trees)?;
+        let heard = hear(alloc, &bump, burst, keeps_trees)?;
         let plan = self.plan(alloc, heard.as_slice())?;
         self.perform(&crew.alone_unless(keeps_trees), alloc, plan)
     }

@@ -18,6 +18,7 @@ mod replay_laws;
 mod replaying;
 mod serve_fault;
 mod server;
+mod spares;
 mod writing;
 
 pub use answering::answer;

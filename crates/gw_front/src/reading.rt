@@ -6,6 +6,7 @@ ghost use Rattle.std.specs.Io.KnownBytes.{Consumes, IsAtEnd};
 ghost use Rattle.gw_front.specs.Inputs.{IsShorter};
 
 use crate::replay_fault::ReplayFault;
+use crate::spares::Spares;
 use gw_base::Items;
 use std::alloc::Global;
 use std::io::{BufRead, BufReader, ErrorKind, Read};
@@ -68,7 +69,7 @@ fn fill<R: Read>(reader: &mut R, place: &mut [u8]) -> Result<(), ReplayFault>
     Ok(())
 }
 
-/// The next so many bytes.
+/// The next so many bytes. Those that were read ahead lie in a block that was kept, if there is one.
 ///
 /// # Errors
 ///
@@ -76,6 +77,7 @@ fn fill<R: Read>(reader: &mut R, place: &mut [u8]) -> Result<(), ReplayFault>
 pub(crate) fn read_bytes<R: Read>(
     alloc: Global,
     reader: &mut BufReader<R>,
+    spares: &mut Spares,
     count: usize,
 ) -> Result<Items<u8>, ReplayFault>
     ensures bytes { IfOk result (λ bytes. Consumes (reader_remaining R.remaining reader.old) (reader_remaining R.remaining reader.new) bytes) }
@@ -84,9 +86,10 @@ pub(crate) fn read_bytes<R: Read>(
 {
     let held = reader.buffer();
     if count <= held.len() {
-        let bytes = Items::from_slice(alloc, &held[..count])?;
+        let mut bytes = spares.take(alloc);
+        bytes.extend_from_slice(&held[..count])?;
         pass(reader, count);
-        return Ok(bytes);
+        return Ok(Items::from(bytes));
     }
     let mut bytes = vec![in alloc; 0u8; count]?;
     fill(reader, bytes.as_mut_slice())?;

@@ -91,7 +91,7 @@ asked_here (y ∷ ys) (suc i) x h is = asked_behind y x ys (asked_here ys i x (o
 le_true : (d p : ℕ) → d ≤ p → nat_le d p ≡ true
 le_true d p h = grind (arith, nat_tests)
 
-some_within : (d p : ℕ) (o : Option ℕ) (b : Bool) → nat_le d p ≡ b → or_here d o None ≡ cond (nat_le d p) (Some p) None → b ≡ is_some o
+pub some_within : (d p : ℕ) (o : Option ℕ) (b : Bool) → nat_le d p ≡ b → or_here d o None ≡ cond (nat_le d p) (Some p) None → b ≡ is_some o
 some_within d p (Some q) true is e = refl
 some_within d p None false is e = refl
 some_within d p (Some q) false is e =

@@ -15,4 +15,5 @@ pub mod Copied
 pub mod Changed
 pub mod Repeats
 pub mod Indexes
+pub mod Rises
 pub mod Bursts

@@ -9,4 +9,5 @@ pub mod Order
 pub mod Arrival
 pub mod Asked
 pub mod Index
+pub mod Rises
 pub mod Repeats

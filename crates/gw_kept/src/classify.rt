@@ -8,6 +8,7 @@ use crate::class::Class;
 use crate::index::Index;
 use crate::kept::Kept;
 use crate::point::Point;
+use crate::rising::do_numbers_rise;
 use gw_base::{Items, NoMemory};
 use std::alloc::Global;
 
@@ -31,8 +32,8 @@ impl Kept {
     /// are told from keys and ranges alone, before anything is carried out. A request is a repeat where its reply is kept at that
     /// point: it is among the last ones, those of the burst's new requests included, and no acknowledgement has removed it.
     ///
-    /// An index of the burst's keys is made first, each looked up among the kept pairs: n log n and n log k steps for n requests
-    /// and k pairs. Where a request comes behind an acknowledgement, the keys of the kept pairs are copied once, and each
+    /// Where the numbers of the requests rise, each key is looked up among the kept pairs: n log k steps for n requests and k pairs.
+    /// Else an index of the burst's keys is made first, each looked up so: n log n and n log k steps. Where a request comes behind an acknowledgement, the keys of the kept pairs are copied once, and each
     /// acknowledgement costs what `forget` does, without its pass over the pairs.
     ///
     /// # Errors
@@ -41,7 +42,11 @@ impl Kept {
     pub fn classify(&self, alloc: Global, points: &[Point<'_>]) -> Result<Items<Class>, NoMemory>
         ensures classes { IfOk result (λ classes. classes ≡ classes_of self.now points.now) }
     {
-        let mut index = Index::of(alloc, self, points, asks_behind(points))?;
+        let acknowledged = asks_behind(points);
+        if !acknowledged && do_numbers_rise(points) {
+            return self.classify_rising(alloc, points);
+        }
+        let mut index = Index::of(alloc, self, points, acknowledged)?;
         let mut classes = Items::new(alloc);
         for point in points {
             let class = index.class(alloc, point);

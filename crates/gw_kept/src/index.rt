@@ -18,7 +18,7 @@ use std::alloc::{AllocError, Global};
 use std::collections::BTreeMap;
 
 /// How many new requests a burst may have.
-const MOST_NEW: usize = 1024;
+pub(crate) const MOST_NEW: usize = 1024;
 
 /// The keys that a burst asks, each with the place of its last pair, if it has one: counted from the oldest pair that was kept
 /// before the burst.
@@ -53,7 +53,7 @@ fn asked_places(
 }
 
 /// Where the pair of a place is, where so many were kept before the burst.
-fn source(before: usize, place: usize) -> Source
+pub(crate) fn source(before: usize, place: usize) -> Source
     ensures { result ≡ source_at before place }
 {
     if place < before {
@@ -64,7 +64,7 @@ fn source(before: usize, place: usize) -> Source
 }
 
 /// The place of a key's last pair, if that is kept: where acknowledgements have no say, if it is none before the oldest.
-fn kept_place(
+pub(crate) fn kept_place(
     place: Option<usize>,
     key: &RequestKey,
     oldest: usize,

@@ -14,6 +14,7 @@ mod laws;
 mod order;
 mod point;
 mod ring;
+mod rising;
 mod row;
 
 pub use change::Turn;

@@ -4,14 +4,14 @@ ghost use Rattle.std.specs.Prelude.{◌≡◌};
 ghost use Rattle.gw_kept.specs.Classes.{point_in};
 
 use crate::entry::RequestKey;
-use gw_base::{Items, Mid};
+use gw_base::Mid;
 use gw_msg::{AckRange, Item};
 use std::marker::Model;
 
 /// The ranges of an acknowledgement, lent by the message that it came in. Contracts see the ranges themselves.
 #[derive(Drop)]
 pub struct Ranges<'h> {
-    ranges: &'h Items<AckRange>,
+    ranges: &'h [AckRange],
 }
 
 impl<'h> Model for Ranges<'h> {
@@ -25,7 +25,7 @@ impl<'h> Model for Ranges<'h> {
 
 impl<'h> Ranges<'h> {
     /// The ranges, lent.
-    pub fn new(ranges: &'h Items<AckRange>) -> Self
+    pub fn new(ranges: &'h [AckRange]) -> Self
         ensures { result ≡ ranges.now }
     {
         Ranges { ranges }
@@ -44,7 +44,7 @@ impl<'h> Ranges<'h> {
     pub fn as_slice(&self) -> &'h [AckRange]
         ensures { result.now ≡ self.now }
     {
-        self.ranges.as_slice()
+        self.ranges
     }
 }
 
@@ -92,7 +92,7 @@ impl<'h> Point<'h> {
             }),
             Item::Ack(ranges) => Point::Ack(Removal {
                 mid,
-                ranges: Ranges::new(ranges),
+                ranges: Ranges::new(ranges.as_slice()),
             }),
             Item::Ignored => Point::Nothing,
         }

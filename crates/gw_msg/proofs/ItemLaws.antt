@@ -38,7 +38,7 @@ use Rattle.gw_msg.proofs.Laws.{action_reads, action_braces}
 -- ---- a number behind `=`
 
 -- EQUAL UINT32, and what is behind them
-abbrev Numbered : {W : Type 0} → (ℕ → W → List ℕ → Type 0) → W → List ℕ → Type 0
+abbrev pub Numbered : {W : Type 0} → (ℕ → W → List ℕ → Type 0) → W → List ℕ → Type 0
 Numbered Q w = IsSign equals_sign ▹ (λ text. (n : ℕ) × Both (IsUint32 n) (Q n w) text)
 
 up_numbered : {W : Type 0} (k : ℕ → Reader W) (Q : ℕ → W → List ℕ → Type 0) (To : List ℕ → List ℕ → Type 0) → ((n : ℕ) → ReadsUp (k n) (Q n) Any Same To) → ((n : ℕ) (w : W) (front rest : List ℕ) → Q n w front → NoMore is_digit (front ++ rest))
@@ -53,10 +53,10 @@ up_numbered k Q To h ends =
 abbrev request_of : ℕ → List Action → Item
 request_of id actions = item.Request (record { id = record { 0 = id }; actions = actions })
 
-abbrev RequestActions : ℕ → Item → List ℕ → Type 0
+abbrev pub RequestActions : ℕ → Item → List ℕ → Type 0
 RequestActions id i text = (actions : List Action) × (request_of id actions ≡ i) × Braced SpellsAction actions text
 
-request_reads : ReadsUp request_at (Numbered RequestActions) Any Same Skipped
+pub request_reads : ReadsUp request_at (Numbered RequestActions) Any Same Skipped
 unfolding request_at
 request_reads =
     up_numbered (λ id text. braced_at action_at text >>= λ x. Some (request_of id x.0, x.1)) RequestActions Skipped

@@ -10,5 +10,6 @@ pub mod Laws
 pub mod PassageLaws
 pub mod ContentsLoop
 pub mod ItemLaws
+pub mod GlanceLaws
 pub mod HeaderLaws
 pub mod Whole

@@ -1,11 +1,11 @@
 -- What is kept of a request in its message: its tree, or where its text begins (own).
-use Rattle.std.specs.Prelude.{◌≡◌, ℕ, List, [], Option, Some, None}
+use Rattle.std.specs.Prelude.{◌≡◌, ℕ, List, [], length, Option, Some, None, Result, Ok, Err}
 use Rattle.gw_base.specs.declared.ids.TxId.{TxId}
+use Rattle.gw_text.specs.declared.fault.ParseFault.{ParseFault}
+use Rattle.gw_text.specs.declared.fault.ParseFault.TheVariants.{Syntax, NoMemory}
 use Rattle.gw_msg.specs.declared.message.Request.{Request}
 use Rattle.gw_msg.specs.declared.passage.Form.{Form}
 use Rattle.gw_msg.specs.declared.passage.Form.TheVariants as form
-use Rattle.gw_msg.specs.declared.passage.Source.{Source}
-use Rattle.gw_msg.specs.declared.passage.Source.TheVariants as source
 use Rattle.gw_msg.specs.ActionReading.{request_tree_at}
 
 -- a request that is read, or one of nothing
@@ -35,7 +35,16 @@ abbrev pub IsPassage : Form → Type 0
 IsPassage (form.Tree r) = Unit {0}
 IsPassage (form.Text id begin) = IsText id begin
 
--- the tree of a request, lent or its own
-abbrev pub tree_in : Source → Request
-tree_in (source.Lent r) = r.now
-tree_in (source.Own r) = r
+-- A request of this number is found, with so many bytes left behind it.
+pub record HasGlance (text : List ℕ) (id : TxId) (left : ℕ) : Type 0 where
+  pub request : Request
+  pub rest : List ℕ
+  pub is_read : request_tree_at text ≡ Some (request, rest)
+  pub number : id ≡ request.id
+  pub behind : left ≡ length rest
+
+-- What a function returned is what is kept of the request that is found, unless memory ran out.
+abbrev pub Glances : Result (TxId × ℕ) ParseFault → List ℕ → Type 0
+Glances (Ok x) text = HasGlance text x.0 x.1
+Glances (Err Syntax) text = request_tree_at text ≡ None
+Glances (Err NoMemory) text = Unit {0}

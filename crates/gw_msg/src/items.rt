@@ -4,24 +4,25 @@ ghost use Rattle.std.specs.Prelude.{◌≡◌, IfOk};
 ghost use Rattle.gw_text.specs.Parts.{Gives, Finds};
 ghost use Rattle.gw_text.specs.Reader.{items_at};
 ghost use Rattle.gw_msg.specs.ActionReading.{request_tree_at};
+ghost use Rattle.gw_msg.specs.Passages.{Glances};
 ghost use Rattle.gw_msg.specs.Reading.{request_at, reply_at, pending_at, last_at, range_at, ack_at, item_at, quoted_or_nothing, error_at, error_body_at, body_at, content_at};
 
 use crate::message::{AckRange, Item, Message, Request};
 use crate::passage::Passage;
 use crate::words::{is_error_next, mid};
-use gw_base::{Items, TxId};
-use gw_text::parts::{Parse, braced, items, sign, token};
+use bumpalo::Bump;
+use gw_base::{Items, Listed, TxId};
+use gw_text::parts::{Parse, braced, items, put, sign, token};
 use gw_text::{Cursor, ParseFault, Token};
 use std::alloc::{AllocError, Global};
-use std::marker::Model;
 
-/// Whether the trees of requests are kept as they are read.
+/// What becomes of the trees of requests as they are read.
 #[derive(Clone, Copy)]
 pub(crate) enum Trees {
-    /// They are.
+    /// They are kept with the message.
     Kept,
-    /// Each is let go once it is read whole.
-    LetGo,
+    /// Each is let go once it is read whole. Meanwhile it lies in an arena over this allocator.
+    LetGo(Global),
 }
 
 /// How deep groups may lie in a reply.
@@ -36,32 +37,66 @@ const CODE_MAX: u32 = 9999;
 /// The tree of a transaction, behind its token: its number and its actions.
 #[tactic(auto, using(crate::proofs::Laws::action_shrinks), unfolding(crate::specs::ActionReading::request_tree_at))]
 pub(crate) fn request_tree<'a>(
-    alloc: Global,
+    bump: &'a Bump,
     cursor: &mut Cursor<'a>,
 ) -> Result<Request<'a>, ParseFault>
     ensures { Gives result cursor.new (request_tree_at cursor.old) }
 {
     sign(cursor, b'=')?;
     let id = cursor.uint32()?;
-    let actions = braced(alloc, cursor)?;
+    let actions = braced(bump, cursor)?;
     Ok(Request {
         id: TxId(id.value),
         actions,
     })
 }
 
-/// A transaction, behind its token. Where its tree is not kept, it is read again from here.
-#[inline(always)]
-#[tactic(auto, unfolding(crate::specs::Reading::request_at))]
-fn request<'a>(alloc: Global, cursor: &mut Cursor<'a>, trees: Trees) -> Result<Item<'a>, ParseFault>
-    ensures { Gives result cursor.new (request_at cursor.old) }
+/// What is kept of a transaction whose tree is let go: its number, and how many bytes are left behind it. Its tree lies in the arena,
+/// and no longer than its text is read.
+fn glance<'s>(scratch: &'s Bump, mut begin: Cursor<'s>) -> Result<(TxId, usize), ParseFault>
+    ensures { Glances result begin.entry }
+{
+    let request = request_tree(scratch, &mut begin)?;
+    Ok((request.id, begin.left()))
+}
+
+/// A transaction without its tree, behind its token. It is read again from here.
+fn skimmed<'a>(scratch: &mut Bump, cursor: &mut Cursor<'a>) -> Result<Passage<'a>, ParseFault>
+    ensures { Gives result cursor.new (request_tree_at cursor.old) }
 {
     let begin = cursor.again();
-    let tree = request_tree(alloc, cursor)?;
-    Ok(Item::Request(match trees {
-        Trees::Kept => Passage::of_tree(tree),
-        Trees::LetGo => Passage::of_text(begin, tree),
-    }))
+    let (id, left) = glance(scratch, cursor.again())?;
+    cursor.leave(left);
+    // Where it fails, the arena stays as it is and goes on growing.
+    let _ = scratch.reset();
+    Ok(Passage::of_text(begin, id))
+}
+
+/// A transaction, behind its token: with its tree, or without it where there is an arena to read it in.
+#[inline(always)]
+fn passage<'a>(
+    bump: &'a Bump,
+    cursor: &mut Cursor<'a>,
+    scratch: Option<&mut Bump>,
+) -> Result<Passage<'a>, ParseFault>
+    ensures { Gives result cursor.new (request_tree_at cursor.old) }
+{
+    match scratch {
+        None => Ok(Passage::of_tree(request_tree(bump, cursor)?)),
+        Some(scratch) => skimmed(scratch, cursor),
+    }
+}
+
+/// A transaction as a part of the body, behind its token.
+#[inline(always)]
+fn request<'a>(
+    bump: &'a Bump,
+    cursor: &mut Cursor<'a>,
+    scratch: Option<&mut Bump>,
+) -> Result<Item<'a>, ParseFault>
+    ensures { Gives result cursor.new (request_at cursor.old) }
+{
+    Ok(Item::Request(passage(bump, cursor, scratch)?))
 }
 
 /// A reply, behind its token.
@@ -106,7 +141,7 @@ impl<'a> Parse<'a> for AckRange {
     ghost read_at = { range_at };
 
     #[tactic(auto, unfolding(crate::specs::Reading::range_at))]
-    fn read(_alloc: Global, cursor: &mut Cursor<'a>) -> Result<AckRange, ParseFault> {
+    fn read(_bump: &'a Bump, cursor: &mut Cursor<'a>) -> Result<AckRange, ParseFault> {
         let first = cursor.uint32()?;
         last(cursor, first.value)
     }
@@ -114,23 +149,27 @@ impl<'a> Parse<'a> for AckRange {
 
 /// Acknowledged replies, behind their token.
 #[tactic(auto, using(crate::proofs::ItemLaws::range_shrinks), unfolding(crate::specs::Reading::ack_at))]
-fn ack<'a>(alloc: Global, cursor: &mut Cursor<'a>) -> Result<Item<'a>, ParseFault>
+fn ack<'a>(bump: &'a Bump, cursor: &mut Cursor<'a>) -> Result<Item<'a>, ParseFault>
     ensures { Gives result cursor.new (ack_at cursor.old) }
 {
-    Ok(Item::Ack(braced(alloc, cursor)?))
+    Ok(Item::Ack(braced(bump, cursor)?))
 }
 
-/// A part of the body: its token, and what is behind it.
+/// A part of the body: its token, and what is behind it. Where there is an arena to read it in, the tree of a transaction is let go.
 #[inline(always)]
 #[tactic(auto, unfolding(crate::specs::Reading::item_at))]
-fn item<'a>(alloc: Global, cursor: &mut Cursor<'a>, trees: Trees) -> Result<Item<'a>, ParseFault>
+fn item<'a>(
+    bump: &'a Bump,
+    cursor: &mut Cursor<'a>,
+    scratch: Option<&mut Bump>,
+) -> Result<Item<'a>, ParseFault>
     ensures { Gives result cursor.new (item_at cursor.old) }
 {
     match token(cursor)? {
-        Token::Transaction => request(alloc, cursor, trees),
+        Token::Transaction => request(bump, cursor, scratch),
         Token::Reply => reply(cursor),
         Token::Pending => pending(cursor),
-        Token::TransactionResponseAck => ack(alloc, cursor),
+        Token::TransactionResponseAck => ack(bump, cursor),
         _ => Err(ParseFault::Syntax),
     }
 }
@@ -138,58 +177,54 @@ fn item<'a>(alloc: Global, cursor: &mut Cursor<'a>, trees: Trees) -> Result<Item
 impl<'a> Parse<'a> for Item<'a> {
     ghost read_at = { item_at };
 
-    fn read(alloc: Global, cursor: &mut Cursor<'a>) -> Result<Item<'a>, ParseFault> {
-        item(alloc, cursor, Trees::Kept)
+    fn read(bump: &'a Bump, cursor: &mut Cursor<'a>) -> Result<Item<'a>, ParseFault> {
+        item(bump, cursor, None)
     }
 }
 
-/// An item without a tree. Contracts see the item.
-#[derive(Drop)]
-struct Brief<'a> {
-    item: Item<'a>,
-}
-
-impl<'a> Model for Brief<'a> {
-    ghost use Rattle.gw_msg.specs.declared.message.Item.{Item as Whole};
-
-    ghost Value = { Whole };
-
-    ghost view = { λ a. a.item };
-}
-
-impl<'a> Parse<'a> for Brief<'a> {
-    ghost read_at = { item_at };
-
-    fn read(alloc: Global, cursor: &mut Cursor<'a>) -> Result<Brief<'a>, ParseFault> {
-        Ok(Brief {
-            item: item(alloc, cursor, Trees::LetGo)?,
-        })
-    }
-}
-
-/// The items themselves.
-fn opened<'a>(alloc: Global, briefs: Items<Brief<'a>>) -> Result<Items<Item<'a>>, AllocError>
-    ensures { IfOk result (λ items. items ≡ briefs.entry) }
+/// The items to the end of the text, each of a byte at least, without the trees of transactions: one is there at a time.
+fn brief_items<'a>(
+    alloc: Global,
+    bump: &'a Bump,
+    cursor: &mut Cursor<'a>,
+) -> Result<Items<Item<'a>>, ParseFault>
+    ensures { Gives result cursor.new (items_at item_at cursor.old) }
 {
-    let mut items = Items::from(Vec::with_capacity(alloc, briefs.len())?);
-    for brief in briefs.into_vec() {
-        items.push(brief.item)?;
+    let mut scratch = Bump::new(alloc);
+    let mut parts = Items::new(alloc);
+    loop {
+        let part = item(bump, cursor, Some(&mut scratch))?;
+        parts.push(part)?;
+        cursor.lwsp();
+        if cursor.is_empty() {
+            return Ok(parts);
+        }
     }
-    Ok(items)
+}
+
+/// The items, in the arena, where they take no more than their size: a list that grew there would leave a block behind at each growth.
+fn laid_out<'a>(bump: &'a Bump, items: Items<Item<'a>>) -> Result<Listed<'a, Item<'a>>, AllocError>
+    ensures { IfOk result (λ laid. laid ≡ items.entry) }
+{
+    let mut laid = Vec::with_capacity(bump, items.len())?;
+    for item in items.into_vec() {
+        put(&mut laid, item)?;
+    }
+    Ok(Listed::kept(laid))
 }
 
 /// The items to the end of the text.
 #[tactic(auto, using(crate::proofs::ItemLaws::item_shrinks))]
 fn all_items<'a>(
-    alloc: Global,
+    bump: &'a Bump,
     cursor: &mut Cursor<'a>,
     trees: Trees,
-) -> Result<Items<Item<'a>>, ParseFault>
+) -> Result<Listed<'a, Item<'a>>, ParseFault>
     ensures { Gives result cursor.new (items_at item_at cursor.old) }
 {
     match trees {
-        Trees::Kept => items(alloc, cursor),
-        Trees::LetGo => Ok(opened(alloc, items(alloc, cursor)?)?),
+        Trees::Kept => items(bump, cursor),
+        Trees::LetGo(alloc) => Ok(laid_out(bump, brief_items(alloc, bump, cursor)?)?),
     }
 }
 
@@ -221,7 +256,7 @@ fn error(cursor: &mut Cursor<'_>) -> Result<(), ParseFault>
 
 /// An error, to the end of the text. It gives no items.
 #[tactic(auto, unfolding(crate::specs::Reading::error_body_at, gw_text::specs::SpaceScan::skip))]
-fn error_body<'a>(alloc: Global, cursor: &mut Cursor<'a>) -> Result<Items<Item<'a>>, ParseFault>
+fn error_body<'a>(cursor: &mut Cursor<'a>) -> Result<Listed<'a, Item<'a>>, ParseFault>
     ensures { Gives result cursor.new (error_body_at cursor.old) }
 {
     error(cursor)?;
@@ -229,28 +264,28 @@ fn error_body<'a>(alloc: Global, cursor: &mut Cursor<'a>) -> Result<Items<Item<'
     if !cursor.is_empty() {
         return Err(ParseFault::Syntax);
     }
-    Ok(Items::new(alloc))
+    Ok(Listed::nothing())
 }
 
 /// The body, to the end of the text.
 #[tactic(auto, unfolding(crate::specs::Reading::body_at))]
 fn body<'a>(
-    alloc: Global,
+    bump: &'a Bump,
     cursor: &mut Cursor<'a>,
     trees: Trees,
-) -> Result<Items<Item<'a>>, ParseFault>
+) -> Result<Listed<'a, Item<'a>>, ParseFault>
     ensures { Gives result cursor.new (body_at cursor.old) }
 {
     if is_error_next(cursor) {
-        return error_body(alloc, cursor);
+        return error_body(cursor);
     }
-    all_items(alloc, cursor, trees)
+    all_items(bump, cursor, trees)
 }
 
 /// What stands behind the header: the sender and the body, to the end of the text.
 #[tactic(auto, unfolding(crate::specs::Reading::content_at))]
 pub(crate) fn content<'a>(
-    alloc: Global,
+    bump: &'a Bump,
     cursor: &mut Cursor<'a>,
     trees: Trees,
 ) -> Result<Message<'a>, ParseFault>
@@ -258,6 +293,6 @@ pub(crate) fn content<'a>(
 {
     let mid = mid(cursor)?;
     cursor.sep()?;
-    let items = body(alloc, cursor, trees)?;
+    let items = body(bump, cursor, trees)?;
     Ok(Message { mid, items })
 }

@@ -14,5 +14,5 @@ pub use fault::ReadFault;
 pub use message::{
     AckRange, Action, Command, ContextItem, ContextProp, Item, Message, Request, Triple,
 };
-pub use passage::{Passage, Tree};
+pub use passage::Passage;
 pub use read::{one_answer, one_message, read_message, skim_message};

@@ -1,16 +1,16 @@
 //! The tree of a message (RFC 3525, section 8 and Annex B.2).
 
 use crate::passage::Passage;
-use gw_base::{CtxRef, Flow, Items, Mid, TermRef, TxId, Verb};
+use gw_base::{CtxRef, Flow, Listed, Mid, TermRef, TxId, Verb};
 use gw_desc::Descriptor;
 
-/// A message: who sent it, and what it holds in the order sent. What is kept as sent are spans of its datagram, which lives as
-/// long as `'a`.
+/// A message: who sent it, and what it holds in the order sent. What is kept as sent are spans of its datagram, and its lists lie in an
+/// arena. Both live as long as `'a`.
 pub struct Message<'a> {
     /// The sender's mId, byte for byte.
     pub mid: Mid,
     /// What the body holds; nothing where it is an error.
-    pub items: Items<Item<'a>>,
+    pub items: Listed<'a, Item<'a>>,
 }
 
 // By hand, so that a function that lets a message go does so by one call. A derived one would stand in it field by field.
@@ -26,7 +26,7 @@ pub enum Item<'a> {
     /// A transaction to be carried out.
     Request(Passage<'a>),
     /// Replies that have arrived, by the numbers of their transactions.
-    Ack(Items<AckRange>),
+    Ack(Listed<'a, AckRange>),
     /// A reply, or that one is pending: read, and of no effect.
     Ignored,
 }
@@ -47,7 +47,7 @@ pub struct Request<'a> {
     /// The number that its reply repeats.
     pub id: TxId,
     /// The actions in the order sent, at least one.
-    pub actions: Items<Action<'a>>,
+    pub actions: Listed<'a, Action<'a>>,
 }
 
 /// An action: what is asked of one context (RFC 3525, section 8 and Annex B.2, `actionRequest`).
@@ -56,22 +56,22 @@ pub struct Action<'a> {
     /// The context that the commands are for (section 8.1.2).
     pub ctx: CtxRef,
     /// The context properties and ContextAudits in the order sent, which stand in front of the commands.
-    pub props: Items<ContextProp>,
+    pub props: Listed<'a, ContextProp<'a>>,
     /// The commands in the order sent.
-    pub commands: Items<Command<'a>>,
+    pub commands: Listed<'a, Command<'a>>,
 }
 
 /// What an action asks of its context itself (RFC 3525, section 8.1.2 and Annex B.2, `contextProperty` and `contextAudit`).
 #[derive(Drop)]
-pub enum ContextProp {
+pub enum ContextProp<'a> {
     /// `Priority`: the priority that the context gets.
     Priority(u16),
     /// `Emergency`: the context is marked as an emergency.
     Emergency,
     /// `Topology`: how media flow between its terminations, two at a time in the order sent, at least once.
-    Topology(Items<Triple>),
+    Topology(Listed<'a, Triple>),
     /// `ContextAudit`: which of its properties are told, in the order sent, at least one.
-    ContextAudit(Items<ContextItem>),
+    ContextAudit(Listed<'a, ContextItem>),
 }
 
 /// How media flow between two terminations (RFC 3525, section 7.1.18 and Annex B.2, `topologyTriple`). What is sent may be a
@@ -109,5 +109,5 @@ pub struct Command<'a> {
     /// `W-`: one reply for all that a wildcard matches.
     pub wild: bool,
     /// Its descriptors in the order sent; none for AuditCapability and Notify, of which they are read and dropped.
-    pub descriptors: Items<Descriptor<'a>>,
+    pub descriptors: Listed<'a, Descriptor<'a>>,
 }

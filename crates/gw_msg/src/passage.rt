@@ -1,13 +1,13 @@
 //! A request where it stands in its message.
 
 ghost use Rattle.std.specs.Prelude.{◌≡◌, IfOk, IfSome};
-ghost use Rattle.gw_msg.specs.Passages.{Begins, request_from};
+ghost use Rattle.gw_msg.specs.Passages.{Begins, IsText, request_from};
 
 use crate::items::request_tree;
 use crate::message::Request;
+use bumpalo::Bump;
 use gw_base::{NoMemory, TxId};
 use gw_text::{Cursor, ParseFault};
-use std::alloc::Global;
 use std::marker::Model;
 
 /// What is kept of a request.
@@ -47,16 +47,13 @@ impl<'a> Passage<'a> {
         }
     }
 
-    /// A request whose tree is let go. The caller knows that it is what stands at the cursor, behind its token.
-    pub(crate) fn of_text(begin: Cursor<'a>, request: Request<'a>) -> Passage<'a>
-        requires { Begins begin request }
-        ensures { result ≡ request.entry }
+    /// A request whose tree is let go. The caller knows that it is what stands at the cursor, behind its token, and its number.
+    pub(crate) fn of_text(begin: Cursor<'a>, id: TxId) -> Passage<'a>
+        requires { IsText id begin }
+        ensures { result ≡ request_from begin.entry }
     {
         Passage {
-            form: Form::Text {
-                id: request.id,
-                begin,
-            },
+            form: Form::Text { id, begin },
         }
     }
 
@@ -80,67 +77,39 @@ impl<'a> Passage<'a> {
         }
     }
 
-    /// Its tree. One that is not kept is read again; the work is linear in its text.
+    /// Its tree. One that is not kept is read again, into the arena; the work is linear in its text.
     ///
     /// # Errors
     ///
     /// Want of memory, where it is read again.
-    pub fn tree<'h>(&'h self, alloc: Global) -> Result<Tree<'h, 'a>, NoMemory>
-        ensures { IfOk result (λ tree. tree ≡ self.now) }
+    pub fn tree<'h>(&'h self, bump: &'h Bump) -> Result<&'h Request<'h>, NoMemory>
+        ensures { IfOk result (λ tree. tree.now ≡ self.now) }
     {
-        let source = match &self.form {
-            Form::Tree(request) => Source::Lent(request),
-            Form::Text { begin, .. } => Source::Own(read_again(alloc, begin)?),
-        };
-        Ok(Tree { source })
+        match &self.form {
+            Form::Tree(request) => Ok(request),
+            Form::Text { begin, .. } => read_again(bump, begin.again()),
+        }
     }
 }
 
 /// The request whose text begins here. The caller knows that one does.
-fn read_again<'a>(alloc: Global, begin: &Cursor<'a>) -> Result<Request<'a>, NoMemory>
-    requires { Begins begin.now (request_from begin.now) }
-    ensures { IfOk result (λ tree. tree ≡ request_from begin.now) }
+fn read_again<'h>(bump: &'h Bump, mut begin: Cursor<'h>) -> Result<&'h Request<'h>, NoMemory>
+    requires { Begins begin (request_from begin) }
+    ensures { IfOk result (λ tree. tree.now ≡ request_from begin.entry) }
 {
-    let mut cursor = begin.again();
-    match request_tree(alloc, &mut cursor) {
-        Ok(request) => Ok(request),
+    match request_tree(bump, &mut begin) {
+        Ok(request) => laid(bump, request),
         Err(ParseFault::NoMemory) => Err(NoMemory),
         Err(ParseFault::Syntax) => unreachable!(),
     }
 }
 
-/// Where a tree comes from.
-#[derive(Drop)]
-enum Source<'h, 'a> {
-    /// The message lends it.
-    Lent(&'h Request<'a>),
-    /// It was read again.
-    Own(Request<'a>),
-}
-
-/// The tree of a request: lent by its message, or read again. Contracts see the request itself.
-#[derive(Drop)]
-pub struct Tree<'h, 'a> {
-    source: Source<'h, 'a>,
-}
-
-impl<'h, 'a> Model for Tree<'h, 'a> {
-    ghost use Rattle.gw_msg.specs.declared.message.Request.{Request as Whole};
-    ghost use Rattle.gw_msg.specs.Passages.{tree_in};
-
-    ghost Value = { Whole };
-
-    ghost view = { λ a. tree_in a.source };
-}
-
-impl<'h, 'a> Tree<'h, 'a> {
-    /// The tree, to look at.
-    pub fn get(&self) -> &Request<'a>
-        ensures { result.now ≡ self.now }
-    {
-        match &self.source {
-            Source::Lent(request) => request,
-            Source::Own(request) => request,
-        }
+/// The request, in the arena.
+fn laid<'h>(bump: &'h Bump, request: Request<'h>) -> Result<&'h Request<'h>, NoMemory>
+    ensures { IfOk result (λ tree. tree.now ≡ request.entry) }
+{
+    match bump.try_alloc(request) {
+        Ok(request) => Ok(request),
+        Err(_) => Err(NoMemory),
     }
 }

@@ -5,9 +5,9 @@ ghost use Rattle.gw_msg.specs.ActionReading.{triple_at, context_item_at, priorit
 
 use crate::message::{ContextItem, ContextProp, Triple};
 use crate::words::{context_item, flow, term};
+use bumpalo::Bump;
 use gw_text::parts::{Parse, braced, sign, token};
 use gw_text::{Cursor, ParseFault, Token};
-use std::alloc::Global;
 
 /// The most digits of a priority, as it is sent.
 const PRIORITY_DIGITS: usize = 5;
@@ -19,7 +19,7 @@ impl<'a> Parse<'a> for Triple {
     ghost read_at = { triple_at };
 
     #[tactic(auto, unfolding(crate::specs::ActionReading::triple_at))]
-    fn read(_alloc: Global, cursor: &mut Cursor<'a>) -> Result<Triple, ParseFault> {
+    fn read(_bump: &'a Bump, cursor: &mut Cursor<'a>) -> Result<Triple, ParseFault> {
         let a = term(cursor)?;
         sign(cursor, b',')?;
         let b = term(cursor)?;
@@ -32,7 +32,7 @@ impl<'a> Parse<'a> for Triple {
 impl<'a> Parse<'a> for ContextItem {
     ghost read_at = { context_item_at };
 
-    fn read(_alloc: Global, cursor: &mut Cursor<'a>) -> Result<ContextItem, ParseFault> {
+    fn read(_bump: &'a Bump, cursor: &mut Cursor<'a>) -> Result<ContextItem, ParseFault> {
         context_item(cursor)
     }
 }
@@ -47,16 +47,16 @@ fn priority(cursor: &mut Cursor<'_>) -> Result<u16, ParseFault>
     Ok(number.value as u16)
 }
 
-impl<'a> Parse<'a> for ContextProp {
+impl<'a> Parse<'a> for ContextProp<'a> {
     ghost read_at = { context_property_at };
 
     #[tactic(auto, using(crate::proofs::ContextLaws::triple_shrinks, crate::proofs::ContextLaws::context_item_shrinks), unfolding(crate::specs::ActionReading::context_property_at))]
-    fn read(alloc: Global, cursor: &mut Cursor<'a>) -> Result<ContextProp, ParseFault> {
+    fn read(bump: &'a Bump, cursor: &mut Cursor<'a>) -> Result<ContextProp<'a>, ParseFault> {
         match token(cursor)? {
             Token::Priority => Ok(ContextProp::Priority(priority(cursor)?)),
             Token::Emergency => Ok(ContextProp::Emergency),
-            Token::Topology => Ok(ContextProp::Topology(braced(alloc, cursor)?)),
-            Token::ContextAudit => Ok(ContextProp::ContextAudit(braced(alloc, cursor)?)),
+            Token::Topology => Ok(ContextProp::Topology(braced(bump, cursor)?)),
+            Token::ContextAudit => Ok(ContextProp::ContextAudit(braced(bump, cursor)?)),
             _ => Err(ParseFault::Syntax),
         }
     }

@@ -11,6 +11,7 @@ ghost use Rattle.gw_msg.specs.declared.fault.ReadFault.TheVariants.{Version, NoM
 use crate::fault::ReadFault;
 use crate::items::{Trees, content};
 use crate::message::Message;
+use bumpalo::Bump;
 use gw_text::{Cursor, ParseFault};
 use std::alloc::Global;
 
@@ -49,14 +50,14 @@ fn header(cursor: &mut Cursor<'_>) -> Result<u32, ParseFault>
 }
 
 #[tactic(auto, unfolding(crate::specs::Reading::message_of))]
-fn answer<'a>(alloc: Global, text: &'a [u8], trees: Trees) -> Result<Message<'a>, ReadFault>
+fn answer<'a>(bump: &'a Bump, text: &'a [u8], trees: Trees) -> Result<Message<'a>, ReadFault>
     ensures { IsAnswer text.now result }
 {
     let mut cursor = Cursor::new(text);
     if header(&mut cursor)? != SPOKEN_VERSION {
         return Err(ReadFault::Version);
     }
-    let message = content(alloc, &mut cursor, trees)?;
+    let message = content(bump, &mut cursor, trees)?;
     if !cursor.is_empty() {
         return Err(ReadFault::Syntax);
     }
@@ -65,29 +66,35 @@ fn answer<'a>(alloc: Global, text: &'a [u8], trees: Trees) -> Result<Message<'a>
 
 /// The message that the text spells. It is read from left to right, and the cost is linear in the length of the text: each
 /// word and each run of white space is scanned a fixed number of times at most. Behind a word white space is scanned once
-/// for each sign that may stand there, which are five at most, and a word is read again for what it stands for.
+/// for each sign that may stand there, which are five at most, and a word is read again for what it stands for. The lists of the message
+/// lie in the arena.
 ///
 /// # Errors
 ///
 /// `Version` where the text begins as a message of another version than 1, whatever follows; `Syntax` where it does not
-/// and spells no message; `NoMemory` where a growth was refused, behind a header of version 1 alone.
-pub fn read_message<'a>(alloc: Global, text: &'a [u8]) -> Result<Message<'a>, ReadFault>
+/// and spells no message; `NoMemory` where a growth was refused, behind a header of version 1 alone. What was read before stays in the
+/// arena until that goes.
+pub fn read_message<'a>(bump: &'a Bump, text: &'a [u8]) -> Result<Message<'a>, ReadFault>
     ensures { IsReadingOf text.now result }
 {
-    answer(alloc, text, Trees::Kept)
+    answer(bump, text, Trees::Kept)
 }
 
 /// The message that the text spells, as [`read_message`] reads it, without the trees of its requests: of each it is kept where its text
-/// begins. So a message takes some 50 bytes for each of its transactions, however many commands they have. While it is read, the tree
-/// of one transaction is there at a time.
+/// begins. So a message takes some 40 bytes of the arena for each of its transactions, however many commands they have. While it is
+/// read, the tree of one transaction is there at a time, in an arena over `alloc`, and the list of its items, which go with the call.
 ///
 /// # Errors
 ///
 /// As of [`read_message`].
-pub fn skim_message<'a>(alloc: Global, text: &'a [u8]) -> Result<Message<'a>, ReadFault>
+pub fn skim_message<'a>(
+    alloc: Global,
+    bump: &'a Bump,
+    text: &'a [u8],
+) -> Result<Message<'a>, ReadFault>
     ensures { IsReadingOf text.now result }
 {
-    answer(alloc, text, Trees::LetGo)
+    answer(bump, text, Trees::LetGo(alloc))
 }
 
 /// A text spells one message at most, and none where its header has another version.

@@ -7,7 +7,7 @@ ghost use Rattle.gw_desc.specs.Checks.{is_asking, is_audit, is_services};
 ghost use Rattle.gw_desc.specs.Values.{is_parm};
 ghost use Rattle.gw_refusal.specs.Asked.{is_add, is_move, is_modify, is_subtract, is_service_change, brings, is_unsupported, is_root, is_choose, is_other_term, is_wildcard, matches, words_in, audited, is_some_list, asks_media, parms_in, parm_value, service_by_word, service_by, service_asked, is_other_method, is_other_delay, method, delay};
 
-use gw_base::{Items, Service, Span, TermName, TermRef, Verb};
+use gw_base::{Listed, Service, Span, TermName, TermRef, Verb};
 use gw_desc::{
     AuditItem, AuditItems, Descriptor, ServiceParm, ServiceValue, is_parm, item_of, uint32_of,
 };
@@ -162,7 +162,7 @@ fn find_services<'a, 'b>(descriptors: &'b [Descriptor<'a>]) -> Option<&'b Descri
     descriptors.iter().find(|d| is_services(d))
 }
 
-fn parms_in<'a, 'b>(descriptor: &'b Descriptor<'a>) -> Option<&'b Items<ServiceParm<'a>>>
+fn parms_in<'a, 'b>(descriptor: &'b Descriptor<'a>) -> Option<&'b Listed<'a, ServiceParm<'a>>>
     ensures { unwrap_or (option_copied result) [] ≡ parms_in (Some descriptor.now) }
 {
     match descriptor {
@@ -172,7 +172,9 @@ fn parms_in<'a, 'b>(descriptor: &'b Descriptor<'a>) -> Option<&'b Items<ServiceP
 }
 
 /// The parameters of the first Services, if there is one.
-fn first_services<'a, 'b>(descriptors: &'b [Descriptor<'a>]) -> Option<&'b Items<ServiceParm<'a>>>
+fn first_services<'a, 'b>(
+    descriptors: &'b [Descriptor<'a>],
+) -> Option<&'b Listed<'a, ServiceParm<'a>>>
     ensures { unwrap_or (option_copied result) [] ≡ parms_in (find is_services descriptors.now) }
 {
     parms_in(find_services(descriptors)?)

@@ -104,6 +104,18 @@ impl InPlace {
         Ok(())
     }
 
+    /// Makes room in the list of writes, where it is empty and all are meant, for as many as there are terminations: a command for all does
+    /// not move it again and again.
+    pub(crate) fn make_room_for_all(&mut self, prefix: &[u8]) -> Result<(), NoMemory>
+        ensures maps { self.new.maps ≡ self.old.maps }
+        ensures keys { self.new.keys ≡ self.old.keys }
+    {
+        if prefix.is_empty() && self.writes.is_empty() {
+            self.writes.reserve(self.tables.terms.len())?;
+        }
+        Ok(())
+    }
+
     /// The termination of a name.
     pub(crate) fn term(&self, name: &TermName) -> Option<&Termination>
         ensures { option_copied result ≡ term self.now.maps name.now }

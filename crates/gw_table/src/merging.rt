@@ -356,7 +356,10 @@ impl Draft<'_> {
     {
         match &mut self.ground {
             Ground::OfPart(ground) => ground.merge_all_free(alloc, prefix, rules, descriptors),
-            Ground::OfTables(ground) => ground.merge_all_free(alloc, prefix, rules, descriptors),
+            Ground::OfTables(ground) => {
+                ground.make_room_for_all(prefix)?;
+                ground.merge_all_free(alloc, prefix, rules, descriptors)
+            }
         }
     }
 

@@ -216,7 +216,7 @@ names_both : (xs ys : List P) → lower_names (xs ++ ys) ≡ lower_names xs ++ l
 names_both [] ys = refl
 names_both (x ∷ xs) ys = ap (λ (l : List (List ℕ)). folded x.name ∷ l) (names_both xs ys)
 
-is_known : (name : List ℕ) (list : List P) → list_any (λ other. bytes_eq other (folded name)) (lower_names list) ≡ list_any (is_of_name name) list
+pub is_known : (name : List ℕ) (list : List P) → list_any (λ other. bytes_eq other (folded name)) (lower_names list) ≡ list_any (is_of_name name) list
 is_known name [] = refl
 is_known name (q ∷ qs) = ap (λ (t : Bool). is_of_name name q || t) (is_known name qs)
 

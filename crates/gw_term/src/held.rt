@@ -2,6 +2,7 @@
 
 ghost use Rattle.std.specs.Prelude.{◌≡◌, ◌++◌, if◌then◌else◌, true, IfOk, OnOk, None, Some};
 ghost use Rattle.gw_term.specs.HeldTexts.{text_of};
+ghost use Rattle.gw_term.specs.Lookups.{is_of_name};
 ghost use Rattle.gw_term.specs.Prints.{property_print, tail_print};
 
 use crate::print::Print;
@@ -97,6 +98,14 @@ impl HeldProperty {
         ensures { result.now ≡ self.now.name }
     {
         &self.texts.as_slice()[..self.split]
+    }
+
+    /// Whether it is of this name, in any case.
+    #[inline]
+    pub(crate) fn has_name(&self, name: &[u8]) -> bool
+        ensures { result ≡ is_of_name name.now self.now }
+    {
+        self.name().eq_ignore_ascii_case(name)
     }
 
     /// A copy of the property.

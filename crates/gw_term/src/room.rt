@@ -1,75 +1,124 @@
 //! Whether every list of a record has room for the properties that descriptors send.
 
-ghost use Rattle.std.specs.Prelude.{◌≡◌, ◌≤◌, ◌+◌, true, not, length, All, IfSome};
-ghost use Rattle.std.specs.List.{filter, flat_map};
+ghost use Rattle.std.specs.Prelude.{◌≡◌, ◌≤◌, ◌+◌, [], true, not, length, All, IfSome};
+ghost use Rattle.std.specs.List.{filter, flat_map, list_any};
 ghost use Rattle.gw_desc.specs.Values.{is_mode, is_service_states};
-ghost use Rattle.gw_term.specs.Room.{controls_of, sent_in, sent_by, all_sent, IsRoomFor, HasRoom, HasRoomAt};
+ghost use Rattle.gw_term.specs.Lookups.{is_of_name};
+ghost use Rattle.gw_term.specs.Room.{is_new_to, new_to, new_controls, new_in, new_by, IsRoomFor, HasRoom, HasRoomAt, HasSpace, HasSpaceFor, HasSpaceAt};
 
+use crate::held::HeldProperty;
 use crate::properties::{MOST_PROPERTIES, media_parts};
 use crate::record::Termination;
 use crate::settings::Setting;
 use gw_base::Span;
 use gw_desc::{Descriptor, MediaPart, Property, StreamPart, is_mode, is_service_states};
 
-/// How many of the properties of a LocalControl are for its stream's list: all but Mode.
-fn count_controls(properties: &[Property<Span<'_>>]) -> usize
-    ensures { result ≡ length (filter (λ p. not (is_mode p.name)) properties.now) }
+/// Whether a property of the list has this name, in any case.
+fn has_name(list: &[HeldProperty], name: &[u8]) -> bool
+    ensures { result ≡ list_any (is_of_name name.now) list.now }
 {
-    properties
-        .iter()
-        .filter(|property| !is_mode(property.name.as_bytes()))
-        .count()
+    list.iter().any(|own| own.has_name(name))
 }
 
-/// How many of those of a TerminationState are for the termination's list: all but ServiceStates.
-fn count_states(properties: &[Property<Span<'_>>]) -> usize
-    ensures { result ≡ length (filter (λ p. not (is_service_states p.name)) properties.now) }
+/// Whether no property of the list has the name of this one, in any case. That at this place is looked at first, since properties are
+/// mostly sent in the order in which they are kept.
+fn is_new(property: &Property<Span<'_>>, place: usize, list: &[HeldProperty]) -> bool
+    ensures { result ≡ is_new_to list.now property.now }
 {
-    properties
-        .iter()
-        .filter(|property| !is_service_states(property.name.as_bytes()))
-        .count()
+    let name = property.name.as_bytes();
+    if let Some(own) = list.get(place) {
+        if own.has_name(name) {
+            return false;
+        }
+    }
+    !has_name(list, name)
 }
 
-/// The room that is left behind what a part of a stream sends for its list.
-fn behind_part(room: usize, part: &StreamPart<'_>) -> Option<usize>
-    ensures { IfSome result (λ left. left + length (controls_of part.now) ≡ room) }
+/// The room that is left behind those of a LocalControl that are new to the list: all but Mode, which no list holds.
+fn behind_controls(
+    room: usize,
+    list: &[HeldProperty],
+    properties: &[Property<Span<'_>>],
+) -> Option<usize>
+    ensures { IfSome result (λ left. left + length (new_to list.now (filter (λ p. not (is_mode p.name)) properties.now)) ≡ room) }
+{
+    let mut left = room;
+    for (place, property) in properties.iter().enumerate() {
+        if !is_mode(property.name.as_bytes()) && is_new(property, place, list) {
+            left = left.checked_sub(1)?;
+        }
+    }
+    Some(left)
+}
+
+/// The room that is left behind those of a TerminationState that are new to the list: all but ServiceStates, which no list holds.
+fn behind_states(
+    room: usize,
+    list: &[HeldProperty],
+    properties: &[Property<Span<'_>>],
+) -> Option<usize>
+    ensures { IfSome result (λ left. left + length (new_to list.now (filter (λ p. not (is_service_states p.name)) properties.now)) ≡ room) }
+{
+    let mut left = room;
+    for (place, property) in properties.iter().enumerate() {
+        if !is_service_states(property.name.as_bytes()) && is_new(property, place, list) {
+            left = left.checked_sub(1)?;
+        }
+    }
+    Some(left)
+}
+
+/// The room that is left behind what a part of a stream sends that is new to the list.
+fn behind_part(room: usize, list: &[HeldProperty], part: &StreamPart<'_>) -> Option<usize>
+    ensures { IfSome result (λ left. left + length (new_controls list.now part.now) ≡ room) }
 {
     match part {
-        StreamPart::LocalControl(list) => room.checked_sub(count_controls(list.as_slice())),
+        StreamPart::LocalControl(properties) => behind_controls(room, list, properties.as_slice()),
         _ => Some(room),
     }
 }
 
 /// The same of each of these.
-fn behind_parts(room: usize, parts: &[StreamPart<'_>]) -> Option<usize>
-    ensures { IfSome result (λ left. left + length (flat_map controls_of parts.now) ≡ room) }
+fn behind_parts(room: usize, list: &[HeldProperty], parts: &[StreamPart<'_>]) -> Option<usize>
+    ensures { IfSome result (λ left. left + length (flat_map (new_controls list.now) parts.now) ≡ room) }
 {
     let mut left = room;
     for part in parts {
-        left = behind_part(left, part)?;
+        left = behind_part(left, list, part)?;
     }
     Some(left)
 }
 
-/// The room that is left behind what a part of a Media sends, for whichever list.
-fn behind_media_part(room: usize, part: &MediaPart<'_>) -> Option<usize>
-    ensures { IfSome result (λ left. left + length (sent_in part.now) ≡ room) }
+/// The room that is left behind what a part of a Media sends that is new to the list, for whichever list it is sent.
+fn behind_media_part(room: usize, list: &[HeldProperty], part: &MediaPart<'_>) -> Option<usize>
+    ensures { IfSome result (λ left. left + length (new_in list.now part.now) ≡ room) }
 {
     match part {
-        MediaPart::Outside(part) => behind_part(room, part),
-        MediaPart::Stream(_, parts) => behind_parts(room, parts.as_slice()),
-        MediaPart::TerminationState(list) => room.checked_sub(count_states(list.as_slice())),
+        MediaPart::Outside(part) => behind_part(room, list, part),
+        MediaPart::Stream(_, parts) => behind_parts(room, list, parts.as_slice()),
+        MediaPart::TerminationState(properties) => behind_states(room, list, properties.as_slice()),
     }
 }
 
 /// The same of each of these.
-fn behind_media(room: usize, parts: &[MediaPart<'_>]) -> Option<usize>
-    ensures { IfSome result (λ left. left + length (flat_map sent_in parts.now) ≡ room) }
+fn behind_media(room: usize, list: &[HeldProperty], parts: &[MediaPart<'_>]) -> Option<usize>
+    ensures { IfSome result (λ left. left + length (flat_map (new_in list.now) parts.now) ≡ room) }
 {
     let mut left = room;
     for part in parts {
-        left = behind_media_part(left, part)?;
+        left = behind_media_part(left, list, part)?;
+    }
+    Some(left)
+}
+
+/// The room that is left of so much behind all that the descriptors send that is new to the list. The work is one pass over them, and for
+/// each property that is sent one over the list, or one look where they are kept in the order in which they are sent.
+fn behind_all(room: usize, list: &[HeldProperty], descriptors: &[Descriptor<'_>]) -> Option<usize>
+    ensures { IfSome result (λ left. left + length (flat_map (new_by list.now) descriptors.now) ≡ room) }
+{
+    let mut left = room;
+    for descriptor in descriptors {
+        left = behind_media(left, list, media_parts(descriptor))?;
     }
     Some(left)
 }
@@ -80,11 +129,41 @@ fn behind_media(room: usize, parts: &[MediaPart<'_>]) -> Option<usize>
 pub fn room_for(descriptors: &[Descriptor<'_>]) -> Option<usize>
     ensures { IfSome result (λ most. IsRoomFor descriptors.now most) }
 {
-    let mut left = MOST_PROPERTIES;
-    for descriptor in descriptors {
-        left = behind_media(left, media_parts(descriptor))?;
+    behind_all(MOST_PROPERTIES, &[], descriptors)
+}
+
+/// Whether the list has room for what the descriptors send that is new to it.
+fn has_space_for(descriptors: &[Descriptor<'_>], list: &[HeldProperty]) -> bool
+    ensures { result ≡ true → HasSpaceFor descriptors.now list.now }
+{
+    match MOST_PROPERTIES.checked_sub(list.len()) {
+        Some(room) => behind_all(room, list, descriptors).is_some(),
+        None => false,
     }
-    Some(left)
+}
+
+/// Whether the list of a setting has, if there is one.
+fn has_space_at(descriptors: &[Descriptor<'_>], setting: &Setting) -> bool
+    ensures { result ≡ true → HasSpaceAt descriptors.now setting.now }
+{
+    match setting {
+        Setting::Properties(list) => has_space_for(descriptors, list.as_slice()),
+        Setting::Stream(_, stream) => has_space_for(descriptors, stream.properties.as_slice()),
+        Setting::Tail(_, _) => true,
+    }
+}
+
+/// Whether each list of these has, and one in which nothing is: then a record of which they were set takes the descriptors. The work is
+/// a pass over the descriptors for each list, and a look at the list for each property that they send.
+pub(crate) fn have_space(descriptors: &[Descriptor<'_>], settings: &[Setting]) -> bool
+    ensures { result ≡ true → HasSpaceFor descriptors.now [] × All (HasSpaceAt descriptors.now) settings.now }
+{
+    for setting in settings {
+        if !has_space_at(descriptors, setting) {
+            return false;
+        }
+    }
+    has_space_for(descriptors, &[])
 }
 
 /// Whether no list of a setting has more than so many properties.
@@ -117,5 +196,12 @@ impl Termination {
         ensures { result ≡ true → HasRoom most self.now.settings }
     {
         have_room(most, self.settings.list())
+    }
+    /// Whether each list of the record has room for what the descriptors send that is new to it: then it takes them. The work is that of
+    /// looking at each property that they send, for each list.
+    pub(crate) fn has_space(&self, descriptors: &[Descriptor<'_>]) -> bool
+        ensures { result ≡ true → HasSpace descriptors.now self.now.settings }
+    {
+        have_space(descriptors, self.settings.list())
     }
 }

@@ -19,8 +19,8 @@ use std::alloc::{AllocError, Global};
 /// comparisons cost less than most merges.
 const MOST_LEARNT: usize = 4;
 
-/// Into how many records at most the descriptors are merged to learn what they make of them, or whether they are taken. One that is unlike
-/// its neighbours takes a command that made it so. Where more are, the tries would come to what each record costs by itself.
+/// Of how many records one behind the other it may be learnt in vain what the descriptors make of them. One that is unlike its neighbours
+/// takes a command that made it so; where many are, each is merged by itself.
 const MOST_TRIED: usize = 16;
 
 /// What the descriptors make of what was set of a termination, in a block that copies share. Where a list would hold too many
@@ -147,7 +147,7 @@ impl<'a, 'b> Sending<'a, 'b> {
     }
 
     /// Learns what they make of these settings, which is not known, if others share these, they take the descriptors, and fewer records were
-    /// tried than may be. Answers that, if it was learnt. Where no more is kept, what was learnt before is let go. The work is that of
+    /// learnt in vain than may be. Answers that, if it was learnt. Where no more is kept, what was learnt before is let go. The work is that of
     /// merging them into one record.
     #[inline(never)]
     fn learn(&mut self, alloc: Global, settings: &Settings) -> Result<Option<Settings>, NoMemory>
@@ -182,27 +182,15 @@ impl<'a, 'b> Sending<'a, 'b> {
         ensures after { IfOk result (λ known. IfSome known (IsMadeOf self.old.rules.now self.old.descriptors.now settings.now)) }
     {
         if let Some(after) = self.known_after(alloc, settings)? {
+            self.tries = MOST_TRIED;
             return Ok(Some(after));
         }
         self.learn(alloc, settings)
     }
 
-    /// Whether a termination takes the descriptors, by a merge into a copy, if fewer records were tried than may be.
-    fn tries_to_merge(&mut self, alloc: Global, termination: &Termination) -> bool
-        ensures same { SendsTheSame self.old self.new }
-        ensures takes { result ≡ true → Takes self.old.rules.now self.old.descriptors.now termination.now }
-    {
-        if self.tries == 0 {
-            return false;
-        }
-        self.tries -= 1;
-        let merged = termination.merged(alloc, self.rules, self.descriptors);
-        merged.is_ok()
-    }
-
-    /// Whether a termination surely takes the descriptors: what they make of what was set of it was learnt, or is learnt now; or it shares
-    /// that with none, or they may fill a Local of it, and they are merged into a copy. The work is that of looking at what was set of it
-    /// and of the few that were learnt, but for the few that are tried.
+    /// Whether a termination surely takes the descriptors: what they make of what was set of it was learnt, or is learnt now; or each list
+    /// of it has room for the properties that are new to it. The work is that of looking at what was set of it and of the few that were
+    /// learnt, or at each property that they send.
     ///
     /// # Errors
     ///
@@ -213,12 +201,16 @@ impl<'a, 'b> Sending<'a, 'b> {
         ensures takes { IfOk result (λ takes. takes ≡ true → Takes self.old.rules.now self.old.descriptors.now termination.now) }
     {
         if self.knows(termination) {
+            self.tries = MOST_TRIED;
             return Ok(true);
         }
-        if !self.fills_none(termination.slot) || !termination.settings.are_shared() {
-            return Ok(self.tries_to_merge(alloc, termination));
+        let descriptors = self.descriptors;
+        if self.fills_none(termination.slot) {
+            let learnt = self.learn(alloc, &termination.settings)?;
+            if learnt.is_some() {
+                return Ok(true);
+            }
         }
-        let learnt = self.learn(alloc, &termination.settings)?;
-        Ok(learnt.is_some())
+        Ok(termination.has_space(descriptors))
     }
 }

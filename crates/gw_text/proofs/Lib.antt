@@ -1,4 +1,5 @@
 pub mod Fronts
+pub mod Ahead
 pub mod TokenLemmas
 pub mod TokenLetters
 pub mod TokenTable

@@ -16,7 +16,7 @@ ghost use Rattle.gw_text.specs.Bracket.{IsBracket, is_run_byte};
 ghost use Rattle.gw_text.specs.BracketScan.{run_at, bracket_at};
 ghost use Rattle.gw_text.specs.Group.{IsGroup, IsTooDeep, HasNoGroup};
 ghost use Rattle.gw_text.specs.GroupScan.{balanced_at};
-ghost use Rattle.gw_text.specs.Longest.{IsLongest};
+ghost use Rattle.gw_text.specs.Longest.{IsLongest, IsAhead};
 ghost use Rattle.gw_text.specs.Sign.{byte_at, sign_at, prefix_at};
 ghost use Rattle.gw_text.specs.Scans.{Takes, lwsp_at, sep_at, word_at, solid_at, number_within, uint32_at, uint32_digits, uint32_max};
 
@@ -66,6 +66,23 @@ impl<'a> Cursor<'a> {
         ensures { result ≡ self.now }
     {
         Cursor { rest: self.rest }
+    }
+
+    /// How many bytes are left.
+    pub fn left(&self) -> usize
+        ensures { result ≡ length self.now }
+    {
+        self.rest.len()
+    }
+
+    /// Goes on until so many bytes are left: where another cursor over the same text came.
+    pub fn leave(&mut self, left: usize)
+        requires { left ≤ length self.old }
+        ensures ahead { IsAhead self.old self.new }
+        ensures left { length self.new ≡ left }
+    {
+        let gone = self.rest.len() - left;
+        self.take(gone);
     }
 
     /// Whether nothing is left.

@@ -9,8 +9,9 @@ ghost use Rattle.gw_text.specs.Parts.{Gives, Finds, Shrinks, ShrinksMore};
 use crate::cursor::Cursor;
 use crate::fault::ParseFault;
 use crate::token::{Token, token_of};
-use gw_base::{Items, Span};
-use std::alloc::{AllocError, Global};
+use bumpalo::Bump;
+use gw_base::{Listed, Span};
+use std::alloc::AllocError;
 
 /// A part of a message.
 pub trait Parse<'a>: Drop {
@@ -22,7 +23,7 @@ pub trait Parse<'a>: Drop {
     /// # Errors
     ///
     /// `Syntax` where there is none; `NoMemory` where a growth was refused.
-    fn read(alloc: Global, cursor: &mut Cursor<'a>) -> Result<Self, ParseFault>
+    fn read(bump: &'a Bump, cursor: &mut Cursor<'a>) -> Result<Self, ParseFault>
         ensures { Gives result cursor.new (read_at cursor.old) };
 }
 
@@ -70,15 +71,19 @@ pub fn word<'a>(cursor: &mut Cursor<'a>) -> Result<Span<'a>, ParseFault>
 impl<'a> Parse<'a> for Span<'a> {
     ghost read_at = { word_read };
 
-    fn read(_alloc: Global, cursor: &mut Cursor<'a>) -> Result<Span<'a>, ParseFault> {
+    fn read(_bump: &'a Bump, cursor: &mut Cursor<'a>) -> Result<Span<'a>, ParseFault> {
         word(cursor)
     }
 }
 
 /// The part goes behind those before it.
+///
+/// # Errors
+///
+/// `AllocError` where a growth was refused; the parts are then as they were, and this one is let go.
 #[inline(always)]
-fn put<T: Drop>(parts: &mut Vec<T>, part: T) -> Result<(), AllocError>
-    ensures { OnOk result (parts.new.items ≡ parts.old.items ++ part ∷ []) }
+pub fn put<T: Drop>(parts: &mut Vec<T, &Bump>, part: T) -> Result<(), AllocError>
+    ensures { MatchResult result (λ _. parts.new.items ≡ parts.old.items ++ part ∷ []) (λ _. parts.new.items ≡ parts.old.items) }
 {
     parts.push(part)?;
     Ok(())
@@ -86,7 +91,7 @@ fn put<T: Drop>(parts: &mut Vec<T>, part: T) -> Result<(), AllocError>
 
 /// The part goes last, and no room is left behind it: most lists have one part, which then takes a block of its own size.
 #[inline(always)]
-fn put_last<T: Drop>(parts: &mut Vec<T>, part: T) -> Result<(), AllocError>
+fn put_last<T: Drop>(parts: &mut Vec<T, &Bump>, part: T) -> Result<(), AllocError>
     ensures { OnOk result (parts.new.items ≡ parts.old.items ++ part ∷ []) }
 {
     parts.reserve_exact(1)?;
@@ -99,18 +104,18 @@ fn put_last<T: Drop>(parts: &mut Vec<T>, part: T) -> Result<(), AllocError>
 ///
 /// `Syntax` where there are none; `NoMemory` where a growth was refused.
 pub fn list<'a, T: Parse<'a>>(
-    alloc: Global,
+    bump: &'a Bump,
     cursor: &mut Cursor<'a>,
-) -> Result<Items<T>, ParseFault>
+) -> Result<Listed<'a, T>, ParseFault>
     requires { Shrinks T.read_at }
     ensures { Gives result cursor.new (list_at T.read_at cursor.old) }
 {
-    let mut parts = Vec::new(alloc);
+    let mut parts = Vec::new(bump);
     loop {
-        let part = T::read(alloc, cursor)?;
+        let part = T::read(bump, cursor)?;
         if !cursor.sign(b',') {
             put_last(&mut parts, part)?;
-            return Ok(Items::from(parts));
+            return Ok(Listed::kept(parts));
         }
         put(&mut parts, part)?;
     }
@@ -121,11 +126,14 @@ pub fn list<'a, T: Parse<'a>>(
 /// # Errors
 ///
 /// `Syntax` where there are none; `NoMemory` where a growth was refused.
-fn closed<'a, T: Parse<'a>>(alloc: Global, cursor: &mut Cursor<'a>) -> Result<Items<T>, ParseFault>
+fn closed<'a, T: Parse<'a>>(
+    bump: &'a Bump,
+    cursor: &mut Cursor<'a>,
+) -> Result<Listed<'a, T>, ParseFault>
     requires { Shrinks T.read_at }
     ensures { Gives result cursor.new (closed_list_at T.read_at cursor.old) }
 {
-    let parts = list(alloc, cursor)?;
+    let parts = list(bump, cursor)?;
     sign(cursor, b'}')?;
     Ok(parts)
 }
@@ -136,14 +144,14 @@ fn closed<'a, T: Parse<'a>>(alloc: Global, cursor: &mut Cursor<'a>) -> Result<It
 ///
 /// `Syntax` where there are none; `NoMemory` where a growth was refused.
 pub fn braced<'a, T: Parse<'a>>(
-    alloc: Global,
+    bump: &'a Bump,
     cursor: &mut Cursor<'a>,
-) -> Result<Items<T>, ParseFault>
+) -> Result<Listed<'a, T>, ParseFault>
     requires { Shrinks T.read_at }
     ensures { Gives result cursor.new (braced_at T.read_at cursor.old) }
 {
     sign(cursor, b'{')?;
-    closed(alloc, cursor)
+    closed(bump, cursor)
 }
 
 /// Reads one part or more in braces, with commas between them, where a brace comes next; else nothing.
@@ -153,16 +161,16 @@ pub fn braced<'a, T: Parse<'a>>(
 /// `Syntax` where a brace comes next and no such list stands there; `NoMemory` where a growth was refused.
 #[tactic(auto, unfolding(crate::specs::Reader::optional_at))]
 pub fn optional_braced<'a, T: Parse<'a>>(
-    alloc: Global,
+    bump: &'a Bump,
     cursor: &mut Cursor<'a>,
-) -> Result<Items<T>, ParseFault>
+) -> Result<Listed<'a, T>, ParseFault>
     requires { Shrinks T.read_at }
     ensures { Gives result cursor.new (optional_at T.read_at cursor.old) }
 {
     if !cursor.sign(b'{') {
-        return Ok(Items::new(alloc));
+        return Ok(Listed::nothing());
     }
-    closed(alloc, cursor)
+    closed(bump, cursor)
 }
 
 /// Reads any number of parts in braces, with commas between them.
@@ -172,17 +180,17 @@ pub fn optional_braced<'a, T: Parse<'a>>(
 /// `Syntax` where there is no such list; `NoMemory` where a growth was refused.
 #[tactic(auto, unfolding(crate::specs::Reader::braced_or_empty_at))]
 pub fn braced_or_empty<'a, T: Parse<'a>>(
-    alloc: Global,
+    bump: &'a Bump,
     cursor: &mut Cursor<'a>,
-) -> Result<Items<T>, ParseFault>
+) -> Result<Listed<'a, T>, ParseFault>
     requires { Shrinks T.read_at }
     ensures { Gives result cursor.new (braced_or_empty_at T.read_at cursor.old) }
 {
     sign(cursor, b'{')?;
     if cursor.sign(b'}') {
-        return Ok(Items::new(alloc));
+        return Ok(Listed::nothing());
     }
-    closed(alloc, cursor)
+    closed(bump, cursor)
 }
 
 /// Reads one part or more, with white space between them or none, to the end of the text. Each part takes a byte at
@@ -192,19 +200,19 @@ pub fn braced_or_empty<'a, T: Parse<'a>>(
 ///
 /// `Syntax` where anything else stands there; `NoMemory` where a growth was refused.
 pub fn items<'a, T: Parse<'a>>(
-    alloc: Global,
+    bump: &'a Bump,
     cursor: &mut Cursor<'a>,
-) -> Result<Items<T>, ParseFault>
+) -> Result<Listed<'a, T>, ParseFault>
     requires { ShrinksMore T.read_at }
     ensures { Gives result cursor.new (items_at T.read_at cursor.old) }
 {
-    let mut parts = Vec::new(alloc);
+    let mut parts = Vec::new(bump);
     loop {
-        let part = T::read(alloc, cursor)?;
+        let part = T::read(bump, cursor)?;
         cursor.lwsp();
         if cursor.is_empty() {
             put_last(&mut parts, part)?;
-            return Ok(Items::from(parts));
+            return Ok(Listed::kept(parts));
         }
         put(&mut parts, part)?;
     }

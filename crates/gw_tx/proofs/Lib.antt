@@ -18,3 +18,4 @@ pub mod Steps
 pub mod TooLong
 pub mod TooMany
 pub mod Unowned
+pub mod EachLeast

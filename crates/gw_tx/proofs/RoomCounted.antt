@@ -1,5 +1,5 @@
 -- How much room the reply to an action without commands takes in each context.
-use Rattle.std.proofs.Common.{◌≡◌, ℕ, ◌+◌, ◌-◌, ◌<◌, Bool, true, false, List, [], ◌∷◌, ◌++◌, length, map, take, get_or, decimal, Option, None, Some, Ok, arith, length-append, append-nil, refl, sym, ap, subst, ◌∙◌}
+use Rattle.std.proofs.Common.{◌≡◌, ℕ, ◌+◌, ◌-◌, ◌<◌, Bool, true, false, not, List, [], ◌∷◌, ◌++◌, length, map, take, get_or, decimal, Option, None, Some, Ok, arith, length-append, append-nil, refl, sym, ap, subst, ◌∙◌}
 use Rattle.std.specs.Prelude.{◌==◌, ◌≢◌, flat_map, if◌then◌else◌, is_some}
 use Rattle.std.proofs.lemmas.Grind.{flat_map-append}
 use Rattle.std.proofs.lemmas.List.{take_more}
@@ -35,6 +35,11 @@ use Rattle.gw_tx.proofs.TooLong.{length-joined, length-braces}
 pub leaves_behind : (o : Option ℕ) (left room front more all : ℕ) → left + front ≡ room → all ≡ front + more → Leaves o left more → Leaves o room all
 leaves_behind (Some k) left room front more all h is l = omega (arith, h, is, l)
 leaves_behind None left room front more all h is l = omega (arith, h, is, l)
+
+-- where none is left, there are more bytes than room
+pub none_left : (o : Option ℕ) (none : Bool) (room count : ℕ) → is_some o ≡ not none → none ≡ true → Leaves o room count → room < count
+none_left (Some left) none room count n e h = let clash : true ≡ false = n ∙ ap (λ (b : Bool). not b) e in absurd cc
+none_left None none room count n e h = h
 
 -- what has no room is too long
 pub none_is_too_long : {T : Type 0} (text : T → List ℕ) (front more : List T) (room : ℕ) (o : Option ℕ) → is_some o ≡ false → Leaves o room (length (later text more)) → told_behind text (telling.Within front room) more ≡ telling.TooLong

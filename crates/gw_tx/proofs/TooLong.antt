@@ -32,7 +32,7 @@ pub length-braces : (text : List ℕ) → length (in_braces text) ≡ length tex
 length-braces text = omega (arith, length-append text (codes "}"))
 
 -- texts behind others make a list no shorter
-behind_others : (xs ys : List (List ℕ)) → length (comma_separated ys) ≤ length (comma_separated (xs ++ ys))
+pub behind_others : (xs ys : List (List ℕ)) → length (comma_separated ys) ≤ length (comma_separated (xs ++ ys))
 behind_others [] ys = omega arith
 behind_others (x ∷ []) [] = omega arith
 behind_others (x ∷ []) (y ∷ ys) = omega (arith, length-append x (comma ∷ comma_separated (y ∷ ys)))

@@ -1,5 +1,5 @@
 -- Each context of an action for each tells a reply, which has at least its frame.
-use Rattle.std.proofs.Common.{◌≡◌, ℕ, ◌*◌, ◌-◌, ◌≤◌, ◌<◌, nat_le, Bool, false, List, [], ◌∷◌, ◌++◌, length, arith, length-append, ap}
+use Rattle.std.proofs.Common.{◌≡◌, ℕ, ◌*◌, ◌-◌, ◌≤◌, ◌<◌, Bool, false, List, [], ◌∷◌, ◌++◌, length, arith, length-append, ap}
 use Rattle.std.specs.Prelude.{if◌then◌else◌}
 use Rattle.gw_base.specs.declared.command_words.Rules.{Rules}
 use Rattle.gw_base.specs.declared.ids.CtxNum.{CtxNum}

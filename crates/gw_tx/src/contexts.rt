@@ -1,7 +1,6 @@
 //! An action in a context that is there, and in each that there is.
 
-ghost use Rattle.std.specs.Prelude.{◌≡◌, [], true, false, length, All, List, Option, IfOk, OnOk};
-ghost use Rattle.gw_length.specs.declared.telling.Telling.TheVariants.{TooLong};
+ghost use Rattle.std.specs.Prelude.{◌≡◌, [], true, false, All, Option, IfOk, OnOk};
 ghost use Rattle.std.specs.List.{list_any};
 ghost use Rattle.gw_base.specs.declared.command_words.Rules.{Rules};
 ghost use Rattle.gw_base.specs.declared.ids.CtxNum.{CtxNum};
@@ -11,9 +10,8 @@ ghost use Rattle.gw_table.specs.Parts.{holds};
 ghost use Rattle.gw_refusal.specs.declared.at.At.TheVariants.{Each};
 ghost use Rattle.gw_cmd.specs.Nothing.{ComeToNothing};
 ghost use Rattle.gw_cmd.specs.Prepared.{ArePrepared};
-ghost use Rattle.gw_length.specs.Tellings.{told_behind};
 ghost use Rattle.gw_reply.specs.declared.context_parts.ContextPart.{ContextPart};
-ghost use Rattle.gw_reserve.specs.Owned.{AreFreeSlots, OwnedAction, paired_action, paired_commands};
+ghost use Rattle.gw_reserve.specs.Owned.{AreFreeSlots, paired_action, paired_commands};
 ghost use Rattle.gw_tx.specs.Footprints.{list_keys, Covers};
 ghost use Rattle.gw_reply.specs.Replies.{action_reply_text};
 ghost use Rattle.gw_tx.specs.Properties.{context_parts_if, is_too_high, ArePlain};
@@ -21,12 +19,12 @@ ghost use Rattle.gw_tx.specs.Told.{counted};
 ghost use Rattle.gw_tx.specs.Transactions.{commands as all_commands, replied, in_context as done_in_context, in_all, action_for_each};
 
 use crate::alone::action_alone;
-use crate::commands::commands_in;
-use crate::replies::action_error;
+use crate::least::told_before;
+use crate::replies::{action_error, replied};
 use crate::setting::{set_properties, set_wanted, wanted_by};
 use crate::telling::{context_parts_if, parts_within};
-use crate::told::Counted;
-use crate::untold::untold;
+use crate::told::{Counted, inside};
+use crate::untold::{few_or_many, untold};
 use gw_base::{Code, CtxNum, CtxRef, NoMemory, Rules};
 use gw_cmd::{At, Prepared, all_prepared, come_to_nothing, surely_act};
 use gw_length::Telling;
@@ -34,29 +32,6 @@ use gw_msg::Action;
 use gw_reply::ActionReply;
 use gw_table::Draft;
 use std::alloc::Global;
-
-/// How many bytes the reply in a context has at least, with the comma before it: `,Context={}`.
-const LEAST: usize = 11;
-
-/// Whether there is surely no room for the replies in so many contexts.
-fn are_too_many(told: &Telling<ActionReply>, count: usize) -> bool
-    ensures { (rules : Rules) (a : OwnedAction) (ns : List CtxNum) (m : Maps) → length ns ≡ count → result ≡ true → told_behind action_reply_text told.now (in_all rules a ns m).answer.answers ≡ TooLong }
-{
-    match told {
-        Telling::Within(_, room) => room / LEAST < count,
-        Telling::All(_) | Telling::TooLong => false,
-    }
-}
-
-/// What is told before the replies in so many contexts: nothing more, where there is surely no room for all of them.
-fn told_before(told: Telling<ActionReply>, count: usize) -> Telling<ActionReply>
-    ensures { (rules : Rules) (a : OwnedAction) (ns : List CtxNum) (m : Maps) → length ns ≡ count → told_behind action_reply_text result (in_all rules a ns m).answer.answers ≡ told_behind action_reply_text told (in_all rules a ns m).answer.answers }
-{
-    if are_too_many(&told, count) {
-        return Telling::TooLong;
-    }
-    told
-}
 
 /// Carries an action out in a context that is there and has its properties: tells what it is, and carries the commands out. Where nothing
 /// more is told, the commands are carried out all the same; but where each comes to nothing, in whichever context, as `nothing` says, or
@@ -89,18 +64,9 @@ fn in_ready(
     }
     let parts = context_parts_if(alloc, draft, number, sent, &told)?;
     let (parts, told) = parts_within(alloc, parts, told);
-    commands_in(
-        alloc,
-        rules,
-        draft,
-        &[],
-        at,
-        slots,
-        asked,
-        known,
-        parts,
-        told,
-    )
+    let within = inside(alloc, &told);
+    let done = few_or_many(alloc, rules, draft, at, slots, asked, known, within)?;
+    replied(told, parts, done)
 }
 
 /// Carries an action out in a context that is there: sets its properties, tells what it then is, and carries the commands out.
@@ -213,7 +179,7 @@ pub(crate) fn action_for_each(
     let done = if sent.commands.is_empty() {
         action_alone(alloc, draft, sent, &numbers, told)?
     } else {
-        let told = told_before(told, numbers.len());
+        let told = told_before(draft, sent, &numbers, told);
         in_all(alloc, rules, draft, slots, sent, &numbers, told)?
     };
     Ok(Counted {

@@ -7,6 +7,7 @@ mod commands;
 mod contexts;
 mod counting;
 mod laws;
+mod least;
 mod links;
 mod owned;
 mod properties;

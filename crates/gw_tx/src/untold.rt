@@ -1,4 +1,4 @@
-//! The commands of an action in a context of which nothing more is told.
+//! The commands of an action in a context of which nothing more is told, and those behind the first that there is no room for.
 
 ghost use Rattle.std.specs.Prelude.{◌≡◌, ◌<◌, [], ◌∷◌, true, not, take, drop, List, IfOk, OnOk};
 ghost use Rattle.gw_base.specs.declared.command_words.Rules.{Rules};
@@ -40,20 +40,30 @@ fn commands_behind<'k, 'a>(asked: &'k [Command<'a>]) -> &'k [Command<'a>]
     }
 }
 
-/// How many of the commands from here on come to nothing: as many as are known to, and where none is, as many as are found to.
-fn idle_from(draft: &Draft<'_>, at: At, asked: &[Command<'_>], known: usize) -> usize
+/// How many of the commands from here on come to nothing, where nothing more is told: as many as are known to, and where none is, as many
+/// as are found to. While replies are told, none is looked at.
+fn idle_from(
+    draft: &Draft<'_>,
+    at: At,
+    asked: &[Command<'_>],
+    known: usize,
+    told: &Telling<CommandReply>,
+) -> usize
     requires { (rules : Rules) → ComeToNothing rules at (take known asked.now) draft.now.maps }
-    ensures { (rules : Rules) → ComeToNothing rules at (take result asked.now) draft.now.maps }
+    ensures nothing { (rules : Rules) → ComeToNothing rules at (take result asked.now) draft.now.maps }
+    ensures untold { 0 < result → told.now ≡ TooLong }
 {
-    if known == 0 {
-        return nothing_in_front(draft, at, asked);
+    match told {
+        Telling::TooLong if known == 0 => nothing_in_front(draft, at, asked),
+        Telling::TooLong => known,
+        Telling::All(_) | Telling::Within(_, _) => 0,
     }
-    known
 }
 
-/// Carries one command out, where nothing more is told. Of one that comes to nothing, as `idle` says where it is not 0, what is left is
-/// whether it stops. It is a call of `commands`, so that these alone carry commands out.
-fn one_untold(
+/// Carries one command out, and tells its replies behind those of the commands before it. Of one that comes to nothing where nothing more is
+/// told, as `idle` says where it is not 0, what is left is whether it stops. It is a call of `commands`, so that these alone carry commands
+/// out.
+fn one_of_many(
     alloc: Global,
     rules: &Rules,
     draft: &mut Draft<'_>,
@@ -62,13 +72,15 @@ fn one_untold(
     sent: &Command<'_>,
     known: &[Prepared<'_, '_>],
     idle: usize,
+    told: Telling<CommandReply>,
 ) -> Result<Counted<At, CommandReply>, NoMemory>
     requires covered { Covers draft.old (command_keys at (first_owned slots.now) sent.now draft.old.maps) }
     requires unused { AreFreeSlots draft.old.maps slots.now }
     requires known { ArePrepared rules.now known.now (sent.now ∷ []) }
     requires idle { 0 < idle → ComesToNothing rules.now at sent.now draft.old.maps }
+    requires untold { 0 < idle → told ≡ TooLong }
     ensures maps { OnOk result (draft.new.maps ≡ (attempt rules.now [] at (first_owned slots.now, sent.now) draft.old.maps).maps) }
-    ensures answer { IfOk result (λ done. done ≡ counted command_reply_text TooLong (attempt rules.now [] at (first_owned slots.now, sent.now) draft.old.maps).answer) }
+    ensures answer { IfOk result (λ done. done ≡ counted command_reply_text told (attempt rules.now [] at (first_owned slots.now, sent.now) draft.old.maps).answer) }
     ensures keys { draft.new.keys ≡ draft.old.keys }
 {
     if idle > 0 {
@@ -87,15 +99,15 @@ fn one_untold(
         slots,
         slice::from_ref(sent),
         known,
-        Telling::TooLong,
+        told,
     )
 }
 
-/// Carries many commands of an action out in a context where nothing more is told: those in front that come to nothing are passed by, the
-/// next is carried out, and so on. Answers whether one stops. The work is that of the commands that act, and before each of these, or behind
-/// the last, one call of `nothing_in_front`: one look-up of the context, at most two sorts of its members, and for each command that is
-/// passed by mostly a look at a few of these.
-fn untold_many(
+/// Carries many commands of an action out in a context, as `commands` does; but once nothing more is told, those in front that come to
+/// nothing are passed by, the next is carried out, and so on. The work is that of the commands that are told or act, and before each of those
+/// that act behind the last that is told, or behind the last of them, one call of `nothing_in_front`: one look-up of the context, at most two
+/// sorts of its members, and for each command that is passed by mostly a look at a few of these.
+fn many(
     alloc: Global,
     rules: &Rules,
     draft: &mut Draft<'_>,
@@ -103,12 +115,13 @@ fn untold_many(
     slots: &[Option<u16>],
     asked: &[Command<'_>],
     known: &[Prepared<'_, '_>],
-) -> Result<bool, NoMemory>
+    told: Telling<CommandReply>,
+) -> Result<Counted<At, CommandReply>, NoMemory>
     requires covered { Covers draft.old (list_keys at (paired_commands slots.now asked.now) draft.old.maps) }
     requires unused { AreFreeSlots draft.old.maps slots.now }
     requires known { ArePrepared rules.now known.now asked.now }
     ensures maps { OnOk result (draft.new.maps ≡ (all_commands rules.now [] at (paired_commands slots.now asked.now) draft.old.maps).maps) }
-    ensures stopped { IfOk result (λ s. s ≡ (all_commands rules.now [] at (paired_commands slots.now asked.now) draft.old.maps).answer.stopped) }
+    ensures answer { IfOk result (λ done. done ≡ counted command_reply_text told (all_commands rules.now [] at (paired_commands slots.now asked.now) draft.old.maps).answer) }
     ensures keys { draft.new.keys ≡ draft.old.keys }
 {
     let mut at = at;
@@ -116,19 +129,54 @@ fn untold_many(
     let mut rest = asked;
     let mut behind = known;
     let mut idle = 0;
+    let mut told = told;
     for sent in asked {
-        let now = idle_from(draft, at, rest, idle);
-        let done = one_untold(alloc, rules, draft, at, left, sent, behind, now)?;
-        if done.stopped {
-            return Ok(true);
-        }
+        let now = idle_from(draft, at, rest, idle, &told);
+        let done = one_of_many(alloc, rules, draft, at, left, sent, behind, now, told)?;
         at = done.next;
+        told = done.told;
+        if done.stopped {
+            return Ok(Counted {
+                next: at,
+                told,
+                stopped: true,
+            });
+        }
         left = next_entry(left).1;
         rest = commands_behind(rest);
         behind = prepared_behind(behind);
         idle = now.saturating_sub(1);
     }
-    Ok(false)
+    Ok(Counted {
+        next: at,
+        told,
+        stopped: false,
+    })
+}
+
+/// Carries the commands of an action out in a context that is there, as `commands` does. Of many in an action for each context those that
+/// come to nothing are passed by once nothing more is told.
+pub(crate) fn few_or_many(
+    alloc: Global,
+    rules: &Rules,
+    draft: &mut Draft<'_>,
+    at: At,
+    slots: &[Option<u16>],
+    asked: &[Command<'_>],
+    known: &[Prepared<'_, '_>],
+    told: Telling<CommandReply>,
+) -> Result<Counted<At, CommandReply>, NoMemory>
+    requires covered { Covers draft.old (list_keys at (paired_commands slots.now asked.now) draft.old.maps) }
+    requires unused { AreFreeSlots draft.old.maps slots.now }
+    requires known { ArePrepared rules.now known.now asked.now }
+    ensures maps { OnOk result (draft.new.maps ≡ (all_commands rules.now [] at (paired_commands slots.now asked.now) draft.old.maps).maps) }
+    ensures answer { IfOk result (λ done. done ≡ counted command_reply_text told (all_commands rules.now [] at (paired_commands slots.now asked.now) draft.old.maps).answer) }
+    ensures keys { draft.new.keys ≡ draft.old.keys }
+{
+    if at.is_each() && asked.len() > MANY {
+        return many(alloc, rules, draft, at, slots, asked, known, told);
+    }
+    commands(alloc, rules, draft, &[], at, slots, asked, known, told)
 }
 
 /// Whether each of the commands comes to nothing in the context: `nothing` says that they do in whichever, and where one surely acts, as
@@ -169,19 +217,10 @@ pub(crate) fn untold(
             stopped: is_any_needed(asked),
         });
     }
-    if at.is_each() && asked.len() > MANY {
-        let stopped = untold_many(alloc, rules, draft, at, slots, asked, known)?;
-        return Ok(Counted {
-            next: (),
-            told: Telling::TooLong,
-            stopped,
-        });
-    }
-    let done = commands(
+    let done = few_or_many(
         alloc,
         rules,
         draft,
-        &[],
         at,
         slots,
         asked,

@@ -15,10 +15,10 @@ returns-clause-reply c =
     let rules = c.args.manner.now.rules in
     let a : Asked = c.args.asked.now in
     let m : Maps = c.args.draft.now.maps in
-    let request : c.get-request.result.now ≡ a.request = c.get-request.ensures ∙ c.in_ok-tree.ensures in
+    let request : c.in_ok-request.request.now ≡ a.request = c.in_ok-request.ensures in
     let reply : TxReply = (paired_transaction rules a.request (paired a.request a.owned) m).answer in
     let told : c.in_ok-told.told ≡ within (reply_limit c.args.manner.now.mid) reply =
     c.in_ok-told.ensures.answer
     ∙ (λ i. within (c.reply_limit-limit.ensures i) (paired_transaction rules (request i) (paired (request i) a.owned) m).answer) in
-    let same : reply.id ≡ c.get-request.result.now.id = same_id rules a.request (paired a.request a.owned) m ∙ ap (λ (r : Request). r.id) (sym request) in
+    let same : reply.id ≡ c.in_ok-request.request.now.id = same_id rules a.request (paired a.request a.owned) m ∙ ap (λ (r : Request). r.id) (sym request) in
     c.text_told.ensures reply told same

@@ -1,4 +1,4 @@
-use Rattle.std.proofs.Common.{◌≡◌, List, ◌∷◌, [], ◌++◌, Some, None, sym, ap, ◌∙◌, append-nil}
+use Rattle.std.proofs.Common.{List, ◌∷◌, [], ◌++◌, Some, None, sym, ap, ◌∙◌, append-nil}
 use Rattle.gw_engine.specs.Drafts.{answers_in}
 use Rattle.gw_engine.specs.Phases.{text_of, answer_for}
 use Rattle.gw_engine.specs.declared.classify.Task.{Task}

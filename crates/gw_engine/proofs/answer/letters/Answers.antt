@@ -1,4 +1,4 @@
-use Rattle.std.proofs.Common.{◌≡◌, ℕ, List, Some, None, map, sym, ap, ◌∙◌, append-nil}
+use Rattle.std.proofs.Common.{List, Some, None, map, sym, ap, ◌∙◌, append-nil}
 use Rattle.gw_engine.specs.Drafts.{answer_in, answers_in}
 use Rattle.gw_engine.specs.Phases.{text_of, answer_for}
 use Rattle.gw_engine.specs.declared.classify.Task.{Task}

@@ -5,7 +5,7 @@ use Rattle.gw_msg.proofs.actions.contents.Given as goal
 
 -- the properties that were read before, and what is still read, are the whole contents
 abbrev pub invariant-loop-cursor : goal.invariant-loop-cursor
-invariant-loop-cursor l = with_front l.props (contents_at l.cursor) ≡ contents_at l.fn.cursor
+invariant-loop-cursor l = with_front l.props.items (contents_at l.cursor) ≡ contents_at l.fn.cursor
 
 abbrev pub decreases-loop-cursor : goal.decreases-loop-cursor
 decreases-loop-cursor l = length l.cursor

@@ -11,7 +11,7 @@ returns-in_err-part g c =
 
 pub returns-then-is_empty : goal.returns-then-is_empty
 returns-then-is_empty g c =
-    rw (c.from.ensures ∙ c.in_ok-put_last.ensures)
+    rw (c.kept.ensures ∙ c.in_ok-put_last.ensures)
     (items_loop_ends g.T.Parse.read_at c.loop-parts.parts.items c.loop-parts.cursor c.in_ok-part.part c.read.new.cursor c.lwsp.result.now c.lwsp.new.self (items_at g.T.Parse.read_at c.args.cursor.now) c.in_ok-part.ensures c.lwsp.ensures.exact (c.if-is_empty.ensures.0 refl) c.loop-parts.invariant)
 
 pub loop-parts-preserved : goal.loop-parts-preserved

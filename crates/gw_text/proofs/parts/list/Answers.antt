@@ -12,7 +12,7 @@ returns-in_err-part g c =
 
 pub returns-then-not-sign : goal.returns-then-not-sign
 returns-then-not-sign g c =
-    rw ((c.from.ensures ∙ c.in_ok-put_last.ensures), c.if-not-sign.ensures.exact.1)
+    rw ((c.kept.ensures ∙ c.in_ok-put_last.ensures), c.if-not-sign.ensures.exact.1)
     (list_ends g.T.Parse.read_at c.loop-parts.parts.items c.loop-parts.cursor c.in_ok-part.part c.read.new.cursor (list_at g.T.Parse.read_at c.args.cursor.now) c.in_ok-part.ensures c.if-not-sign.ensures.exact.0 c.loop-parts.invariant)
 
 pub loop-parts-preserved : goal.loop-parts-preserved

@@ -15,8 +15,8 @@ use Rattle.gw_tx.specs.Told.{counted}
 use Rattle.gw_tx.specs.Transactions.{commands, replied}
 use Rattle.gw_tx.proofs.contexts.in_ready.Goals as goal
 
-pub commands_in-requires-clause-covered : goal.commands_in-requires-clause-covered
-commands_in-requires-clause-covered c = subst (λ (l : List Command). Covers c.args.draft.now (list_keys c.args.at (paired_commands c.args.slots.now l) c.args.draft.now.maps)) (sym c.as_slice-asked.ensures) c.requires.covered
+pub few_or_many-requires-clause-covered : goal.few_or_many-requires-clause-covered
+few_or_many-requires-clause-covered c = subst (λ (l : List Command). Covers c.args.draft.now (list_keys c.args.at (paired_commands c.args.slots.now l) c.args.draft.now.maps)) (sym c.as_slice-asked.ensures) c.requires.covered
 
 pub untold-requires-clause-covered : goal.untold-requires-clause-covered
 untold-requires-clause-covered c = subst (λ (l : List Command). Covers c.args.draft.now (list_keys c.args.at (paired_commands c.args.slots.now l) c.args.draft.now.maps)) (sym c.as_slice-asked.ensures) c.requires.covered

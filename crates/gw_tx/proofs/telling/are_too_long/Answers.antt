@@ -1,6 +1,4 @@
-use Rattle.std.proofs.Common.{◌≡◌, ℕ, ◌<◌, Bool, true, false, not, [], ◌∷◌, length, Option, Some, None, ap, ◌∙◌}
-use Rattle.std.specs.Prelude.{is_some}
-use Rattle.gw_length.specs.Rooms.{Leaves}
+use Rattle.std.proofs.Common.{[], ◌∷◌, length, ap, ◌∙◌}
 use Rattle.gw_length.specs.Tellings.{told_behind}
 use Rattle.gw_length.specs.declared.telling.Telling.{Telling}
 use Rattle.gw_reply.specs.ContextParts.{link_text, context_part_text}
@@ -8,11 +6,8 @@ use Rattle.gw_reply.specs.Lists.{later}
 use Rattle.gw_reply.specs.declared.context_parts.ContextPart.{ContextPart}
 use Rattle.gw_reply.specs.declared.context_parts.ContextPart.TheVariants.{Topology}
 use Rattle.gw_tx.proofs.ContextRoom.{links_too_long}
+use Rattle.gw_tx.proofs.RoomCounted.{none_left}
 use Rattle.gw_tx.proofs.telling.are_too_long.Goals as goal
-
-none_left : (o : Option ℕ) (none : Bool) (room count : ℕ) → is_some o ≡ not none → none ≡ true → Leaves o room count → room < count
-none_left (Some left) none room count n e h = let clash : true ≡ false = n ∙ ap (λ (b : Bool). not b) e in absurd cc
-none_left None none room count n e h = h
 
 pub returns-in-Within : goal.returns-in-Within
 returns-in-Within c = λ e.

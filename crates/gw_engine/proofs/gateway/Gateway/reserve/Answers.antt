@@ -36,8 +36,8 @@ loop-sent-preserved c =
     let w : Reserving = c.own.new.self in
     let o = c.in_ok-owned.owned in
     let e = c.in_ok-owned.ensures in
-    let told : IsOwned (maps_of c.self.inside.tables) c.get.result.now v w o = record { pairs = e.paired; slots_are = e.owned_slots; numbers = e.numbers; slots = e.slots; cursors = e.cursors } in
-    let owned : IsOwned g.state.maps x.request v w o = subst (λ (m : Maps). IsOwned m x.request v w o) (ap (λ (k : GatewayValue). k.state.maps) c.self.view_is) (subst (λ (r : Request). IsOwned (maps_of c.self.inside.tables) r v w o) (c.get.ensures ∙ c.in_ok-tree.ensures) told) in
+    let told : IsOwned (maps_of c.self.inside.tables) c.in_ok-tree.tree.now v w o = record { pairs = e.paired; slots_are = e.owned_slots; numbers = e.numbers; slots = e.slots; cursors = e.cursors } in
+    let owned : IsOwned g.state.maps x.request v w o = subst (λ (m : Maps). IsOwned m x.request v w o) (ap (λ (k : GatewayValue). k.state.maps) c.self.view_is) (subst (λ (r : Request). IsOwned (maps_of c.self.inside.tables) r v w o) c.in_ok-tree.ensures told) in
     let job : Asked = record { mid = x.mid; request = c.again.result; owned = o } in
     record {
       contexts = e.contexts_stay ∙ c.loop-sent.invariant.contexts;

@@ -18,7 +18,7 @@ loop-point-init c =
       left = refl;
       so_far =
           ap (λ classes. classes ++ classes_of k (map (seen (is_some c.in_ok-index.index.left)) c.args.points.now)) c.new-classes.ensures
-          ∙ sym (as_seen (is_some c.in_ok-index.index.left) k c.args.points.now (made.left ∙ c.asks_behind.ensures));
+          ∙ sym (as_seen (is_some c.in_ok-index.index.left) k c.args.points.now (made.left ∙ c.asks_behind-acknowledged.ensures));
     }
 
 pub loop-point-preserved : goal.loop-point-preserved

@@ -1,0 +1,174 @@
+//! How long the replies in each context are at least to an action with commands, counted before anything is told.
+
+ghost use Rattle.std.specs.Prelude.{◌≡◌, ◌∷◌, true, length, List, Option, ℕ};
+ghost use Rattle.std.specs.List.{flat_map};
+ghost use Rattle.gw_base.specs.declared.command_words.Rules.{Rules};
+ghost use Rattle.gw_base.specs.declared.ids.CtxNum.{CtxNum};
+ghost use Rattle.gw_cmd.specs.Least.{bare_replies};
+ghost use Rattle.gw_length.specs.Rooms.{Leaves};
+ghost use Rattle.gw_length.specs.Tellings.{told_behind};
+ghost use Rattle.gw_length.specs.declared.telling.Telling.TheVariants.{TooLong, Within};
+ghost use Rattle.gw_msg.specs.declared.message.Command.{Command as Sent};
+ghost use Rattle.gw_reply.specs.Commands.{command_word};
+ghost use Rattle.gw_reply.specs.Lists.{later};
+ghost use Rattle.gw_reply.specs.Replies.{command_reply_text, action_reply_text};
+ghost use Rattle.gw_reply.specs.declared.reply.ActionReply.{ActionReply as Reply};
+ghost use Rattle.gw_reserve.specs.Owned.{OwnedAction, paired_action};
+ghost use Rattle.gw_table.specs.Maps.{Maps, ctx, members_of, numbers as all_numbers};
+ghost use Rattle.gw_tx.specs.Least.{least_in, least_in_all};
+ghost use Rattle.gw_tx.specs.Transactions.{in_all};
+
+use gw_base::{CtxNum, TermName, Verb};
+use gw_cmd::tells_each;
+use gw_length::{Telling, behind, behind_number};
+use gw_msg::{Action, Command};
+use gw_refusal::matches;
+use gw_reply::ActionReply;
+use gw_table::Draft;
+
+/// How many bytes the reply in a context has at least, with the comma before it: `,Context={}`.
+const LEAST: usize = 11;
+
+/// Whether there is surely no room for the replies in so many contexts.
+fn are_too_many(told: &Telling<ActionReply>, count: usize) -> bool
+    ensures { (rules : Rules) (a : OwnedAction) (ns : List CtxNum) (m : Maps) → length ns ≡ count → result ≡ true → told_behind action_reply_text told.now (in_all rules a ns m).answer.answers ≡ TooLong }
+{
+    match told {
+        Telling::Within(_, room) => room / LEAST < count,
+        Telling::All(_) | Telling::TooLong => false,
+    }
+}
+
+/// How many bytes the word of a command has.
+fn word_length(verb: Verb) -> usize
+    ensures { result ≡ length (command_word verb) }
+{
+    match verb {
+        Verb::Add => b"Add".len(),
+        Verb::Modify => b"Modify".len(),
+        Verb::Move => b"Move".len(),
+        Verb::Subtract => b"Subtract".len(),
+        Verb::AuditValue => b"AuditValue".len(),
+        Verb::AuditCapability => b"AuditCapability".len(),
+        Verb::Notify => b"Notify".len(),
+        Verb::ServiceChange => b"ServiceChange".len(),
+    }
+}
+
+/// Behind the reply to a command, whose word is so long, for a member, with a comma before it, if no more is told than the name: all of the
+/// room, where the command is not for the member.
+fn behind_member(room: usize, command: &Command<'_>, word: usize, name: &TermName) -> Option<usize>
+    requires { word ≡ length (command_word command.now.verb) }
+    ensures { Leaves result room (length (later command_reply_text (bare_replies command.now name.now))) }
+{
+    if !matches(&command.term, name) {
+        return Some(room);
+    }
+    let left = behind(room, b",=".len())?;
+    let left = behind(left, word)?;
+    behind(left, name.as_bytes().len())
+}
+
+/// Behind those for each of the members.
+fn behind_members(
+    room: usize,
+    command: &Command<'_>,
+    word: usize,
+    members: &[TermName],
+) -> Option<usize>
+    requires { word ≡ length (command_word command.now.verb) }
+    ensures { Leaves result room (length (later command_reply_text (flat_map (bare_replies command.now) members.now))) }
+{
+    let mut left = room;
+    for name in members {
+        left = behind_member(left, command, word, name)?;
+    }
+    Some(left)
+}
+
+/// Behind the reply in the context with this number, with a comma before it, if no more is told than the members that the command is for.
+fn behind_least(
+    room: usize,
+    draft: &Draft<'_>,
+    command: &Command<'_>,
+    word: usize,
+    number: CtxNum,
+) -> Option<usize>
+    requires { word ≡ length (command_word command.now.verb) }
+    ensures { Leaves result room (least_in command.now draft.now.maps number) }
+{
+    let left = behind(room, b"Context={}".len())?;
+    let left = behind_number(left, number.0)?;
+    match draft.ctx(number) {
+        Some(context) => behind_members(left, command, word, context.members().as_slice()),
+        None => Some(left),
+    }
+}
+
+/// Behind those in each of the contexts. The work is one look-up of each context, and a look at its members, as far as there is room.
+fn behind_each_least(
+    room: usize,
+    draft: &Draft<'_>,
+    command: &Command<'_>,
+    numbers: &[CtxNum],
+) -> Option<usize>
+    ensures { Leaves result room (least_in_all command.now draft.now.maps numbers.now) }
+{
+    let word = word_length(command.verb);
+    let mut left = room;
+    for number in numbers {
+        left = behind_least(left, draft, command, word, *number)?;
+    }
+    Some(left)
+}
+
+/// Whether there is surely no room for the replies in these contexts, which are all that there are, to an action of which this is the first
+/// command.
+fn is_too_long(room: usize, draft: &Draft<'_>, first: &Command<'_>, numbers: &[CtxNum]) -> bool
+    requires { numbers.now ≡ all_numbers draft.now.maps }
+    ensures { (rules : Rules) (a : OwnedAction) (slot : Option ℕ) (others : List (Option ℕ × Sent)) (front : List Reply) → a.commands ≡ (slot, first.now) ∷ others → result ≡ true → told_behind action_reply_text (Within front room) (in_all rules a numbers.now draft.now.maps).answer.answers ≡ TooLong }
+{
+    if tells_each(first) {
+        return behind_each_least(room, draft, first, numbers).is_none();
+    }
+    false
+}
+
+/// The same, behind what is told, of an action.
+fn are_too_long(
+    draft: &Draft<'_>,
+    sent: &Action<'_>,
+    numbers: &[CtxNum],
+    told: &Telling<ActionReply>,
+) -> bool
+    requires { numbers.now ≡ all_numbers draft.now.maps }
+    ensures { (rules : Rules) (owned : Option CtxNum) (slots : List (Option ℕ)) → result ≡ true → told_behind action_reply_text told.now (in_all rules (paired_action owned slots sent.now) numbers.now draft.now.maps).answer.answers ≡ TooLong }
+{
+    let Some(first) = sent.commands.as_slice().first() else {
+        return false;
+    };
+    match told {
+        Telling::Within(_, room) => is_too_long(*room, draft, first, numbers),
+        Telling::All(_) | Telling::TooLong => false,
+    }
+}
+
+/// What is told before the replies in these contexts, which are all that there are: nothing more, where there is surely no room for all of
+/// them. The work is a look at each context and its members, as far as there is room.
+pub(crate) fn told_before(
+    draft: &Draft<'_>,
+    sent: &Action<'_>,
+    numbers: &[CtxNum],
+    told: Telling<ActionReply>,
+) -> Telling<ActionReply>
+    requires { numbers.now ≡ all_numbers draft.now.maps }
+    ensures { (rules : Rules) (owned : Option CtxNum) (slots : List (Option ℕ)) → told_behind action_reply_text result (in_all rules (paired_action owned slots sent.now) numbers.now draft.now.maps).answer.answers ≡ told_behind action_reply_text told (in_all rules (paired_action owned slots sent.now) numbers.now draft.now.maps).answer.answers }
+{
+    if are_too_many(&told, numbers.len()) {
+        return Telling::TooLong;
+    }
+    if are_too_long(draft, sent, numbers, &told) {
+        return Telling::TooLong;
+    }
+    told
+}
