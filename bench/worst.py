@@ -245,6 +245,11 @@ def wildcards():
     yield wild("4,000 terminations with 32 properties, seventeen each with one of its own, one `Modify=*` of 32", unlike_all, many, 1, 4_000, b"Error=533")
     own_each = made([many] + [b"C=-{MF=T/%d{M{O{a0=%d}}}}" % (n, n + 1) for n in range(1, 4_001)])
     yield wild("4,000 terminations with 32 properties, each with one of its own, one `Modify=*` of 32", own_each, many, 1, 4_000, b"Error=533")
+    backwards = b"C=-{MF=*%s}" % listed(b"{M{O{", [b"a%d=1" % n for n in reversed(range(32))], b"}}}")
+    few = made([backwards] + [b"C=-{MF=T/%d{M{O{a0=%d}}}}" % (n, n + 1) for n in range(1, 18)])
+    yield wild("4,000 terminations with 32 properties, seventeen each with one of its own, one `Modify=*` of 32 in another order", few, many, 1, 4_000, b"Error=533")
+    each = made([backwards] + [b"C=-{MF=T/%d{M{O{a0=%d}}}}" % (n, n + 1) for n in range(1, 4_001)])
+    yield wild("4,000 terminations with 32 properties, each with one of its own, one `Modify=*` of 32 in another order", each, many, 1, 4_000, b"Error=533")
     yield wild("4,000 terminations, one `Modify=*` with a Local of 8,000 bytes", [], b"C=-{MF=*{M{L{%s}}}}" % (8_000 * b"v"), 1, 4_000, b"Error=533")
     yield wild("4,000 terminations, one `Modify=*` with a Local to fill", [], b"C=-{MF=*{M{L{v=$}}}}", 1, 4_000, b"Error=533")
     yield wild("4,000 terminations, one `Modify=*` with Local, Remote, Events and Signals", [], b"C=-{MF=*{M{L{v=0},R{v=0}},E=1{al/on},SG{cg/dt}}}", 1, 4_000,
@@ -262,6 +267,11 @@ def wildcards():
     yield wild("`Add=*` of 4,000 into a full context", full, b"C=1{O-A=*}", 8, 4_000, b"Error=533", 4_064)
     yield wild("4,000 terminations, `AuditValue=*`, too long", [], b"C=-{AV=*{AT{}}}", 8, 4_000, b"Error=533")
     yield wild("4,000 terminations, `AuditValue=*` eight times in an action", [], listed(b"C=-{", [b"AV=*{AT{}}"] * 8), 1, 32_000, b"Error=533")
+    yield wild("250 terminations, `AuditValue=*` of Media, just too long", [], b"C=-{AV=*{AT{M}}}", 8, 250, b"Error=533", 250)
+    modes = made([b"C=-{MF=*%s}" % MODE])
+    yield wild("156 terminations with a LocalControl, `AuditValue=*` of Media, just too long", modes, b"C=-{AV=*{AT{M}}}", 8, 156, b"Error=533", 156)
+    all_items = made([b"C=-{MF=*{M{O{MO=SR}},E=1{al/on},SG{cg/dt}}}"])
+    yield wild("130 terminations, `AuditValue=*` of Media, Events and Signals, just too long", all_items, b"C=-{AV=*{AT{M,E,SG}}}", 8, 130, b"Error=533", 130)
     yield wild("`AuditValue=*` with Media in a context of 64", full, b"C=1{AV=*{AT{M}}}", 256, 64)
     yield wild("98 KB each of 64, `AuditValue=*` of all items", strangers.members(), b"C=1{AV=*{%s}}" % strangers.ALL_ITEMS, 64, 64, b"Error=533", 64)
     yield Kind("`Subtract=*` of 64, in 62 contexts", made([context(64 * n + 1, 64 * n + 64) for n in range(62)]),

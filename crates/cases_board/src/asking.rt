@@ -7,9 +7,9 @@ ghost use Rattle.gw_reserve.specs.Reservations.{slots_left};
 ghost use Rattle.gw_board.specs.Results.{slots_of};
 
 use bumpalo::Bump;
-use gw_base::{Mid, NoMemory};
+use gw_base::NoMemory;
 use gw_board::{Asked, Lent};
-use gw_msg::{Item, Message};
+use gw_msg::{Item, Message, Sender};
 use gw_reserve::{Cursors, Reservation};
 use gw_table::Tables;
 use std::alloc::Global;
@@ -29,7 +29,7 @@ pub struct Limits {
 fn add_asked<'h, 'a>(
     alloc: Global,
     tables: &Tables,
-    mid: Mid,
+    mid: &Sender<'a>,
     item: &'h Item<'a>,
     reservation: &mut Reservation,
     asked: &mut Vec<Asked<'h, 'a>>,
@@ -44,7 +44,7 @@ fn add_asked<'h, 'a>(
     let tree = request.tree(&scratch)?;
     let owned = reservation.own(alloc, tables, tree)?;
     asked.push(Asked {
-        mid,
+        mid: mid.again(),
         request: request.again(),
         owned,
     })?;
@@ -70,7 +70,7 @@ pub fn asks_in<'h, 'a>(
         add_asked(
             alloc,
             tables,
-            message.mid,
+            &message.mid,
             item,
             &mut reservation,
             &mut asked,

@@ -112,7 +112,7 @@ fn write_passage(out: &mut Page, passage: &Passage<'_>) {
 }
 
 fn write_message(out: &mut Page, message: &Message<'_>) {
-    out.encoded(message.mid.as_bytes());
+    out.encoded(message.mid.mid().as_bytes());
     out.put(b": ");
     for item in message.items.as_slice() {
         match item {

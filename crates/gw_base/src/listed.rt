@@ -1,10 +1,13 @@
 //! A list that lies in an arena, which contracts see as a list.
 
-ghost use Rattle.std.specs.Prelude.{◌≡◌, ◌==◌, [], length};
+ghost use Rattle.std.specs.Prelude.{◌≡◌, ◌==◌, [], ◌∷◌, length, IfOk};
+ghost use Rattle.std.specs.Mem.{FitsInMemory};
 
 use bumpalo::Bump;
 use bumpalo::collections::into_bump_slice;
+use std::alloc::AllocError;
 use std::marker::Model;
+use std::slice;
 
 /// A list that grows no more, as a field of values that contracts compare: what was read of a message. It lies in an arena, and goes
 /// with it.
@@ -22,6 +25,22 @@ impl<'a, T> Model for Listed<'a, T> {
 }
 
 impl<'a, T: Drop> Listed<'a, T> {
+    /// A list of one item, which lies in a block of its own size.
+    ///
+    /// # Errors
+    ///
+    /// `AllocError` where the block was refused; the item is then let go.
+    #[inline(always)]
+    pub fn one(bump: &'a Bump, item: T) -> Result<Listed<'a, T>, AllocError>
+        requires { FitsInMemory T.row }
+        ensures { IfOk result (λ list. list ≡ item ∷ []) }
+    {
+        let item = bump.try_alloc(item)?;
+        Ok(Listed {
+            slice: slice::from_ref(item),
+        })
+    }
+
     /// The items of a vector that was gathered in the arena. They stay where they are: nothing is copied, and none is dropped.
     pub fn kept(items: Vec<T, &'a Bump>) -> Listed<'a, T>
         ensures { result ≡ items.entry.items }

@@ -108,10 +108,19 @@ fn is_port_number(digits: &[u8]) -> bool
     true
 }
 
+/// The same. All that four digits write is small.
+#[tactic(auto, using(crate::proofs::Ports::few_digits))]
+fn is_small(digits: &[u8]) -> bool
+    requires { list_all is_digit digits.now ≡ true }
+    ensures { result ≡ nat_le (digits_value 10 digits.now) port_max }
+{
+    digits.len() < PORT_DIGITS || is_port_number(digits)
+}
+
 fn is_port(text: &[u8]) -> bool
     ensures { IsTrue result ↔ IsPort text.now }
 {
-    !text.is_empty() && text.len() <= PORT_DIGITS && are_digits(text) && is_port_number(text)
+    !text.is_empty() && text.len() <= PORT_DIGITS && are_digits(text) && is_small(text)
 }
 
 fn is_optional_port(text: &[u8]) -> bool

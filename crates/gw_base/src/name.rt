@@ -68,6 +68,16 @@ impl TermName {
         })
     }
 
+    /// The name that the text is, which the caller knows to be one: it is not looked at.
+    pub fn of(text: &[u8]) -> TermName
+        requires { IsName text.now }
+        ensures { result ≡ text.now }
+    {
+        TermName {
+            text: Inline::new(text),
+        }
+    }
+
     /// The name's bytes.
     pub fn as_bytes(&self) -> &[u8]
         ensures bytes { result.now ≡ self.now }

@@ -123,18 +123,29 @@ fn marked(text: &[u8]) -> Result<TermRef, NameFault>
     Ok(wild(text))
 }
 
+/// What a text stands for, which is mostly a name.
+#[tactic(auto, using(crate::proofs::TermNames::name_term, crate::proofs::TermNames::name_plain))]
+fn named(text: &[u8]) -> Result<TermRef, NameFault>
+    ensures { ReadsTerm text.now result }
+{
+    match TermName::read(text) {
+        Ok(_) if is_root(text) => Ok(TermRef::Root),
+        Ok(name) => Ok(TermRef::Name(name)),
+        Err(NameFault::BadByte) => marked(text),
+        Err(fault) => Err(fault),
+    }
+}
+
 impl TermRef {
     /// The reference that the text is. A text of no bytes is `Empty`, one of more than 64 `TooLong`; any other that does not
     /// begin with a letter, `*` or `$` and go on with letters, digits and `_ / * $ @ . -` is `BadByte`.
-    #[tactic(auto, using(crate::proofs::TermNames::name_term, crate::proofs::TermNames::name_plain))]
     pub fn read(text: &[u8]) -> Result<TermRef, NameFault>
         ensures { ReadsTerm text.now result }
     {
-        match TermName::read(text) {
-            Ok(_) if is_root(text) => Ok(TermRef::Root),
-            Ok(name) => Ok(TermRef::Name(name)),
-            Err(NameFault::BadByte) => marked(text),
-            Err(fault) => Err(fault),
+        match text {
+            b"*" => Ok(TermRef::All),
+            b"$" => Ok(TermRef::Choose),
+            _ => named(text),
         }
     }
 }

@@ -23,6 +23,17 @@ use gw_table::{Draft, Originals, Tables};
 use std::alloc::Global;
 use std::mem;
 
+/// A transaction of every day writes so many entries.
+const WRITES_OF_ONE: usize = 4;
+
+/// For so many writes room is made at first, at most.
+const MOST_AT_FIRST: usize = 1_024;
+
+/// For how many writes room is made at first, where there are so many places.
+fn room_for(places: usize) -> usize {
+    places.min(MOST_AT_FIRST / WRITES_OF_ONE) * WRITES_OF_ONE
+}
+
 /// What carrying a request out left.
 #[derive(Drop)]
 struct Left {
@@ -128,7 +139,8 @@ impl Board<'_, '_, '_> {
             unreachable!()
         };
         let tables = mem::replace(&mut self.tables, Tables::new(alloc));
-        let earlier = last_alone(alloc, &mut self.originals);
+        let writes = room_for(self.seats.len());
+        let earlier = last_alone(alloc, writes, &mut self.originals);
         let left = match carry_in_place(alloc, &self.manner, tables, earlier, task.get()) {
             Ok(left) => left,
             Err(tables) => {

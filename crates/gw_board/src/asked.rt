@@ -7,9 +7,9 @@ ghost use Rattle.gw_table.specs.Maps.{Maps};
 ghost use Rattle.gw_board.specs.Carried.{keys_of};
 
 use bumpalo::Bump;
-use gw_base::{Mid, NoMemory, TxId};
+use gw_base::{NoMemory, TxId};
 use gw_foot::is_for_all;
-use gw_msg::{Passage, Request};
+use gw_msg::{Passage, Request, Sender};
 use gw_reserve::Owned;
 use std::marker::Model;
 
@@ -74,7 +74,7 @@ impl<'h, 'a> Lent<'h, 'a> {
 #[derive(Drop)]
 pub struct Asked<'h, 'a> {
     /// The sender.
-    pub mid: Mid,
+    pub mid: Sender<'a>,
     /// The request.
     pub request: Lent<'h, 'a>,
     /// What it owns: an entry for each of its actions, and for each of its commands.

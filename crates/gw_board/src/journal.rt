@@ -12,14 +12,14 @@ use gw_table::{Originals, Tables};
 use std::alloc::Global;
 
 /// Takes the originals of the places that were carried out alone last off the journal, to go on with them. Where the last place was a
-/// job's, or there is none, they are those of no change.
-pub(crate) fn last_alone(alloc: Global, originals: &mut Vec<Original>) -> Originals
+/// job's, or there is none, they are those of no change, with room for so many writes.
+pub(crate) fn last_alone(alloc: Global, writes: usize, originals: &mut Vec<Original>) -> Originals
     ensures last { TakesLast originals.old.items originals.new.items (original_of_writes result) }
     ensures len { vec_len originals.new ≤ vec_len originals.old }
     ensures capacity { vec_capacity originals.old ≤ vec_capacity originals.new }
 {
     let Some(last) = originals.pop() else {
-        return Originals::new(alloc);
+        return Originals::with_room(alloc, writes);
     };
     match last.into_writes() {
         Ok(writes) => writes,
@@ -27,7 +27,7 @@ pub(crate) fn last_alone(alloc: Global, originals: &mut Vec<Original>) -> Origin
             let Ok(()) = originals.push(last) else {
                 unreachable!()
             };
-            Originals::new(alloc)
+            Originals::with_room(alloc, writes)
         }
     }
 }

@@ -109,7 +109,7 @@ impl Begin {
 fn head_at(context: &Context, at: usize) -> u64
     ensures { (name : List ℕ) → slice_get context.now.members at ≡ Some name → (result ≡ head_of 8 name) × AreBytes name }
 {
-    match context.members().get_index(at) {
+    match context.members().get(at) {
         Some(name) => head(8, name.as_bytes()),
         None => u64::MAX,
     }

@@ -170,7 +170,7 @@ fn may_any_act_at(context: &Context, asked: &[Command<'_>]) -> bool
     ensures { result ≡ list_any (may_act_on context.now.members) asked.now }
 {
     if are_more(context, asked, WORTH_NAMES)
-        && let Some(first) = context.members().get_index(0)
+        && let Some(first) = context.members().first()
     {
         return may_any_act_by_names(context, first, asked);
     }
@@ -292,7 +292,7 @@ fn idle_of_many(context: &Context, asked: &[Command<'_>]) -> usize
     ensures { result ≡ position_or_len (may_act_on context.now.members) asked.now }
 {
     if are_more(context, asked, WORTH_NAMES)
-        && let Some(first) = context.members().get_index(0)
+        && let Some(first) = context.members().first()
     {
         return idle_by_names(context, first, asked);
     }

@@ -15,7 +15,7 @@ fn member_at(context: &Context, first: &TermName, at: usize) -> TermName
     ensures among { Contains context.now.members result }
     ensures there { (name : List ℕ) → slice_get context.now.members at ≡ Some name → result ≡ name }
 {
-    match context.members().get_index(at) {
+    match context.members().get(at) {
         Some(name) => *name,
         None => *first,
     }

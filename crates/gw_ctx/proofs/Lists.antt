@@ -1,12 +1,14 @@
 -- Lists that are filtered, or made of others, where tests and functions agree at each element.
 use Rattle.std.proofs.Common.{◌≡◌, ℕ, zero, suc, ◌+◌, ◌<◌, Bool, true, false, not, cond, inl, inr, ◌-◌, List, [], ◌∷◌, length, get_or, drop, take, map, filter, All, None, Some, refl, ap, ◌∙◌, sym, arith, nat_lt, ◌≤◌}
-use Rattle.std.specs.List.{remove, position, position_or_len}
+use Rattle.std.specs.List.{list_any, remove, position, position_or_len}
 use Rattle.std.specs.List.Retain.{RetainsInTurn}
+use Rattle.std.specs.Set.{remove_key}
 use Rattle.std.proofs.lemmas.Bool.{cases_lt, le-ltb, lt-ltb, ltb-true, ltb-false, not-true}
 use Rattle.std.proofs.Math.Seq.{take-length}
 use Rattle.std.proofs.lemmas.List.{get_or-drop, get_or-take, length-drop}
 use Rattle.std.proofs.lemmas.List.Sums.{prefix_len_passes}
 use Rattle.std.proofs.lemmas.List.Elements.{All-head, All-tail}
+use Rattle.std.proofs.lemmas.List.Folds.{list_any_at, list_any_none}
 use Rattle.std.proofs.lemmas.List.Quantifiers.{position-Some}
 
 -- the same function of each
@@ -77,6 +79,32 @@ none_passes p xs e k d h =
 pub removed : {X : Type 0} (p : X → Bool) (xs : List X) (k : ℕ) → position p xs ≡ Some k → ((j : ℕ) (d : X) → k < j → j < length xs → p (get_or xs k d) ≡ true → p (get_or xs j d) ≡ false) → remove xs k ≡ filter (λ x. not (p x)) xs
 removed p xs k e after =
     removed_at p xs k (place_within p xs k e) (λ d. (position-Some p xs k d e).1) (λ j d l. (position-Some p xs k d e).2 j l) (λ j d l m. after j d l m (position-Some p xs k d e).1)
+
+-- the first that passes goes
+first_at : {X : Type 0} (p : X → Bool) (xs : List X) (k : ℕ) → k < length xs → ((d : X) → p (get_or xs k d) ≡ true) → ((j : ℕ) (d : X) → j < k → p (get_or xs j d) ≡ false) → remove xs k ≡ remove_key p xs
+first_at p [] k h at before = absurd (omega arith)
+first_at {X} p (x ∷ xs) zero h at before = sym (ap (λ (b : Bool). cond b xs (x ∷ remove_key p xs)) (at x))
+first_at {X} p (x ∷ xs) (suc k) h at before =
+    let rest : remove xs k ≡ remove_key p xs = first_at p xs k (omega arith) at (λ j d l. before (suc j) d (omega arith)) in
+    ap (λ (l : List X). x ∷ l) rest ∙ sym (ap (λ (b : Bool). cond b xs (x ∷ remove_key p xs)) (before zero x (omega arith)))
+
+pub first_removed : {X : Type 0} (p : X → Bool) (xs : List X) (k : ℕ) → position p xs ≡ Some k → remove xs k ≡ remove_key p xs
+first_removed p xs k e = first_at p xs k (place_within p xs k e) (λ d. (position-Some p xs k d e).1) (λ j d l. (position-Some p xs k d e).2 j l)
+
+none_first : {X : Type 0} (p : X → Bool) (xs : List X) → All (λ x. p x ≡ false) xs → remove_key p xs ≡ xs
+none_first p [] h = refl
+none_first {X} p (x ∷ xs) h =
+    ap (λ (b : Bool). cond b xs (x ∷ remove_key p xs)) (All-head (λ y. p y ≡ false) x xs h) ∙ ap (λ (l : List X). x ∷ l) (none_first p xs (All-tail (λ y. p y ≡ false) x xs h))
+
+pub first_missing : {X : Type 0} (p : X → Bool) (xs : List X) → position p xs ≡ None → remove_key p xs ≡ xs
+first_missing p xs e = none_first p xs (none_passes p xs e)
+
+-- an element is known by its place
+pub placed_any : {X : Type 0} (p : X → Bool) (xs : List X) (k : ℕ) (d : X) → position p xs ≡ Some k → list_any p xs ≡ true
+placed_any p xs k d e = list_any_at p xs k d (place_within p xs k e) (position-Some p xs k d e).1
+
+pub unplaced_any : {X : Type 0} (p : X → Bool) (xs : List X) → position p xs ≡ None → list_any p xs ≡ false
+unplaced_any p xs e = list_any_none p xs (none_passes p xs e)
 
 -- where none passes, all stay
 pub none_removed : {X : Type 0} (p : X → Bool) (xs : List X) → position p xs ≡ None → xs ≡ filter (λ x. not (p x)) xs

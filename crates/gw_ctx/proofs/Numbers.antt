@@ -1,9 +1,11 @@
 -- Places of names, once one of them is gone and the last one has taken its place.
-use Rattle.std.proofs.Common.{◌≡◌, ℕ, ◌+◌, ◌-◌, ◌<◌, nat_eq, Bool, false, cond, ◌⊎◌, inl, inr, List, length, get_or, bytes_eq, arith, ap, sym, ◌∙◌}
+use Rattle.std.proofs.Common.{◌≡◌, ℕ, ◌+◌, ◌-◌, ◌<◌, nat_eq, Bool, false, cond, ◌⊎◌, inl, inr, List, length, get_or, map, bytes_eq, arith, ap, sym, ◌∙◌}
 use Rattle.std.specs.Prelude.{AllPairs}
 use Rattle.std.proofs.lemmas.Bool.{cases_eq, eq-eqb, ne_eqb}
+use Rattle.std.proofs.lemmas.List.{map-id}
 use Rattle.gw_base.proofs.NamesInLists.{other_way}
-use Rattle.gw_ctx.specs.Places.{moved}
+use Rattle.gw_ctx.specs.Places.{Pair, moved, pair_of, renumbered}
+use Rattle.gw_ctx.proofs.Lists.{map_agree}
 
 -- a list without the element at a place, which the last one has taken
 pub record IsSwapped {X : Type 0} (old new : List X) (g : ℕ) : Type 0 where
@@ -16,6 +18,15 @@ moved_cases last g x = elim (cases_eq x last) [
   | inl e ↦ inl (e, ap (λ (b : Bool). cond b g x) (eq-eqb x last e))
   | inr n ↦ inr (n, ap (λ (b : Bool). cond b g x) (ne_eqb x last n))
 ]
+
+-- where the last one is gone, no other moves
+stays_there : (g x : ℕ) → moved g g x ≡ x
+stays_there g x = elim (moved_cases g g x) [ inl h ↦ h.1 ∙ sym h.0 | inr h ↦ h.1 ]
+
+pub stay_there : (g : ℕ) (pairs : List Pair) → map (renumbered g g) pairs ≡ pairs
+stay_there g pairs = map_agree (renumbered g g) (λ p. p) pairs (λ k d h.
+    let p : Pair = get_or pairs k d in
+    ap (λ (n : ℕ). pair_of n (moved g g p.b) p.flow) (stays_there g p.a) ∙ ap (λ (n : ℕ). pair_of p.a n p.flow) (stays_there g p.b)) ∙ map-id pairs
 
 -- two places that move to one were one
 moved_one : (last g x y : ℕ) → (x ≡ g → ⊥) → (y ≡ g → ⊥) → moved last g x ≡ moved last g y → x ≡ y

@@ -1,9 +1,10 @@
 -- Pairs of places of which no two are about the same two.
-use Rattle.std.proofs.Common.{◌≡◌, ℕ, ◌<◌, nat_eq, true, false, ◌&&◌, ◌⊎◌, inl, inr, List, [], ◌∷◌, ◌++◌, length, get_or, filter, sym, ◌∙◌}
+use Rattle.std.proofs.Common.{◌≡◌, ℕ, ◌<◌, ◌≤◌, nat_eq, Bool, true, false, not, ◌&&◌, ◌⊎◌, inl, inr, List, [], ◌∷◌, ◌++◌, length, get_or, filter, All, ap, sym, ◌∙◌, arith}
 use Rattle.std.proofs.lemmas.Bool.{eq-eqb, eqb-true, not-true, or_cases, and_parts, or_left, or_right, and_from, false_from_ne_true, both_ways}
 use Rattle.std.proofs.lemmas.List.Elements.{filter_passes}
 use Rattle.std.proofs.lemmas.List.Quantifiers.{all_pairs_push}
-use Rattle.gw_ctx.specs.Places.{Pair, joins, joins_others, IsSingle}
+use Rattle.gw_ctx.specs.Places.{Pair, joins, joins_others, IsSingle, IsWithin}
+use Rattle.gw_ctx.proofs.Lists.{filter_all}
 
 -- what joins two places stands for one order or the other
 pub either_order : (a b : ℕ) (p : Pair) → joins a b p ≡ true → ((p.a ≡ a) × (p.b ≡ b)) ⊎ ((p.b ≡ a) × (p.a ≡ b))
@@ -36,3 +37,15 @@ pub single_push : (new : Pair) (pairs : List Pair) → IsSingle (filter (joins_o
 single_push new pairs s =
     all_pairs_push (λ earlier later. joins later.a later.b earlier ≡ false) (filter (joins_others new.a new.b) pairs) new s
     (λ k d h. not-true (joins new.a new.b (get_or (filter (joins_others new.a new.b) pairs) k d)) (filter_passes (joins_others new.a new.b) pairs k d h))
+
+-- of names that are new none is there
+none_new : (known a b : ℕ) (p : Pair) → (known ≤ a) ⊎ (known ≤ b) → IsWithin known p → ((p.a ≡ a) × (p.b ≡ b)) ⊎ ((p.b ≡ a) × (p.a ≡ b)) → ⊥
+none_new known a b p (inl far) within (inl h) = omega (arith, far, within.first, h.0)
+none_new known a b p (inl far) within (inr h) = omega (arith, far, within.second, h.0)
+none_new known a b p (inr far) within (inl h) = omega (arith, far, within.second, h.1)
+none_new known a b p (inr far) within (inr h) = omega (arith, far, within.first, h.1)
+
+pub others_of_new : (known a b : ℕ) (pairs : List Pair) → (known ≤ a) ⊎ (known ≤ b) → All (IsWithin known) pairs → filter (joins_others a b) pairs ≡ pairs
+others_of_new known a b pairs far within = filter_all (joins_others a b) pairs (λ k d h.
+    let p : Pair = get_or pairs k d in
+    ap (λ (t : Bool). not t) (false_from_ne_true (joins a b p) (λ e. none_new known a b p far (within k d h) (either_order a b p e))))

@@ -6,15 +6,18 @@ ghost use Rattle.gw_ctx.specs.Contexts.{new_context, joined, left, prioritized, 
 
 use crate::fault::JoinFault;
 use crate::links::Links;
+use crate::names::place_of;
 use gw_base::{Items, Link, NoMemory, TermName};
-use indexmap::IndexSet;
 use std::alloc::{AllocError, Global};
 use std::marker::Model;
+
+/// How many members the first one takes memory for: a context of two is the rule.
+const FIRST_ROOM: usize = 2;
 
 /// A context (RFC 3525, section 6.1): its members in joining order, its priority, whether it is marked as an emergency, and the
 /// links between members in the order in which they were made. Contracts see it as the record of `specs/Contexts.antt`.
 pub struct Context {
-    members: IndexSet<TermName>,
+    members: Vec<TermName>,
     priority: u8,
     emergency: bool,
     links: Links,
@@ -39,7 +42,7 @@ impl Model for Context {
 
     ghost coded = { coded_context };
 
-    ghost view = { λ a. record { members = a.members.keys; priority = a.priority; emergency = a.emergency; links = a.links } };
+    ghost view = { λ a. record { members = a.members.items; priority = a.priority; emergency = a.emergency; links = a.links } };
 }
 
 impl Clone for Context {
@@ -56,7 +59,7 @@ impl Context {
         ensures { result ≡ new_context }
     {
         Context {
-            members: IndexSet::new(alloc),
+            members: Vec::new(alloc),
             priority: 0,
             emergency: false,
             links: Links::new(alloc),
@@ -64,8 +67,8 @@ impl Context {
     }
 
     /// The members in joining order.
-    pub fn members(&self) -> &IndexSet<TermName>
-        ensures { result.now.keys ≡ self.now.members }
+    pub fn members(&self) -> &[TermName]
+        ensures { result.now ≡ self.now.members }
     {
         &self.members
     }
@@ -110,7 +113,7 @@ impl Context {
         self.links.list(alloc)
     }
 
-    /// The name joins as the last member. The caller knows that it is none yet.
+    /// The name joins as the last member. The caller knows that it is none yet. The first takes memory for two.
     ///
     /// # Errors
     ///
@@ -124,18 +127,25 @@ impl Context {
         if limit <= self.members.len() {
             return Err(JoinFault::Full);
         }
-        self.members.insert(name)?;
+        if self.members.is_empty() {
+            self.members.reserve_exact(FIRST_ROOM)?;
+        }
+        self.members.push(name)?;
         Ok(())
     }
 
-    /// The name leaves with its links, and the order of the others stays. Tells whether it was a member. The work is that of the
-    /// members behind it and of comparing the names that are linked, and a pass of the links where one is about it.
+    /// The name leaves with its links, and the order of the others stays. Tells whether it was a member. The work is that of comparing
+    /// the members and the names that are linked, and a pass of the links where one is about it.
     pub fn leave(&mut self, name: &TermName) -> bool
         ensures left { self.new ≡ left name.now self.old }
         ensures there { result ≡ is_in name.now self.old.members }
     {
         self.links.drop_of(name);
-        self.members.shift_remove(name)
+        let Some(place) = place_of(&self.members, name) else {
+            return false;
+        };
+        self.members.remove(place);
+        true
     }
 
     /// Sets the priority: 0 to 15 by the profile, which the caller keeps.
@@ -181,8 +191,9 @@ impl Context {
     pub fn copy(&self) -> Result<Context, AllocError>
         ensures { IfOk result (λ copy. copy ≡ self.now) }
     {
+        let alloc = *self.members.allocator();
         Ok(Context {
-            members: self.members.clone()?,
+            members: Vec::from_slice(alloc, &self.members)?,
             priority: self.priority,
             emergency: self.emergency,
             links: self.links.copy()?,

@@ -24,3 +24,11 @@ impl<T: Drop> From<AllocFailed<T>> for JoinFault {
         JoinFault::NoMemory
     }
 }
+
+impl From<AllocError> for JoinFault {
+    ghost from_gives = { λ _ e. e ≡ NoMemory };
+
+    fn from(_e: AllocError) -> JoinFault {
+        JoinFault::NoMemory
+    }
+}

@@ -106,9 +106,10 @@ impl Links {
     {
         self.names.reserve(2)?;
         self.pairs.reserve(1)?;
+        let known = self.names.len();
         let a = place_in(&mut self.names, link.a);
         let b = place_in(&mut self.names, link.b);
-        put_pair(&mut self.pairs, a, b, link.flow);
+        put_pair(&mut self.pairs, known, a, b, link.flow);
         Ok(())
     }
 

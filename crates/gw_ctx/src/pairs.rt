@@ -1,7 +1,7 @@
 //! Links by the places of their names in a list.
 
 ghost use Rattle.std.specs.Prelude.{◌≡◌, ◌<◌, ◌≤◌, ◌↔◌, ◌++◌, ◌∷◌, [], ℕ, IsTrue, true, false, All, filter, length, map, position, slice_index_or, vec_len, vec_capacity};
-ghost use Rattle.gw_ctx.specs.Places.{Pair as Places, IsSingle, is_off, joins, joins_others, moved, pair_of, renumbered, sum_of};
+ghost use Rattle.gw_ctx.specs.Places.{Pair as Places, IsSingle, IsWithin, is_off, joins, joins_others, moved, pair_of, renumbered, sum_of};
 
 use gw_base::Flow;
 use std::marker::Model;
@@ -171,13 +171,17 @@ pub(crate) fn drop_pair(pairs: &mut Vec<Pair>, a: usize, b: usize)
     }
 }
 
-/// The pair of these two places takes the place of the one that is there, and goes last. There is room for it.
-pub(crate) fn put_pair(pairs: &mut Vec<Pair>, a: usize, b: usize, flow: Flow)
+/// The pair of these two places takes the place of the one that is there, and goes last. There is room for it. Those that are there are
+/// about the first names, so many, that were known: where one of the two was not, none is looked at.
+pub(crate) fn put_pair(pairs: &mut Vec<Pair>, known: usize, a: usize, b: usize, flow: Flow)
     requires room { vec_len pairs.old < vec_capacity pairs.old }
+    requires within { All (IsWithin known) pairs.old.items }
     requires single { IsSingle pairs.old.items }
     ensures { pairs.new.items ≡ filter (joins_others a b) pairs.old.items ++ pair_of a b flow ∷ [] }
 {
-    drop_pair(pairs, a, b);
+    if a < known && b < known {
+        drop_pair(pairs, a, b);
+    }
     if pairs.push(Pair::new(a, b, flow)).is_err() {
         unreachable!();
     }
@@ -218,11 +222,22 @@ fn stays(pair: &mut Pair, last: usize, gone: usize) -> bool
     stays
 }
 
+/// The pairs go that are about this place. It is one pass.
+fn drop_about(pairs: &mut Vec<Pair>, place: usize)
+    ensures { pairs.new.items ≡ filter (is_off place) pairs.old.items }
+{
+    pairs.retain(move |pair| is_off(place, pair));
+}
+
 /// The pairs go that are about the place of a name that is gone, and each of the others follows the names, the last of which has taken
 /// the place. It is one pass.
 pub(crate) fn drop_at(pairs: &mut Vec<Pair>, last: usize, gone: usize)
     ensures { pairs.new.items ≡ map (renumbered last gone) (filter (is_off gone) pairs.old.items) }
 {
+    if gone == last {
+        drop_about(pairs, gone);
+        return;
+    }
     pairs.retain_mut(move |pair| stays(pair, last, gone));
 }
 

@@ -7,6 +7,7 @@ pub mod ServiceLaws
 pub mod DescriptorLaws
 pub mod Fills
 pub mod FillLines
+pub mod FillRuns
 pub mod NamePlaces
 pub mod Marking
 pub mod Counting
@@ -17,3 +18,4 @@ pub mod FillKept
 pub mod FillEnds
 pub mod WordLengths
 pub mod Few
+pub mod PlainLaws

@@ -1,6 +1,6 @@
 -- How `$` in a Local is filled (own; `$` leaves a value to the gateway: RFC 3525, section 7.1.8). A Local is looked at by its
 -- lines, and a line by its fields.
-use Rattle.std.specs.Prelude.{ℕ, ◌+◌, ◌*◌, ◌-◌, ◌==◌, Bool, ◌&&◌, ◌||◌, if◌then◌else◌, List, [], ◌∷◌, ◌++◌, map, codes, decimal, bytes_eq, slice_index_or, slice_set}
+use Rattle.std.specs.Prelude.{◌≡◌, ◌<◌, ℕ, suc, true, length, take, drop, ◌+◌, ◌*◌, ◌-◌, ◌==◌, Bool, ◌&&◌, ◌||◌, if◌then◌else◌, List, [], ◌∷◌, ◌++◌, map, codes, decimal, bytes_eq, slice_index_or, slice_set}
 use Rattle.std.specs.List.{filter, list_any, slice_split, starts_with}
 use Rattle.gw_base.specs.Bytes.{is_one_of}
 
@@ -47,6 +47,14 @@ with_field place text line = laid (slice_set (fields_of line) place text) (ends_
 -- the same, if that field is `$`; else the line as it is
 unfoldable pub put : ℕ → List ℕ → List ℕ → List ℕ
 put place text line = if has_choose place line then with_field place text line else line
+
+-- the line has a byte in this place, and is the other line with the new text in place of that
+abbrev pub IsFilledAt : ℕ → List ℕ → List ℕ → List ℕ → Type 0
+IsFilledAt at new line other = (at < length line) × (other ≡ take at line ++ (new ++ drop (suc at) line))
+
+-- the field of this place is a `$`, which stands here in the line
+abbrev pub IsChoiceAt : ℕ → ℕ → List ℕ → Type 0
+IsChoiceAt place at line = (has_choose place line ≡ true) × ((new : List ℕ) → IsFilledAt at new line (put place new line))
 
 -- connection data
 abbrev pub is_connection : List ℕ → Bool

@@ -9,6 +9,7 @@ mod counts;
 mod kinds;
 mod limits;
 mod names;
+mod plain;
 mod twice;
 mod unfit;
 
@@ -24,8 +25,20 @@ pub use kinds::same_kept;
 /// which is for what, and their order, is own to this profile.
 ///
 /// The work is n log n in what was read.
-#[tactic(auto, unfolding(crate::specs::Checks::check_code))]
 pub fn check(verb: Verb, descriptors: &[Descriptor<'_>]) -> Result<(), Code>
+    ensures right { OnOk result (check_code verb descriptors.now ≡ None) }
+    ensures wrong { IfErr result (λ code. check_code verb descriptors.now ≡ Some code) }
+{
+    if plain::is_plain(verb, descriptors) {
+        return Ok(());
+    }
+    check_each(verb, descriptors)
+}
+
+/// The same, by a look for each code. Kept out of what most commands need.
+#[inline(never)]
+#[tactic(auto, unfolding(crate::specs::Checks::check_code))]
+fn check_each(verb: Verb, descriptors: &[Descriptor<'_>]) -> Result<(), Code>
     ensures right { OnOk result (check_code verb descriptors.now ≡ None) }
     ensures wrong { IfErr result (λ code. check_code verb descriptors.now ≡ Some code) }
 {

@@ -1,5 +1,6 @@
 //! Descriptors, as they are read. After a fault nothing is said of the cursor.
 
+ghost use Rattle.std.proofs.Common.{arith};
 ghost use Rattle.gw_desc.specs.Reading.{descriptor_at, dropped_at, keep_at};
 ghost use Rattle.gw_text.specs.Parts.{Finds};
 
@@ -8,7 +9,7 @@ use crate::tails::tail;
 use bumpalo::Bump;
 use gw_base::Span;
 use gw_text::parts::{Parse, braced, braced_or_empty};
-use gw_text::{Cursor, ParseFault, Token, token_of};
+use gw_text::{Cursor, ParseFault, Token};
 
 /// What follows another word, which is dropped: a bracket perhaps, and the tail that is answered.
 #[tactic(auto, unfolding(crate::specs::Reading::dropped_at, gw_text::specs::SpaceScan::skip))]
@@ -32,10 +33,12 @@ fn keep<'a>(cursor: &mut Cursor<'a>, kind: KeptKind) -> Result<Descriptor<'a>, P
 impl<'a> Parse<'a> for Descriptor<'a> {
     ghost read_at = { descriptor_at };
 
+    ghost fits = { Prim.search arith };
+
     #[tactic(auto, unfolding(crate::specs::Reading::descriptor_at))]
     fn read(bump: &'a Bump, cursor: &mut Cursor<'a>) -> Result<Descriptor<'a>, ParseFault> {
-        let word = cursor.word()?;
-        match token_of(word) {
+        let (word, token) = cursor.named()?;
+        match token {
             Some(Token::Media) => Ok(Descriptor::Media(braced(bump, cursor)?)),
             Some(Token::Events) => keep(cursor, KeptKind::Events),
             Some(Token::Signals) => keep(cursor, KeptKind::Signals),

@@ -1,5 +1,6 @@
 //! Properties: a name, a sign and a value, which is kept as sent. After a fault nothing is said of the cursor.
 
+ghost use Rattle.std.proofs.Common.{arith};
 ghost use Rattle.gw_desc.specs.Reading.{property_at, relation_at, value_at};
 ghost use Rattle.gw_text.specs.Parts.{Finds};
 
@@ -47,6 +48,8 @@ fn relation(cursor: &mut Cursor<'_>) -> Result<Sign, ParseFault>
 
 impl<'a> Parse<'a> for Property<Span<'a>> {
     ghost read_at = { property_at };
+
+    ghost fits = { Prim.search arith };
 
     #[tactic(auto, unfolding(crate::specs::Reading::property_at))]
     fn read(_bump: &'a Bump, cursor: &mut Cursor<'a>) -> Result<Property<Span<'a>>, ParseFault> {

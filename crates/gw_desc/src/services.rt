@@ -1,5 +1,6 @@
 //! The parameters of a Services descriptor, as they are read. After a fault nothing is said of the cursor.
 
+ghost use Rattle.std.proofs.Common.{arith};
 ghost use Rattle.gw_desc.specs.Reading.{service_parm_at, service_value_at};
 ghost use Rattle.gw_text.specs.Parts.{Finds};
 
@@ -22,6 +23,8 @@ fn value<'a>(cursor: &mut Cursor<'a>) -> Result<ServiceValue<'a>, ParseFault>
 
 impl<'a> Parse<'a> for ServiceParm<'a> {
     ghost read_at = { service_parm_at };
+
+    ghost fits = { Prim.search arith };
 
     #[tactic(auto, unfolding(crate::specs::Reading::service_parm_at))]
     fn read(_bump: &'a Bump, cursor: &mut Cursor<'a>) -> Result<ServiceParm<'a>, ParseFault> {

@@ -1,5 +1,6 @@
 //! The parts of a Media descriptor, as they are read. After a fault nothing is said of the cursor.
 
+ghost use Rattle.std.proofs.Common.{arith};
 ghost use Rattle.gw_desc.specs.Reading.{media_part_at, octets_text_at, stream_at, stream_part_at, stream_rest};
 ghost use Rattle.gw_text.specs.Parts.{Gives, Finds};
 
@@ -51,6 +52,8 @@ fn stream_part<'a>(
 impl<'a> Parse<'a> for StreamPart<'a> {
     ghost read_at = { stream_part_at };
 
+    ghost fits = { Prim.search arith };
+
     #[tactic(auto, unfolding(crate::specs::Reading::stream_part_at))]
     fn read(bump: &'a Bump, cursor: &mut Cursor<'a>) -> Result<StreamPart<'a>, ParseFault> {
         let word = token(cursor)?;
@@ -71,6 +74,8 @@ fn stream<'a>(bump: &'a Bump, cursor: &mut Cursor<'a>) -> Result<MediaPart<'a>, 
 
 impl<'a> Parse<'a> for MediaPart<'a> {
     ghost read_at = { media_part_at };
+
+    ghost fits = { Prim.search arith };
 
     #[tactic(auto, unfolding(crate::specs::Reading::media_part_at))]
     fn read(bump: &'a Bump, cursor: &mut Cursor<'a>) -> Result<MediaPart<'a>, ParseFault> {

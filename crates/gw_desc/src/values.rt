@@ -1,6 +1,7 @@
 //! The words that stand for values: modes, service states, what an Audit asks for.
 
 ghost use Rattle.std.specs.Prelude.{◌≡◌, IfSome, Some};
+ghost use Rattle.gw_text.specs.TokenTable.{begins_in};
 ghost use Rattle.gw_desc.specs.Values.{mode_of, service_of, item_of, is_mode, is_service_states, mode_set_by, service_set_by, uint32_of, is_parm};
 
 use crate::descriptor::{KeptKind, Property, ServiceParm, Sign};
@@ -103,23 +104,39 @@ pub fn item_of(word: &[u8]) -> Option<AuditItem>
     }
 }
 
-/// Whether a property of a LocalControl is Mode. Most others are told by the length of their name.
-#[tactic(auto, using(crate::proofs::WordLengths::no_mode), unfolding(crate::specs::Values::is_mode))]
+/// Whether a name begins with the letter, which is in lower case.
+fn begins_in(letter: u8, name: &[u8]) -> bool
+    ensures { result ≡ begins_in letter name.now }
+{
+    match name {
+        [b, ..] => b.to_ascii_lowercase() == letter,
+        [] => false,
+    }
+}
+
+/// Whether a property of a LocalControl is Mode. Most others are told by the length of their name, or by its first letter.
+#[tactic(auto, using(crate::proofs::WordLengths::no_mode, crate::proofs::WordLengths::no_mode_in), unfolding(crate::specs::Values::is_mode))]
 pub fn is_mode(name: &[u8]) -> bool
     ensures { result ≡ is_mode name.now }
 {
     if name.len() != 4 && name.len() != 2 {
         return false;
     }
+    if !begins_in(b'm', name) {
+        return false;
+    }
     matches!(token_of(name), Some(Token::Mode))
 }
 
-/// Whether a property of a TerminationState is ServiceStates. Most others are told by the length of their name.
-#[tactic(auto, using(crate::proofs::WordLengths::no_states), unfolding(crate::specs::Values::is_service_states))]
+/// Whether a property of a TerminationState is ServiceStates. Most others are told by the length of their name, or by its first letter.
+#[tactic(auto, using(crate::proofs::WordLengths::no_states, crate::proofs::WordLengths::no_states_in), unfolding(crate::specs::Values::is_service_states))]
 pub fn is_service_states(name: &[u8]) -> bool
     ensures { result ≡ is_service_states name.now }
 {
     if name.len() != 13 && name.len() != 2 {
+        return false;
+    }
+    if !begins_in(b's', name) {
         return false;
     }
     matches!(token_of(name), Some(Token::ServiceStates))

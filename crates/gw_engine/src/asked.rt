@@ -5,16 +5,16 @@ ghost use Rattle.std.specs.Prelude.{◌≡◌, ◌++◌, OnOk, IfOk};
 ghost use Rattle.gw_engine.specs.Phases.{asks_from, asks_of, point_of, points_of};
 
 use crate::heard::Heard;
-use gw_base::{Code, Items, Mid, NoMemory};
+use gw_base::{Code, Items, NoMemory};
 use gw_board::Lent;
 use gw_kept::{Point, Ranges, Removal, RequestKey};
-use gw_msg::Item;
+use gw_msg::{Item, Sender};
 use std::alloc::Global;
 
 /// A request, and who sent it.
 #[derive(Drop)]
 pub(crate) struct Sent<'h, 'a> {
-    pub(crate) mid: Mid,
+    pub(crate) mid: Sender<'a>,
     pub(crate) request: Lent<'h, 'a>,
 }
 
@@ -24,7 +24,7 @@ impl<'h, 'a> Sent<'h, 'a> {
         ensures { result ≡ self.now }
     {
         Sent {
-            mid: self.mid,
+            mid: self.mid.again(),
             request: self.request.again(),
         }
     }
@@ -56,7 +56,7 @@ impl<'h> Ask<'h, '_> {
         match &self.said {
             Said::Request(sent) => Point::Request(RequestKey {
                 id: sent.request.id().0,
-                mid: sent.mid,
+                mid: *sent.mid.mid(),
             }),
             Said::Ack(removal) => Point::Ack(removal.again()),
             Said::Fault(_) => Point::Nothing,
@@ -79,21 +79,21 @@ fn push_asks<'h, 'a>(asks: &mut Items<Ask<'h, 'a>>, datagram: &'h Heard<'a>) -> 
             return Ok(());
         }
     };
-    let mid = message.mid;
+    let mid = &message.mid;
     let items = message.items.as_slice();
     for item in items {
         match item {
             Item::Request(request) => asks.push(Ask {
                 peer,
                 said: Said::Request(Sent {
-                    mid,
+                    mid: mid.again(),
                     request: Lent::new(request),
                 }),
             })?,
             Item::Ack(ranges) => asks.push(Ask {
                 peer,
                 said: Said::Ack(Removal {
-                    mid,
+                    mid: *mid.mid(),
                     ranges: Ranges::new(ranges.as_slice()),
                 }),
             })?,

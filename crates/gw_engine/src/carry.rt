@@ -118,7 +118,7 @@ fn with_texts(mut entries: Vec<Entry>, jobs: &[Asked<'_, '_>], texts: Vec<Items<
     for bytes in texts {
         let job = &jobs[entries.len()];
         let Ok(()) = entries.push(Entry {
-            mid: job.mid,
+            mid: *job.mid.mid(),
             id: job.request.id(),
             bytes,
         }) else {

@@ -38,7 +38,7 @@ impl Gateway {
             let tree = sent.request.tree(&scratch)?;
             let owned = reservation.own(alloc, &self.tables, tree)?;
             jobs.push(Asked {
-                mid: sent.mid,
+                mid: sent.mid.again(),
                 request: sent.request.again(),
                 owned,
             })?;

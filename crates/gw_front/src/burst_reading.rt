@@ -87,7 +87,7 @@ fn next_piece<R: Read>(
     }
 }
 
-/// So many datagrams have room in a burst before its list grows.
+/// So many datagrams have room at least in a burst before its list grows.
 const ROOM_AT_FIRST: usize = 16;
 
 /// The next burst, its datagrams in blocks that were kept, as far as there are. Nothing is read behind its line `.`, nor behind the end of
@@ -103,7 +103,8 @@ pub(crate) fn next_burst<R: Read>(
 ) -> Result<Next, ReplayFault>
     ensures { IsNext (reader_remaining R.remaining reader.old) (reader_remaining R.remaining reader.new) result }
 {
-    let mut burst = Items::from(Vec::with_capacity(alloc, ROOM_AT_FIRST)?);
+    let room = spares.last().max(ROOM_AT_FIRST);
+    let mut burst = Items::from(Vec::with_capacity(alloc, room)?);
     loop {
         match next_piece(alloc, reader, spares, burst.len())? {
             Piece::Datagram(datagram) => burst.push(datagram)?,

@@ -16,6 +16,8 @@ const MOST: usize = 256;
 #[derive(Drop)]
 pub(crate) struct Spares {
     blocks: Vec<Vec<u8>>,
+    /// How many datagrams the burst had of which blocks were kept last.
+    last: usize,
 }
 
 impl Spares {
@@ -23,7 +25,13 @@ impl Spares {
     pub(crate) fn new(alloc: Global) -> Result<Spares, AllocError> {
         Ok(Spares {
             blocks: Vec::with_capacity(alloc, MOST)?,
+            last: 0,
         })
+    }
+
+    /// How many datagrams the burst before had: the next one mostly has as many.
+    pub(crate) fn last(&self) -> usize {
+        self.last
     }
 
     /// A block without bytes: one that was kept, or a new one, which takes no memory yet.
@@ -50,6 +58,7 @@ impl Spares {
 
     /// Keeps the blocks of a burst.
     pub(crate) fn give_all(&mut self, burst: Items<Datagram>) {
+        self.last = burst.len();
         for datagram in burst.into_vec() {
             self.give(datagram);
         }

@@ -46,11 +46,6 @@ key_at (x ∷ xs) (suc i) e d at = key_at xs i e d at
 
 -- ---- one more, where there is room
 
-pub all_of : {X : Type 0} (most : ℕ) (xs : List X) (x : X) → length xs < most → keep_last most (xs ++ x ∷ []) ≡ xs ++ x ∷ []
-all_of most xs x room =
-    let none : length (xs ++ x ∷ []) - most ≡ 0 = omega (arith, length-append xs (x ∷ [])) in
-    ap (λ (n : ℕ). drop n (xs ++ x ∷ [])) none
-
 -- where one less was left, one more is kept
 pub last_kept : (most : ℕ) (es : List Entry) (e : Entry) → 1 ≤ most → keep_last (most - 1) es ++ e ∷ [] ≡ keep_last most (es ++ e ∷ [])
 last_kept most es e some =

@@ -1,5 +1,5 @@
 -- Lists of which each pair, or each item, is as asked: with one more item, and with other items in place of these.
-use Rattle.std.proofs.Common.{◌≡◌, ℕ, zero, suc, ◌+◌, ◌-◌, ◌<◌, ◌≤◌, List, [], ◌∷◌, ◌++◌, map, length, take, drop, get_or, true, is_some, Option, Some, None, Result, Ok, Err, refl, ap, sym, subst, ◌∙◌, add-one, arith, inl, inr}
+use Rattle.std.proofs.Common.{◌≡◌, ℕ, zero, suc, ◌+◌, ◌-◌, ◌<◌, ◌≤◌, List, [], ◌∷◌, ◌++◌, map, length, take, drop, get_or, true, is_some, is_ok, Option, Some, None, Result, Ok, Err, refl, ap, sym, subst, ◌∙◌, add-one, arith, inl, inr}
 use Rattle.std.specs.Option.{OnSome}
 use Rattle.std.specs.Result.{OnErr, OnOk}
 use Rattle.std.specs.List.{All, AllPairs, Contains, insert, remove}
@@ -15,6 +15,10 @@ of_some None p h = absurd cc
 pub of_ok : {T E P Q : Type 0} (r : Result T E) → OnOk r P → OnErr r Q → (Q → ⊥) → P
 of_ok (Ok x) p q f = p
 of_ok (Err e) p q f = absurd (f q)
+
+pub of_is_ok : {T E P : Type 0} (r : Result T E) → OnOk r P → is_ok r ≡ true → P
+of_is_ok (Ok x) p h = p
+of_is_ok (Err e) p h = absurd cc
 
 pub below_or_not : (i j : ℕ) (P : Type 0) → (i < j → P) → (j ≤ i → P) → P
 below_or_not zero zero P f g = g (omega arith)
@@ -86,6 +90,11 @@ map_agree f g [] all = refl
 map_agree f g (x ∷ xs) all =
     let tail : map f xs ≡ map g xs = map_agree f g xs (λ i d within. all (suc i) d (omega arith)) in
     ap (λ y. y ∷ map f xs) (all 0 x (omega arith)) ∙ ap (λ ys. g x ∷ ys) tail
+
+-- at the end
+pub insert_last : {X : Type 0} (xs : List X) (y : X) → insert xs (length xs) y ≡ xs ++ y ∷ []
+insert_last [] y = refl
+insert_last (x ∷ xs) y = ap (λ (l : List _). x ∷ l) (insert_last xs y)
 
 pub map_insert : {X Y : Type 0} (f : X → Y) (xs : List X) (i : ℕ) (y : X) → insert (map f xs) i (f y) ≡ map f (insert xs i y)
 map_insert f xs i y =

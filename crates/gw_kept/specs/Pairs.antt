@@ -24,8 +24,11 @@ pub record IsBounded (k : KeptList) : Type 0 where
   pub some : 1 ≤ k.most
   pub limit : k.most ≤ most_kept
 
+abbrev pub key_by : (mid : List ℕ) → ℕ → RequestKey
+key_by mid id = record { id = id; mid = mid }
+
 abbrev pub key_of : Entry → RequestKey
-key_of e = record { id = e.id.0; mid = e.mid }
+key_of e = key_by e.mid e.id.0
 
 -- the same sender, byte for byte, and the same number
 abbrev pub is_same : RequestKey → RequestKey → Bool

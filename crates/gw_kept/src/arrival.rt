@@ -128,6 +128,7 @@ impl Arrival {
     }
 
     /// Notes a pair that is to go last, behind so many places. It takes no memory: the caller knows that there is room.
+    #[inline(always)]
     pub fn push(&mut self, places: usize)
         requires few { places < most_places }
         requires room { deque_len self.old.numbers < deque_capacity self.old.numbers }
@@ -135,10 +136,11 @@ impl Arrival {
         ensures room { deque_capacity self.old.numbers ≤ deque_capacity self.new.numbers }
     {
         let number = self.first.wrapping_add(places as u16);
-        let _ = self.numbers.push_back(number);
+        self.numbers.push_back_reserved(number);
     }
 
     /// Leaves out the foremost place, which is to leave the ring: a pair or a gap.
+    #[inline(always)]
     pub fn leave_front(&mut self, ring: &Ring)
         requires { IsArrival (keys_in ring.now.items) self.old.first self.old.numbers.items }
         ensures arrival { IsArrival (drop 1 (keys_in ring.now.items)) self.new.first self.new.numbers.items }

@@ -2,7 +2,7 @@
 
 ghost use Rattle.std.specs.Prelude.{◌≡◌};
 ghost use Rattle.gw_kept.specs.Order.{key_cmp};
-ghost use Rattle.gw_kept.specs.Pairs.{key_of};
+ghost use Rattle.gw_kept.specs.Pairs.{key_by, key_of};
 
 use gw_base::{Items, Mid, TxId};
 use std::alloc::Global;
@@ -43,14 +43,23 @@ impl RequestKey {
 
 impl Entry {
     /// How the key of the pair stands to another. Most senders are the same, which is told at once.
-    pub(crate) fn compare_key(&self, key: &RequestKey) -> Ordering
-        ensures { result ≡ key_cmp (key_of self.now) key.now }
+    #[inline(always)]
+    pub(crate) fn compare_key(&self, mid: &Mid, id: u32) -> Ordering
+        ensures { result ≡ key_cmp (key_of self.now) (key_by mid.now id) }
     {
-        if self.mid == key.mid {
-            self.id.0.cmp(&key.id)
+        if self.mid == *mid {
+            self.id.0.cmp(&id)
         } else {
-            self.mid.cmp(&key.mid).then(self.id.0.cmp(&key.id))
+            self.compare_apart(mid, id)
         }
+    }
+
+    /// The same, of senders that are not.
+    #[inline(never)]
+    fn compare_apart(&self, mid: &Mid, id: u32) -> Ordering
+        ensures { result ≡ key_cmp (key_of self.now) (key_by mid.now id) }
+    {
+        self.mid.cmp(mid).then(self.id.0.cmp(&id))
     }
 
     /// The key of the pair.

@@ -99,6 +99,7 @@ impl Kept {
     }
 
     /// The place of a key's pair, counted from the oldest on: twice log k steps for k pairs, or once where it has none.
+    #[inline(always)]
     pub(crate) fn place(&self, key: &RequestKey) -> Option<usize>
         ensures place { result ≡ last_place key.now (keys_of self.now) }
         ensures distinct { AreDistinct self.now.pairs }

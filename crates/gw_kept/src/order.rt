@@ -6,13 +6,15 @@ ghost use Rattle.std.specs.List.{remove};
 ghost use Rattle.std.specs.List.Sorted.{IsSearchInRange};
 ghost use Rattle.circular_buffer.specs.Buffer.{buffer};
 ghost use Rattle.gw_kept.specs.Rows.{keys_in, key_in, most_places, present, IsFound};
-ghost use Rattle.gw_kept.specs.Order.{key_cmp, place_of, IsOrder, IsStand, IsTaken};
+ghost use Rattle.gw_kept.specs.Order.{key_cmp, number_at, place_of, IsOrder, IsStand, IsTaken};
+ghost use Rattle.gw_kept.specs.Pairs.{key_by, key_of};
 ghost use Rattle.gw_kept.specs.Arrival.{IsArrival};
 ghost use Rattle.gw_kept.specs.declared.entry.RequestKey.{RequestKey as Key};
 
 use crate::arrival::Arrival;
-use crate::entry::RequestKey;
+use crate::entry::{Entry, RequestKey};
 use crate::ring::{Ring, pair_at, places_left, take};
+use gw_base::Mid;
 use std::alloc::{AllocError, Global};
 use std::cmp::Ordering;
 use std::collections::VecDeque;
@@ -71,49 +73,72 @@ impl Order {
     }
 
     /// How the key of the pair that has this number stands to another.
-    fn compare(&self, ring: &Ring, number: u16, key: &RequestKey) -> Ordering
-        ensures { result ≡ key_cmp (key_in (keys_in ring.now.items) (place_of self.now.first number) key.now) key.now }
+    #[inline(always)]
+    fn compare(&self, ring: &Ring, number: u16, mid: &Mid, id: u32) -> Ordering
+        ensures { result ≡ key_cmp (key_in (keys_in ring.now.items) (place_of self.now.first number) (key_by mid.now id)) (key_by mid.now id) }
     {
         match pair_at(ring, self.place(number)) {
-            Some(entry) => entry.compare_key(key),
+            Some(entry) => entry.compare_key(mid, id),
             None => Ordering::Equal,
         }
     }
 
     /// Whether a key comes behind all others.
-    fn is_behind(&self, ring: &Ring, key: &RequestKey) -> bool
-        ensures { (order : IsOrder (keys_in ring.now.items) self.now.first self.now.numbers.items) → result ≡ true → IsStand (keys_in ring.now.items) order.places key.now (Err (deque_len self.now.numbers)) }
+    #[inline(always)]
+    fn is_behind(&self, ring: &Ring, mid: &Mid, id: u32) -> bool
+        ensures { (order : IsOrder (keys_in ring.now.items) self.now.first self.now.numbers.items) → result ≡ true → IsStand (keys_in ring.now.items) order.places (key_by mid.now id) (Err (deque_len self.now.numbers)) }
     {
         match self.numbers.back() {
-            Some(number) => self.compare(ring, *number, key).is_lt(),
+            Some(number) => self.compare(ring, *number, mid, id).is_lt(),
             None => true,
         }
     }
 
     /// Where a key stands in the order, or where it would stand: one step where it comes behind all others, as the next number of
     /// a sender mostly does, and else as many more as the count of pairs has binary digits.
+    #[inline(always)]
     pub fn search(&self, ring: &Ring, key: &RequestKey) -> Result<usize, usize>
         ensures range { IsSearchInRange result (deque_len self.now.numbers) }
         ensures stand { (order : IsOrder (keys_in ring.now.items) self.now.first self.now.numbers.items) → IsStand (keys_in ring.now.items) order.places key.now result }
     {
-        if self.is_behind(ring, key) {
+        if self.is_behind(ring, &key.mid, key.id) {
             return Err(self.numbers.len());
         }
+        self.search_among(ring, key)
+    }
+
+    /// The same by halves, wherever it comes.
+    #[inline(never)]
+    fn search_among(&self, ring: &Ring, key: &RequestKey) -> Result<usize, usize>
+        ensures range { IsSearchInRange result (deque_len self.now.numbers) }
+        ensures stand { (order : IsOrder (keys_in ring.now.items) self.now.first self.now.numbers.items) → IsStand (keys_in ring.now.items) order.places key.now result }
+    {
         self.numbers
-            .binary_search_by(|number| self.compare(ring, *number, key))
+            .binary_search_by(|number| self.compare(ring, *number, &key.mid, key.id))
+    }
+
+    /// Where the key of a pair stands in the order, or where it would stand.
+    #[inline(never)]
+    fn search_pair(&self, ring: &Ring, pair: &Entry) -> Result<usize, usize>
+        ensures range { IsSearchInRange result (deque_len self.now.numbers) }
+        ensures stand { (order : IsOrder (keys_in ring.now.items) self.now.first self.now.numbers.items) → IsStand (keys_in ring.now.items) order.places (key_of pair.now) result }
+    {
+        self.search_among(ring, &pair.key())
     }
 
     /// Where the key of the pair in the foremost place stands: mostly in front, which is told by its number.
-    fn search_oldest(&self, ring: &Ring, key: &RequestKey) -> Result<usize, usize>
-        ensures { (order : IsOrder (keys_in ring.now.items) self.now.first self.now.numbers.items) → slice_index_or (keys_in ring.now.items) 0 None ≡ Some key.now → IsStand (keys_in ring.now.items) order.places key.now result }
+    #[inline(always)]
+    fn search_oldest(&self, ring: &Ring, oldest: &Entry) -> Result<usize, usize>
+        ensures { (order : IsOrder (keys_in ring.now.items) self.now.first self.now.numbers.items) → slice_index_or (keys_in ring.now.items) 0 None ≡ Some (key_of oldest.now) → IsStand (keys_in ring.now.items) order.places (key_of oldest.now) result }
     {
         match self.numbers.front() {
             Some(number) if *number == self.first => Ok(0),
-            _ => self.search(ring, key),
+            _ => self.search_pair(ring, oldest),
         }
     }
 
     /// The place of a key's pair, gaps counted.
+    #[inline(always)]
     pub fn find(&self, ring: &Ring, key: &RequestKey) -> Option<usize>
         requires { IsOrder (keys_in ring.now.items) self.now.first self.now.numbers.items }
         ensures { IsFound (keys_in ring.now.items) key.now result }
@@ -125,34 +150,70 @@ impl Order {
     }
 
     /// Notes the key of a pair that is to go last, which no pair has. It takes no memory: the caller knows that there is room.
-    pub fn insert(&mut self, ring: &Ring, key: &RequestKey)
+    #[inline(always)]
+    pub fn insert(&mut self, ring: &Ring, entry: &Entry)
         requires order { IsOrder (keys_in ring.now.items) self.old.first self.old.numbers.items }
-        requires new { IsFound (keys_in ring.now.items) key.now None }
+        requires new { IsFound (keys_in ring.now.items) (key_of entry.now) None }
         requires few { length ring.now.items < most_places }
         requires room { deque_len self.old.numbers < deque_capacity self.old.numbers }
-        ensures order { IsOrder (keys_in ring.now.items ++ Some key.now ∷ []) self.new.first self.new.numbers.items }
+        ensures order { IsOrder (keys_in ring.now.items ++ Some (key_of entry.now) ∷ []) self.new.first self.new.numbers.items }
         ensures room { deque_capacity self.old.numbers ≤ deque_capacity self.new.numbers }
     {
         let number = self.first.wrapping_add(ring.len() as u16);
-        if let Err(at) = self.search(ring, key) {
+        if self.is_behind(ring, &entry.mid, entry.id.0) {
+            self.numbers.push_back_reserved(number);
+        } else {
+            self.insert_among(ring, entry, number);
+        }
+    }
+
+    /// The same, wherever the key comes, where the pair is to have this number.
+    #[inline(never)]
+    fn insert_among(&mut self, ring: &Ring, entry: &Entry, number: u16)
+        requires order { IsOrder (keys_in ring.now.items) self.old.first self.old.numbers.items }
+        requires new { IsFound (keys_in ring.now.items) (key_of entry.now) None }
+        requires few { length ring.now.items < most_places }
+        requires room { deque_len self.old.numbers < deque_capacity self.old.numbers }
+        requires number { number ≡ number_at self.old.first (length ring.now.items) }
+        ensures order { IsOrder (keys_in ring.now.items ++ Some (key_of entry.now) ∷ []) self.new.first self.new.numbers.items }
+        ensures room { deque_capacity self.old.numbers ≤ deque_capacity self.new.numbers }
+    {
+        if let Err(at) = self.search_pair(ring, entry) {
             let _ = self.numbers.insert(at, number);
         }
     }
 
+    /// Leaves out the number that stands here, which moves nothing where it is the first.
+    #[inline(always)]
+    fn leave_out(&mut self, at: usize)
+        requires { at < deque_len self.old.numbers }
+        ensures numbers { self.new.numbers.items ≡ remove self.old.numbers.items at }
+        ensures first { self.new.first ≡ self.old.first }
+        ensures room { deque_capacity self.new.numbers ≡ deque_capacity self.old.numbers }
+    {
+        if at == 0 {
+            self.numbers.pop_front();
+        } else {
+            self.numbers.remove(at);
+        }
+    }
+
     /// Leaves out the pair in the foremost place, if it is no gap.
+    #[inline(always)]
     fn leave_pair(&mut self, ring: &Ring)
         requires { IsOrder (keys_in ring.now.items) self.old.first self.old.numbers.items }
         ensures order { IsOrder (slice_set (keys_in ring.now.items) 0 None) self.new.first self.new.numbers.items }
         ensures room { deque_capacity self.new.numbers ≡ deque_capacity self.old.numbers }
     {
         if let Some(oldest) = pair_at(ring, 0) {
-            if let Ok(at) = self.search_oldest(ring, &oldest.key()) {
-                self.numbers.remove(at);
+            if let Ok(at) = self.search_oldest(ring, oldest) {
+                self.leave_out(at);
             }
         }
     }
 
     /// Leaves out the foremost place, which is to leave the ring: a pair or a gap.
+    #[inline(always)]
     pub fn leave_front(&mut self, ring: &Ring)
         requires { IsOrder (keys_in ring.now.items) self.old.first self.old.numbers.items }
         ensures order { IsOrder (drop 1 (keys_in ring.now.items)) self.new.first self.new.numbers.items }

@@ -14,6 +14,7 @@ pub type Ring = HeapCircularBuffer<Option<Entry>>;
 pub const MOST_PLACES: usize = 5120;
 
 /// The pair at a place.
+#[inline(always)]
 pub fn pair_at(ring: &Ring, place: usize) -> Option<&Entry>
     ensures { option_copied result ≡ slice_index_or ring.now.items place None }
 {
@@ -55,6 +56,7 @@ fn bring(ring: &mut Ring, from: usize, to: usize)
 }
 
 /// Takes the foremost place away, and the pair that stood there.
+#[inline(always)]
 pub fn pop(ring: &mut Ring) -> Option<Entry>
     ensures pair { result ≡ slice_index_or ring.old.items 0 None }
     ensures items { ring.new ≡ buffer (drop 1 ring.old.items) ring.old.capacity }

@@ -107,6 +107,7 @@ impl Row {
 
     /// How many pairs are before a key's pair, gaps not counted, if it has one: twice log k steps for k pairs. Each pair has a key
     /// of its own.
+    #[inline(always)]
     pub fn rank(&self, key: &RequestKey) -> Option<usize>
         ensures rank { result ≡ last_place key.now (keys_of (kept_in self.now)) }
         ensures distinct { AreDistinct (present self.now.row) }
@@ -118,6 +119,7 @@ impl Row {
     }
 
     /// The place of a key's pair, gaps counted: log k steps for k pairs. Each pair has a key of its own.
+    #[inline(always)]
     pub fn find(&self, key: &RequestKey) -> Option<usize>
         ensures found { IsFound (keys_in self.now.row) key.now result }
         ensures distinct { AreDistinct (present self.now.row) }
@@ -136,19 +138,21 @@ impl Row {
     /// handed back. It takes no memory. For k kept pairs it costs log k steps, or one where the key comes behind all others, and two
     /// moves of at most k bytes, or none where keys come in their order and leave in it. Where no place is free, the gaps are closed
     /// first, which is shared by the pairs that were removed since they were closed last.
+    #[inline(always)]
     pub fn push(&mut self, entry: Entry) -> Option<Entry>
         requires { bytes_for (key_of entry) (present self.old.row) ≡ None }
         ensures pairs { kept_in self.new ≡ with_pair (kept_in self.old) entry }
         ensures dropped { result ≡ dropped_by (kept_in self.old) entry }
     {
         let dropped = self.make_room();
-        self.order.insert(&self.ring, &entry.key());
+        self.order.insert(&self.ring, &entry);
         self.arrival.push(self.ring.len());
-        self.ring.push_back(Some(entry));
+        let _ = self.ring.try_push_back(Some(entry));
         dropped
     }
 
     /// Makes room for one more pair.
+    #[inline(always)]
     fn make_room(&mut self) -> Option<Entry>
         ensures pairs { kept_in self.new ≡ kept_list (keep_last (self.old.most - 1) (present self.old.row)) self.old.most }
         ensures dropped { result ≡ (if nat_lt (length (present self.old.row)) self.old.most then None else slice_get (present self.old.row) 0) }
@@ -164,6 +168,7 @@ impl Row {
     }
 
     /// Takes the oldest pair, and with it the gaps in front of it.
+    #[inline(always)]
     fn pop_oldest(&mut self) -> Option<Entry>
         ensures row { present self.new.row ≡ drop 1 (present self.old.row) }
         ensures most { self.new.most ≡ self.old.most }
@@ -212,6 +217,7 @@ impl Row {
     }
 
     /// Closes the gaps, where there are any: one pass over the places.
+    #[inline(never)]
     fn settle(&mut self)
         ensures kept { kept_in self.new ≡ kept_in self.old }
         ensures whole { IsWhole self.new }

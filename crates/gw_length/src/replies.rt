@@ -5,7 +5,7 @@ ghost use Rattle.gw_length.specs.Rooms.{Leaves};
 ghost use Rattle.gw_reply.specs.Replies.{body_text, command_reply_text, replies_text, later_replies, told_text};
 
 use crate::room::{Length, behind, behind_joined, behind_later, behind_number};
-use crate::words::verb_length;
+use crate::words::{term_length, verb_length};
 use gw_base::{Code, Items};
 use gw_reply::{ActionReply, CommandReply, ContextPart, ReplyPart};
 
@@ -32,10 +32,8 @@ impl Length for CommandReply {
     ghost text = { command_reply_text };
 
     fn room_behind(&self, room: usize) -> Option<usize> {
-        let left = behind(room, verb_length(self.verb))?;
-        let left = behind(left, b"=".len())?;
-        let left = self.term.room_behind(left)?;
-        behind_body(left, &self.result)
+        let front = verb_length(self.verb) + b"=".len() + term_length(&self.term);
+        behind_body(behind(room, front)?, &self.result)
     }
 }
 

@@ -20,6 +20,7 @@ pub enum Telling<T> {
 }
 
 /// The room that is left behind a comma and the reply.
+#[inline(always)]
 fn behind_one<T: Length>(room: usize, reply: &T) -> Option<usize>
     ensures { Leaves result room (length (later T.text (reply.now ∷ []))) }
 {
@@ -33,6 +34,7 @@ impl<T: Length + Drop> Telling<T> {
     /// # Errors
     ///
     /// Want of memory.
+    #[inline(always)]
     pub fn tell(self, reply: T) -> Result<Telling<T>, NoMemory>
         ensures { IfOk result (λ told. told ≡ told_behind T.text self (reply ∷ [])) }
     {

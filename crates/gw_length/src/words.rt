@@ -1,6 +1,6 @@
 //! How long the words and the identifiers of a reply are.
 
-ghost use Rattle.std.specs.Prelude.{◌≡◌, length};
+ghost use Rattle.std.specs.Prelude.{◌≡◌, ◌≤◌, ◌^◌, length};
 ghost use Rattle.gw_reply.specs.Commands.{command_word};
 ghost use Rattle.gw_reply.specs.ContextParts.{flow_word, link_text};
 ghost use Rattle.gw_reply.specs.Contexts.{context_text};
@@ -58,7 +58,8 @@ pub(crate) fn item_length(item: AuditItem) -> usize
 }
 
 pub(crate) fn verb_length(verb: Verb) -> usize
-    ensures { result ≡ length (command_word verb) }
+    ensures value { result ≡ length (command_word verb) }
+    ensures short { result ≤ 15 }
 {
     match verb {
         Verb::Add => b"Add".len(),
@@ -120,21 +121,15 @@ impl Length for CtxRef {
     }
 }
 
-impl Length for TermRef {
-    ghost use Rattle.gw_reply.specs.Terminations.{term_text};
-
-    ghost text = { term_text };
-
-    fn room_behind(&self, room: usize) -> Option<usize> {
-        match self {
-            TermRef::Root => behind(room, b"ROOT".len()),
-            TermRef::All | TermRef::Choose => behind(room, 1),
-            TermRef::Under(prefix) => {
-                let left = behind(room, 1)?;
-                behind(left, prefix.as_bytes().len())
-            }
-            TermRef::Name(name) => behind(room, name.as_bytes().len()),
-            TermRef::Other(pattern) => behind(room, pattern.as_bytes().len()),
-        }
+pub(crate) fn term_length(term: &TermRef) -> usize
+    ensures value { result ≡ length (term_text term.now) }
+    ensures short { result ≤ 2 ^ 63 }
+{
+    match term {
+        TermRef::Root => b"ROOT".len(),
+        TermRef::All | TermRef::Choose => 1,
+        TermRef::Under(prefix) => prefix.as_bytes().len() + 1,
+        TermRef::Name(name) => name.as_bytes().len(),
+        TermRef::Other(pattern) => pattern.as_bytes().len(),
     }
 }

@@ -1,5 +1,6 @@
 //! The actions of a transaction and their commands, as they are read.
 
+ghost use Rattle.std.proofs.Common.{arith};
 ghost use Rattle.gw_text.specs.Parts.{Gives};
 ghost use Rattle.gw_msg.specs.ActionReading.{details_of, command_at, contents_at, action_at};
 
@@ -31,6 +32,8 @@ fn details<'a>(
 
 impl<'a> Parse<'a> for Command<'a> {
     ghost read_at = { command_at };
+
+    ghost fits = { Prim.search arith };
 
     #[tactic(auto, unfolding(crate::specs::ActionReading::command_at))]
     fn read(bump: &'a Bump, cursor: &mut Cursor<'a>) -> Result<Command<'a>, ParseFault> {
@@ -74,6 +77,8 @@ fn contents<'a>(
 
 impl<'a> Parse<'a> for Action<'a> {
     ghost read_at = { action_at };
+
+    ghost fits = { Prim.search arith };
 
     #[tactic(auto, unfolding(crate::specs::ActionReading::action_at))]
     fn read(bump: &'a Bump, cursor: &mut Cursor<'a>) -> Result<Action<'a>, ParseFault> {

@@ -1,14 +1,17 @@
 //! The body of a message: its items, or an error.
 
+ghost use Rattle.std.proofs.Common.{arith};
 ghost use Rattle.std.specs.Prelude.{◌≡◌, IfOk};
 ghost use Rattle.gw_text.specs.Parts.{Gives, Finds};
-ghost use Rattle.gw_text.specs.Reader.{items_at};
+ghost use Rattle.gw_text.specs.Reader.{items_at, solid_as};
 ghost use Rattle.gw_msg.specs.ActionReading.{request_tree_at};
+ghost use Rattle.gw_msg.specs.NameWords.{mid_of};
 ghost use Rattle.gw_msg.specs.Passages.{Glances};
 ghost use Rattle.gw_msg.specs.Reading.{request_at, reply_at, pending_at, last_at, range_at, ack_at, item_at, quoted_or_nothing, error_at, error_body_at, body_at, content_at};
 
 use crate::message::{AckRange, Item, Message, Request};
 use crate::passage::Passage;
+use crate::sender::Sender;
 use crate::words::{is_error_next, mid};
 use bumpalo::Bump;
 use gw_base::{Items, Listed, TxId};
@@ -140,6 +143,8 @@ fn last(cursor: &mut Cursor<'_>, first: u32) -> Result<AckRange, ParseFault>
 impl<'a> Parse<'a> for AckRange {
     ghost read_at = { range_at };
 
+    ghost fits = { Prim.search arith };
+
     #[tactic(auto, unfolding(crate::specs::Reading::range_at))]
     fn read(_bump: &'a Bump, cursor: &mut Cursor<'a>) -> Result<AckRange, ParseFault> {
         let first = cursor.uint32()?;
@@ -176,6 +181,8 @@ fn item<'a>(
 
 impl<'a> Parse<'a> for Item<'a> {
     ghost read_at = { item_at };
+
+    ghost fits = { Prim.search arith };
 
     fn read(bump: &'a Bump, cursor: &mut Cursor<'a>) -> Result<Item<'a>, ParseFault> {
         item(bump, cursor, None)
@@ -282,6 +289,16 @@ fn body<'a>(
     all_items(bump, cursor, trees)
 }
 
+/// The sender, whose mId lies in the arena.
+fn sender<'a>(bump: &'a Bump, cursor: &mut Cursor<'a>) -> Result<Sender<'a>, ParseFault>
+    ensures { Gives result cursor.new (solid_as mid_of cursor.old) }
+{
+    match bump.try_alloc(mid(cursor)?) {
+        Ok(mid) => Ok(Sender::new(mid)),
+        Err(_) => Err(ParseFault::NoMemory),
+    }
+}
+
 /// What stands behind the header: the sender and the body, to the end of the text.
 #[tactic(auto, unfolding(crate::specs::Reading::content_at))]
 pub(crate) fn content<'a>(
@@ -291,7 +308,7 @@ pub(crate) fn content<'a>(
 ) -> Result<Message<'a>, ParseFault>
     ensures { Gives result cursor.new (content_at cursor.old) }
 {
-    let mid = mid(cursor)?;
+    let mid = sender(bump, cursor)?;
     cursor.sep()?;
     let items = body(bump, cursor, trees)?;
     Ok(Message { mid, items })

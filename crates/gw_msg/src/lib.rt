@@ -8,6 +8,7 @@ mod message;
 mod passage;
 mod properties;
 mod read;
+mod sender;
 mod words;
 
 pub use fault::ReadFault;
@@ -16,3 +17,4 @@ pub use message::{
 };
 pub use passage::Passage;
 pub use read::{one_answer, one_message, read_message, skim_message};
+pub use sender::Sender;

@@ -1,14 +1,15 @@
 //! The tree of a message (RFC 3525, section 8 and Annex B.2).
 
 use crate::passage::Passage;
-use gw_base::{CtxRef, Flow, Listed, Mid, TermRef, TxId, Verb};
+use crate::sender::Sender;
+use gw_base::{CtxRef, Flow, Listed, TermRef, TxId, Verb};
 use gw_desc::Descriptor;
 
 /// A message: who sent it, and what it holds in the order sent. What is kept as sent are spans of its datagram, and its lists lie in an
 /// arena. Both live as long as `'a`.
 pub struct Message<'a> {
     /// The sender's mId, byte for byte.
-    pub mid: Mid,
+    pub mid: Sender<'a>,
     /// What the body holds; nothing where it is an error.
     pub items: Listed<'a, Item<'a>>,
 }

@@ -1,5 +1,6 @@
 //! What an action asks of its context itself, as it is read: its properties, and that they are audited.
 
+ghost use Rattle.std.proofs.Common.{arith};
 ghost use Rattle.gw_text.specs.Parts.{Gives, Finds};
 ghost use Rattle.gw_msg.specs.ActionReading.{triple_at, context_item_at, priority_at, context_property_at};
 
@@ -18,6 +19,8 @@ const PRIORITY_MAX: u32 = 65_535;
 impl<'a> Parse<'a> for Triple {
     ghost read_at = { triple_at };
 
+    ghost fits = { Prim.search arith };
+
     #[tactic(auto, unfolding(crate::specs::ActionReading::triple_at))]
     fn read(_bump: &'a Bump, cursor: &mut Cursor<'a>) -> Result<Triple, ParseFault> {
         let a = term(cursor)?;
@@ -31,6 +34,8 @@ impl<'a> Parse<'a> for Triple {
 
 impl<'a> Parse<'a> for ContextItem {
     ghost read_at = { context_item_at };
+
+    ghost fits = { Prim.search arith };
 
     fn read(_bump: &'a Bump, cursor: &mut Cursor<'a>) -> Result<ContextItem, ParseFault> {
         context_item(cursor)
@@ -49,6 +54,8 @@ fn priority(cursor: &mut Cursor<'_>) -> Result<u16, ParseFault>
 
 impl<'a> Parse<'a> for ContextProp<'a> {
     ghost read_at = { context_property_at };
+
+    ghost fits = { Prim.search arith };
 
     #[tactic(auto, using(crate::proofs::ContextLaws::triple_shrinks, crate::proofs::ContextLaws::context_item_shrinks), unfolding(crate::specs::ActionReading::context_property_at))]
     fn read(bump: &'a Bump, cursor: &mut Cursor<'a>) -> Result<ContextProp<'a>, ParseFault> {

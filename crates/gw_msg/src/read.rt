@@ -1,6 +1,7 @@
 //! Reading a whole message.
 
-ghost use Rattle.std.specs.Prelude.{◌≡◌, ◌≢◌, ◌⊎◌, ℕ, List, Result, Err};
+ghost use Rattle.std.specs.Prelude.{◌≡◌, ◌≢◌, ◌⊎◌, ℕ, List, Result, Err, MatchBool, Some, None, codes};
+ghost use Rattle.gw_text.specs.Sign.{prefix_at};
 ghost use Rattle.gw_text.specs.Parts.{Finds};
 ghost use Rattle.gw_msg.specs.Reading.{IsAnswer, version_at, header_at, message_of};
 ghost use Rattle.gw_msg.specs.Grammar.{IsReadingOf, Spells, HasVersionFault};
@@ -37,13 +38,23 @@ fn header_end(cursor: &mut Cursor<'_>) -> Result<u32, ParseFault>
     Ok(version.value)
 }
 
+/// Takes the name of the protocol, in any case, if it comes next. It is mostly sent in capital letters.
+fn protocol_name(cursor: &mut Cursor<'_>) -> bool
+    ensures { MatchBool result (prefix_at (codes "MEGACO") cursor.old ≡ Some cursor.new) ((prefix_at (codes "MEGACO") cursor.old ≡ None) × (cursor.new ≡ cursor.old)) }
+{
+    if cursor.exact_prefix(b"MEGACO") {
+        return true;
+    }
+    cursor.prefix(b"MEGACO")
+}
+
 /// The header: its version.
 #[tactic(auto, unfolding(crate::specs::Reading::header_at, gw_text::specs::SpaceScan::skip))]
 fn header(cursor: &mut Cursor<'_>) -> Result<u32, ParseFault>
     ensures { Finds result cursor.new (header_at cursor.old) }
 {
     cursor.lwsp();
-    if !cursor.prefix(b"MEGACO") && !cursor.byte(b'!') {
+    if !protocol_name(cursor) && !cursor.byte(b'!') {
         return Err(ParseFault::Syntax);
     }
     header_end(cursor)

@@ -11,7 +11,7 @@ ghost use Rattle.gw_msg.specs.ActionReading.{mark_at, context_id_at};
 
 use crate::message::ContextItem;
 use gw_base::{CtxNum, CtxRef, Flow, Mid, TermRef, Verb};
-use gw_text::{Cursor, ParseFault, Token, token_of};
+use gw_text::{Cursor, ParseFault, Token};
 
 /// Whether the bytes come next, in any case; they are taken.
 #[tactic(auto, unfolding(crate::specs::ActionReading::mark_at))]
@@ -48,7 +48,7 @@ pub fn is_error_next(cursor: &Cursor<'_>) -> bool
 pub fn verb(cursor: &mut Cursor<'_>) -> Result<Verb, ParseFault>
     ensures { Finds result cursor.new (word_as verb_of cursor.old) }
 {
-    match token_of(cursor.word()?) {
+    match cursor.named()?.1 {
         Some(Token::Add) => Ok(Verb::Add),
         Some(Token::Modify) => Ok(Verb::Modify),
         Some(Token::Move) => Ok(Verb::Move),
@@ -82,7 +82,7 @@ pub fn has_group(verb: Verb) -> bool
 pub fn flow(cursor: &mut Cursor<'_>) -> Result<Flow, ParseFault>
     ensures { Finds result cursor.new (word_as flow_of cursor.old) }
 {
-    match token_of(cursor.word()?) {
+    match cursor.named()?.1 {
         Some(Token::Bothway) => Ok(Flow::Bothway),
         Some(Token::Isolate) => Ok(Flow::Isolate),
         Some(Token::Oneway) => Ok(Flow::Oneway),
@@ -94,7 +94,7 @@ pub fn flow(cursor: &mut Cursor<'_>) -> Result<Flow, ParseFault>
 pub fn context_item(cursor: &mut Cursor<'_>) -> Result<ContextItem, ParseFault>
     ensures { Finds result cursor.new (word_as context_item_of cursor.old) }
 {
-    match token_of(cursor.word()?) {
+    match cursor.named()?.1 {
         Some(Token::Topology) => Ok(ContextItem::Topology),
         Some(Token::Priority) => Ok(ContextItem::Priority),
         Some(Token::Emergency) => Ok(ContextItem::Emergency),

@@ -18,7 +18,7 @@ fn members(alloc: Global, draft: &Draft<'_>, number: CtxNum) -> Result<Vec<TermN
     ensures { IfOk result (λ list. list.items ≡ members_of (ctx draft.now.maps number)) }
 {
     match draft.ctx(number) {
-        Some(context) => Ok(Vec::from_slice(alloc, context.members().as_slice())?),
+        Some(context) => Ok(Vec::from_slice(alloc, context.members())?),
         None => Ok(Vec::new(alloc)),
     }
 }

@@ -1,23 +1,54 @@
 -- Texts joined by commas are the first one, and then each other one behind a comma.
-use Rattle.std.proofs.Common.{◌≡◌, ℕ, List, [], ◌∷◌, ◌++◌, map, sym, ap, ◌∙◌, append-nil, append_assoc}
+use Rattle.std.proofs.Common.{◌≡◌, ℕ, zero, suc, ◌+◌, ◌<◌, ◌==◌, Bool, true, false, not, List, [], ◌∷◌, ◌++◌, map, take, length, get_or, sym, ap, ◌∙◌, append-nil, append_assoc, ne_eqb, arith}
 use Rattle.std.proofs.Common.{Result, Ok, Err, refl}
 use Rattle.gw_base.specs.declared.code.Code.{Code}
 use Rattle.gw_reply.specs.declared.context_parts.ContextPart.{ContextPart}
 use Rattle.gw_reply.specs.declared.reply.CommandReply.{CommandReply}
 use Rattle.gw_reply.specs.ContextParts.{context_part_text}
-use Rattle.gw_reply.specs.Lists.{comma, comma_separated, later}
-use Rattle.gw_reply.specs.Replies.{replies_text, replies_texts, later_replies, command_reply_text, told_text}
+use Rattle.gw_reply.specs.Lists.{comma, comma_separated, later, parts_text}
+use Rattle.gw_reply.specs.Replies.{replies_text, replies_texts, later_replies, replies_behind, command_reply_text, told_text}
 
 from_first : {T : Type 0} (text : T → List ℕ) (first : T) (rest : List T) → text first ++ later text rest ≡ comma_separated (map text (first ∷ rest))
 from_first text first [] = append-nil (text first)
 from_first text first (next ∷ rest) = ap (λ t. text first ++ comma ∷ t) (from_first text next rest)
 
--- what was written, once the later parts are
-pub all_joined : {T : Type 0} (text : T → List ℕ) (parts rest : List T) (first : T) (before front out : List ℕ)
-    → parts ≡ first ∷ rest → front ≡ before ++ text first → out ≡ front ++ later text rest → out ≡ before ++ comma_separated (map text parts)
-all_joined text parts rest first before front out split begun e =
-    e ∙ ap (λ t. t ++ later text rest) begun ∙ append_assoc before (text first) (later text rest)
-    ∙ ap (λ t. before ++ t) (from_first text first rest ∙ ap (λ t. comma_separated (map text t)) (sym split))
+-- texts of the first parts, and of one more
+later_more : {T : Type 0} (text : T → List ℕ) (parts : List T) (i : ℕ) (part : T) → i < length parts → part ≡ get_or parts i part → later text (take (suc i) parts) ≡ later text (take i parts) ++ comma ∷ text part
+later_more text [] i part l is = absurd (omega arith)
+later_more text (first ∷ rest) zero part l is = append-nil (comma ∷ text first) ∙ ap (λ t. comma ∷ text t) (sym is)
+later_more text (first ∷ rest) (suc i) part l is =
+    ap (λ t. comma ∷ (text first ++ t)) (later_more text rest i part (omega arith) is) ∙ ap (λ t. comma ∷ t) (sym (append_assoc (text first) (later text (take i rest)) (comma ∷ text part)))
+
+pub first_part : {T : Type 0} (text : T → List ℕ) (front : Bool) (parts : List T) (i : ℕ) (part : T) → front ≡ false → i ≡ 0 → i < length parts → part ≡ get_or parts i part
+    → parts_text text front (take (suc i) parts) ≡ parts_text text front (take i parts) ++ text part
+first_part text true parts i part alone zeroth l is = absurd cc
+first_part text false [] i part alone zeroth l is = absurd (omega arith)
+first_part text false (p ∷ rest) zero part alone zeroth l is = ap text (sym is)
+first_part text false (p ∷ rest) (suc i) part alone zeroth l is = absurd (omega arith)
+
+pub part_behind : {T : Type 0} (text : T → List ℕ) (front : Bool) (parts : List T) (i : ℕ) (part : T) → front ≡ true → i < length parts → part ≡ get_or parts i part
+    → parts_text text front (take (suc i) parts) ≡ parts_text text front (take i parts) ++ comma ∷ text part
+part_behind text true parts i part some l is = later_more text parts i part l is
+part_behind text false parts i part some l is = absurd cc
+
+pub later_part : {T : Type 0} (text : T → List ℕ) (front : Bool) (parts : List T) (i : ℕ) (part : T) → 0 < i → i < length parts → part ≡ get_or parts i part
+    → parts_text text front (take (suc i) parts) ≡ parts_text text front (take i parts) ++ comma ∷ text part
+later_part text true parts i part some l is = later_more text parts i part l is
+later_part text false [] i part some l is = absurd (omega arith)
+later_part text false (first ∷ rest) zero part some l is = absurd (omega arith)
+later_part text false (first ∷ rest) (suc i) part some l is =
+    sym (from_first text first (take (suc i) rest))
+    ∙ ap (λ t. text first ++ t) (later_more text rest i part (omega arith) is)
+    ∙ sym (append_assoc (text first) (later text (take i rest)) (comma ∷ text part))
+    ∙ ap (λ t. t ++ comma ∷ text part) (from_first text first (take i rest))
+
+-- what was written, once one part more is
+pub one_written : {T : Type 0} (text : T → List ℕ) (front : Bool) (parts : List T) (i : ℕ) (part : T) (before here out more : List ℕ)
+    → here ≡ before ++ parts_text text front (take i parts) → parts_text text front (take (suc i) parts) ≡ parts_text text front (take i parts) ++ more → out ≡ here ++ more → out ≡ before ++ parts_text text front (take (i + 1) parts)
+one_written text front parts i part before here out more begun one e =
+    let next : suc i ≡ i + 1 = omega arith in
+    e ∙ ap (λ (t : List ℕ). t ++ more) begun ∙ append_assoc before (parts_text text front (take i parts)) more ∙ ap (λ (t : List ℕ). before ++ t) (sym one)
+    ∙ ap (λ (n : ℕ). before ++ parts_text text front (take n parts)) next
 
 -- ---- what an action reply tells
 
@@ -55,11 +86,17 @@ pub told_none : (r : Result (List CommandReply) Code) → told_text [] r ≡ rep
 told_none (Ok replies) = refl
 told_none (Err code) = refl
 
+some_parts : (n : ℕ) → not (suc n == 0) ≡ true
+some_parts n = ap not (ne_eqb (suc n) 0 (λ e. omega (arith, e)))
+
 -- what was written, once the parts and the replies are
-pub told_written : (parts rest : List ContextPart) (first : ContextPart) (r : Result (List CommandReply) Code) (before one two out : List ℕ)
-    → parts ≡ first ∷ rest → one ≡ before ++ context_part_text first → two ≡ one ++ later context_part_text rest → out ≡ two ++ later_replies command_reply_text r → out ≡ before ++ told_text parts r
-told_written parts rest first r before one two out split begun more e =
+pub told_written : (parts : List ContextPart) (r : Result (List CommandReply) Code) (before one out : List ℕ) (front : Bool)
+    → one ≡ before ++ comma_separated (map context_part_text parts) → front ≡ not (length parts == 0) → out ≡ one ++ replies_behind command_reply_text front r → out ≡ before ++ told_text parts r
+told_written [] r before one out front begun is e =
+    e ∙ ap (λ (b : Bool). one ++ replies_behind command_reply_text b r) is ∙ ap (λ (t : List ℕ). t ++ replies_text command_reply_text r) (begun ∙ append-nil before)
+    ∙ ap (λ (t : List ℕ). before ++ t) (sym (told_none r))
+told_written (first ∷ rest) r before one out front begun is e =
     let now = later context_part_text rest in let end = later_replies command_reply_text r in
-    e ∙ ap (λ (t : List ℕ). t ++ end) (more ∙ ap (λ (t : List ℕ). t ++ now) begun)
-    ∙ append_assoc (before ++ context_part_text first) now end ∙ append_assoc before (context_part_text first) (now ++ end)
-    ∙ ap (λ (t : List ℕ). before ++ t) (sym (told_first first rest r) ∙ ap (λ (l : List ContextPart). told_text l r) (sym split))
+    e ∙ ap (λ (b : Bool). one ++ replies_behind command_reply_text b r) (is ∙ some_parts (length rest))
+    ∙ ap (λ (t : List ℕ). t ++ end) (begun ∙ ap (λ (t : List ℕ). before ++ t) (sym (from_first context_part_text first rest)))
+    ∙ append_assoc before (context_part_text first ++ now) end ∙ ap (λ (t : List ℕ). before ++ t) (append_assoc (context_part_text first) now end ∙ sym (told_first first rest r))

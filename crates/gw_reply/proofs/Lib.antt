@@ -1,2 +1,3 @@
+mod Digits
 pub mod Joins
 pub mod TextLengths

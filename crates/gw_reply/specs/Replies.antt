@@ -1,5 +1,5 @@
 -- Replies (RFC 3525, section 8.2.2 and Annex B.2, transactionReply, actionReply, commandReply; without white space: own).
-use Rattle.std.specs.Prelude.{ℕ, List, [], ◌∷◌, ◌++◌, map, codes, decimal, Result, Ok, Err}
+use Rattle.std.specs.Prelude.{ℕ, Bool, true, false, List, [], ◌∷◌, ◌++◌, map, codes, decimal, Result, Ok, Err}
 use Rattle.gw_base.specs.declared.code.Code.{Code}
 use Rattle.gw_reply.specs.declared.reply.TxReply.{TxReply}
 use Rattle.gw_reply.specs.declared.reply.ActionReply.{ActionReply}
@@ -46,6 +46,11 @@ action_reply_text reply = codes "Context=" ++ context_text reply.ctx ++ in_brace
 abbrev pub later_replies : {T : Type 0} → (T → List ℕ) → Result (List T) Code → List ℕ
 later_replies text (Ok replies) = later text replies
 later_replies text (Err code) = comma ∷ error_text code
+
+-- the replies, or the error that stands for all of them, as they stand behind something or first
+abbrev pub replies_behind : {T : Type 0} → (T → List ℕ) → (behind : Bool) → Result (List T) Code → List ℕ
+replies_behind text false replies = replies_text text replies
+replies_behind text true replies = later_replies text replies
 
 -- Reply=<TransactionID>{..}
 abbrev pub transaction_reply_text : TxReply → List ℕ

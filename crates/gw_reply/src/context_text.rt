@@ -4,7 +4,7 @@ ghost use Rattle.std.specs.Prelude.{◌≡◌};
 ghost use Rattle.gw_reply.specs.ContextParts.{flow_word};
 
 use crate::context_parts::ContextPart;
-use crate::wire::{WireText, write_joined, write_number};
+use crate::wire::{WireText, write_number, write_parts};
 use gw_base::{Flow, Link};
 use std::alloc::AllocError;
 
@@ -46,7 +46,7 @@ impl WireText for ContextPart {
             ContextPart::Emergency => out.extend_from_slice(b"Emergency"),
             ContextPart::Topology(links) => {
                 out.extend_from_slice(b"Topology{")?;
-                write_joined(links.as_slice(), out)?;
+                write_parts(false, links.as_slice(), out)?;
                 out.push(b'}')?;
                 Ok(())
             }

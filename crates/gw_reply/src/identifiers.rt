@@ -1,21 +1,22 @@
 //! The words of commands, and the identifiers of contexts and terminations (RFC 3525, Annex B.2).
 
-use crate::wire::{WireText, write_number};
+ghost use Rattle.std.specs.Prelude.{◌≡◌, ◌++◌, OnOk, codes};
+ghost use Rattle.gw_reply.specs.Commands.{command_word};
+ghost use Rattle.gw_reply.specs.Contexts.{context_text};
+
+use crate::wire::{WireText, write_opening};
 use gw_base::{CtxNum, CtxRef, TermRef, Verb};
 use std::alloc::AllocError;
 
-impl WireText for CtxRef {
-    ghost use Rattle.gw_reply.specs.Contexts.{context_text};
-
-    ghost text = { context_text };
-
-    fn write_to(&self, out: &mut Vec<u8>) -> Result<(), AllocError> {
-        match self {
-            CtxRef::Null => out.extend_from_slice(b"-"),
-            CtxRef::All => out.extend_from_slice(b"*"),
-            CtxRef::Choose => out.extend_from_slice(b"$"),
-            CtxRef::Num(CtxNum(number)) => write_number(*number, out),
-        }
+/// The ContextID, and the brace that opens behind it.
+pub(crate) fn write_context(ctx: &CtxRef, out: &mut Vec<u8>) -> Result<(), AllocError>
+    ensures { OnOk result (out.new.items ≡ out.old.items ++ (context_text ctx.now ++ codes "{")) }
+{
+    match ctx {
+        CtxRef::Null => out.extend_from_slice(b"-{"),
+        CtxRef::All => out.extend_from_slice(b"*{"),
+        CtxRef::Choose => out.extend_from_slice(b"${"),
+        CtxRef::Num(CtxNum(number)) => write_opening(*number, out),
     }
 }
 
@@ -39,22 +40,18 @@ impl WireText for TermRef {
     }
 }
 
-impl WireText for Verb {
-    ghost use Rattle.gw_reply.specs.Commands.{command_word};
-
-    ghost text = { command_word };
-
-    fn write_to(&self, out: &mut Vec<u8>) -> Result<(), AllocError> {
-        let word = match self {
-            Verb::Add => "Add",
-            Verb::Modify => "Modify",
-            Verb::Move => "Move",
-            Verb::Subtract => "Subtract",
-            Verb::AuditValue => "AuditValue",
-            Verb::AuditCapability => "AuditCapability",
-            Verb::Notify => "Notify",
-            Verb::ServiceChange => "ServiceChange",
-        };
-        out.extend_from_slice(word.as_bytes())
+/// The word of a command, and behind it `=`, at once.
+pub(crate) fn write_command(verb: Verb, out: &mut Vec<u8>) -> Result<(), AllocError>
+    ensures { OnOk result (out.new.items ≡ out.old.items ++ (command_word verb ++ codes "=")) }
+{
+    match verb {
+        Verb::Add => out.extend_from_slice(b"Add="),
+        Verb::Modify => out.extend_from_slice(b"Modify="),
+        Verb::Move => out.extend_from_slice(b"Move="),
+        Verb::Subtract => out.extend_from_slice(b"Subtract="),
+        Verb::AuditValue => out.extend_from_slice(b"AuditValue="),
+        Verb::AuditCapability => out.extend_from_slice(b"AuditCapability="),
+        Verb::Notify => out.extend_from_slice(b"Notify="),
+        Verb::ServiceChange => out.extend_from_slice(b"ServiceChange="),
     }
 }

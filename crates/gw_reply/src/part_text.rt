@@ -1,12 +1,13 @@
 //! The text of the parts of command replies.
 
-ghost use Rattle.std.specs.Prelude.{◌≡◌, ◌∷◌, ◌++◌, OnOk};
+ghost use Rattle.std.specs.Prelude.{◌≡◌, ◌∷◌, ◌++◌, OnOk, codes};
 ghost use Rattle.gw_desc.specs.Grammar.{sign_byte};
 ghost use Rattle.gw_reply.specs.Lists.{later};
-ghost use Rattle.gw_reply.specs.Parts.{mode_word, service_word, kind_word, item_word, text_if, later_octets, control_text, state_text, stream_parts, property_text};
+ghost use Rattle.gw_reply.specs.Parts.{mode_word, service_word, kind_word, item_word, text_if, later_octets, control_text, state_text, part_text, stream_parts, property_text};
+ghost use Rattle.gw_reply.specs.declared.parts.ReplyPart.TheVariants.{Filled};
 
 use crate::parts::{FilledStream, KeptProperty, KeptTail, MediaReply, ReplyPart, StreamReply};
-use crate::wire::{WireText, write_joined, write_later, write_number};
+use crate::wire::{WireText, write_opening, write_parts};
 use gw_base::{Items, Service};
 use gw_desc::{AuditItem, KeptKind, Mode, Property, Sign, Tail};
 use std::alloc::AllocError;
@@ -128,7 +129,7 @@ fn write_control(
 {
     out.extend_from_slice(b"LocalControl{Mode=")?;
     out.extend_from_slice(mode_word(mode).as_bytes())?;
-    write_later(properties, out)?;
+    write_parts(true, properties, out)?;
     out.push(b'}')?;
     Ok(())
 }
@@ -150,12 +151,20 @@ impl WireText for StreamReply {
 
     fn write_to(&self, out: &mut Vec<u8>) -> Result<(), AllocError> {
         out.extend_from_slice(b"Stream=")?;
-        write_number(u32::from(self.number), out)?;
-        out.push(b'{')?;
+        write_opening(u32::from(self.number), out)?;
         write_stream(self, out)?;
         out.push(b'}')?;
         Ok(())
     }
+}
+
+/// A filled Local, and the brace that closes its stream.
+fn write_local(text: &[u8], out: &mut Vec<u8>) -> Result<(), AllocError>
+    ensures { OnOk result (out.new.items ≡ out.old.items ++ (codes "Local{" ++ text.now ++ codes "}}")) }
+{
+    out.extend_from_slice(b"Local{")?;
+    out.extend_from_slice(text)?;
+    out.extend_from_slice(b"}}")
 }
 
 impl WireText for FilledStream {
@@ -165,10 +174,8 @@ impl WireText for FilledStream {
 
     fn write_to(&self, out: &mut Vec<u8>) -> Result<(), AllocError> {
         out.extend_from_slice(b"Stream=")?;
-        write_number(u32::from(self.number), out)?;
-        out.extend_from_slice(b"{Local{")?;
-        out.extend_from_slice(self.local.as_slice())?;
-        out.extend_from_slice(b"}}")
+        write_opening(u32::from(self.number), out)?;
+        write_local(self.local.as_slice(), out)
     }
 }
 
@@ -182,7 +189,7 @@ fn write_state(
 {
     out.extend_from_slice(b"TerminationState{ServiceStates=")?;
     out.extend_from_slice(service_word(service).as_bytes())?;
-    write_later(properties, out)?;
+    write_parts(true, properties, out)?;
     out.push(b'}')?;
     Ok(())
 }
@@ -195,10 +202,20 @@ impl WireText for MediaReply {
     fn write_to(&self, out: &mut Vec<u8>) -> Result<(), AllocError> {
         out.extend_from_slice(b"Media{")?;
         write_state(self.service, self.properties.as_slice(), out)?;
-        write_later(self.streams.as_slice(), out)?;
+        write_parts(true, self.streams.as_slice(), out)?;
         out.push(b'}')?;
         Ok(())
     }
+}
+
+/// The streams that were filled, alone in a Media.
+fn write_filled(streams: &[FilledStream], out: &mut Vec<u8>) -> Result<(), AllocError>
+    ensures { OnOk result (out.new.items ≡ out.old.items ++ part_text (Filled streams.now)) }
+{
+    out.extend_from_slice(b"Media{")?;
+    write_parts(false, streams, out)?;
+    out.push(b'}')?;
+    Ok(())
 }
 
 impl WireText for ReplyPart {
@@ -208,12 +225,7 @@ impl WireText for ReplyPart {
 
     fn write_to(&self, out: &mut Vec<u8>) -> Result<(), AllocError> {
         match self {
-            ReplyPart::Filled(streams) => {
-                out.extend_from_slice(b"Media{")?;
-                write_joined(streams.as_slice(), out)?;
-                out.push(b'}')?;
-                Ok(())
-            }
+            ReplyPart::Filled(streams) => write_filled(streams.as_slice(), out),
             ReplyPart::Media(media) => media.write_to(out),
             ReplyPart::Kept(kind, tail) => {
                 out.extend_from_slice(kind_word(*kind).as_bytes())?;

@@ -4,11 +4,10 @@ ghost use Rattle.std.specs.Prelude.{◌≡◌, ◌++◌, OnOk};
 ghost use Rattle.gw_reply.specs.Replies.{body_text, told_text};
 
 use crate::context_parts::ContextPart;
+use crate::identifiers::{write_command, write_context};
 use crate::parts::ReplyPart;
 use crate::reply::{ActionReply, CommandReply, TxReply};
-use crate::wire::{
-    WireText, write_joined, write_later, write_later_replies, write_number, write_replies,
-};
+use crate::wire::{WireText, write_opening, write_parts, write_replies};
 use gw_base::{Code, Items};
 use std::alloc::AllocError;
 
@@ -20,7 +19,7 @@ fn write_body(outcome: &Result<Items<ReplyPart>, Code>, out: &mut Vec<u8>) -> Re
         Ok(parts) if parts.is_empty() => Ok(()),
         Ok(parts) => {
             out.push(b'{')?;
-            write_joined(parts.as_slice(), out)?;
+            write_parts(false, parts.as_slice(), out)?;
             out.push(b'}')?;
             Ok(())
         }
@@ -39,8 +38,7 @@ impl WireText for CommandReply {
     ghost text = { command_reply_text };
 
     fn write_to(&self, out: &mut Vec<u8>) -> Result<(), AllocError> {
-        self.verb.write_to(out)?;
-        out.push(b'=')?;
+        write_command(self.verb, out)?;
         self.term.write_to(out)?;
         write_body(&self.result, out)
     }
@@ -54,12 +52,8 @@ fn write_told(
 ) -> Result<(), AllocError>
     ensures { OnOk result (out.new.items ≡ out.old.items ++ told_text parts.now outcome.now) }
 {
-    let Some((first, rest)) = parts.split_first() else {
-        return write_replies(outcome, out);
-    };
-    first.write_to(out)?;
-    write_later(rest, out)?;
-    write_later_replies(outcome, out)
+    write_parts(false, parts, out)?;
+    write_replies(!parts.is_empty(), outcome, out)
 }
 
 impl WireText for ActionReply {
@@ -69,8 +63,7 @@ impl WireText for ActionReply {
 
     fn write_to(&self, out: &mut Vec<u8>) -> Result<(), AllocError> {
         out.extend_from_slice(b"Context=")?;
-        self.ctx.write_to(out)?;
-        out.push(b'{')?;
+        write_context(&self.ctx, out)?;
         write_told(self.parts.as_slice(), &self.result, out)?;
         out.push(b'}')?;
         Ok(())
@@ -84,9 +77,8 @@ impl WireText for TxReply {
 
     fn write_to(&self, out: &mut Vec<u8>) -> Result<(), AllocError> {
         out.extend_from_slice(b"Reply=")?;
-        write_number(self.id.0, out)?;
-        out.push(b'{')?;
-        write_replies(&self.result, out)?;
+        write_opening(self.id.0, out)?;
+        write_replies(false, &self.result, out)?;
         out.push(b'}')?;
         Ok(())
     }

@@ -1,12 +1,15 @@
 //! How a text grows: the parts of a message, one behind the other in one buffer.
 
-ghost use Rattle.std.specs.Prelude.{◌≡◌, ◌++◌, ℕ, List, OnOk, map, decimal};
-ghost use Rattle.gw_reply.specs.Lists.{comma_separated, later};
-ghost use Rattle.gw_reply.specs.Replies.{replies_text, later_replies};
+ghost use Rattle.std.specs.Prelude.{◌≡◌, ◌++◌, ◌+◌, ◌%◌, ℕ, List, OnOk, codes, decimal};
+ghost use Rattle.gw_reply.specs.Lists.{parts_text};
+ghost use Rattle.gw_reply.specs.Replies.{replies_behind};
 
 use gw_base::{Code, Items};
 use itoa::Buffer;
 use std::alloc::AllocError;
+
+/// So many bytes a short number has at most, of five digits, with the brace behind it.
+const SHORT: usize = 6;
 
 /// What has a text of its own in a message.
 pub(crate) trait WireText {
@@ -28,53 +31,78 @@ pub fn write_number(number: u32, out: &mut Vec<u8>) -> Result<(), AllocError>
     out.extend_from_slice(Buffer::new().format(number).as_bytes())
 }
 
-/// The parts, each behind a comma.
-pub(crate) fn write_later<T: WireText>(parts: &[T], out: &mut Vec<u8>) -> Result<(), AllocError>
-    ensures { OnOk result (out.new.items ≡ out.old.items ++ later T.text parts.now) }
+/// The last digit of a number.
+fn digit(number: u32) -> u8
+    ensures { result ≡ 48 + number % 10 }
 {
-    for part in parts {
-        out.push(b',')?;
+    b'0' + (number % 10) as u8
+}
+
+/// A number of any length, and the brace that opens behind it.
+#[inline(never)]
+fn write_long_opening(number: u32, out: &mut Vec<u8>) -> Result<(), AllocError>
+    ensures { OnOk result (out.new.items ≡ out.old.items ++ (decimal number ++ codes "{")) }
+{
+    write_number(number, out)?;
+    out.push(b'{')?;
+    Ok(())
+}
+
+/// A number, and the brace that opens behind it: most numbers are short, and are written at once where there is room.
+pub(crate) fn write_opening(number: u32, out: &mut Vec<u8>) -> Result<(), AllocError>
+    ensures { OnOk result (out.new.items ≡ out.old.items ++ (decimal number ++ codes "{")) }
+{
+    if out.capacity() - out.len() < SHORT {
+        return write_long_opening(number, out);
+    }
+    let last = digit(number);
+    let tens = digit(number / 10);
+    let hundreds = digit(number / 100);
+    let thousands = digit(number / 1_000);
+    match number {
+        0..=9 => out.extend_from_slice(&[last, b'{']),
+        10..=99 => out.extend_from_slice(&[tens, last, b'{']),
+        100..=999 => out.extend_from_slice(&[hundreds, tens, last, b'{']),
+        1_000..=9_999 => out.extend_from_slice(&[thousands, hundreds, tens, last, b'{']),
+        10_000..=99_999 => {
+            let first = digit(number / 10_000);
+            out.extend_from_slice(&[first, thousands, hundreds, tens, last, b'{'])
+        }
+        _ => write_long_opening(number, out),
+    }
+}
+
+/// The parts, with a comma between each two, and one before the first where it stands behind something.
+pub(crate) fn write_parts<T: WireText>(
+    behind: bool,
+    parts: &[T],
+    out: &mut Vec<u8>,
+) -> Result<(), AllocError>
+    ensures { OnOk result (out.new.items ≡ out.old.items ++ parts_text T.text behind parts.now) }
+{
+    for (place, part) in parts.iter().enumerate() {
+        if behind || 0 < place {
+            out.push(b',')?;
+        }
         part.write_to(out)?;
     }
     Ok(())
 }
 
-/// The parts, with a comma between each two.
-pub(crate) fn write_joined<T: WireText>(parts: &[T], out: &mut Vec<u8>) -> Result<(), AllocError>
-    ensures { OnOk result (out.new.items ≡ out.old.items ++ comma_separated (map T.text parts.now)) }
-{
-    let Some((first, rest)) = parts.split_first() else {
-        return Ok(());
-    };
-    first.write_to(out)?;
-    write_later(rest, out)
-}
-
-/// The replies with commas between them, or the error that stands for all of them.
+/// The replies, as `write_parts` does, or the error that stands for all of them.
 pub(crate) fn write_replies<T: WireText + Drop>(
+    behind: bool,
     replies: &Result<Items<T>, Code>,
     out: &mut Vec<u8>,
 ) -> Result<(), AllocError>
-    ensures { OnOk result (out.new.items ≡ out.old.items ++ replies_text T.text replies.now) }
+    ensures { OnOk result (out.new.items ≡ out.old.items ++ replies_behind T.text behind replies.now) }
 {
     match replies {
-        Ok(parts) => write_joined(parts.as_slice(), out),
-        Err(code) => code.write_to(out),
-    }
-}
-
-/// The replies, each behind a comma, or behind one the error that stands for all of them.
-pub(crate) fn write_later_replies<T: WireText + Drop>(
-    replies: &Result<Items<T>, Code>,
-    out: &mut Vec<u8>,
-) -> Result<(), AllocError>
-    ensures { OnOk result (out.new.items ≡ out.old.items ++ later_replies T.text replies.now) }
-{
-    match replies {
-        Ok(parts) => write_later(parts.as_slice(), out),
-        Err(code) => {
+        Ok(parts) => write_parts(behind, parts.as_slice(), out),
+        Err(code) if behind => {
             out.push(b',')?;
             code.write_to(out)
         }
+        Err(code) => code.write_to(out),
     }
 }

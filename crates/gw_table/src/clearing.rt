@@ -103,7 +103,7 @@ fn clear(
     let Place::Here(context) = site.place() else {
         return Ok(false);
     };
-    let members = context.get().members().as_slice();
+    let members = context.get().members();
     if members.is_empty() || !all_begin_with(members, prefix) {
         return Ok(false);
     }

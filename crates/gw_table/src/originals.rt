@@ -17,6 +17,20 @@ use gw_term::Termination;
 use std::alloc::Global;
 use std::marker::Model;
 
+/// Of so many writes one leaves a key without an entry, mostly: a call writes two terminations and a context twice, and leaves the context
+/// and one of the terminations.
+const WRITES_FOR_ONE_VACATED: usize = 4;
+
+/// A list of nothing, with room for so many, if there is memory for that.
+fn empty<T: Drop>(alloc: Global, room: usize) -> Vec<T>
+    ensures { result.items ≡ [] }
+{
+    match Vec::with_capacity(alloc, room) {
+        Ok(list) => list,
+        Err(_) => Vec::new(alloc),
+    }
+}
+
 /// What stood at a key before a write of it.
 #[derive(Drop)]
 pub enum Write {
@@ -110,13 +124,13 @@ impl Model for Originals {
 }
 
 impl Originals {
-    /// Those of no change. They take no memory.
-    pub fn new(alloc: Global) -> Originals
+    /// Those of no change, with room for so many writes, if there is memory for that; else they take none.
+    pub fn with_room(alloc: Global, writes: usize) -> Originals
         ensures { result ≡ [] }
     {
         Originals {
-            writes: Vec::new(alloc),
-            vacated: Vec::new(alloc),
+            writes: empty(alloc, writes),
+            vacated: empty(alloc, writes / WRITES_FOR_ONE_VACATED),
         }
     }
 }

@@ -3,7 +3,6 @@
 ghost use Rattle.std.specs.Prelude.{◌≡◌, ◌≢◌, ℕ, ◌<◌, ◌≤◌, ◌^◌, ◌↔◌, true, length, slice_index, None, IfSome, IsTrue};
 ghost use Rattle.std.specs.Str.{all_ascii_digits};
 ghost use Rattle.std.specs.Str.Parse.{digits_value};
-ghost use Rattle.gw_base.specs.Names.{IsName};
 ghost use Rattle.gw_table.specs.Reserved.{is_reserved, slot_name};
 
 use gw_base::TermName;
@@ -18,17 +17,6 @@ pub fn is_reserved(name: TermName) -> bool
     bytes.eq_ignore_ascii_case(b"ROOT") || bytes.starts_with(b"RTP/")
 }
 
-/// The name that the text is, which the caller knows to be one.
-fn named(text: &[u8]) -> TermName
-    requires { IsName text.now }
-    ensures { result ≡ text.now }
-{
-    match TermName::read(text) {
-        Ok(name) => name,
-        Err(_) => unreachable!(),
-    }
-}
-
 /// The name of the termination in a slot: `RTP/` and the slot in decimal, without leading zeros.
 pub fn slot_name(slot: u16) -> TermName
     ensures { result ≡ slot_name slot }
@@ -38,7 +26,7 @@ pub fn slot_name(slot: u16) -> TermName
     let end = 4 + digits.len();
     let mut text = *b"RTP/00000";
     text[4..end].copy_from_slice(digits);
-    named(&text[..end])
+    TermName::of(&text[..end])
 }
 
 /// The slots are those below this number.

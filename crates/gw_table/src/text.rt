@@ -128,7 +128,7 @@ fn write_context(
     ensures { OnOk result (out.new.items ≡ out.old.items ++ context_text number (option_copied context.entry)) }
 {
     if let Some(context) = context {
-        write_context_line(number, context.members().as_slice(), out)?;
+        write_context_line(number, context.members(), out)?;
         write_priority(number, context.priority(), out)?;
         write_emergency(number, context.emergency(), out)?;
         write_links(number, context, out)?;

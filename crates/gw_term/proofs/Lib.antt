@@ -12,7 +12,9 @@ pub mod Unfilled
 pub mod Taken
 pub mod SettingLists
 pub mod MadeOnce
+pub mod Aligned
 pub mod MadeThere
 pub mod RoomTaken
+pub mod AlignedTaken
 pub mod SamePlaces
 pub mod PrintEnds

@@ -18,10 +18,10 @@ P = Property (List ℕ)
 
 -- ---- names in any case
 
-same_name : (a b : List ℕ) → bytes_eq (folded a) (folded b) ≡ true → folded a ≡ folded b
+pub same_name : (a b : List ℕ) → bytes_eq (folded a) (folded b) ≡ true → folded a ≡ folded b
 same_name a b = (bytes_eq-Decides (folded a) (folded b)).0
 
-named_same : (a b : List ℕ) → folded a ≡ folded b → bytes_eq (folded a) (folded b) ≡ true
+pub named_same : (a b : List ℕ) → folded a ≡ folded b → bytes_eq (folded a) (folded b) ≡ true
 named_same a b = (bytes_eq-Decides (folded a) (folded b)).1
 
 -- a property of the same name in any case has the name where the other has it
@@ -78,19 +78,19 @@ where_stands p (q ∷ qs) = where_by p q qs (is_of_name p.name q) refl (where_st
 
 -- in the place of the one of its name
 pub record IsReplaced (p : P) (list new : List P) : Type 0 where
-  front : List P
-  was : P
-  back : List P
-  split : list ≡ front ++ was ∷ back
-  is : new ≡ front ++ p ∷ back
-  same : folded was.name ≡ folded p.name
-  first : list_any (is_of_name p.name) front ≡ false
+  pub front : List P
+  pub was : P
+  pub back : List P
+  pub split : list ≡ front ++ was ∷ back
+  pub is : new ≡ front ++ p ∷ back
+  pub same : folded was.name ≡ folded p.name
+  pub first : list_any (is_of_name p.name) front ≡ false
 
 -- last, since there is none
 pub record IsAdded (p : P) (list new : List P) : Type 0 where
-  is : new ≡ list ++ p ∷ []
-  none : list_any (is_of_name p.name) list ≡ false
-  room : length list < most_properties
+  pub is : new ≡ list ++ p ∷ []
+  pub none : list_any (is_of_name p.name) list ≡ false
+  pub room : length list < most_properties
 
 abbrev pub IsOnePut : P → List P → List P → Type 0
 IsOnePut p list new = IsReplaced p list new ⊎ IsAdded p list new
@@ -103,7 +103,7 @@ place_within p (q ∷ qs) back was same = by (is_of_name p.name q) (place_within
     by true h = omega arith
     by false h = omega (arith, h)
 
-some_of : (a b : List P) → Some a ≡ Some b → a ≡ b
+pub some_of : (a b : List P) → Some a ≡ Some b → a ≡ b
 some_of a b h = cc
 
 put_there : (p : P) (list : List P) (s : Stands p list) → put_property p list ≡ Some (s.front ++ p ∷ s.back)
@@ -116,6 +116,25 @@ put_there p list s =
 
     lt_is : (a b : ℕ) → a < b → nat_lt a b ≡ true
     lt_is a b h = grind (arith, lt-ltb)
+
+neither : (s t : Bool) → s || t ≡ false → (s ≡ false) × (t ≡ false)
+neither true t h = absurd cc
+neither false t h = (refl, h)
+
+-- behind a front that has none of its name
+stands_at : (p was : P) (front back : List P) → is_of_name p.name was ≡ true → list_any (is_of_name p.name) front ≡ false → (s : Stands p (front ++ was ∷ back)) × (s.front ++ p ∷ s.back ≡ front ++ p ∷ back)
+unfolding stands_here stands_later
+stands_at p was [] back same first = (stands_here p was back same, refl)
+stands_at p was (q ∷ qs) back same first =
+    let n = neither (is_of_name p.name q) (list_any (is_of_name p.name) qs) first in
+    let rest = stands_at p was qs back same n.1 in
+    (stands_later p q (qs ++ was ∷ back) n.0 rest.0, ap (λ (l : List P). q ∷ l) rest.1)
+
+-- one is put in the place of the first of its name
+pub put_at : (p was : P) (front back : List P) → is_of_name p.name was ≡ true → list_any (is_of_name p.name) front ≡ false → put_property p (front ++ was ∷ back) ≡ Some (front ++ p ∷ back)
+put_at p was front back same first =
+    let s = stands_at p was front back same first in
+    put_there p (front ++ was ∷ back) s.0 ∙ ap (λ (l : List P). Some l) s.1
 
 put_last : (p : P) (list : List P) → StandsNot p list → put_property p list ≡ cond (nat_lt (length list) most_properties) (Some (list ++ p ∷ [])) None
 put_last p list s = rw (s.place, not_below (length list)) refl
@@ -145,7 +164,7 @@ is_put p list =
     last none true e = inr (record { is = refl; none = none; room = ltb-true (length list) most_properties e })
     last none false e = record { none = none; full = ltb-false (length list) most_properties e }
 
-one_put : (p : P) (list new : List P) → put_property p list ≡ Some new → IsOnePut p list new
+pub one_put : (p : P) (list new : List P) → put_property p list ≡ Some new → IsOnePut p list new
 one_put p list new h = subst (IsPut p list) h (is_put p list)
 
 is_full : (p : P) (list : List P) → put_property p list ≡ None → IsFull p list
@@ -208,11 +227,11 @@ one_stays p list new (inr s) place q h other = ap (λ (l : List P). slice_get l 
 
 -- ---- names
 
-names_with : (front back : List P) (a b : P) → folded a.name ≡ folded b.name → lower_names (front ++ a ∷ back) ≡ lower_names (front ++ b ∷ back)
+pub names_with : (front back : List P) (a b : P) → folded a.name ≡ folded b.name → lower_names (front ++ a ∷ back) ≡ lower_names (front ++ b ∷ back)
 names_with [] back a b h = ap (λ (n : List ℕ). n ∷ lower_names back) h
 names_with (x ∷ xs) back a b h = ap (λ (l : List (List ℕ)). folded x.name ∷ l) (names_with xs back a b h)
 
-names_both : (xs ys : List P) → lower_names (xs ++ ys) ≡ lower_names xs ++ lower_names ys
+pub names_both : (xs ys : List P) → lower_names (xs ++ ys) ≡ lower_names xs ++ lower_names ys
 names_both [] ys = refl
 names_both (x ∷ xs) ys = ap (λ (l : List (List ℕ)). folded x.name ∷ l) (names_both xs ys)
 
@@ -263,10 +282,6 @@ twice_lower : (names : List (List ℕ)) → has_name_twice names ≡ some_same (
 unfolding has_name_twice
 twice_lower [] = refl
 twice_lower (n ∷ ns) = rw (any_lower n ns, twice_lower ns) refl
-
-neither : (s t : Bool) → s || t ≡ false → (s ≡ false) × (t ≡ false)
-neither true t h = absurd cc
-neither false t h = (refl, h)
 
 two_none : (s t : Bool) → s ≡ false → t ≡ false → s || t ≡ false
 two_none false t h k = k

@@ -101,7 +101,7 @@ module _ (list : List P) where
       by false = omega arith
   part_controls number (media.TerminationState properties) = omega arith
 
-  states_at_most : (ds : List Descriptor) → length (new_to list (states_sent ds)) ≤ length (flat_map (new_by list) ds)
+  pub states_at_most : (ds : List Descriptor) → length (new_to list (states_sent ds)) ≤ length (flat_map (new_by list) ds)
   states_at_most ds =
       let e = ap length (twice_of_each (is_new_to list) not_service states_in ds) in
       let b = all_at_most (λ d. new_to list (filter not_service (states_in d))) (new_by list) one ds in
@@ -113,7 +113,7 @@ module _ (list : List P) where
           let b = all_at_most (λ m. new_to list (filter not_service (states_in_part m))) (new_in list) part_states (media_parts d) in
           omega (arith, e, b)
 
-  controls_at_most_sent : (number : ℕ) (ds : List Descriptor) → length (new_to list (controls_sent (flat_map (parts_in number) ds))) ≤ length (flat_map (new_by list) ds)
+  pub controls_at_most_sent : (number : ℕ) (ds : List Descriptor) → length (new_to list (controls_sent (flat_map (parts_in number) ds))) ≤ length (flat_map (new_by list) ds)
   controls_at_most_sent number ds =
       let parts : List StreamPart = flat_map (parts_in number) ds in
       let e = ap length (ap (λ (l : List P). new_to list l) (controls_are parts) ∙ passed_of_each (is_new_to list) controls_of parts) in
@@ -157,7 +157,7 @@ module _ (list : List P) where
   new_by_at_most : (ds : List Descriptor) → length (flat_map (new_by list) ds) ≤ length (all_sent ds)
   new_by_at_most ds = all_at_most (new_by list) sent_by (λ d. all_at_most (new_in list) sent_in new_in_at_most (media_parts d)) ds
 
-not_too_long : (ds : List Descriptor) (sent old : List P) → HasSpaceFor ds old → length (new_to old sent) ≤ length (flat_map (new_by old) ds) → IsTooLong sent old → ⊥
+pub not_too_long : (ds : List Descriptor) (sent old : List P) → HasSpaceFor ds old → length (new_to old sent) ≤ length (flat_map (new_by old) ds) → IsTooLong sent old → ⊥
 not_too_long ds sent old has few long =
     let a = subst (λ (known : List (List ℕ)). length (new_names known (lower_names sent)) ≤ length (new_to old sent)) (append-nil (lower_names old)) (new_at_most old [] sent) in
     absurd (omega (arith, a, has, few, long))

@@ -60,7 +60,7 @@ states_are (p ∷ ps) list = by (is_service_states p.name) refl (states_are ps)
 
 -- ---- the properties of a LocalControl
 
-abbrev last_mode : List P → Mode → Mode
+abbrev pub last_mode : List P → Mode → Mode
 last_mode [] old = old
 last_mode (p ∷ ps) old = last_mode ps (if is_mode p.name then unwrap_or (mode_set_by p) old else old)
 

@@ -26,7 +26,7 @@ module _ (IsLong : (sent old : List P) → Type 0) (long : (sent old : List P) �
       IsLong (states_sent descriptors) old.settings.properties
       ⊎ AtSome (λ number stream. IsLong (controls_sent (flat_map (parts_in number) descriptors)) (list_in stream)) old.settings.streams
 
-  stream_by : (rules : Rules) (slot : Option ℕ) (number : ℕ) (descriptors : List Descriptor) (old : Option Stream) (t : Bool) → list_any (is_named_in number) descriptors ≡ t
+  pub stream_by : (rules : Rules) (slot : Option ℕ) (number : ℕ) (descriptors : List Descriptor) (old : Option Stream) (t : Bool) → list_any (is_named_in number) descriptors ≡ t
       → merged_stream rules slot number descriptors old ≡ None → IsLong (controls_sent (flat_map (parts_in number) descriptors)) (list_in old)
   unfolding merged_stream
   stream_by rules slot number descriptors old true named h =
@@ -36,7 +36,7 @@ module _ (IsLong : (sent old : List P) → Type 0) (long : (sent old : List P) �
       ∙ none_mapped (each put_property (controls_sent parts) (begun old).stream.properties) (parted rules slot number parts (begun old)) (sym (parts_are rules slot number parts (begun old)) ∙ none))
   stream_by rules slot number descriptors old false named h = absurd (let clash : Some (unnamed old) ≡ None = rw named at h in cc)
 
-  states_long : (descriptors : List Descriptor) (old : List P) → merged_properties descriptors old ≡ None → IsLong (states_sent descriptors) old
+  pub states_long : (descriptors : List Descriptor) (old : List P) → merged_properties descriptors old ≡ None → IsLong (states_sent descriptors) old
   unfolding merged_properties
   states_long descriptors old h = long (states_sent descriptors) old (sym (states_are (flat_map states_in descriptors) old) ∙ h)
 

@@ -15,4 +15,5 @@ pub mod KeptRecords
 pub mod Named
 pub mod Plain
 pub mod Room
+pub mod Aligned
 pub mod Sending

@@ -1,9 +1,10 @@
 //! Descriptors of which nothing is told, and a merge where the record lies.
 
-ghost use Rattle.std.specs.Prelude.{◌≡◌, ◌≤◌, true, false, [], map, None, Some, IfSome, OnOk};
+ghost use Rattle.std.specs.Prelude.{◌≡◌, ◌≤◌, true, false, [], length, map, None, Some, IfSome, OnOk};
 ghost use Rattle.std.specs.List.{flat_map, list_all, list_any};
 ghost use Rattle.std.specs.Option.{is_some, option_map};
 ghost use Rattle.gw_desc.specs.Checks.{is_kept};
+ghost use Rattle.gw_term.specs.Aligned.{IsMadeNew, remade};
 ghost use Rattle.gw_term.specs.Merge.{each, put_part, parts_in, is_named_in, merged, merged_properties, merged_stream};
 ghost use Rattle.gw_term.specs.Named.{has_states, named_by};
 ghost use Rattle.gw_term.specs.Places.{at_number, numbered, at_kind, put_kind, of_kinds};
@@ -14,6 +15,7 @@ use crate::fault::ApplyFault;
 use crate::held::{HeldProperty, HeldTail};
 use crate::properties::{merged_properties, merged_service};
 use crate::record::{Stream, Termination};
+use crate::same::is_aligned;
 use crate::sending::Sending;
 use crate::settings::{Form, Setting, Settings};
 use crate::streams::{Sent, put_all};
@@ -147,6 +149,32 @@ fn retell_settings(
     Ok(())
 }
 
+/// Each property becomes a copy of that of these which stands in its place.
+fn remake_properties(
+    alloc: Global,
+    made: &[HeldProperty],
+    list: &mut Items<HeldProperty>,
+) -> Result<(), AllocError>
+    requires { length list.old ≡ length made.now }
+    ensures { OnOk result (list.new ≡ made.now) }
+{
+    for (place, own) in made.iter().enumerate() {
+        list.set(place, own.copied(alloc, Copying::Once)?);
+    }
+    Ok(())
+}
+
+/// A stream of the mode of this one, with properties of the same names in the same order, which the descriptors made where there was
+/// none, becomes what they make of it: as this one, but with its Local or Remote where they make none.
+fn remake(alloc: Global, made: &Stream, stream: &mut Stream) -> Result<(), AllocError>
+    requires { length stream.old.properties ≡ length made.now.properties }
+    ensures { OnOk result (stream.new ≡ remade made.now stream.old) }
+{
+    remake_properties(alloc, made.properties.as_slice(), &mut stream.properties)?;
+    stream.local.put_made(alloc, &made.local)?;
+    stream.remote.put_made(alloc, &made.remote)
+}
+
 /// A stream of this number, which the descriptors name, becomes what it is after them, where it lies.
 fn merge_stream(
     alloc: Global,
@@ -156,9 +184,16 @@ fn merge_stream(
 ) -> Result<(), ApplyFault>
     requires first { 1 ≤ number }
     requires last { number ≤ 4 }
+    requires made { IfSome sent.now.made (λ made. IsMadeNew sent.now.rules.now sent.now.slot number sent.now.descriptors.now made.now) }
     ensures after { OnOk result (stream.new ≡ stream_after sent.now.rules.now sent.now.slot number sent.now.descriptors.now stream.old) }
     ensures made { OnOk result (is_some (each (put_part sent.now.rules.now sent.now.slot number) (flat_map (parts_in number) sent.now.descriptors.now) (record { stream = stream.old; filled = false })) ≡ true) }
 {
+    if let Some(made) = sent.made {
+        if is_aligned(stream, made) {
+            remake(alloc, made, stream)?;
+            return Ok(());
+        }
+    }
     let mut filled = false;
     put_all(alloc, sent, number, stream, &mut filled)
 }
@@ -172,6 +207,7 @@ fn merge_setting(
 ) -> Result<(), ApplyFault>
     requires first { 1 ≤ number }
     requires last { number ≤ 4 }
+    requires made { IfSome sent.now.made (λ made. IsMadeNew sent.now.rules.now sent.now.slot number sent.now.descriptors.now made.now) }
     ensures after { OnOk result (setting.new ≡ setting_after (stream_after sent.now.rules.now sent.now.slot number sent.now.descriptors.now) number setting.old) }
     ensures made { OnOk result (is_made_at sent.now.rules.now sent.now.slot number sent.now.descriptors.now setting.old ≡ true) }
 {
@@ -192,6 +228,7 @@ fn merge_settings(
 ) -> Result<(), ApplyFault>
     requires first { 1 ≤ number }
     requires last { number ≤ 4 }
+    requires made { IfSome sent.now.made (λ made. IsMadeNew sent.now.rules.now sent.now.slot number sent.now.descriptors.now made.now) }
     ensures after { OnOk result (settings.new ≡ map (setting_after (stream_after sent.now.rules.now sent.now.slot number sent.now.descriptors.now) number) settings.old) }
     ensures made { OnOk result (list_all (is_made_at sent.now.rules.now sent.now.slot number sent.now.descriptors.now) settings.old ≡ true) }
 {
@@ -212,6 +249,7 @@ impl Settings {
         requires first { 1 ≤ number }
         requires last { number ≤ 4 }
         requires named { list_any (is_named_in number) sent.now.descriptors.now ≡ true }
+        requires made { IfSome sent.now.made (λ made. IsMadeNew sent.now.rules.now sent.now.slot number sent.now.descriptors.now made.now) }
         requires there { is_some (at_number number self.old.streams) ≡ true }
         ensures after { OnOk result (self.new ≡ with_stream_after (λ old. option_map (stream_after sent.now.rules.now sent.now.slot number sent.now.descriptors.now) old) number self.old) }
         ensures made { OnOk result (is_some (merged_stream sent.now.rules.now sent.now.slot number sent.now.descriptors.now (at_number number self.old.streams)) ≡ true) }

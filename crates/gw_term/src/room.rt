@@ -143,7 +143,7 @@ fn has_space_for(descriptors: &[Descriptor<'_>], list: &[HeldProperty]) -> bool
 }
 
 /// Whether the list of a setting has, if there is one.
-fn has_space_at(descriptors: &[Descriptor<'_>], setting: &Setting) -> bool
+pub(crate) fn has_space_at(descriptors: &[Descriptor<'_>], setting: &Setting) -> bool
     ensures { result ≡ true → HasSpaceAt descriptors.now setting.now }
 {
     match setting {

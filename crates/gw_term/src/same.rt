@@ -1,6 +1,8 @@
 //! Whether the same was set of two terminations, wherever it lies.
 
 ghost use Rattle.std.specs.Prelude.{◌≡◌, true};
+ghost use Rattle.gw_term.specs.Aligned.{IsAligned};
+ghost use Rattle.gw_term.specs.Lookups.{lower_names};
 ghost use Rattle.gw_term.specs.Settings.{settings_in};
 
 use crate::held::HeldProperty;
@@ -39,6 +41,34 @@ fn are_same_properties(properties: &[HeldProperty], others: &[HeldProperty]) -> 
         left = rest;
     }
     true
+}
+
+/// Whether the properties have the names of the others, in any case, in the same order.
+fn are_same_names(properties: &[HeldProperty], others: &[HeldProperty]) -> bool
+    ensures { result ≡ true → lower_names properties.now ≡ lower_names others.now }
+{
+    if properties.len() != others.len() {
+        return false;
+    }
+    let mut left = others;
+    for property in properties {
+        let Some((other, rest)) = left.split_first() else {
+            return false;
+        };
+        if !property.has_name(other.name()) {
+            return false;
+        }
+        left = rest;
+    }
+    true
+}
+
+/// Whether the stream has the mode of the other, and properties of the same names in the same order.
+pub(crate) fn is_aligned(stream: &Stream, made: &Stream) -> bool
+    ensures { result ≡ true → IsAligned stream.now made.now }
+{
+    is_same_mode(stream.mode, made.mode)
+        && are_same_names(stream.properties.as_slice(), made.properties.as_slice())
 }
 
 /// Whether it is the other stream.

@@ -2,14 +2,17 @@
 
 ghost use Rattle.std.specs.Prelude.{◌≡◌, true, IfOk, IfSome};
 ghost use Rattle.std.specs.List.{All};
+ghost use Rattle.gw_term.specs.Aligned.{IsAlignedIn, TakesAt};
 ghost use Rattle.gw_term.specs.Named.{named_by};
 ghost use Rattle.gw_term.specs.Plain.{are_plain, fill_none, AreKnown, IsMadeBy, IsMadeOf};
 ghost use Rattle.gw_term.specs.Room.{Takes};
 
 use crate::named::Named;
 use crate::plain::are_plain;
-use crate::record::Termination;
-use crate::settings::Settings;
+use crate::record::{Stream, Termination};
+use crate::room::has_space_at;
+use crate::same::is_aligned;
+use crate::settings::{Setting, Settings};
 use crate::text::Copying;
 use gw_base::{NoMemory, Rules};
 use gw_desc::Descriptor;
@@ -188,9 +191,47 @@ impl<'a, 'b> Sending<'a, 'b> {
         self.learn(alloc, settings)
     }
 
+    /// Whether the stream of this number has the mode of that which they make where there is none, and properties of the same names in the
+    /// same order.
+    fn is_aligned(&self, number: u8, stream: &Stream) -> bool
+        ensures { result ≡ true → IsAlignedIn self.now.made number stream.now }
+    {
+        if number < 1 || number > 4 {
+            return false;
+        }
+        match self.made.stream(number) {
+            Some(made) => is_aligned(stream, made),
+            None => false,
+        }
+    }
+
+    /// Whether a setting surely takes the descriptors: it is such a stream, or its list has room for what is new to it.
+    fn takes_at(&self, setting: &Setting) -> bool
+        ensures { result ≡ true → TakesAt self.now.made self.now.descriptors.now setting.now }
+    {
+        if let Setting::Stream(number, stream) = setting {
+            if self.is_aligned(*number, stream) {
+                return true;
+            }
+        }
+        has_space_at(self.descriptors, setting)
+    }
+
+    /// Whether each of these surely does.
+    fn takes_each(&self, settings: &[Setting]) -> bool
+        ensures { result ≡ true → All (TakesAt self.now.made self.now.descriptors.now) settings.now }
+    {
+        for setting in settings {
+            if !self.takes_at(setting) {
+                return false;
+            }
+        }
+        true
+    }
+
     /// Whether a termination surely takes the descriptors: what they make of what was set of it was learnt, or is learnt now; or each list
-    /// of it has room for the properties that are new to it. The work is that of looking at what was set of it and of the few that were
-    /// learnt, or at each property that they send.
+    /// of it has room for the properties that are new to it, or the names of those that they make where there is none. The work is that of
+    /// looking at what was set of it and of the few that were learnt, or at each property that they send.
     ///
     /// # Errors
     ///
@@ -204,13 +245,12 @@ impl<'a, 'b> Sending<'a, 'b> {
             self.tries = MOST_TRIED;
             return Ok(true);
         }
-        let descriptors = self.descriptors;
-        if self.fills_none(termination.slot) {
-            let learnt = self.learn(alloc, &termination.settings)?;
-            if learnt.is_some() {
-                return Ok(true);
-            }
+        if !self.fills_none(termination.slot) {
+            return Ok(termination.has_space(self.descriptors));
         }
-        Ok(termination.has_space(descriptors))
+        if self.learn(alloc, &termination.settings)?.is_some() {
+            return Ok(true);
+        }
+        Ok(self.takes_each(termination.settings.list()))
     }
 }

@@ -1,6 +1,7 @@
 //! A text that is kept: in a block of its own, or in one that copies share.
 
 ghost use Rattle.std.specs.Prelude.{◌≡◌, ◌++◌, IfOk, OnOk, None, Some, true};
+ghost use Rattle.std.specs.Option.{option_or};
 ghost use Rattle.gw_term.specs.HeldTexts.{text_of};
 ghost use Rattle.gw_term.specs.Prints.{option_print};
 
@@ -204,6 +205,17 @@ impl Text {
         }
         let old = mem::replace(self, Text::none());
         *self = old.written(alloc, text)?;
+        Ok(())
+    }
+
+    /// A copy of the other text takes its place, if there is one.
+    pub(crate) fn put_made(&mut self, alloc: Global, made: &Text) -> Result<(), AllocError>
+        ensures { OnOk result (self.new ≡ option_or made.now self.old) }
+    {
+        match &made.form {
+            Form::Missing => {}
+            Form::Own(_) | Form::Shared(_) => *self = made.copied(alloc, Copying::Once)?,
+        }
         Ok(())
     }
 

@@ -142,6 +142,10 @@ prefix_again bytes front rest h =
     let same = (bytes_eq-Decides (map to_ascii_lowercase front) (map to_ascii_lowercase bytes)).1 h in
     rw (← len, take_at front rest (length front) refl, drop_at front rest (length front) refl, same) refl
 
+-- bytes letter for letter
+pub exact_again : (bytes text rest : List ℕ) → text ≡ bytes ++ rest → prefix_at bytes text ≡ Some rest
+exact_again bytes text rest e = ap (prefix_at bytes) e ∙ prefix_again bytes bytes rest refl
+
 -- ---- what is there, and what is not
 
 solid_not : (t : Bool) → not t ≡ true → t ≡ false

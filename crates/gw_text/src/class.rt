@@ -48,3 +48,21 @@ pub fn is_safe(b: u8) -> bool
 {
     SAFE[b as usize] != b','
 }
+
+// At the place of each byte with which white space begins stands a comma, and an x at every other place.
+static SPACE_STARTS: [u8; 256] = *b"\
+    xxxxxxxxx,,xx,xxxxxxxxxxxxxxxxxx\
+    ,xxxxxxxxxxxxxxxxxxxxxxxxxx,xxxx\
+    xxxxxxxxxxxxxxxxxxxxxxxxxxxxxxxx\
+    xxxxxxxxxxxxxxxxxxxxxxxxxxxxxxxx\
+    xxxxxxxxxxxxxxxxxxxxxxxxxxxxxxxx\
+    xxxxxxxxxxxxxxxxxxxxxxxxxxxxxxxx\
+    xxxxxxxxxxxxxxxxxxxxxxxxxxxxxxxx\
+    xxxxxxxxxxxxxxxxxxxxxxxxxxxxxxxx";
+
+/// The same as `is_solid`, for scans of many bytes.
+pub fn is_solid_in_scan(b: u8) -> bool
+    ensures { result ≡ is_solid b }
+{
+    SPACE_STARTS[b as usize] != b','
+}

@@ -1,6 +1,6 @@
 //! A place in a text, and the scans of what stands there (RFC 3525, Annex B.2).
 
-ghost use Rattle.std.specs.Prelude.{◌≡◌, ◌≤◌, ◌<◌, ℕ, List, [], ◌∷◌, ◌++◌, true, false, length, take, drop, Some, None, Err, MatchBool, IfOk, IfErr, IsTrue, ◌↔◌};
+ghost use Rattle.std.specs.Prelude.{◌≡◌, ◌≢◌, ◌≤◌, ◌<◌, ℕ, List, [], ◌∷◌, ◌++◌, true, false, length, take, drop, Some, None, Err, MatchBool, IfOk, IfErr, IsTrue, ◌↔◌};
 ghost use Rattle.std.specs.Bool.{OnTrue, OnFalse};
 ghost use Rattle.gw_base.specs.Bytes.{is_digit};
 ghost use Rattle.gw_text.specs.Lexical.{is_safe, is_solid, right_brace};
@@ -18,6 +18,7 @@ ghost use Rattle.gw_text.specs.Group.{IsGroup, IsTooDeep, HasNoGroup};
 ghost use Rattle.gw_text.specs.GroupScan.{balanced_at};
 ghost use Rattle.gw_text.specs.Longest.{IsLongest, IsAhead};
 ghost use Rattle.gw_text.specs.Sign.{byte_at, sign_at, prefix_at};
+ghost use Rattle.gw_text.specs.Tokens.{token_of};
 ghost use Rattle.gw_text.specs.Scans.{Takes, lwsp_at, sep_at, word_at, solid_at, number_within, uint32_at, uint32_digits, uint32_max};
 
 use crate::bracket::{bracket_len, run_len};
@@ -27,7 +28,8 @@ use crate::group::group_len;
 use crate::lengths::{digits_len, solid_len, word_len};
 use crate::number::number_of;
 use crate::octets::{octets_ends, quoted_len, trimmed};
-use crate::space::{begins_solid, space_len};
+use crate::space::{is_unspaced, space_len};
+use crate::token::{Token, in_table, often_next};
 use std::marker::Model;
 
 /// A 32-bit number in a text.
@@ -167,6 +169,25 @@ impl<'a> Cursor<'a> {
             return Err(ScanFault::Unexpected);
         }
         Ok(self.take(len))
+    }
+
+    /// Takes a word as `word` does, and tells which token it is, if it is one. What is sent often, as the table has it, is told by its
+    /// bytes alone.
+    ///
+    /// # Errors
+    ///
+    /// `Unexpected` where no safe byte comes next.
+    #[inline(always)]
+    #[tactic(auto, unfolding(crate::specs::Scans::word_at))]
+    pub fn named(&mut self) -> Result<(&'a [u8], Option<Token>), ScanFault>
+        ensures exact { Takes (λ r. r.0.now) self.old result self.new (word_at self.old) }
+        ensures token { IfOk result (λ r. r.1 ≡ token_of r.0.now) }
+    {
+        if let Some((token, len)) = often_next(self.rest) {
+            return Ok((self.take(len), Some(token)));
+        }
+        let word = self.word()?;
+        Ok((word, in_table(word)))
     }
 
     /// Takes the bytes before the next white space.
@@ -366,20 +387,33 @@ impl<'a> Cursor<'a> {
         true
     }
 
-    /// Takes the sign as `sign` does. Mostly there is no white space on either side of it, which is told by two bytes.
+    /// Takes these bytes, letter for letter, if they come next.
+    #[inline(always)]
+    pub fn exact_prefix(&mut self, bytes: &[u8]) -> bool
+        ensures { MatchBool result (self.old ≡ bytes.now ++ self.new) ((self.new ≡ self.old) × ((rest : List ℕ) → self.old ≢ bytes.now ++ rest)) }
+    {
+        match self.rest.strip_prefix(bytes) {
+            Some(rest) => {
+                self.rest = rest;
+                true
+            }
+            None => false,
+        }
+    }
+
+    /// Takes the sign as `sign` does. Mostly there is no white space on either side of it, which
+    /// is told by two bytes; that another byte comes next is told by that one.
     #[tactic(auto, unfolding(crate::specs::Sign::sign_at, crate::specs::SpaceScan::skip, crate::specs::SpaceScan::space_len))]
     fn take_sign(&mut self, b: u8) -> bool
         ensures exact { MatchBool result (sign_at b self.old ≡ Some self.new) ((sign_at b self.old ≡ None) × (self.new ≡ self.old)) }
         ensures shorter { OnTrue result (length self.new < length self.old) }
     {
         match self.rest {
-            [c, rest @ ..] if is_solid(*c) && begins_solid(rest) => {
-                if *c != b {
-                    return false;
-                }
+            [c, rest @ ..] if *c == b && is_solid(b) && is_unspaced(rest) => {
                 self.rest = rest;
                 true
             }
+            [c, ..] if *c != b && is_solid(*c) => false,
             _ => self.take_spaced_sign(b),
         }
     }

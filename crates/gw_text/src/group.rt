@@ -10,7 +10,7 @@ use crate::class::{is_safe, is_solid};
 use crate::fault::ScanFault;
 use crate::lengths::word_len;
 use crate::octets::{octets_ends, quoted_len};
-use crate::space::space_len;
+use crate::space::some_space_len;
 use crate::token::{Token, token_of};
 
 /// What stands before a place in a group, white space aside.
@@ -100,7 +100,7 @@ fn spaced(at: Place, text: &[u8]) -> Result<(Place, usize), ScanFault>
     ensures value { result ≡ spaced at (space_len text.now) }
     ensures within { IfOk result (λ next. next.1 ≤ length text.now) }
 {
-    let len = space_len(text);
+    let len = some_space_len(text);
     if len == 0 {
         return Err(ScanFault::Unexpected);
     }

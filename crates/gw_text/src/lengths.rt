@@ -5,7 +5,7 @@ ghost use Rattle.gw_base.specs.Bytes.{is_digit};
 ghost use Rattle.gw_text.specs.Lexical.{is_safe, is_solid};
 ghost use Rattle.gw_text.specs.Runs.{run_len};
 
-use crate::class::{is_safe, is_solid};
+use crate::class::{is_safe, is_solid_in_scan};
 use gw_base::is_digit;
 
 /// The length of the safe bytes.
@@ -29,5 +29,5 @@ pub fn solid_len(text: &[u8]) -> usize
     ensures value { result ≡ run_len is_solid text.now }
     ensures within { result ≤ length text.now }
 {
-    text.iter().take_while(|b| is_solid(**b)).count()
+    text.iter().take_while(|b| is_solid_in_scan(**b)).count()
 }

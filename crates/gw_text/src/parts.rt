@@ -1,6 +1,8 @@
 //! Parts of a message that are read from a text, alone or in lists. After a fault nothing is said of the cursor.
 
+ghost use Rattle.std.proofs.Common.{arith};
 ghost use Rattle.std.specs.Prelude.{◌≡◌, ◌++◌, ◌∷◌, [], ℕ, List, Option, Some, None, MatchResult, OnOk};
+ghost use Rattle.std.specs.Mem.{FitsInMemory};
 ghost use Rattle.gw_text.specs.Sign.{sign_at};
 ghost use Rattle.gw_text.specs.Reader.{word_as, word_read, list_at, closed_list_at, braced_at, optional_at, braced_or_empty_at, items_at};
 ghost use Rattle.gw_text.specs.Tokens.{token_of};
@@ -8,7 +10,7 @@ ghost use Rattle.gw_text.specs.Parts.{Gives, Finds, Shrinks, ShrinksMore};
 
 use crate::cursor::Cursor;
 use crate::fault::ParseFault;
-use crate::token::{Token, token_of};
+use crate::token::Token;
 use bumpalo::Bump;
 use gw_base::{Listed, Span};
 use std::alloc::AllocError;
@@ -25,6 +27,9 @@ pub trait Parse<'a>: Drop {
     /// `Syntax` where there is none; `NoMemory` where a growth was refused.
     fn read(bump: &'a Bump, cursor: &mut Cursor<'a>) -> Result<Self, ParseFault>
         ensures { Gives result cursor.new (read_at cursor.old) };
+
+    // so that a list of one part is a block of the part's own size
+    ghost fits: { FitsInMemory Self.row };
 }
 
 /// Takes the sign, which must come next, with the white space on both sides.
@@ -50,7 +55,7 @@ pub fn sign(cursor: &mut Cursor<'_>, b: u8) -> Result<(), ParseFault>
 pub fn token(cursor: &mut Cursor<'_>) -> Result<Token, ParseFault>
     ensures { Finds result cursor.new (word_as token_of cursor.old) }
 {
-    match token_of(cursor.word()?) {
+    match cursor.named()?.1 {
         Some(token) => Ok(token),
         None => Err(ParseFault::Syntax),
     }
@@ -71,6 +76,8 @@ pub fn word<'a>(cursor: &mut Cursor<'a>) -> Result<Span<'a>, ParseFault>
 impl<'a> Parse<'a> for Span<'a> {
     ghost read_at = { word_read };
 
+    ghost fits = { Prim.search arith };
+
     fn read(_bump: &'a Bump, cursor: &mut Cursor<'a>) -> Result<Span<'a>, ParseFault> {
         word(cursor)
     }
@@ -89,7 +96,11 @@ pub fn put<T: Drop>(parts: &mut Vec<T, &Bump>, part: T) -> Result<(), AllocError
     Ok(())
 }
 
-/// The part goes last, and no room is left behind it: most lists have one part, which then takes a block of its own size.
+/// The part goes last, and no room is left behind it.
+///
+/// # Errors
+///
+/// `AllocError` where a growth was refused.
 #[inline(always)]
 fn put_last<T: Drop>(parts: &mut Vec<T, &Bump>, part: T) -> Result<(), AllocError>
     ensures { OnOk result (parts.new.items ≡ parts.old.items ++ part ∷ []) }
@@ -98,7 +109,8 @@ fn put_last<T: Drop>(parts: &mut Vec<T, &Bump>, part: T) -> Result<(), AllocErro
     put(parts, part)
 }
 
-/// Reads one part or more, with commas between them. Each part is read once.
+/// Reads one part or more, with commas between them. Each part is read once. Most lists have one, which then takes a block
+/// of its own size.
 ///
 /// # Errors
 ///
@@ -114,6 +126,9 @@ pub fn list<'a, T: Parse<'a>>(
     loop {
         let part = T::read(bump, cursor)?;
         if !cursor.sign(b',') {
+            if parts.is_empty() {
+                return Ok(Listed::one(bump, part)?);
+            }
             put_last(&mut parts, part)?;
             return Ok(Listed::kept(parts));
         }
@@ -211,6 +226,9 @@ pub fn items<'a, T: Parse<'a>>(
         let part = T::read(bump, cursor)?;
         cursor.lwsp();
         if cursor.is_empty() {
+            if parts.is_empty() {
+                return Ok(Listed::one(bump, part)?);
+            }
             put_last(&mut parts, part)?;
             return Ok(Listed::kept(parts));
         }

@@ -8,32 +8,33 @@ ghost use Rattle.gw_text.specs.SpaceScan.{space_len, comment_len};
 
 use crate::class::{is_blank, is_comment_byte, is_eol, is_solid};
 
-/// The length of the white space.
+/// The length of the white space, which is mostly none, or one blank.
 #[tactic(auto, unfolding(crate::specs::SpaceScan::space_len))]
 pub fn space_len(text: &[u8]) -> usize
     ensures value { result ≡ space_len text.now }
     ensures within { result ≤ length text.now }
 {
     match text {
+        [b, c, ..] if is_blank(*b) && is_solid(*c) => 1,
         [b, ..] if !is_solid(*b) => some_space_len(text),
         _ => 0,
     }
 }
 
-/// Whether a byte comes next with which no white space begins.
+/// Whether no white space comes next, as its first byte tells.
 #[tactic(auto, unfolding(crate::specs::SpaceScan::space_len))]
-pub fn begins_solid(text: &[u8]) -> bool
+pub fn is_unspaced(text: &[u8]) -> bool
     ensures { OnTrue result (space_len text.now ≡ 0) }
 {
     match text {
         [b, ..] => is_solid(*b),
-        [] => false,
+        [] => true,
     }
 }
 
-// Kept out of the scans that look for white space where there is mostly none.
+/// The same, where there mostly is some. Kept out of the scans that look for it where there is mostly none.
 #[inline(never)]
-fn some_space_len(text: &[u8]) -> usize
+pub fn some_space_len(text: &[u8]) -> usize
     ensures value { result ≡ space_len text.now }
     ensures within { result ≤ length text.now }
 {

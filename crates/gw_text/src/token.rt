@@ -1,8 +1,13 @@
 //! The words of the grammar, in their long and their short form (RFC 3525, Annex B.2).
 
-ghost use Rattle.std.specs.Prelude.{◌≡◌, Some, IfSome};
+ghost use Rattle.std.specs.Prelude.{◌≡◌, Some, IfSome, length, take};
+ghost use Rattle.std.specs.Bool.{OnTrue};
+ghost use Rattle.gw_text.specs.Lexical.{is_safe};
+ghost use Rattle.gw_text.specs.Runs.{IsRun, run_len};
 ghost use Rattle.gw_text.specs.Tokens.{table, is_same_word, is_spelling, find_token, token_of};
-ghost use Rattle.gw_text.specs.TokenTable.{entries, rows_in};
+ghost use Rattle.gw_text.specs.TokenTable.{entries, rows_in, IsForm, IsNext};
+
+use crate::class::is_safe;
 
 /// A word that the grammar knows.
 #[derive(Clone, Copy, Debug, PartialEq, Eq)]
@@ -249,8 +254,94 @@ fn often_short(word: &[u8]) -> Option<Token>
     }
 }
 
-/// The token that a word is. It is laid beside nine tokens at most, those in its first letter.
-fn in_table(word: &[u8]) -> Option<Token>
+/// Whether the form is the word that comes next.
+#[inline(always)]
+fn is_next(text: &[u8], form: &[u8]) -> bool
+    requires { IsRun is_safe form.now }
+    ensures { OnTrue result ((take (length form.now) text.now ≡ form.now) × (run_len is_safe text.now ≡ length form.now)) }
+{
+    if text.len() < form.len() {
+        return false;
+    }
+    for (i, b) in form.iter().enumerate() {
+        if text[i] != *b {
+            return false;
+        }
+    }
+    match &text[form.len()..] {
+        [b, ..] => !is_safe(*b),
+        [] => true,
+    }
+}
+
+/// The token and the length of its form, where that is the word that comes next.
+#[inline(always)]
+fn told(text: &[u8], form: &[u8], token: Token) -> Option<(Token, usize)>
+    requires { IsForm token form.now }
+    ensures { IfSome result (λ r. IsNext r.0 r.1 text.now) }
+{
+    if is_next(text, form) {
+        Some((token, form.len()))
+    } else {
+        None
+    }
+}
+
+/// The same of either form.
+#[inline(always)]
+fn told_by_either(text: &[u8], long: &[u8], short: &[u8], token: Token) -> Option<(Token, usize)>
+    requires long { IsForm token long.now }
+    requires short { IsForm token short.now }
+    ensures { IfSome result (λ r. IsNext r.0 r.1 text.now) }
+{
+    match told(text, long, token) {
+        Some(found) => Some(found),
+        None => told(text, short, token),
+    }
+}
+
+/// The token of the word that comes next, and the word's length, where it is one that is sent often and stands there as the table has
+/// it. No other byte is looked at.
+#[inline(always)]
+pub fn often_next(text: &[u8]) -> Option<(Token, usize)>
+    ensures { IfSome result (λ r. IsNext r.0 r.1 text.now) }
+{
+    let [first, ..] = text else {
+        return None;
+    };
+    match *first {
+        b'A' => match told_by_either(text, b"Add", b"A", Token::Add) {
+            Some(found) => Some(found),
+            None => told_by_either(text, b"AuditValue", b"AV", Token::AuditValue),
+        },
+        b'C' => told_by_either(text, b"Context", b"C", Token::Context),
+        b'E' => told_by_either(text, b"Events", b"E", Token::Events),
+        b'L' => match told_by_either(text, b"Local", b"L", Token::Local) {
+            Some(found) => Some(found),
+            None => told(text, b"LocalControl", Token::LocalControl),
+        },
+        b'M' => match told_by_either(text, b"Media", b"M", Token::Media) {
+            Some(found) => Some(found),
+            None => told_by_either(text, b"Modify", b"MF", Token::Modify),
+        },
+        b'O' => told(text, b"O", Token::LocalControl),
+        b'R' => told_by_either(text, b"Remote", b"R", Token::Remote),
+        b'S' => match told_by_either(text, b"Stream", b"ST", Token::Stream) {
+            Some(found) => Some(found),
+            None => match told_by_either(text, b"Subtract", b"S", Token::Subtract) {
+                Some(found) => Some(found),
+                None => told_by_either(text, b"Signals", b"SG", Token::Signals),
+            },
+        },
+        b'T' => told_by_either(text, b"Transaction", b"T", Token::Transaction),
+        _ => None,
+    }
+}
+
+/// The token that a word is. It is laid beside nine tokens at most, those in its first letter. Kept out of what tells the tokens that are
+/// sent often.
+#[inline(never)]
+pub fn in_table(word: &[u8]) -> Option<Token>
     ensures { result ≡ token_of word.now }
 {
     let [first, ..] = word else {

@@ -100,7 +100,7 @@ fn behind_least(
     let left = behind(room, b"Context={}".len())?;
     let left = behind_number(left, number.0)?;
     match draft.ctx(number) {
-        Some(context) => behind_members(left, command, word, context.members().as_slice()),
+        Some(context) => behind_members(left, command, word, context.members()),
         None => Some(left),
     }
 }

@@ -8,7 +8,7 @@ use crate::descriptor::{Descriptor, MediaPart, StreamPart, Tail};
 use gw_base::Span;
 
 /// The most bytes of a Local, of a Remote, or of a tail's word and group.
-const LONGEST_KEPT: usize = 8192;
+pub(crate) const LONGEST_KEPT: usize = 8192;
 
 /// How many bytes it has, if it is there.
 fn length_if(text: &Option<Span<'_>>) -> usize
@@ -20,14 +20,14 @@ fn length_if(text: &Option<Span<'_>>) -> usize
     }
 }
 
-fn is_tail_long(tail: &Tail<Span<'_>>) -> bool
+pub(crate) fn is_tail_long(tail: &Tail<Span<'_>>) -> bool
     ensures { result ≡ is_tail_long tail.now }
 {
     let word = length_if(&tail.word);
     word > LONGEST_KEPT || length_if(&tail.group) > LONGEST_KEPT - word
 }
 
-fn is_stream_number(number: u16) -> bool
+pub(crate) fn is_stream_number(number: u16) -> bool
     ensures { result ≡ is_stream_number number }
 {
     1 <= number && number <= 4

@@ -1,12 +1,14 @@
-use Rattle.std.proofs.Common.{◌≡◌, ◌++◌, ◌||◌, length}
+use Rattle.std.proofs.Common.{◌≡◌, ◌≤◌, ◌++◌, ◌||◌, ◌-◌, length, take, drop}
 use Rattle.gw_desc.specs.Fill.{filled_text, is_fillable}
 use Rattle.gw_desc.proofs.fill.write_lines.Given as goal
 
--- what was written, and what is left, filled, are the whole, filled
-abbrev pub invariant-loop-line : goal.invariant-loop-line
-invariant-loop-line l =
-    (l.out.items ++ filled_text l.address l.port l.rest ≡ l.fn.out.items ++ filled_text l.address l.port l.text)
-    × ((l.told || is_fillable l.rest) ≡ is_fillable l.text)
+-- what was written, what stays as it is, and what is left behind that, filled, are the whole, filled
+abbrev pub invariant-loop-len : goal.invariant-loop-len
+invariant-loop-len l =
+    (l.same ≤ length l.rest)
+    × (length l.rest ≤ length l.text)
+    × (l.out.items ++ (take l.same l.rest ++ filled_text l.address l.port (drop l.same l.rest)) ≡ l.fn.out.items ++ filled_text l.address l.port l.text)
+    × ((l.told || is_fillable (drop l.same l.rest)) ≡ is_fillable l.text)
 
-abbrev pub decreases-loop-line : goal.decreases-loop-line
-decreases-loop-line l = length l.rest
+abbrev pub decreases-loop-len : goal.decreases-loop-len
+decreases-loop-len l = length l.rest - l.same

@@ -38,12 +38,12 @@ loop-sent-preserved c =
     let e = c.in_ok-owned.ensures in
     let told : IsOwned (maps_of c.self.inside.tables) c.in_ok-tree.tree.now v w o = record { pairs = e.paired; slots_are = e.owned_slots; numbers = e.numbers; slots = e.slots; cursors = e.cursors } in
     let owned : IsOwned g.state.maps x.request v w o = subst (λ (m : Maps). IsOwned m x.request v w o) (ap (λ (k : GatewayValue). k.state.maps) c.self.view_is) (subst (λ (r : Request). IsOwned (maps_of c.self.inside.tables) r v w o) c.in_ok-tree.ensures told) in
-    let job : Asked = record { mid = x.mid; request = c.again.result; owned = o } in
+    let job : Asked = record { mid = c.again.result; request = c.again-in-loop-sent.result; owned = o } in
     record {
       contexts = e.contexts_stay ∙ c.loop-sent.invariant.contexts;
       slots = e.slots_stay ∙ c.loop-sent.invariant.slots;
       owns = goes_on g new (drop i new) (drop (i + 1) new) x v w o c.loop-sent.jobs c.push.new.self job (rest_of new i x x c.loop-sent-test.true c.sent-item.is) c.loop-sent.invariant.owns owned
-          (ap (λ (r : Request). record { mid = x.mid; request = r; owned = o }) c.again.ensures) c.in_ok-push.ensures.ok;
+          (ap (λ (m : List ℕ). record { mid = m; request = c.again-in-loop-sent.result; owned = o }) c.again.ensures ∙ ap (λ (r : Request). record { mid = x.mid; request = r; owned = o }) c.again-in-loop-sent.ensures) c.in_ok-push.ensures.ok;
     }
 
 pub returns-clause-jobs : goal.returns-clause-jobs

@@ -10,7 +10,7 @@ use Rattle.gw_kept.proofs.entry.Entry.compare_key.Goals as goal
 pub returns-then-eq : goal.returns-then-eq
 returns-then-eq c =
     let pair = c.args.self.now in
-    let key = c.args.key.now in
-    let same : pair.mid ≡ key.mid = same_name pair.mid key.mid (sym c.eq.ensures ∙ c.if-eq.true) in
+    let mid = c.args.mid.now in
+    let same : pair.mid ≡ mid = same_name pair.mid mid (sym c.eq.ensures ∙ c.if-eq.true) in
     c.cmp.ensures
-    ∙ ap (λ o. ordering_then o (nat_cmp pair.id.0 key.id)) (sym (tied_itself nat_list_cmp_total key.mid) ∙ ap (λ mid. slice_cmp nat_cmp mid key.mid) (sym same))
+    ∙ ap (λ o. ordering_then o (nat_cmp pair.id.0 c.args.id)) (sym (tied_itself nat_list_cmp_total mid) ∙ ap (λ m. slice_cmp nat_cmp m mid) (sym same))

@@ -1,4 +1,4 @@
-use Rattle.std.proofs.Common.{◌≡◌, ◌<◌, ◌-◌, ◌++◌, ◌∷◌, [], ℕ, List, Option, Some, nat_lt, length, refl, sym, ap, subst, ◌∙◌, length-append, arith}
+use Rattle.std.proofs.Common.{◌≡◌, ◌<◌, ◌-◌, ◌++◌, ◌∷◌, [], ℕ, List, Option, Some, Result, OnOk, is_ok, true, nat_lt, length, refl, sym, ap, subst, ◌∙◌, length-append, arith}
 use Rattle.std.proofs.lemmas.List.{length-map, map-append}
 use Rattle.std.specs.Option.{option_map}
 use Rattle.circular_buffer.specs.Buffer.{Buffer, buffer, keep_last}
@@ -9,7 +9,8 @@ use Rattle.gw_kept.specs.Rows.{Gapped, gapped, present, kept_in, keys_in, places
 use Rattle.gw_kept.specs.Arrival.{IsArrival}
 use Rattle.gw_kept.specs.Order.{IsOrder}
 use Rattle.gw_kept.proofs.Arrivals.{arrived}
-use Rattle.gw_kept.proofs.Last.{all_of, few_last, last_kept, last_dropped}
+use Rattle.gw_kept.proofs.Lists.{of_is_ok}
+use Rattle.gw_kept.proofs.Last.{few_last, last_kept, last_dropped}
 use Rattle.gw_kept.proofs.Rows.{absent_drop, none_nowhere, keys_count, few_present, present_append}
 use Rattle.gw_kept.proofs.row.Row.push.Goals as goal
 
@@ -27,8 +28,9 @@ roomy now g row most cap view kept room places = record {
 }
 
 -- the pair goes last
-pushed : (now : Gapped) (row : List (Option Entry)) (most cap : ℕ) (e : Entry) (next : Buffer (Option Entry)) → IsRoomy now row most cap → next ≡ buffer (keep_last cap (row ++ Some e ∷ [])) cap → next.items ≡ row ++ Some e ∷ []
-pushed now row most cap e next r push = ap (λ (b : Buffer (Option Entry)). b.items) push ∙ all_of cap row (Some e) r.free
+pushed : {T : Type 0} (now : Gapped) (row : List (Option Entry)) (most cap : ℕ) (e : Entry) (next : Buffer (Option Entry)) (done : Result T (Option Entry)) → IsRoomy now row most cap
+    → OnOk done (next ≡ buffer (row ++ Some e ∷ []) cap) → (length row < cap → is_ok done ≡ true) → next ≡ buffer (row ++ Some e ∷ []) cap
+pushed now row most cap e next done r push ok = of_is_ok done push (ok r.free)
 
 pub insert-requires-clause-new : goal.insert-requires-clause-new
 insert-requires-clause-new c =
@@ -36,9 +38,8 @@ insert-requires-clause-new c =
     let si = c.self.inside in
     let made = c.make_room-dropped in
     let r = roomy now made.new.self si.ring.items si.most si.ring.capacity c.self.view_is made.ensures.pairs made.ensures.room c.self.invariant.2 in
-    none_nowhere c.key.result si.ring.items
-    (ap (bytes_for c.key.result) r.pairs
-    ∙ absent_drop (length (present now.row) - (now.most - 1)) c.key.result (present now.row) (ap (λ k. bytes_for k (present now.row)) c.key.ensures ∙ c.requires))
+    none_nowhere (key_of c.args.entry) si.ring.items
+    (ap (bytes_for (key_of c.args.entry)) r.pairs ∙ absent_drop (length (present now.row) - (now.most - 1)) (key_of c.args.entry) (present now.row) c.requires)
 
 pub insert-requires-clause-room : goal.insert-requires-clause-room
 insert-requires-clause-room c =
@@ -57,11 +58,12 @@ invariant_of-self c =
     let inv = c.self.invariant in
     let made = c.make_room-dropped in
     let r = roomy now made.new.self row si.most si.ring.capacity c.self.view_is made.ensures.pairs made.ensures.room inv.2 in
-    let items = pushed now row si.most si.ring.capacity e c.push_back.new.self r c.push_back.ensures.items in
-    let same : c.push_back.new.self.capacity ≡ si.ring.capacity = ap (λ b. b.capacity) c.push_back.ensures.items in
-    let more : present c.push_back.new.self.items ≡ present row ++ e ∷ [] = ap (λ (l : List (Option Entry)). present l) items ∙ present_append row (Some e ∷ []) in
-    let keys : keys_in row ++ Some c.key.result ∷ [] ≡ keys_in c.push_back.new.self.items =
-    ap (λ k. keys_in row ++ Some k ∷ []) c.key.ensures ∙ sym (map-append (option_map key_of) row (Some e ∷ [])) ∙ ap keys_in (sym items)
+    let next = pushed now row si.most si.ring.capacity e c.try_push_back.new.self c.try_push_back.result r c.try_push_back.ensures.ok c.try_push_back.ensures.variant.1 in
+    let items : c.try_push_back.new.self.items ≡ row ++ Some e ∷ [] = ap (λ (b : Buffer (Option Entry)). b.items) next in
+    let same : c.try_push_back.new.self.capacity ≡ si.ring.capacity = ap (λ b. b.capacity) next in
+    let more : present c.try_push_back.new.self.items ≡ present row ++ e ∷ [] = ap (λ (l : List (Option Entry)). present l) items ∙ present_append row (Some e ∷ []) in
+    let keys : keys_in row ++ Some (key_of e) ∷ [] ≡ keys_in c.try_push_back.new.self.items =
+    sym (map-append (option_map key_of) row (Some e ∷ [])) ∙ ap keys_in (sym items)
     in (
       record {
         few = omega (arith, ap length more, length-append (present row) (e ∷ []), ap length r.pairs, few_last (now.most - 1) (present now.row), r.same, inv.0.some);
@@ -71,7 +73,7 @@ invariant_of-self c =
       subst (λ (ks : List (Option RequestKey)). IsOrder ks order.first order.numbers.items) keys c.insert.ensures.order,
       same ∙ inv.2,
       omega (arith, same, inv.3, c.insert.ensures.room),
-      subst (λ (ks : List (Option RequestKey)). IsArrival ks c.push.new.self.first c.push.new.self.numbers.items) keys (c.push.ensures.arrival (keys_in row) c.key.result inv.4 (c.len.ensures.len ∙ sym (length-map row (option_map key_of)))),
+      subst (λ (ks : List (Option RequestKey)). IsArrival ks c.push.new.self.first c.push.new.self.numbers.items) keys (c.push.ensures.arrival (keys_in row) (key_of e) inv.4 (c.len.ensures.len ∙ sym (length-map row (option_map key_of)))),
       omega (arith, same, inv.5, c.push.ensures.room),
     )
 
@@ -90,8 +92,9 @@ returns-clause-pairs c =
     let e = c.args.entry in
     let made = c.make_room-dropped in
     let r = roomy now made.new.self row si.most si.ring.capacity c.self.view_is made.ensures.pairs made.ensures.room c.self.invariant.2 in
-    let items = pushed now row si.most si.ring.capacity e c.push_back.new.self r c.push_back.ensures.items in
-    ap (λ (m : ℕ). kept_list (present c.push_back.new.self.items) m) r.same
+    let items : c.try_push_back.new.self.items ≡ row ++ Some e ∷ [] =
+    ap (λ (b : Buffer (Option Entry)). b.items) (pushed now row si.most si.ring.capacity e c.try_push_back.new.self c.try_push_back.result r c.try_push_back.ensures.ok c.try_push_back.ensures.variant.1) in
+    ap (λ (m : ℕ). kept_list (present c.try_push_back.new.self.items) m) r.same
     ∙ ap (λ (es : List Entry). kept_list es now.most)
     (ap (λ (l : List (Option Entry)). present l) items
     ∙ present_append row (Some e ∷ [])

@@ -1,16 +1,32 @@
-use Rattle.std.proofs.Common.{◌≡◌, true, sym, ◌∙◌}
+use Rattle.std.proofs.Common.{◌≡◌, List, true, sym, ap, ◌∙◌, subst}
 use Rattle.std.specs.Prelude.{is_some}
+use Rattle.gw_base.specs.declared.command_words.Rules.{Rules}
+use Rattle.gw_desc.specs.declared.descriptor.Descriptor.{Descriptor}
+use Rattle.gw_term.specs.Plain.{fill_none}
+use Rattle.gw_term.specs.Room.{Takes}
+use Rattle.gw_term.proofs.AlignedTaken.{aligned_takes}
 use Rattle.gw_term.proofs.MadeOnce.{of_some, made_takes}
 use Rattle.gw_term.proofs.RoomTaken.{space_takes}
 use Rattle.gw_term.proofs.sending.Sending.takes.Goals as goal
 
+pub returns-then-not-fills_none-clause-takes : goal.returns-then-not-fills_none-clause-takes
+returns-then-not-fills_none-clause-takes c = λ h.
+    let a = c.args in
+    space_takes a.self.now.rules.now a.self.now.descriptors.now a.termination.now (c.has_space.ensures h)
+
 pub returns-then-is_some-clause-takes : goal.returns-then-is_some-clause-takes
 returns-then-is_some-clause-takes c = λ _.
     let a = c.args in
-    let learnt : is_some c.in_ok-learnt.learnt ≡ true = cc in
-    of_some _ c.in_ok-learnt.learnt learnt c.in_ok-learnt.ensures.after (λ after made. made_takes a.self.now.rules.now a.self.now.descriptors.now a.termination.now after (sym c.fills_none.ensures ∙ c.if-fills_none.true) made)
+    let learnt : is_some c.in_ok-learn.field-0 ≡ true = cc in
+    of_some _ c.in_ok-learn.field-0 learnt c.in_ok-learn.ensures.after (λ after made. made_takes a.self.now.rules.now a.self.now.descriptors.now a.termination.now after (sym c.fills_none.ensures ∙ c.if-not-fills_none.false) made)
 
 pub returns-clause-takes : goal.returns-clause-takes
 returns-clause-takes c = λ h.
     let a = c.args in
-    space_takes a.self.now.rules.now a.self.now.descriptors.now a.termination.now (c.has_space.ensures h)
+    let old = a.self.now in
+    let new = c.learn.new.self in
+    let r = a.termination.now in
+    let same = c.learn.ensures.same in
+    let fills : fill_none new.descriptors.now r.slot ≡ true = ap (λ (ds : List Descriptor). fill_none ds r.slot) same.descriptors ∙ sym c.fills_none.ensures ∙ c.if-not-fills_none.false in
+    let takes : Takes new.rules.now new.descriptors.now r = aligned_takes new.rules.now new.descriptors.now new.made r fills new.made_once c.list.result.now (c.takes_each.ensures h) c.list.ensures in
+    subst (λ (rules : Rules). Takes rules old.descriptors.now r) same.rules (subst (λ (ds : List Descriptor). Takes new.rules.now ds r) same.descriptors takes)

@@ -4,6 +4,7 @@ use Rattle.gw_term.specs.Places.{at_number, put_number}
 use Rattle.gw_term.specs.Plain.{stream_or_none}
 use Rattle.gw_term.specs.Settings.{Settings}
 use Rattle.gw_term.specs.declared.record.Stream.{Stream}
+use Rattle.gw_term.proofs.Aligned.{made_new}
 use Rattle.gw_term.proofs.MadeOnce.{made_stream}
 use Rattle.gw_term.proofs.settings.Settings.merge_named.Goals as goal
 
@@ -25,3 +26,8 @@ returns-then-is_none-clause-made c =
     let none : at_number number s.streams ≡ None = search rules in
     ap (λ (o : Option Stream). is_some (merged_stream a.rules.now c.args.slot number a.descriptors.now o)) none
     ∙ (made_stream a.rules.now c.args.slot a.descriptors.now c.requires.plain a.made a.made_once number c.requires.first c.requires.last).1
+
+pub merge_there-requires-clause-made : goal.merge_there-requires-clause-made
+merge_there-requires-clause-made c =
+    let a = c.args.sending.now in
+    made_new a.rules.now c.args.slot a.descriptors.now c.requires.plain a.made a.made_once c.args.number c.requires.first c.requires.last c.requires.named c.stream-2.result c.stream-2.ensures
