@@ -220,6 +220,11 @@ def wild(name, before, action, times, matches, answer=b"", terms=4_000):
     return Kind(name, before, asked([action] * times), answer, times * matches, terms)
 
 
+def each_its_own(descriptors):
+    """4,000 terminations, of each of which the descriptors are set with its number in them."""
+    return made([b"C=-{MF=T/%d%s}" % (number, descriptors % number) for number in range(1, 4_001)])
+
+
 def wildcards():
     full, two = made([context(1, 64)]), contexts(2_000)
     yield wild("4,000 terminations, `Modify=*` with a LocalControl", [], b"C=-{MF=*%s}" % MODE, 8, 4_000, b"Error=533")
@@ -250,6 +255,17 @@ def wildcards():
     yield wild("4,000 terminations with 32 properties, seventeen each with one of its own, one `Modify=*` of 32 in another order", few, many, 1, 4_000, b"Error=533")
     each = made([backwards] + [b"C=-{MF=T/%d{M{O{a0=%d}}}}" % (n, n + 1) for n in range(1, 4_001)])
     yield wild("4,000 terminations with 32 properties, each with one of its own, one `Modify=*` of 32 in another order", each, many, 1, 4_000, b"Error=533")
+    inside = b"C=-{MF=*%s}" % listed(b"{M{O{", [b"a%d=2" % n for n in range(1, 31)], b"}}}")
+    yield wild("4,000 terminations with 32 properties, each with one of its own, one `Modify=*` of 30 others", own_each, inside, 1, 4_000, b"Error=533")
+    yield wild("4,000 terminations with 32 properties, each with one of its own, one `Modify=*` of another", own_each, b"C=-{MF=*{M{O{a5=2}}}}", 1, 4_000,
+               b"Error=533")
+    own = each_its_own(b"{M{O{a=%d}}}")
+    yield wild("4,000 terminations, each with a property of its own, one `Modify=*` of it", own, b"C=-{MF=*{M{O{a=0}}}}", 1, 4_000, b"Error=533")
+    own = each_its_own(b"{M{R{v=%d}}}")
+    yield wild("4,000 terminations, each with a Remote of its own, one `Modify=*` with another", own, b"C=-{MF=*{M{R{v=0}}}}", 1, 4_000, b"Error=533")
+    own = each_its_own(b"{M{L{v=%d},R{v=2}},E=1{al/on}}")
+    most = b"C=-{MF=*{M{L{v=0},R{v=0}},E=2{al/of}}}"
+    yield wild("4,000 terminations, each with a Local of its own, a Remote and Events, one `Modify=*` with others", own, most, 1, 4_000, b"Error=533")
     yield wild("4,000 terminations, one `Modify=*` with a Local of 8,000 bytes", [], b"C=-{MF=*{M{L{%s}}}}" % (8_000 * b"v"), 1, 4_000, b"Error=533")
     yield wild("4,000 terminations, one `Modify=*` with a Local to fill", [], b"C=-{MF=*{M{L{v=$}}}}", 1, 4_000, b"Error=533")
     yield wild("4,000 terminations, one `Modify=*` with Local, Remote, Events and Signals", [], b"C=-{MF=*{M{L{v=0},R{v=0}},E=1{al/on},SG{cg/dt}}}", 1, 4_000,
@@ -272,6 +288,9 @@ def wildcards():
     yield wild("156 terminations with a LocalControl, `AuditValue=*` of Media, just too long", modes, b"C=-{AV=*{AT{M}}}", 8, 156, b"Error=533", 156)
     all_items = made([b"C=-{MF=*{M{O{MO=SR}},E=1{al/on},SG{cg/dt}}}"])
     yield wild("130 terminations, `AuditValue=*` of Media, Events and Signals, just too long", all_items, b"C=-{AV=*{AT{M,E,SG}}}", 8, 130, b"Error=533", 130)
+    mode_and_audit = b"{M{O{MO=SR}},AT{M}}"
+    yield wild("4,000 terminations, `Modify=*` with a LocalControl and an audit of Media", [], b"C=-{MF=*%s}" % mode_and_audit, 8, 4_000, b"Error=533")
+    yield wild("4,000 terminations, `Modify=*` with nothing but an audit of Media", [], b"C=-{MF=*{AT{M}}}", 8, 4_000, b"Error=533")
     yield wild("`AuditValue=*` with Media in a context of 64", full, b"C=1{AV=*{AT{M}}}", 256, 64)
     yield wild("98 KB each of 64, `AuditValue=*` of all items", strangers.members(), b"C=1{AV=*{%s}}" % strangers.ALL_ITEMS, 64, 64, b"Error=533", 64)
     yield Kind("`Subtract=*` of 64, in 62 contexts", made([context(64 * n + 1, 64 * n + 64) for n in range(62)]),
@@ -313,6 +332,12 @@ def wildcards():
     yield Kind("62 contexts of 64, a ServiceChange of all behind them", made(many), behind, b"Error=533", 62 * 65, 4_000)
     short = in_one(b"C=*{O-S=X/*}")
     yield Kind("62 contexts of 64, actions of one of them each", made(many), short, b"Error=533", 62 * short[0].count(b"C=*"), 4_000)
+    for verb, descriptors in ((b"Modify", mode_and_audit), (b"Subtract", b"{AT{M}}")):
+        action = b"C=*{%s=*%s}" % (verb, descriptors)
+        yield wild("62 contexts of 64, one `Context=*{%s=*}` with an audit of Media" % verb.decode(), made(many), action, 1, 62 * 65, b"Error=533")
+    audited = b"C=*{S=*{AT{M}}}"
+    yield wild("300 contexts, one `Context=*{Subtract=*}` with an audit of Media", contexts(300), audited, 1, 600, b"Error=533")
+    yield wild("2,000 contexts, one `Context=*{Subtract=*}` with an audit of Media", two, audited, 1, 4_000, b"Error=533")
     ended = [HEAD + as_often(b"T=1{C=*{", b"O-S=T/*", b"}}")]
     yield Kind("62 contexts of 64, Subtracts of all of a context that ends with the first", made(many), ended, b"Error=533", 62 * 65, 4_000)
     yield wild("no context, `Context=*`", [], b"C=*{S=*}", MOST, 0, b"Error=431")

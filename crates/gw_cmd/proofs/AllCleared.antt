@@ -43,7 +43,7 @@ use Rattle.gw_cmd.specs.declared.outcome.CmdOutcome.{CmdOutcome}
 use Rattle.gw_cmd.specs.Clearing.{SubtractsMany, IsClearing}
 use Rattle.gw_cmd.specs.Commands.{reply, outcome_told, on_target, on_targets, unless_refused, carried, allowed}
 use Rattle.gw_cmd.specs.Effects.{unless, decided_in, is_full, done, on_record, on_found, on_name}
-use Rattle.gw_cmd.specs.Idle.{idle_answer, idle_reply}
+use Rattle.gw_cmd.specs.Idle.{audit_of, idle_answer, idle_reply}
 use Rattle.gw_cmd.specs.Keys.{member_keys, term_keys, command_keys}
 use Rattle.gw_cmd.specs.Refusals.{has_ended, missing, code_if, first_code, refusal_by_tables}
 use Rattle.gw_cmd.specs.Serving.{prefix_of}
@@ -56,15 +56,13 @@ module _ (rules : Rules) (at : At) (n : CtxNum) (c : Command) (place : place_at 
   abbrev gone : List ℕ → Maps → Maps
   gone t m = without_member n t (put_remains t m (term m t))
 
-  -- nothing is told of one that leaves
-  told : (r : Termination) → audit_parts (audited c.descriptors) r ≡ []
-  unfolding audit_parts
-  told r = ap (λ (words : List (List ℕ)). audit_parts words r) subtracts.bare
+  -- what is told of one that has this record
+  replied : (t : List ℕ) (r : Termination) (x : Maps) → term x t ≡ Some r → idle_reply c x t ≡ reply c (Name t) (Ok (audit_parts (audited c.descriptors) r))
+  replied t r x found =
+      ap (λ (v : Verb). reply c (Name t) (idle_answer v c.descriptors (term x t))) subtracts.verb
+      ∙ ap (λ (o : Option Termination). reply c (Name t) (Ok (audit_of c.descriptors o))) found
 
-  bare : (t : List ℕ) (x : Maps) → idle_reply c x t ≡ reply c (Name t) (Ok [])
-  bare t x = ap (λ (v : Verb). reply c (Name t) (idle_answer v c.descriptors (term x t))) subtracts.verb
-
-  left_it : (t : List ℕ) (m : Maps) → StandsIn (Some n) t m → on_name rules (place_at at) c t m ≡ record { maps = gone t m; answer = Ok [] }
+  left_it : (t : List ℕ) (m : Maps) (stands : StandsIn (Some n) t m) → on_name rules (place_at at) c t m ≡ record { maps = gone t m; answer = Ok (audit_parts (audited c.descriptors) stands.0) }
   unfolding on_record
   left_it t m stands =
       let r : Termination = stands.0 in
@@ -72,12 +70,13 @@ module _ (rules : Rules) (at : At) (n : CtxNum) (c : Command) (place : place_at 
       ∙ ap (λ (p : Option CtxNum). on_record rules p c t r m) place
       ∙ ap (λ (v : Verb). done t m (decided_in rules v c.descriptors (is_full rules n m) n r)) subtracts.verb
       ∙ ap (λ (o : Option Code). done t m (unless o (record { change = Leaves n (what_remains r); parts = audit_parts (audited c.descriptors) r }))) (stands_here (Some n) r.place stands.2)
-      ∙ (λ i. let x : Outcome (Result (List ReplyPart) Code) = record { maps = without_member n t (put_remains t m (sym stands.1 i)); answer = Ok (told r i) } in x)
+      ∙ (λ i. let x : Outcome (Result (List ReplyPart) Code) = record { maps = without_member n t (put_remains t m (sym stands.1 i)); answer = Ok (audit_parts (audited c.descriptors) r) } in x)
 
-  one_left : (t : List ℕ) (m x : Maps) → StandsIn (Some n) t m → on_target rules at c tt t m ≡ ended (gone t m) tt (idle_reply c x t ∷ []) false
-  one_left t m x stands =
+  -- it stands in these maps as in those of which it is told
+  one_left : (t : List ℕ) (m x : Maps) → StandsIn (Some n) t m → term x t ≡ term m t → on_target rules at c tt t m ≡ ended (gone t m) tt (idle_reply c x t ∷ []) false
+  one_left t m x stands same =
       ap (λ (o : Outcome (Result (List ReplyPart) Code)). ended o.maps tt (reply c (Name t) o.answer ∷ []) false) (left_it t m stands)
-      ∙ ap (λ (a : CommandReply). ended (gone t m) tt (a ∷ []) false) (sym (bare t x))
+      ∙ ap (λ (a : CommandReply). ended (gone t m) tt (a ∷ []) false) (sym (replied t stands.0 x (same ∙ stands.1)))
 
   -- the others are where they were
   still_there : (t q : List ℕ) (m : Maps) → bytes_eq q t ≡ false → term (gone t m) q ≡ term m q
@@ -89,13 +88,14 @@ module _ (rules : Rules) (at : At) (n : CtxNum) (c : Command) (place : place_at 
       by None = refl
       by (Some r) = term-put_term m t (what_remains r) q ∙ ap (λ (b : Bool). cond b (what_remains r) (term m q)) apart
 
-  all_left : (ts : List (List ℕ)) (m x : Maps) → NoDoubles ts → ((t : List ℕ) → is_in t ts ≡ true → StandsIn (Some n) t m) → on_targets rules at c ts m ≡ ended (all_gone n ts m) tt (map (idle_reply c x) ts) false
-  all_left [] m x d stands = in_order-none (on_target rules at c) tt m
-  all_left (t ∷ ts) m x d stands =
+  all_left : (ts : List (List ℕ)) (m x : Maps) → NoDoubles ts → ((t : List ℕ) → is_in t ts ≡ true → StandsIn (Some n) t m) → ((t : List ℕ) → is_in t ts ≡ true → term x t ≡ term m t) → on_targets rules at c ts m ≡ ended (all_gone n ts m) tt (map (idle_reply c x) ts) false
+  all_left [] m x d stands same = in_order-none (on_target rules at c) tt m
+  all_left (t ∷ ts) m x d stands same =
       in_order-more (on_target rules at c) tt t ts m
-      ∙ ap (λ (o : Outcome (Attempts Unit CommandReply)). attempts_behind o.answer.answers (in_order (on_target rules at c) tt ts o.maps)) (one_left t m x (stands t (or_left (bytes_eq t t) (is_in t ts) (itself t))))
+      ∙ ap (λ (o : Outcome (Attempts Unit CommandReply)). attempts_behind o.answer.answers (in_order (on_target rules at c) tt ts o.maps)) (one_left t m x (stands t (or_left (bytes_eq t t) (is_in t ts) (itself t))) (same t (or_left (bytes_eq t t) (is_in t ts) (itself t))))
       ∙ ap (λ (o : Outcome (Attempts Unit CommandReply)). attempts_behind (idle_reply c x t ∷ []) o)
-      (all_left ts (gone t m) x d.1 (λ q h. let s = stands q (or_right (bytes_eq q t) (is_in q ts) h) in (s.0, still_there t q m (other q h) ∙ s.1, s.2)))
+      (all_left ts (gone t m) x d.1 (λ q h. let s = stands q (or_right (bytes_eq q t) (is_in q ts) h) in (s.0, still_there t q m (other q h) ∙ s.1, s.2))
+      (λ q h. same q (or_right (bytes_eq q t) (is_in q ts) h) ∙ sym (still_there t q m (other q h))))
     where
       other : (q : List ℕ) → is_in q ts ≡ true → bytes_eq q t ≡ false
       other q h = by (bytes_eq q t) refl
@@ -167,14 +167,15 @@ module _ (keys : PartKeys) (at : At) (n : CtxNum) (slot : Option ℕ) (c : Comma
       by : (p : Option CtxNum) → p ≡ Some n → HoldsPlace keys p → holds keys (Ctx n) ≡ true
       by p is h = subst (λ (p : Option CtxNum). HoldsPlace keys p) is h
 
-  -- each target leaves, and nothing is told of it
-  pub cleared : (rules : Rules) (x : Maps) → refusal_by_tables at slot c m ≡ None → allowed rules at slot c m ≡ record { maps = all_gone n (targets at c m) m; answer = outcome_told at c (map (idle_reply c x) (targets at c m)) }
-  cleared rules x none =
+  -- each target leaves, and what is audited is told of it as it stood before the first left
+  pub cleared : (rules : Rules) → refusal_by_tables at slot c m ≡ None → allowed rules at slot c m ≡ record { maps = all_gone n (targets at c m) m; answer = outcome_told at c (map (idle_reply c m) (targets at c m)) }
+  cleared rules none =
       ap (λ (o : Option Code). unless_refused o at c m (carried rules at slot c m c.term)) none ∙ carried_on at slot c m rules c.term wildcard
       ∙ ap (λ (o : Outcome (Attempts Unit CommandReply)). let y : Outcome CmdOutcome = record { maps = o.maps; answer = outcome_told at c o.answer.answers } in y)
-      (all_left rules at n c clearing.place clearing.subtracts (targets at c m) m x
+      (all_left rules at n c clearing.place clearing.subtracts (targets at c m) m m
       (subst NoDoubles (sym targets_are) (sound.once n))
-      (λ t h. let inside : is_in t (members_of (ctx m n)) ≡ true = ap (λ (l : List (List ℕ)). is_in t l) (sym targets_are) ∙ h in member_one t n m (sound.recorded t n (held t inside) inside)))
+      (λ t h. let inside : is_in t (members_of (ctx m n)) ≡ true = ap (λ (l : List (List ℕ)). is_in t l) (sym targets_are) ∙ h in member_one t n m (sound.recorded t n (held t inside) inside))
+      (λ t h. refl))
 
   -- ---- it is not refused, where it is known that there are members
 
@@ -225,7 +226,7 @@ module _ (keys : PartKeys) (at : At) (n : CtxNum) (slot : Option ℕ) (c : Comma
   pub cleared_at_once : (rules : Rules) (after : Maps) → members_of (ctx m n) ≢ [] → check_code c.verb c.descriptors ≡ None → after ≡ all_gone n (members_of (ctx m n)) m
       → allowed rules at slot c m ≡ record { maps = after; answer = outcome_told at c (map (idle_reply c m) (targets at c m)) }
   cleared_at_once rules after live right is =
-      cleared rules m (not_refused live right)
+      cleared rules (not_refused live right)
       ∙ ap (λ (x : Maps). let y : Outcome CmdOutcome = record { maps = x; answer = outcome_told at c (map (idle_reply c m) (targets at c m)) } in y)
       (ap (λ (l : List (List ℕ)). all_gone n l m) targets_are ∙ sym is)
 

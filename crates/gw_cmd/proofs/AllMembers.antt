@@ -14,7 +14,7 @@ use Rattle.gw_reply.specs.declared.reply.CommandReply.{CommandReply}
 use Rattle.gw_term.specs.Merge.{merged}
 use Rattle.gw_term.specs.Room.{Takes}
 use Rattle.gw_term.specs.declared.record.Termination.{Termination}
-use Rattle.gw_term.proofs.Taken.{plain_fill, plain_silent, fills_none}
+use Rattle.gw_term.proofs.Taken.{plain_fill, fills_none}
 use Rattle.gw_table.specs.declared.attempts.Attempts.{Attempts}
 use Rattle.gw_table.specs.Maps.{Maps, Outcome}
 use Rattle.gw_table.specs.Merged.{all_changed}
@@ -89,21 +89,21 @@ module _ (keys : PartKeys) (rules : Rules) (at : At) (c : Command) where
     pub keys_of_members : IsReady keys at c m → (t : List ℕ) → is_in t (targets at c m) ≡ true → holds keys (Term t) ≡ true
     keys_of_members ready t h = ready.targets t h (ap (λ (o : Option Termination). is_some o) (stands t h).1)
 
-    -- ---- each is as it is to be, and has its reply
+    -- ---- each is as it is to be, and has its reply, by the maps after it
 
-    all_met : (x : Maps) → (b : ForMembers) → IsForMembers keys rules at c b → EachTakes b (targets at c m) m
+    all_met : (x : Maps) → (b : ForMembers) → x ≡ members_after b (targets at c m) m → IsForMembers keys rules at c b → EachTakes b (targets at c m) m
         → on_targets rules at c (targets at c m) m ≡ ended (members_after b (targets at c m) m) tt (map (idle_reply c x) (targets at c m)) false
-    all_met x (Serve s) h takes = each_served rules at c s h.1.verb h.1.asked (targets at c m) m x once stands
-    all_met x (Merge s) h takes =
+    all_met x (Serve s) is h takes = each_served rules at c s h.1.verb h.1.asked (targets at c m) m x once stands
+    all_met x (Merge s) is h takes =
         let of = h.1.sending in
-        each_merged rules at c h.1.verb (plain_silent c.descriptors of.plain) (targets at c m) m x once stands
+        each_merged rules at c h.1.verb (targets at c m) m x (is ∙ (λ i. all_changed (merged (of.ruled i) (of.sent i)) (targets at c m) m)) once stands
         (λ t i r there.
         let new : Takes rules c.descriptors r = subst (λ (ds : List Descriptor). Takes rules ds r) of.sent (subst (λ (u : Rules). Takes u s.now.sending.descriptors.now r) of.ruled (takes t r i there)) in
         (new.0, new.1, fills_none rules c.descriptors r (plain_fill c.descriptors r.slot of.plain)))
         ∙ (λ i. ended (all_changed (merged (sym of.ruled i) (sym of.sent i)) (targets at c m) m) tt (map (idle_reply c x) (targets at c m)) false)
 
-    pub all_carried : (x : Maps) → EachTakes a (targets at c m) m
+    pub all_carried : (x : Maps) → x ≡ members_after a (targets at c m) m → EachTakes a (targets at c m) m
         → carried rules at slot c m c.term ≡ record { maps = members_after a (targets at c m) m; answer = outcome_told at c (map (idle_reply c x) (targets at c m)) }
-    all_carried x takes =
+    all_carried x is takes =
         carried_on at slot c m rules c.term many.wildcard
-        ∙ ap (λ (o : Outcome (Attempts Unit CommandReply)). let y : Outcome CmdOutcome = record { maps = o.maps; answer = outcome_told at c o.answer.answers } in y) (all_met x a members takes)
+        ∙ ap (λ (o : Outcome (Attempts Unit CommandReply)). let y : Outcome CmdOutcome = record { maps = o.maps; answer = outcome_told at c o.answer.answers } in y) (all_met x a is members takes)

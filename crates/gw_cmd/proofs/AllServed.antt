@@ -1,7 +1,7 @@
 -- A ServiceChange or a Modify of all terminations that match, and of all of the null context: what comes of it.
-use Rattle.std.proofs.Common.{◌≡◌, ◌==◌, eqb-true, arith, length, ℕ, nat_eq, Bool, true, false, cond, List, [], ◌∷◌, ◌++◌, map, Option, None, Some, Result, Ok, bytes_eq, refl, sym, ap, subst, ◌∙◌}
+use Rattle.std.proofs.Common.{◌≡◌, ℕ, nat_eq, Bool, true, false, cond, List, [], ◌∷◌, ◌++◌, map, Option, None, Some, Result, Ok, bytes_eq, refl, sym, ap, subst, ◌∙◌}
 use Rattle.std.specs.Prelude.{◌&&◌, ◌||◌, not, if◌then◌else◌}
-use Rattle.std.specs.List.{filter, find, list_any, starts_with}
+use Rattle.std.specs.List.{filter, starts_with}
 use Rattle.std.specs.Option.{option_map, unwrap_or}
 use Rattle.gw_base.specs.declared.code.Code.{Code}
 use Rattle.gw_base.specs.declared.command_words.Rules.{Rules}
@@ -15,10 +15,7 @@ use Rattle.gw_base.specs.declared.term_ref.TermRef.TheVariants.{Root, All, Under
 use Rattle.gw_base.specs.NameLists.{is_in, NoDoubles}
 use Rattle.gw_base.proofs.NameTests.{same_name}
 use Rattle.gw_base.proofs.NamesInLists.{or_left, or_right, itself}
-use Rattle.gw_desc.specs.Checks.{is_asking, is_audit}
 use Rattle.gw_desc.specs.declared.descriptor.Descriptor.{Descriptor}
-use Rattle.gw_desc.specs.declared.descriptor.Descriptor.TheVariants as descriptor
-use Rattle.gw_desc.specs.declared.values.AuditItem.TheVariants as item
 use Rattle.gw_msg.specs.declared.message.Command.{Command}
 use Rattle.gw_reply.specs.declared.parts.FilledStream.{FilledStream}
 use Rattle.gw_reply.specs.declared.parts.ReplyPart.{ReplyPart}
@@ -27,9 +24,9 @@ use Rattle.gw_reply.specs.declared.reply.CommandReply.{CommandReply}
 use Rattle.gw_term.specs.declared.record.Termination.{Termination}
 use Rattle.gw_term.specs.Audit.{audit_parts}
 use Rattle.gw_term.specs.Merge.{merged, filled_by}
-use Rattle.gw_term.specs.Plain.{are_plain, are_silent, fill_none}
+use Rattle.gw_term.specs.Plain.{are_plain, fill_none}
 use Rattle.gw_term.specs.Record.{placed, serviced}
-use Rattle.gw_term.proofs.Taken.{none_there, none_fills, plain_fill, plain_silent, fills_none, merge_stays}
+use Rattle.gw_term.proofs.Taken.{none_there, none_fills, plain_fill, fills_none, merge_stays}
 use Rattle.gw_table.specs.declared.attempts.Attempts.{Attempts}
 use Rattle.gw_table.specs.declared.reach.Reach.TheVariants.{Every, Free}
 use Rattle.gw_table.specs.Folds.{attempts_behind, in_order}
@@ -40,12 +37,12 @@ use Rattle.gw_table.specs.Parts.{PartKeys, holds, Holds}
 use Rattle.gw_table.specs.Served.{is_reached, reached, all_serviced}
 use Rattle.gw_table.specs.Slotted.{has_slot_under}
 use Rattle.gw_table.proofs.Folding.{ended, in_order-more, in_order-none}
-use Rattle.gw_table.proofs.Merged.{term-put_changed, reached_once}
+use Rattle.gw_table.proofs.Merged.{term-put_changed, term-all_changed, reached_once}
 use Rattle.gw_table.proofs.Served.{term-put_service, in_filtered}
 use Rattle.gw_table.proofs.SlotsFound.{slotless}
 use Rattle.gw_refusal.specs.declared.at.At.{At}
 use Rattle.gw_refusal.specs.declared.at.At.TheVariants.{Null}
-use Rattle.gw_refusal.specs.Asked.{is_add, is_wildcard, matches, service_asked, audited, words_in}
+use Rattle.gw_refusal.specs.Asked.{is_add, is_wildcard, matches, service_asked, asks_media, audited}
 use Rattle.gw_refusal.specs.Forms.{refusal_by_form}
 use Rattle.gw_refusal.specs.Places.{place_at}
 use Rattle.gw_refusal.specs.Targets.{those_in, source, matched, targets_of, targets}
@@ -59,7 +56,7 @@ use Rattle.gw_cmd.specs.Effects.{after_service, on_found, on_name, on_record, do
 use Rattle.gw_cmd.specs.Idle.{idle_answer, idle_reply}
 use Rattle.gw_cmd.specs.Keys.{command_keys}
 use Rattle.gw_cmd.specs.Refusals.{refusal_by_tables}
-use Rattle.gw_cmd.specs.Serving.{prefix_of, tells_nothing, all_after, IsForAll}
+use Rattle.gw_cmd.specs.Serving.{prefix_of, fills_nothing, all_after, IsForAll}
 use Rattle.gw_cmd.proofs.AsItIs.{service_done}
 use Rattle.gw_cmd.proofs.LeftAlone.{StandsIn, free_one, stands_here, carried_on}
 use Rattle.gw_cmd.proofs.Ready.{in_filter, is_named, ready}
@@ -67,21 +64,6 @@ use Rattle.gw_cmd.proofs.Ready.{in_filter, is_named, ready}
 second_of : (a b : Bool) → (a && b) ≡ true → b ≡ true
 second_of true b h = h
 second_of false b h = absurd cc
-
-first_of : (a b : Bool) → (a && b) ≡ true → a ≡ true
-first_of true b h = refl
-first_of false b h = absurd cc
-
-no_audit : (ds : List Descriptor) → are_silent ds ≡ true → words_in (find is_audit ds) ≡ []
-no_audit [] h = refl
-no_audit (descriptor.Media parts ∷ ds) h = no_audit ds h
-no_audit (descriptor.Keep kind tail ∷ ds) h = no_audit ds h
-no_audit (descriptor.Audit [] ∷ ds) h = refl
-no_audit (descriptor.Audit (word ∷ words) ∷ ds) h =
-    let none : length (word ∷ words) ≡ 0 = eqb-true (length (word ∷ words)) 0 (first_of (length (word ∷ words) == 0) (are_silent ds) h) in
-    absurd (omega (arith, none))
-no_audit (descriptor.Services parms ∷ ds) h = no_audit ds h
-no_audit (descriptor.Other text ∷ ds) h = no_audit ds h
 
 -- ---- whom it is for
 
@@ -151,26 +133,26 @@ module _ (c : Command) (m : Maps) (wildcard : is_wildcard c.term ≡ true) (stay
 
 -- ---- one after another
 
--- the reply of each, whatever the maps are
-bare : (c : Command) (v : Verb) (t : List ℕ) (x : Maps) → c.verb ≡ v → idle_reply c x t ≡ reply c (Name t) (idle_answer v c.descriptors (term x t))
-bare c v t x e = ap (λ (w : Verb). reply c (Name t) (idle_answer w c.descriptors (term x t))) e
+-- the reply of each, by its verb
+replied : (c : Command) (v : Verb) (t : List ℕ) (x : Maps) → c.verb ≡ v → idle_reply c x t ≡ reply c (Name t) (idle_answer v c.descriptors (term x t))
+replied c v t x e = ap (λ (w : Verb). reply c (Name t) (idle_answer w c.descriptors (term x t))) e
 
--- where each is as it has to be for its turn, also after the others
-module _ (rules : Rules) (at : At) (c : Command) (put : List ℕ → Maps → Maps) (IsReady : List ℕ → Maps → Type 0)
-    (one : (t : List ℕ) (m x : Maps) → IsReady t m → on_target rules at c tt t m ≡ ended (put t m) tt (idle_reply c x t ∷ []) false)
+-- where each is as it has to be for its turn, also after the others; what is told of it is told by the maps `x`
+module _ (rules : Rules) (at : At) (c : Command) (x : Maps) (put : List ℕ → Maps → Maps) (IsReady : List ℕ → Maps → Type 0)
+    (one : (t : List ℕ) (m : Maps) → IsReady t m → on_target rules at c tt t m ≡ ended (put t m) tt (idle_reply c x t ∷ []) false)
     (still : (t q : List ℕ) (m : Maps) → bytes_eq q t ≡ false → IsReady q m → IsReady q (put t m)) where
   all_put : List (List ℕ) → Maps → Maps
   all_put [] m = m
   all_put (t ∷ ts) m = all_put ts (put t m)
 
-  all_done : (ts : List (List ℕ)) (m x : Maps) → NoDoubles ts → ((t : List ℕ) → is_in t ts ≡ true → IsReady t m) → on_targets rules at c ts m ≡ ended (all_put ts m) tt (map (idle_reply c x) ts) false
+  all_done : (ts : List (List ℕ)) (m : Maps) → NoDoubles ts → ((t : List ℕ) → is_in t ts ≡ true → IsReady t m) → on_targets rules at c ts m ≡ ended (all_put ts m) tt (map (idle_reply c x) ts) false
   unfolding all_put
-  all_done [] m x d ready = in_order-none (on_target rules at c) tt m
-  all_done (t ∷ ts) m x d ready =
+  all_done [] m d ready = in_order-none (on_target rules at c) tt m
+  all_done (t ∷ ts) m d ready =
       in_order-more (on_target rules at c) tt t ts m
-      ∙ ap (λ (o : Outcome (Attempts Unit CommandReply)). attempts_behind o.answer.answers (in_order (on_target rules at c) tt ts o.maps)) (one t m x (ready t (or_left (bytes_eq t t) (is_in t ts) (itself t))))
+      ∙ ap (λ (o : Outcome (Attempts Unit CommandReply)). attempts_behind o.answer.answers (in_order (on_target rules at c) tt ts o.maps)) (one t m (ready t (or_left (bytes_eq t t) (is_in t ts) (itself t))))
       ∙ ap (λ (o : Outcome (Attempts Unit CommandReply)). attempts_behind (idle_reply c x t ∷ []) o)
-      (all_done ts (put t m) x d.1 (λ q h. still t q m (other q h) (ready q (or_right (bytes_eq q t) (is_in q ts) h))))
+      (all_done ts (put t m) d.1 (λ q h. still t q m (other q h) (ready q (or_right (bytes_eq q t) (is_in q ts) h))))
     where
       other : (q : List ℕ) → is_in q ts ≡ true → bytes_eq q t ≡ false
       other q h = by (bytes_eq q t) refl
@@ -185,14 +167,14 @@ module _ (rules : Rules) (at : At) (c : Command) (s : Service) (verb : c.verb �
   abbrev serve : List ℕ → Maps → Maps
   serve t m = put_service s t m (term m t)
 
-  one_served : (t : List ℕ) (m x : Maps) → StandsIn (place_at at) t m → on_target rules at c tt t m ≡ ended (serve t m) tt (idle_reply c x t ∷ []) false
-  one_served t m x stands =
+  one_served : (x : Maps) (t : List ℕ) (m : Maps) → StandsIn (place_at at) t m → on_target rules at c tt t m ≡ ended (serve t m) tt (idle_reply c x t ∷ []) false
+  one_served x t m stands =
       let r : Termination = stands.0 in
       let done = ap (λ (o : Option Termination). on_found rules (place_at at) c t o m) stands.1 ∙ service_done rules (place_at at) c t r m verb stands.1
       ∙ ap (λ (o : Option Code). after_service o (unwrap_or (service_asked c.descriptors) r.service) t m) (stands_here (place_at at) r.place stands.2)
       ∙ ap (λ (o : Option Service). after_service None (unwrap_or o r.service) t m) asked in
       ap (λ (o : Outcome (Result (List ReplyPart) Code)). ended o.maps tt (reply c (Name t) o.answer ∷ []) false) done
-      ∙ ap (λ (a : CommandReply). ended (serve t m) tt (a ∷ []) false) (sym (bare c ServiceChange t x verb))
+      ∙ ap (λ (a : CommandReply). ended (serve t m) tt (a ∷ []) false) (sym (replied c ServiceChange t x verb))
 
   still_served : (t q : List ℕ) (m : Maps) → bytes_eq q t ≡ false → StandsIn (place_at at) q m → StandsIn (place_at at) q (serve t m)
   still_served t q m apart stands = by (bytes_eq q t) (term-put_service s t m q)
@@ -201,15 +183,15 @@ module _ (rules : Rules) (at : At) (c : Command) (s : Service) (verb : c.verb �
       by true e = (serviced stands.0 s, e ∙ ap (λ (o : Option Termination). option_map (λ r. serviced r s) o) stands.1, stands.2)
       by false e = (stands.0, e ∙ stands.1, stands.2)
 
-  as_served : (ts : List (List ℕ)) (m : Maps) → all_put rules at c serve (StandsIn (place_at at)) one_served still_served ts m ≡ all_serviced s ts m
+  as_served : (x : Maps) (ts : List (List ℕ)) (m : Maps) → all_put rules at c x serve (StandsIn (place_at at)) (one_served x) still_served ts m ≡ all_serviced s ts m
   unfolding all_put
-  as_served [] m = refl
-  as_served (t ∷ ts) m = as_served ts (serve t m)
+  as_served x [] m = refl
+  as_served x (t ∷ ts) m = as_served x ts (serve t m)
 
-  -- each of these, where each is in the action's context
+  -- each of these, where each is in the action's context; what is told of it is the same by whichever maps
   pub each_served : (ts : List (List ℕ)) (m x : Maps) → NoDoubles ts → ((t : List ℕ) → is_in t ts ≡ true → StandsIn (place_at at) t m) → on_targets rules at c ts m ≡ ended (all_serviced s ts m) tt (map (idle_reply c x) ts) false
   each_served ts m x once stands =
-      all_done rules at c serve (StandsIn (place_at at)) one_served still_served ts m x once stands ∙ ap (λ (y : Maps). ended y tt (map (idle_reply c x) ts) false) (as_served ts m)
+      all_done rules at c x serve (StandsIn (place_at at)) (one_served x) still_served ts m once stands ∙ ap (λ (y : Maps). ended y tt (map (idle_reply c x) ts) false) (as_served x ts m)
 
 -- ---- a Modify whose descriptors each of them takes
 
@@ -217,88 +199,97 @@ by_place : (rules : Rules) (place : Option CtxNum) (c : Command) (m : Maps) (r :
 by_place rules None c m r verb = ap (λ (v : Verb). decided_in_null rules v c.descriptors r) verb
 by_place rules (Some n) c m r verb = ap (λ (v : Verb). decided_in rules v c.descriptors (is_full rules n m) n r) verb
 
-module _ (rules : Rules) (at : At) (c : Command) (verb : c.verb ≡ Modify) (silent : are_silent c.descriptors ≡ true) where
+-- of one of which nothing is filled it is told what is audited
+audited_alone : (ds : List Descriptor) (r : Termination) → parts_of ds [] r ≡ audit_parts (audited ds) r
+audited_alone ds r = by (asks_media ds)
+  where
+    by : (b : Bool) → (if b || true then [] else part.Filled [] ∷ []) ++ audit_parts (audited ds) r ≡ audit_parts (audited ds) r
+    by true = refl
+    by false = refl
+
+module _ (rules : Rules) (at : At) (c : Command) (verb : c.verb ≡ Modify) where
   abbrev merge : List ℕ → Maps → Maps
   merge t m = put_changed (merged rules c.descriptors) t m (term m t)
 
-  -- nothing is audited
-  audits_none : audited c.descriptors ≡ []
-  audits_none = no_audit c.descriptors silent
+  -- what is audited of one
+  abbrev told : Termination → List ReplyPart
+  told r = audit_parts (audited c.descriptors) r
 
-  told_none : (r : Termination) → parts_of c.descriptors [] r ≡ []
-  unfolding audit_parts
-  told_none r = (λ i. (if list_any (is_asking item.Media) (audits_none i) || true then [] else part.Filled [] ∷ []) ++ audit_parts (audits_none i) r)
-
-  merging_is : (r new : Termination) → r.place ≡ place_at at → merged rules c.descriptors r ≡ Some new → filled_by rules c.descriptors r ≡ [] → merging_done rules c.descriptors r (place_at at) (refusal_elsewhere (place_at at) r.place) ≡ Ok (record { record_after = new; parts = [] })
+  merging_is : (r new : Termination) → r.place ≡ place_at at → merged rules c.descriptors r ≡ Some new → filled_by rules c.descriptors r ≡ [] → merging_done rules c.descriptors r (place_at at) (refusal_elsewhere (place_at at) r.place) ≡ Ok (record { record_after = new; parts = told new })
   unfolding merging_done
   merging_is r new there is none =
       ap (λ (o : Option Code). merging_to rules c.descriptors r (place_at at) o (merged rules c.descriptors r)) (stands_here (place_at at) r.place there)
       ∙ ap (λ (o : Option Termination). merging_to rules c.descriptors r (place_at at) None o) is
       ∙ ap (λ (l : List FilledStream). merged_in c.descriptors l None (placed new (place_at at))) none
-      ∙ (λ i. Ok (let x : Merged = record { record_after = placed new (sym here i); parts = told_none (placed new (place_at at)) i } in x))
+      ∙ (λ i. Ok (let x : Merged = record { record_after = placed new (sym here i); parts = audited_alone c.descriptors (placed new (sym here i)) i } in x))
     where
       here : new.place ≡ place_at at
       here = sym (ap (λ (o : Option Termination). (unwrap_or o r).place) is) ∙ merge_stays rules c.descriptors r ∙ there
 
   -- a termination that takes the descriptors, and of which they fill nothing
-  abbrev pub TakesUntold : Termination → Type 0
-  TakesUntold r = (new : Termination) × (merged rules c.descriptors r ≡ Some new) × (filled_by rules c.descriptors r ≡ [])
+  abbrev pub TakesUnfilled : Termination → Type 0
+  TakesUnfilled r = (new : Termination) × (merged rules c.descriptors r ≡ Some new) × (filled_by rules c.descriptors r ≡ [])
 
-  -- such a one of the action's context has the name
-  IsTaking : List ℕ → Maps → Type 0
-  IsTaking t m = StandsIn (place_at at) t m × ((r : Termination) → term m t ≡ Some r → TakesUntold r)
+  -- in the maps `x` it is what it becomes
+  abbrev IsBecome : Maps → List ℕ → Maps → Type 0
+  IsBecome x t m = term x t ≡ option_map (changed (merged rules c.descriptors)) (term m t)
 
-  one_merged : (t : List ℕ) (m x : Maps) → IsTaking t m → on_target rules at c tt t m ≡ ended (merge t m) tt (idle_reply c x t ∷ []) false
+  -- such a one of the action's context has the name, and the maps `x` have it as it becomes
+  IsTaking : Maps → List ℕ → Maps → Type 0
+  IsTaking x t m = StandsIn (place_at at) t m × ((r : Termination) → term m t ≡ Some r → TakesUnfilled r) × IsBecome x t m
+
+  one_merged : (x : Maps) (t : List ℕ) (m : Maps) → IsTaking x t m → on_target rules at c tt t m ≡ ended (merge t m) tt (idle_reply c x t ∷ []) false
   unfolding on_record IsTaking
-  one_merged t m x takes =
+  one_merged x t m takes =
       let stands = takes.0 in
       let r : Termination = stands.0 in
       let new = takes.1 r stands.1 in
-      let changed : Outcome (Result (List ReplyPart) Code) = record { maps = put_term m t (Some new.0); answer = Ok [] } in
-      let found : on_name rules (place_at at) c t m ≡ changed = ap (λ (o : Option Termination). on_found rules (place_at at) c t o m) stands.1
+      let after : Outcome (Result (List ReplyPart) Code) = record { maps = put_term m t (Some new.0); answer = Ok (told new.0) } in
+      let found : on_name rules (place_at at) c t m ≡ after = ap (λ (o : Option Termination). on_found rules (place_at at) c t o m) stands.1
       ∙ ap (λ (y : Result Decided Code). done t m y) (by_place rules (place_at at) c m r verb)
       ∙ ap (λ (y : Result Merged Code). done t m (becomes y)) (merging_is r new.0 stands.2 new.1 new.2) in
       let maps : put_term m t (Some new.0) ≡ merge t m = ap (λ (o : Option Termination). put_if t m o) (sym new.1) ∙ ap (λ (o : Option Termination). put_changed (merged rules c.descriptors) t m o) (sym stands.1) in
+      let become : term x t ≡ Some new.0 = takes.2 ∙ ap (λ (o : Option Termination). option_map (changed (merged rules c.descriptors)) o) stands.1 ∙ ap (λ (o : Option Termination). Some (unwrap_or o r)) new.1 in
+      let replies : idle_reply c x t ≡ reply c (Name t) (Ok (told new.0)) = replied c Modify t x verb ∙ ap (λ (o : Option Termination). reply c (Name t) (idle_answer Modify c.descriptors o)) become in
       ap (λ (o : Outcome (Result (List ReplyPart) Code)). ended o.maps tt (reply c (Name t) o.answer ∷ []) false) found
-      ∙ (λ i. ended (maps i) tt (sym (bare c Modify t x verb) i ∷ []) false)
+      ∙ (λ i. ended (maps i) tt (sym replies i ∷ []) false)
 
-  still_merged : (t q : List ℕ) (m : Maps) → bytes_eq q t ≡ false → IsTaking q m → IsTaking q (merge t m)
+  still_merged : (x : Maps) (t q : List ℕ) (m : Maps) → bytes_eq q t ≡ false → IsTaking x q m → IsTaking x q (merge t m)
   unfolding IsTaking
-  still_merged t q m apart takes =
+  still_merged x t q m apart takes =
       let f : Termination → Option Termination = merged rules c.descriptors in
       let same : term (merge t m) q ≡ term m q = term-put_changed f t m q ∙ ap (λ (b : Bool). cond b (option_map (changed f) (term m q)) (term m q)) apart in
-      ((takes.0.0, same ∙ takes.0.1, takes.0.2), λ r e. takes.1 r (sym same ∙ e))
+      ((takes.0.0, same ∙ takes.0.1, takes.0.2), (λ r e. takes.1 r (sym same ∙ e)), takes.2 ∙ sym (ap (λ (o : Option Termination). option_map (changed f) o) same))
 
-  as_merged : (ts : List (List ℕ)) (m : Maps) → all_put rules at c merge IsTaking one_merged still_merged ts m ≡ all_changed (merged rules c.descriptors) ts m
+  as_merged : (x : Maps) (ts : List (List ℕ)) (m : Maps) → all_put rules at c x merge (IsTaking x) (one_merged x) (still_merged x) ts m ≡ all_changed (merged rules c.descriptors) ts m
   unfolding all_put
-  as_merged [] m = refl
-  as_merged (t ∷ ts) m = as_merged ts (merge t m)
+  as_merged x [] m = refl
+  as_merged x (t ∷ ts) m = as_merged x ts (merge t m)
 
-  -- each of these, where each is in the action's context and takes the descriptors, which fill nothing of it
-  pub each_merged : (ts : List (List ℕ)) (m x : Maps) → NoDoubles ts → ((t : List ℕ) → is_in t ts ≡ true → StandsIn (place_at at) t m)
-      → ((t : List ℕ) → is_in t ts ≡ true → (r : Termination) → term m t ≡ Some r → TakesUntold r)
+  -- each of these, where each is in the action's context and takes the descriptors, which fill nothing of it: what is told of it is what is
+  -- audited of it after all
+  pub each_merged : (ts : List (List ℕ)) (m x : Maps) → x ≡ all_changed (merged rules c.descriptors) ts m → NoDoubles ts → ((t : List ℕ) → is_in t ts ≡ true → StandsIn (place_at at) t m)
+      → ((t : List ℕ) → is_in t ts ≡ true → (r : Termination) → term m t ≡ Some r → TakesUnfilled r)
       → on_targets rules at c ts m ≡ ended (all_changed (merged rules c.descriptors) ts m) tt (map (idle_reply c x) ts) false
   unfolding IsTaking
-  each_merged ts m x once stands takes =
-      all_done rules at c merge IsTaking one_merged still_merged ts m x once (λ t h. (stands t h, takes t h)) ∙ ap (λ (y : Maps). ended y tt (map (idle_reply c x) ts) false) (as_merged ts m)
-
--- ---- where nothing is told
-
-module _ (c : Command) (m : Maps) (nothing : tells_nothing c m ≡ true) where
-  is_silent : are_silent c.descriptors ≡ true
-  is_silent = by (are_plain c.descriptors) refl nothing
+  each_merged ts m x is once stands takes =
+      all_done rules at c x merge (IsTaking x) (one_merged x) (still_merged x) ts m once (λ t h. (stands t h, takes t h, become t h)) ∙ ap (λ (y : Maps). ended y tt (map (idle_reply c x) ts) false) (as_merged x ts m)
     where
-      by : (b : Bool) → are_plain c.descriptors ≡ b → (b || (are_silent c.descriptors && not (has_slot_under (prefix_of c.term) m))) ≡ true → are_silent c.descriptors ≡ true
-      by true e h = plain_silent c.descriptors e
-      by false e h = first_of (are_silent c.descriptors) (not (has_slot_under (prefix_of c.term) m)) h
+      become : (t : List ℕ) → is_in t ts ≡ true → IsBecome x t m
+      become t h =
+          let f : Termination → Option Termination = merged rules c.descriptors in
+          ap (λ (y : Maps). term y t) is ∙ term-all_changed f ts m t once ∙ ap (λ (b : Bool). cond b (option_map (changed f) (term m t)) (term m t)) h
 
+-- ---- where nothing is filled
+
+module _ (c : Command) (m : Maps) (nothing : fills_nothing c m ≡ true) where
   unfilled : (rules : Rules) (t : List ℕ) (r : Termination) → is_reached Free (prefix_of c.term) m t ≡ true → term m t ≡ Some r → filled_by rules c.descriptors r ≡ []
   unfilled rules t r meant there = fills_none rules c.descriptors r (by (are_plain c.descriptors) refl nothing)
     where
-      by : (b : Bool) → are_plain c.descriptors ≡ b → (b || (are_silent c.descriptors && not (has_slot_under (prefix_of c.term) m))) ≡ true → fill_none c.descriptors r.slot ≡ true
+      by : (b : Bool) → are_plain c.descriptors ≡ b → (b || not (has_slot_under (prefix_of c.term) m)) ≡ true → fill_none c.descriptors r.slot ≡ true
       by true e h = plain_fill c.descriptors r.slot e
       by false e h =
-          let none : has_slot_under (prefix_of c.term) m ≡ false = none_there (has_slot_under (prefix_of c.term) m) (second_of (are_silent c.descriptors) (not (has_slot_under (prefix_of c.term) m)) h) in
+          let none : has_slot_under (prefix_of c.term) m ≡ false = none_there (has_slot_under (prefix_of c.term) m) h in
           ap (λ (o : Option ℕ). fill_none c.descriptors o) (slotless (prefix_of c.term) m none t r meant there) ∙ none_fills c.descriptors
 
 -- ---- either, of the null context
@@ -315,23 +306,23 @@ module _ (rules : Rules) (c : Command) (m : Maps) where
   is_no_add (Serve s) h = ap (λ (v : Verb). is_add v) h.verb
   is_no_add Merge h = ap (λ (v : Verb). is_add v) h.verb
 
-  all_met : (a : ForAll) → IsForAll rules Null c m a → (ts : List (List ℕ)) (x : Maps) → ts ≡ reached Free (prefix_of c.term) m → ((t : List ℕ) → is_in t ts ≡ true → StandsIn None t m) → on_targets rules Null c ts m ≡ ended (all_after rules c a ts m) tt (map (idle_reply c x) ts) false
-  all_met (Serve s) h ts x meant stands = each_served rules Null c s h.verb h.asked ts m x (none_twice (prefix_of c.term) m ts meant) stands
-  all_met Merge h ts x meant stands = each_merged rules Null c h.verb (is_silent c m h.nothing) ts m x (none_twice (prefix_of c.term) m ts meant) stands taking
+  all_met : (a : ForAll) → IsForAll rules Null c m a → (ts : List (List ℕ)) (x : Maps) → x ≡ all_after rules c a ts m → ts ≡ reached Free (prefix_of c.term) m → ((t : List ℕ) → is_in t ts ≡ true → StandsIn None t m) → on_targets rules Null c ts m ≡ ended (all_after rules c a ts m) tt (map (idle_reply c x) ts) false
+  all_met (Serve s) h ts x is meant stands = each_served rules Null c s h.verb h.asked ts m x (none_twice (prefix_of c.term) m ts meant) stands
+  all_met Merge h ts x is meant stands = each_merged rules Null c h.verb ts m x is (none_twice (prefix_of c.term) m ts meant) stands taking
     where
       taking : (t : List ℕ) → is_in t ts ≡ true → (r : Termination) → term m t ≡ Some r → (new : Termination) × (merged rules c.descriptors r ≡ Some new) × (filled_by rules c.descriptors r ≡ [])
       taking t i r there =
           let reach = second_of (is_in t (names m)) (is_reached Free (prefix_of c.term) m t) (sym (in_filtered (is_reached Free (prefix_of c.term) m) (names m) t) ∙ ap (λ (l : List (List ℕ)). is_in t l) (sym meant) ∙ i) in
           let takes = h.taken t r reach there in
-          (takes.0, takes.1, unfilled c m h.nothing rules t r reach there)
+          (takes.0, takes.1, unfilled c m h.unfilled rules t r reach there)
 
-  -- each target is as it is to be, and has its reply
-  pub all_carried : (a : ForAll) → IsForAll rules Null c m a → (slot : Option ℕ) (x : Maps) → refusal_by_tables Null slot c m ≡ None
+  -- each target is as it is to be, and has its reply, by the maps after it
+  pub all_carried : (a : ForAll) → IsForAll rules Null c m a → (slot : Option ℕ) (x : Maps) → x ≡ all_after rules c a (reached Free (prefix_of c.term) m) m → refusal_by_tables Null slot c m ≡ None
       → allowed rules Null slot c m ≡ record { maps = all_after rules c a (reached Free (prefix_of c.term) m) m; answer = outcome_told Null c (map (idle_reply c x) (targets Null c m)) }
-  all_carried a h slot x none =
+  all_carried a h slot x is none =
       ap (λ (o : Option Code). unless_refused o Null c m (carried rules Null slot c m c.term)) none ∙ carried_on Null slot c m rules c.term (is_wild a h)
       ∙ ap (λ (o : Outcome (Attempts Unit CommandReply)). let y : Outcome CmdOutcome = record { maps = o.maps; answer = outcome_told Null c o.answer.answers } in y)
-      (all_met a h (targets Null c m) x (targets_are c m (is_wild a h) (is_no_add a h)) (each_free c m (is_wild a h) (is_no_add a h)))
+      (all_met a h (targets Null c m) x (is ∙ ap (λ (l : List (List ℕ)). all_after rules c a l m) (sym (targets_are c m (is_wild a h) (is_no_add a h)))) (targets_are c m (is_wild a h) (is_no_add a h)) (each_free c m (is_wild a h) (is_no_add a h)))
       ∙ ap (λ (l : List (List ℕ)). let y : Outcome CmdOutcome = record { maps = all_after rules c a l m; answer = outcome_told Null c (map (idle_reply c x) (targets Null c m)) } in y) (targets_are c m (is_wild a h) (is_no_add a h))
 
   pub keys_of_targets : (a : ForAll) → IsForAll rules Null c m a → (keys : PartKeys) (slot : Option ℕ) → Holds keys (command_keys Null slot c m) → refusal_by_form Null c ≡ None → refusal_by_tables Null slot c m ≡ None

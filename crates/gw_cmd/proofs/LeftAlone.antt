@@ -45,7 +45,7 @@ use Rattle.gw_cmd.specs.declared.outcome.CmdOutcome.{CmdOutcome}
 use Rattle.gw_cmd.specs.declared.outcome.Seen.{Seen}
 use Rattle.gw_cmd.specs.Commands.{reply, has_error, is_done, error_of, error_in, first_error, outcome_told, on_target, on_targets, on_names, carried, unless_refused, allowed}
 use Rattle.gw_cmd.specs.Effects.{refusal_elsewhere, refusal_to_add, is_full, joins, unless, decided_in, decided_in_null, done, on_record, on_found, on_name}
-use Rattle.gw_cmd.specs.Idle.{is_full_at, leaves_all, idle_code, idle_answer, idle_reply, idle_seen, IsIdle}
+use Rattle.gw_cmd.specs.Idle.{is_full_at, leaves_all, audit_of, idle_code, idle_answer, idle_reply, idle_seen, IsIdle}
 use Rattle.gw_cmd.specs.Keys.{member_keys, term_keys, command_keys}
 use Rattle.gw_cmd.specs.Refusals.{code_if, missing, first_code, refusal_by_tables}
 use Rattle.gw_cmd.specs.Told.{code_of, seen}
@@ -89,6 +89,12 @@ no_items : {X : Type 0} (l : List X) → not (is_some_list l) ≡ true → l ≡
 no_items [] h = refl
 no_items (x ∷ xs) h = absurd cc
 
+-- nothing is told where nothing is asked for
+pub asks_nothing : (ds : List Descriptor) (o : Option Termination) → audited ds ≡ [] → audit_of ds o ≡ []
+unfolding audit_parts
+asks_nothing ds None none = refl
+asks_nothing ds (Some r) none = ap (λ (words : List (List ℕ)). audit_parts words r) none
+
 both_of : (a b : Bool) → (a && b) ≡ true → (a ≡ true) × (b ≡ true)
 both_of true b h = (refl, h)
 both_of false b h = absurd cc
@@ -110,7 +116,8 @@ left_one rules at c t r m leaves found there = by c.verb refl leaves there
     by : (v : Verb) → c.verb ≡ v → leaves_all v (is_some_list c.descriptors) (is_full_at rules (place_at at) m) ≡ true → r.place ≡ (if is_add v then None else place_at at) → on_name rules (place_at at) c t m ≡ left c t m
     by AuditValue verb h there = here ∙ audit_alone rules (place_at at) c t r m verb there ∙ told AuditValue verb
     by Modify verb h there =
-        here ∙ modify_alone rules (place_at at) c t r m verb (no_items c.descriptors h) found ∙ ap (λ (o : Option Code). left_alone o m) (stands_here (place_at at) r.place there) ∙ told Modify verb
+        here ∙ modify_alone rules (place_at at) c t r m verb (no_items c.descriptors h) found ∙ ap (λ (o : Option Code). left_alone o m) (stands_here (place_at at) r.place there)
+        ∙ ap (λ (l : List ReplyPart). let x : Outcome (Result (List ReplyPart) Code) = record { maps = m; answer = Ok l } in x) (sym (asks_nothing c.descriptors (Some r) (ap (λ (l : List Descriptor). audited l) (no_items c.descriptors h)))) ∙ told Modify verb
     by Add verb h there = let two = both_of (not (is_some_list c.descriptors)) (is_full_at rules (place_at at) m) h in add (place_at at) refl verb (no_items c.descriptors two.0) two.1 there
     by Move verb h there = absurd cc
     by Subtract verb h there = absurd cc

@@ -5,7 +5,7 @@ use Rattle.gw_base.specs.declared.code.Code.{Code}
 use Rattle.gw_base.specs.declared.code.Code.TheVariants.{ContextFull}
 use Rattle.gw_base.specs.declared.command_words.Rules.{Rules}
 use Rattle.gw_base.specs.declared.command_words.Verb.{Verb}
-use Rattle.gw_base.specs.declared.command_words.Verb.TheVariants.{Add, Modify, AuditValue}
+use Rattle.gw_base.specs.declared.command_words.Verb.TheVariants.{Add, Modify, Subtract, AuditValue}
 use Rattle.gw_base.specs.declared.ids.CtxNum.{CtxNum}
 use Rattle.gw_base.specs.declared.key.Key.{Key}
 use Rattle.gw_base.specs.declared.term_ref.TermRef.TheVariants.{Name}
@@ -47,10 +47,12 @@ abbrev pub audit_of : List Descriptor → Option Termination → List ReplyPart
 audit_of descriptors None = []
 audit_of descriptors (Some r) = audit_parts (audited descriptors) r
 
--- what is told of one
+-- what is told of one; of one that leaves what is audited of it before
 abbrev pub idle_answer : Verb → List Descriptor → Option Termination → Result (List ReplyPart) Code
 idle_answer Add descriptors r = Err ContextFull
 idle_answer AuditValue descriptors r = Ok (audit_of descriptors r)
+idle_answer Modify descriptors r = Ok (audit_of descriptors r)
+idle_answer Subtract descriptors r = Ok (audit_of descriptors r)
 idle_answer _ descriptors r = Ok []
 
 abbrev pub idle_reply : Command → Maps → List ℕ → CommandReply

@@ -1,5 +1,6 @@
 pub mod Clearing
 pub mod Commands
+pub mod Counted
 pub mod Effects
 pub mod Heads
 pub mod Idle

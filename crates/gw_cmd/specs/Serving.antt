@@ -1,5 +1,5 @@
 -- A ServiceChange or a Modify of all terminations of the null context that match (RFC 3525, sections 7.2.2 and 7.2.8).
-use Rattle.std.specs.Prelude.{◌≡◌, ◌&&◌, ◌||◌, ℕ, Bool, true, not, List, [], Some}
+use Rattle.std.specs.Prelude.{◌≡◌, ◌||◌, ℕ, Bool, true, not, List, [], Some}
 use Rattle.gw_base.specs.declared.command_words.Rules.{Rules}
 use Rattle.gw_base.specs.declared.command_words.Service.{Service}
 use Rattle.gw_base.specs.declared.command_words.Verb.TheVariants.{Modify, ServiceChange}
@@ -7,7 +7,7 @@ use Rattle.gw_base.specs.declared.term_ref.TermRef.{TermRef}
 use Rattle.gw_base.specs.declared.term_ref.TermRef.TheVariants.{Under}
 use Rattle.gw_msg.specs.declared.message.Command.{Command}
 use Rattle.gw_term.specs.Merge.{merged}
-use Rattle.gw_term.specs.Plain.{are_plain, are_silent}
+use Rattle.gw_term.specs.Plain.{are_plain}
 use Rattle.gw_term.specs.declared.record.Termination.{Termination}
 use Rattle.gw_table.specs.declared.reach.Reach.TheVariants.{Free}
 use Rattle.gw_table.specs.Maps.{Maps, term}
@@ -25,10 +25,9 @@ abbrev pub prefix_of : TermRef → List ℕ
 prefix_of (Under prefix) = prefix
 prefix_of _ = []
 
--- nothing is told of the descriptors, at whichever termination of the null context that the wildcard matches: they are plain, or no Audit is
--- sent and none of these has a slot
-abbrev pub tells_nothing : Command → Maps → Bool
-tells_nothing c m = are_plain c.descriptors || (are_silent c.descriptors && not (has_slot_under (prefix_of c.term) m))
+-- the descriptors fill nothing of any termination of the null context that the wildcard matches: they are plain, or none of these has a slot
+abbrev pub fills_nothing : Command → Maps → Bool
+fills_nothing c m = are_plain c.descriptors || not (has_slot_under (prefix_of c.term) m)
 
 -- each termination of the null context whose name begins so takes the descriptors
 abbrev pub AreTaken : Rules → Command → Maps → Type 0
@@ -41,12 +40,12 @@ pub record IsServing (at : At) (c : Command) (s : Service) : Type 0 where
   pub wildcard : is_wildcard c.term ≡ true
   pub asked : service_asked c.descriptors ≡ Some s
 
--- one that merges descriptors, of which nothing is told, into each that it matches, all of them in the null context; and each takes them
+-- one that merges descriptors into each that it matches, all of them in the null context; each takes them, and nothing of it is filled
 pub record IsMerging (rules : Rules) (at : At) (c : Command) (m : Maps) : Type 0 where
   pub null : at ≡ Null
   pub verb : c.verb ≡ Modify
   pub wildcard : is_wildcard c.term ≡ true
-  pub nothing : tells_nothing c m ≡ true
+  pub unfilled : fills_nothing c m ≡ true
   pub taken : AreTaken rules c m
 
 abbrev pub IsForAll : Rules → At → Command → Maps → ForAll → Type 0

@@ -21,7 +21,7 @@ use Rattle.gw_cmd.specs.declared.prepared.MergeOfMany.{MergeOfMany}
 use Rattle.gw_cmd.specs.declared.serving_members.ForMembers.{ForMembers}
 use Rattle.gw_cmd.specs.declared.serving_members.ForMembers.TheVariants.{Serve, Merge}
 
--- the descriptors of a command, of which nothing is told, as they are merged into many records under the rules: each whose lists have no more
+-- the descriptors of a command, which fill nothing, as they are merged into many records under the rules: each whose lists have no more
 -- properties takes them
 pub record IsMergeOf (rules : Rules) (c : Command) (merge : MergeOfMany) : Type 0 where
   pub ruled : merge.sending.rules.now ≡ rules

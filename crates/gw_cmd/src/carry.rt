@@ -334,9 +334,9 @@ fn with_targets(
 /// One that leaves each of its targets as it is ends there, and begun behind the limit it costs as little as with `W-`; so does a
 /// ServiceChange of what matches in the null context, and a Modify of it whose descriptors each of them takes, which name nothing then.
 /// A ServiceChange of the members of a context that match, and a Modify of them that is known and that each of them takes, look the first
-/// up once, and the others once, or twice where properties are sent that lists hold; and by a Subtract of all members that audits nothing,
-/// also by a prefix that each of them has, they leave at once. Where nothing is kept of their replies, in whole tables, they are not named
-/// either: it is one look-up of the context, and one of each member.
+/// up once, and the others once, or twice where properties are sent that lists hold; and by a Subtract of all members, also by a prefix that
+/// each of them has, they leave at once. What these audit is told of each by one look-up more. Where nothing is kept of the replies to such
+/// a Subtract, in whole tables, its members are not named either: it is one look-up of the context, and one of each member.
 ///
 /// # Errors
 ///
@@ -388,8 +388,8 @@ pub fn command_told(
 /// and of an Add, of all names, and its matches. With `W-` an AuditValue, a Modify without descriptors and an Add without them into a
 /// full context cost that pass up to the first match, since each target stays as it is; in an action for each context they do so where
 /// the draft is of whole tables. A ServiceChange of what matches in the null context looks nothing up, and with `W-` it names nothing; nor
-/// does a Modify of it that sends no Local with a `$` and no Audit but an empty one, where each list takes the properties that it
-/// sends. A ServiceChange of the members of a context that match takes one look-up of each in whole tables.
+/// does a Modify of it that sends no Local with a `$`, where each list takes the properties that it sends; but what it audits of each takes
+/// a look-up. A ServiceChange of the members of a context that match takes one look-up of each in whole tables.
 ///
 /// The caller knows that the tables are sound, that the draft has the command's keys, and that no termination has the name of
 /// the slot.

@@ -1,12 +1,12 @@
-//! A Subtract of all members of the action's context, of which nothing is audited.
+//! A Subtract of all members of the action's context.
 
-ghost use Rattle.std.specs.Prelude.{◌≡◌, ◌&&◌, true, false, [], None, map, IfOk, IfSome, OnOk};
+ghost use Rattle.std.specs.Prelude.{◌≡◌, ◌&&◌, true, false, None, map, IfOk, IfSome, OnOk};
 ghost use Rattle.std.specs.List.{list_all};
 ghost use Rattle.gw_length.specs.declared.telling.Telling.TheVariants.{TooLong};
 ghost use Rattle.gw_table.specs.Maps.{ctx, members_of};
 ghost use Rattle.gw_table.specs.Parts.{Holds};
 ghost use Rattle.gw_table.specs.WellFormed.{IsSound};
-ghost use Rattle.gw_refusal.specs.Asked.{audited, is_some_list, is_wildcard, matches};
+ghost use Rattle.gw_refusal.specs.Asked.{is_some_list, is_wildcard, matches};
 ghost use Rattle.gw_refusal.specs.Forms.{refusal_by_form};
 ghost use Rattle.gw_refusal.specs.Targets.{targets};
 ghost use Rattle.gw_cmd.specs.Clearing.{SubtractsMany, IsClearing};
@@ -23,32 +23,19 @@ use crate::replies::{has_one_reply, outcome_of, outcome_of_all, refused};
 use crate::serving::prefix_of;
 use crate::tables::{is_some, refusal_by_tables};
 use gw_base::{CtxNum, NoMemory, Rules, TermRef, Verb};
-use gw_desc::Descriptor;
 use gw_length::Telling;
 use gw_msg::Command;
-use gw_refusal::{At, first_audit, is_wildcard, matches, targets};
+use gw_refusal::{At, is_wildcard, matches, targets};
 use gw_reply::CommandReply;
 use gw_table::Draft;
 use std::alloc::Global;
 
-/// Whether nothing is to be audited.
-fn audits_none(descriptors: &[Descriptor<'_>]) -> bool
-    ensures { result ≡ true → audited descriptors.now ≡ [] }
-{
-    match first_audit(descriptors) {
-        Some(words) => words.is_empty(),
-        None => true,
-    }
-}
-
-/// Whether the command subtracts what a wildcard matches, and audits nothing.
+/// Whether the command subtracts what a wildcard matches.
 fn subtracts_many(command: &Command<'_>) -> bool
     ensures { result ≡ true → SubtractsMany command.now }
 {
     match command.verb {
-        Verb::Subtract if is_wildcard(&command.term) => {
-            audits_none(command.descriptors.as_slice())
-        }
+        Verb::Subtract => is_wildcard(&command.term),
         _ => false,
     }
 }
@@ -67,9 +54,9 @@ fn matches_each(draft: &Draft<'_>, number: CtxNum, term: &TermRef) -> bool
     }
 }
 
-/// The number of the context that a command clears: it subtracts what a wildcard matches, which each member of the context does, and
-/// audits nothing. Of one in an action for each context that is said where the draft is of whole tables. The work is that of a look at the
-/// members, where the wildcard has a prefix.
+/// The number of the context that a command clears: it subtracts what a wildcard matches, which each member of the context does. Of one in
+/// an action for each context that is said where the draft is of whole tables. The work is that of a look at the members, where the
+/// wildcard has a prefix.
 pub(crate) fn cleared_by(draft: &Draft<'_>, at: At, command: &Command<'_>) -> Option<CtxNum>
     ensures { IfSome result (λ number. IsClearing draft.now.keys at number command.now draft.now.maps) }
 {
@@ -153,7 +140,7 @@ fn with_none(
     outcome_of_all(alloc, told, at, command, seen)
 }
 
-/// Carries such a command out where the reply of each member is told.
+/// Carries such a command out where the reply of each member is told: what is audited of each, as it is before they leave.
 fn with_each(
     alloc: Global,
     rules: &Rules,
@@ -179,12 +166,13 @@ fn with_each(
     if let Some(code) = refusal_by_tables(draft, at, slot, command, is_some(&named), known) {
         return refused(told, at, command, code);
     }
-    draft.leave_all(alloc, number, &named)?;
     let seen = on_each(alloc, draft, command, &named, told)?;
+    draft.leave_all(alloc, number, &named)?;
     Ok(outcome_of(at, seen))
 }
 
-/// Carries out a command that its form allows and that clears this context. Its members are named once, and leave at once.
+/// Carries out a command that its form allows and that clears this context. Its members are named once, and leave at once; what is audited
+/// of each takes one look-up more, where its reply is told.
 pub(crate) fn on_cleared(
     alloc: Global,
     rules: &Rules,

@@ -1,11 +1,11 @@
 //! Commands for all that match which leave every termination as it is.
 
-ghost use Rattle.std.specs.Prelude.{◌≡◌, ◌&&◌, true, false, map, IfOk, IfSome, OnOk};
+ghost use Rattle.std.specs.Prelude.{◌≡◌, ◌&&◌, true, false, [], map, IfOk, IfSome, OnOk};
 ghost use Rattle.gw_length.specs.declared.telling.Telling.TheVariants.{TooLong};
 ghost use Rattle.gw_table.specs.Maps.{term};
 ghost use Rattle.gw_table.specs.Parts.{Holds};
 ghost use Rattle.gw_table.specs.WellFormed.{IsSound};
-ghost use Rattle.gw_refusal.specs.Asked.{is_some_list, is_wildcard};
+ghost use Rattle.gw_refusal.specs.Asked.{audited, is_some_list, is_wildcard};
 ghost use Rattle.gw_refusal.specs.Places.{place_at};
 ghost use Rattle.gw_cmd.specs.Commands.{allowed};
 ghost use Rattle.gw_cmd.specs.Idle.{is_full_at, leaves_all, audit_of, idle_reply, idle_seen, IsIdle};
@@ -13,6 +13,7 @@ ghost use Rattle.gw_cmd.specs.Keys.{command_keys};
 ghost use Rattle.gw_cmd.specs.Prepared.{IsJudged};
 ghost use Rattle.gw_cmd.specs.Told.{outcome_behind, seen};
 
+use crate::counted::are_too_long;
 use crate::members::is_full;
 use crate::merge::audit;
 use crate::outcome::{CmdTold, Seen};
@@ -23,7 +24,7 @@ use gw_base::{Code, Items, NoMemory, Rules, TermName, TermRef, Verb};
 use gw_desc::Descriptor;
 use gw_length::Telling;
 use gw_msg::Command;
-use gw_refusal::{At, has_targets, is_wildcard, targets};
+use gw_refusal::{At, first_audit, has_targets, is_wildcard, targets};
 use gw_reply::{AuditReply, CommandReply};
 use gw_table::Draft;
 use std::alloc::Global;
@@ -77,7 +78,17 @@ pub(crate) fn seen_idle(verb: Verb, told: Telling<CommandReply>) -> Seen
     }
 }
 
-/// What is audited of the termination of a name; nothing where there is none.
+/// Whether nothing is to be audited.
+fn audits_none(descriptors: &[Descriptor<'_>]) -> bool
+    ensures { result ≡ true → audited descriptors.now ≡ [] }
+{
+    match first_audit(descriptors) {
+        Some(words) => words.is_empty(),
+        None => true,
+    }
+}
+
+/// What is audited of the termination of a name; nothing where there is none. Where nothing is asked for, it is not looked up.
 fn audit_of(
     alloc: Global,
     draft: &Draft<'_>,
@@ -86,13 +97,16 @@ fn audit_of(
 ) -> Result<AuditReply, NoMemory>
     ensures { IfOk result (λ parts. parts ≡ audit_of descriptors.now (term draft.now.maps name.now)) }
 {
+    if audits_none(descriptors) {
+        return Ok(Items::new(alloc));
+    }
     match draft.term(name) {
         Some(termination) => audit(alloc, termination, descriptors),
         None => Ok(Items::new(alloc)),
     }
 }
 
-/// The reply of such a command on the termination of a name, which only an AuditValue looks up.
+/// The reply of such a command on the termination of a name, which is looked up only for what is audited.
 fn idle_reply(
     alloc: Global,
     draft: &Draft<'_>,
@@ -103,7 +117,7 @@ fn idle_reply(
 {
     let told = match command.verb {
         Verb::Add => Err(Code::ContextFull),
-        Verb::AuditValue => {
+        Verb::AuditValue | Verb::Modify | Verb::Subtract => {
             let descriptors = command.descriptors.as_slice();
             Ok(audit_of(alloc, draft, descriptors, &name)?)
         }
@@ -112,7 +126,8 @@ fn idle_reply(
     Ok(reply(command, TermRef::Name(name), told))
 }
 
-/// What comes of the terminations that such a command matched: once their replies are too long, the others are as these.
+/// What comes of the terminations that such a command matched. Of many it is counted first whether there is room for their replies; once
+/// those that are told are too long, the others are as these.
 pub(crate) fn on_each(
     alloc: Global,
     draft: &Draft<'_>,
@@ -123,6 +138,9 @@ pub(crate) fn on_each(
     requires { is_some_list named.now ≡ true }
     ensures { IfOk result (λ done. done ≡ seen told (map (idle_reply command.now draft.now.maps) named.now)) }
 {
+    if are_too_long(draft, command, named, &told) {
+        return Ok(seen_idle(command.verb, Telling::TooLong));
+    }
     let mut told = told;
     for name in named {
         told = told.tell(idle_reply(alloc, draft, command, *name)?)?;

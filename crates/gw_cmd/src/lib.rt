@@ -5,6 +5,7 @@ mod alike;
 mod carry;
 mod change;
 mod clearing;
+mod counted;
 mod decide;
 mod effects;
 mod heads;

@@ -18,7 +18,7 @@ use gw_refusal::{At, refusal_by_form, service_asked};
 use gw_term::{Sending, Termination, are_plain, room_for};
 use std::alloc::Global;
 
-/// The descriptors of a Modify of which nothing is told, ready to be merged into many terminations.
+/// The descriptors of a Modify that fill nothing, ready to be merged into many terminations.
 #[derive(Drop)]
 pub(crate) struct MergeOfMany<'a, 'b> {
     /// The descriptors, with what is found and made once for all of these.
@@ -36,7 +36,7 @@ pub struct Prepared<'a, 'b> {
     pub(crate) wrong: Option<Code>,
     /// The service state that they ask for.
     pub(crate) service: Option<Service>,
-    /// The descriptors of a Modify, ready to be merged into many terminations, where nothing is told of them and a list has room for them.
+    /// The descriptors of a Modify, ready to be merged into many terminations, where they fill nothing and a list has room for them.
     pub(crate) merge: Option<MergeOfMany<'a, 'b>>,
 }
 
@@ -114,7 +114,7 @@ fn learn_behind(
     Ok(())
 }
 
-/// The descriptors of a Modify, ready to be merged into many, where nothing is told of them, and they send no more properties than a list
+/// The descriptors of a Modify, ready to be merged into many, where they surely fill nothing, and they send no more properties than a list
 /// may have. Where there are other commands, what they make of the termination that those before it left is learnt: so are the members of
 /// which nothing else was set.
 fn merge_of_many<'a, 'b>(

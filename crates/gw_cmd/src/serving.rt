@@ -14,7 +14,7 @@ ghost use Rattle.gw_refusal.specs.Asked.{is_wildcard};
 ghost use Rattle.gw_refusal.specs.Forms.{refusal_by_form};
 ghost use Rattle.gw_cmd.specs.Commands.{allowed};
 ghost use Rattle.gw_cmd.specs.Keys.{command_keys};
-ghost use Rattle.gw_cmd.specs.Serving.{prefix_of, tells_nothing, all_after, AreTaken, IsForAll};
+ghost use Rattle.gw_cmd.specs.Serving.{prefix_of, fills_nothing, all_after, AreTaken, IsForAll};
 ghost use Rattle.gw_cmd.specs.Told.{outcome_behind};
 
 use crate::idle::{keeps_none, on_each, seen_idle};
@@ -27,7 +27,7 @@ use gw_msg::Command;
 use gw_refusal::{At, has_targets, is_wildcard, service_asked, targets};
 use gw_reply::CommandReply;
 use gw_table::{Draft, Reach};
-use gw_term::{MOST_PROPERTIES, are_plain, are_silent, room_for};
+use gw_term::{MOST_PROPERTIES, are_plain, room_for};
 use std::alloc::Global;
 
 /// What a command does to all terminations of the null context that match.
@@ -49,15 +49,12 @@ pub(crate) fn prefix_of<'a>(term: &'a TermRef) -> &'a [u8]
     }
 }
 
-/// Whether nothing is told of the descriptors of a command, at whichever termination of the null context that the wildcard matches: they are
-/// plain; or they send no Audit but an empty one, and none of these has a slot, by which a Local is filled. That is looked up, in one pass
-/// over the tables, where they are not plain.
-fn tells_nothing(draft: &Draft<'_>, command: &Command<'_>) -> bool
-    ensures { result ≡ tells_nothing command.now draft.now.maps }
+/// Whether the descriptors of a command fill nothing of any termination of the null context that the wildcard matches: they are plain, or
+/// none of these has a slot, by which a Local is filled. That is looked up, in one pass over the tables, where they are not plain.
+fn fills_nothing(draft: &Draft<'_>, command: &Command<'_>) -> bool
+    ensures { result ≡ fills_nothing command.now draft.now.maps }
 {
-    let descriptors = command.descriptors.as_slice();
-    are_plain(descriptors)
-        || (are_silent(descriptors) && !draft.has_slot_under(prefix_of(&command.term)))
+    are_plain(command.descriptors.as_slice()) || !draft.has_slot_under(prefix_of(&command.term))
 }
 
 /// Whether each termination of the null context that the wildcard matches surely takes the descriptors: they send no property that a list
@@ -78,24 +75,24 @@ fn are_taken(
     }
 }
 
-/// Whether nothing is told of the descriptors of a command, and each termination of the null context that the wildcard matches takes them.
+/// Whether each termination of the null context that the wildcard matches takes the descriptors of a command, and these fill nothing of it.
 fn merges_all(
     alloc: Global,
     rules: &Rules,
     draft: &Draft<'_>,
     command: &Command<'_>,
 ) -> Result<bool, NoMemory>
-    ensures nothing { IfOk result (λ all. all ≡ true → tells_nothing command.now draft.now.maps ≡ true) }
+    ensures unfilled { IfOk result (λ all. all ≡ true → fills_nothing command.now draft.now.maps ≡ true) }
     ensures taken { IfOk result (λ all. all ≡ true → AreTaken rules.now command.now draft.now.maps) }
 {
-    if !tells_nothing(draft, command) {
+    if !fills_nothing(draft, command) {
         return Ok(false);
     }
     are_taken(alloc, rules, draft, command)
 }
 
-/// What a Modify for a wildcard does to all terminations of the null context that match, if each of them takes its descriptors, and nothing
-/// is told of these.
+/// What a Modify for a wildcard does to all terminations of the null context that match, if each of them takes its descriptors, and these
+/// fill nothing of it.
 fn merge_of(
     alloc: Global,
     rules: &Rules,
@@ -124,7 +121,7 @@ fn service_of_all(command: &Command<'_>) -> Option<ForAll>
 }
 
 /// What a command does to all terminations of the null context that a wildcard matches, if it is a ServiceChange, or a Modify whose
-/// descriptors each of them takes, and of which nothing is told; of another command none. Where properties are sent that lists hold, the
+/// descriptors each of them takes, and which fill nothing of it; of another command none. Where properties are sent that lists hold, the
 /// work is one pass over the tables; and another where a Local is sent that has a `$`.
 ///
 /// # Errors

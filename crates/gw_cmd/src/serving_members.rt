@@ -39,8 +39,8 @@ fn is_for_many(draft: &Draft<'_>, at: At, command: &Command<'_>) -> bool
     !at.is_null() && is_wildcard(&command.term) && (!at.is_each() || draft.has_every_key())
 }
 
-/// What a command does to all members of a context that a wildcard matches, if it is a ServiceChange, or a Modify of which nothing is told,
-/// whose descriptors are handed in. Of another command none. It looks nothing up.
+/// What a command does to all members of a context that a wildcard matches, if it is a ServiceChange, or a Modify whose descriptors are
+/// handed in, since they fill nothing. Of another command none. It looks nothing up.
 pub(crate) fn for_members<'s, 'a, 'b>(
     draft: &Draft<'_>,
     at: At,

@@ -52,3 +52,9 @@ told_more text (Within front room) xs ys =
     within_more text front xs ys room (length (later text xs)) (length (later text ys)) (nat_le (length (later text xs)) room) refl refl
     ∙ ap (λ (n : ℕ). told_within front (xs ++ ys) room n) (sym (length-later text xs ys))
 told_more text TooLong xs ys = refl
+
+-- what there is no room for is too long
+pub not_within : {T : Type 0} (text : T → List ℕ) (front more : List T) (room : ℕ) → room < length (later text more) → told_behind text (Within front room) more ≡ TooLong
+not_within {T} text front more room h =
+    let taken : ℕ = length (later text more) in
+    ap (λ (b : Bool). let t : Telling T = if b then Within (front ++ more) (room - taken) else TooLong in t) (not_le taken room h)

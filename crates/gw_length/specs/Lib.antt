@@ -1,3 +1,4 @@
+pub mod Parts
 pub mod Rooms
 pub mod Tellings
 pub use Rattle.gw_reply.specs.Lists

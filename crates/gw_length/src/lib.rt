@@ -7,5 +7,7 @@ mod room;
 mod telling;
 mod words;
 
-pub use room::{Length, behind, behind_number};
+pub use parts::{behind_control, behind_octets, behind_state};
+pub use room::{Length, behind, behind_later, behind_number};
 pub use telling::Telling;
+pub use words::{item_length, kind_length, verb_length};

@@ -1,14 +1,15 @@
 //! How long the parts of command replies are.
 
-ghost use Rattle.std.specs.Prelude.{◌≡◌, ℕ, length};
+ghost use Rattle.std.specs.Prelude.{◌≡◌, ℕ, Some, length};
+ghost use Rattle.gw_length.specs.Parts.{control_of, state_of};
 ghost use Rattle.gw_length.specs.Rooms.{Leaves};
-ghost use Rattle.gw_reply.specs.Parts.{text_if, later_octets, control_text, state_text, stream_parts, numbered};
+ghost use Rattle.gw_reply.specs.Parts.{text_if, later_octets, stream_parts, numbered};
 
 use crate::room::{Length, behind, behind_joined, behind_later, behind_number};
 use crate::words::{item_length, kind_length, mode_length, service_length};
 use gw_base::{Items, Service};
 use gw_desc::{Mode, Property, Tail};
-use gw_reply::{FilledStream, KeptProperty, MediaReply, ReplyPart, StreamReply};
+use gw_reply::{FilledStream, MediaReply, ReplyPart, StreamReply};
 
 impl Length for Property<Items<u8>> {
     ghost use Rattle.gw_reply.specs.Parts.{property_text};
@@ -44,21 +45,28 @@ impl Length for Tail<Items<u8>> {
     }
 }
 
-/// Behind a comma, the word and the text in braces, if the text is there.
-fn behind_octets(room: usize, word: &[u8], text: &Option<Items<u8>>) -> Option<usize>
-    ensures { Leaves result room (length (later_octets word.now text.now)) }
+/// The room that is left behind a comma, the word and the text in braces, as a Local or a Remote is told.
+pub fn behind_octets(room: usize, word: &[u8], text: &[u8]) -> Option<usize>
+    ensures { Leaves result room (length (later_octets word.now (Some text.now))) }
 {
-    let Some(text) = text else {
-        return Some(room);
-    };
     let left = behind(room, b",{}".len())?;
     let left = behind(left, word.len())?;
     behind(left, text.len())
 }
 
-/// Behind a LocalControl.
-fn behind_control(room: usize, mode: Mode, properties: &[KeptProperty]) -> Option<usize>
-    ensures { Leaves result room (length (control_text mode properties.now)) }
+/// The same, if the text is there.
+fn behind_octets_if(room: usize, word: &[u8], text: &Option<Items<u8>>) -> Option<usize>
+    ensures { Leaves result room (length (later_octets word.now text.now)) }
+{
+    match text {
+        Some(text) => behind_octets(room, word, text.as_slice()),
+        None => Some(room),
+    }
+}
+
+/// The room that is left behind a LocalControl with these properties.
+pub fn behind_control<T: Length>(room: usize, mode: Mode, properties: &[T]) -> Option<usize>
+    ensures { Leaves result room (length (control_of T.text mode properties.now)) }
 {
     let left = behind(room, b"LocalControl{Mode=}".len())?;
     let left = behind(left, mode_length(mode))?;
@@ -71,8 +79,8 @@ fn behind_stream(room: usize, stream: &StreamReply) -> Option<usize>
     ensures { Leaves result room (length (stream_parts stream.now)) }
 {
     let left = behind_control(room, stream.mode, stream.properties.as_slice())?;
-    let left = behind_octets(left, b"Local", &stream.local)?;
-    behind_octets(left, b"Remote", &stream.remote)
+    let left = behind_octets_if(left, b"Local", &stream.local)?;
+    behind_octets_if(left, b"Remote", &stream.remote)
 }
 
 impl Length for StreamReply {
@@ -99,9 +107,9 @@ impl Length for FilledStream {
     }
 }
 
-/// Behind a TerminationState.
-fn behind_state(room: usize, service: Service, properties: &[KeptProperty]) -> Option<usize>
-    ensures { Leaves result room (length (state_text service properties.now)) }
+/// The room that is left behind a TerminationState with these properties.
+pub fn behind_state<T: Length>(room: usize, service: Service, properties: &[T]) -> Option<usize>
+    ensures { Leaves result room (length (state_of T.text service properties.now)) }
 {
     let left = behind(room, b"TerminationState{ServiceStates=}".len())?;
     let left = behind(left, service_length(service))?;

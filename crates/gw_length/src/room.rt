@@ -31,7 +31,7 @@ pub fn behind_number(room: usize, number: u32) -> Option<usize>
 }
 
 /// The room that is left behind parts, each with a comma before it.
-pub(crate) fn behind_later<T: Length>(room: usize, parts: &[T]) -> Option<usize>
+pub fn behind_later<T: Length>(room: usize, parts: &[T]) -> Option<usize>
     ensures { Leaves result room (length (later T.text parts.now)) }
 {
     let mut left = room;

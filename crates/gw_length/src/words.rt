@@ -34,7 +34,8 @@ pub(crate) fn service_length(service: Service) -> usize
     }
 }
 
-pub(crate) fn kind_length(kind: KeptKind) -> usize
+/// How many bytes the word of a descriptor that is kept as sent has.
+pub fn kind_length(kind: KeptKind) -> usize
     ensures { result ≡ length (kind_word kind) }
 {
     match kind {
@@ -45,7 +46,8 @@ pub(crate) fn kind_length(kind: KeptKind) -> usize
     }
 }
 
-pub(crate) fn item_length(item: AuditItem) -> usize
+/// How many bytes the word of what an Audit asks for has.
+pub fn item_length(item: AuditItem) -> usize
     ensures { result ≡ length (item_word item) }
 {
     match item {
@@ -57,7 +59,8 @@ pub(crate) fn item_length(item: AuditItem) -> usize
     }
 }
 
-pub(crate) fn verb_length(verb: Verb) -> usize
+/// How many bytes the word of a command has.
+pub fn verb_length(verb: Verb) -> usize
     ensures value { result ≡ length (command_word verb) }
     ensures short { result ≤ 15 }
 {

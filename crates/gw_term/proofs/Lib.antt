@@ -16,5 +16,8 @@ pub mod Aligned
 pub mod MadeThere
 pub mod RoomTaken
 pub mod AlignedTaken
+pub mod SameNames
+pub mod Remade
 pub mod SamePlaces
 pub mod PrintEnds
+pub mod AuditLengths

@@ -29,7 +29,7 @@ use Rattle.gw_term.specs.declared.places.PerStream.{PerStream}
 use Rattle.gw_term.specs.Merge.{Media, local_text, is_filled, and_then, each, put_control, put_part, begun, unnamed, is_named_in, names_stream, parts_in, parts_in_part, merged_properties, merged_stream, merged_media, with_media, merged, filled_in, filled_of, filled_by, stream_in, merged_service, merged_tail, tail_after}
 use Rattle.gw_term.specs.declared.settings.Setting.{Setting}
 use Rattle.gw_term.specs.declared.settings.Setting.TheVariants as setting
-use Rattle.gw_term.specs.Plain.{has_choice, is_plain_stream, is_plain_part, is_plain_one, are_plain, is_silent_one, are_silent, fill_none, setting_after, with_stream_after, with_streams_after, stream_or_none, AreMade, with_properties, is_tail_of, retold, with_tail, with_tail_after, with_tails_after}
+use Rattle.gw_term.specs.Plain.{has_choice, is_plain_stream, is_plain_part, is_plain_one, are_plain, fill_none, setting_after, with_stream_after, with_streams_after, stream_or_none, AreMade, with_properties, is_tail_of, retold, with_tail, with_tail_after, with_tails_after}
 use Rattle.gw_term.specs.Settings.{Settings, nothing_set, with_setting, with_settings, set_by}
 
 abbrev P : Type 0
@@ -114,18 +114,6 @@ none_fills ds = by (are_plain ds)
 
 pub plain_fill : (ds : List Descriptor) (slot : Option ℕ) → are_plain ds ≡ true → fill_none ds slot ≡ true
 plain_fill ds slot h = ap (λ (b : Bool). b || not (is_some slot)) h
-
--- such descriptors are silent
-pub plain_silent : (ds : List Descriptor) → are_plain ds ≡ true → are_silent ds ≡ true
-plain_silent [] h = refl
-plain_silent (d ∷ ds) h = let a = both_of (is_plain_one d) (are_plain ds) h in two (is_silent_one d) (are_silent ds) (by d a.0) (plain_silent ds a.1)
-  where
-    by : (x : Descriptor) → is_plain_one x ≡ true → is_silent_one x ≡ true
-    by (descriptor.Media parts) k = refl
-    by (descriptor.Keep kind tail) k = refl
-    by (descriptor.Audit words) k = k
-    by (descriptor.Services parms) k = refl
-    by (descriptor.Other text) k = refl
 
 plain_parts : (number : ℕ) (m : MediaPart) → is_plain_part m ≡ true → list_all is_plain_stream (parts_in_part number m) ≡ true
 plain_parts number (media.Outside p) h = by (names_stream number (media.Outside p))

@@ -1,6 +1,6 @@
--- Descriptors of which nothing is told (own): they send no Local with a `$`, which might be filled, and no Audit but an empty one. Of
--- others that send no Audit nothing is told at a termination without a slot, which fills nothing.
-use Rattle.std.specs.Prelude.{◌≡◌, ℕ, ◌==◌, ◌||◌, if◌then◌else◌, Bool, true, false, not, codes, List, length, Option, Some}
+-- Descriptors that fill nothing, whatever the termination is (own): they send no Local with a `$`, which might be filled. Others fill nothing
+-- of a termination without a slot. An Audit among them changes no record, so it is asked of neither. And a merge in the place of each setting.
+use Rattle.std.specs.Prelude.{◌≡◌, ℕ, ◌==◌, ◌||◌, if◌then◌else◌, Bool, true, false, not, codes, List, Option, Some}
 use Rattle.std.specs.List.{flat_map, list_all, list_any}
 use Rattle.std.specs.Option.{is_some, option_map, unwrap_or}
 use Rattle.gw_base.specs.Bytes.{is_one_of}
@@ -45,19 +45,10 @@ is_plain_part (media.TerminationState properties) = true
 
 abbrev pub is_plain_one : Descriptor → Bool
 is_plain_one (descriptor.Media parts) = list_all is_plain_part parts
-is_plain_one (descriptor.Audit words) = length words == 0
 is_plain_one _ = true
 
 abbrev pub are_plain : List Descriptor → Bool
 are_plain descriptors = list_all is_plain_one descriptors
-
--- no Audit but an empty one
-abbrev pub is_silent_one : Descriptor → Bool
-is_silent_one (descriptor.Audit words) = length words == 0
-is_silent_one _ = true
-
-abbrev pub are_silent : List Descriptor → Bool
-are_silent descriptors = list_all is_silent_one descriptors
 
 -- descriptors that fill nothing of a termination with this slot, or with none: they are plain, or it has none
 abbrev pub fill_none : List Descriptor → Option ℕ → Bool

@@ -1,14 +1,18 @@
 //! What is kept of a property and of a tail, with the texts of each in one block.
 
-ghost use Rattle.std.specs.Prelude.{◌≡◌, ◌++◌, if◌then◌else◌, true, IfOk, OnOk, None, Some};
+ghost use Rattle.std.specs.Prelude.{◌≡◌, ◌++◌, if◌then◌else◌, true, length, IfOk, OnOk, None, Some};
+ghost use Rattle.gw_length.specs.Rooms.{Leaves};
+ghost use Rattle.gw_reply.specs.Parts.{text_if};
 ghost use Rattle.gw_term.specs.HeldTexts.{text_of};
 ghost use Rattle.gw_term.specs.Lookups.{is_of_name};
 ghost use Rattle.gw_term.specs.Prints.{property_print, tail_print};
 
+use crate::names::is_same_name;
 use crate::print::Print;
 use crate::text::{Copying, Text};
 use gw_base::{Items, Span};
 use gw_desc::{Property, Sign, Tail};
+use gw_length::{Length, behind};
 use gw_reply::{KeptProperty, KeptTail};
 use std::alloc::{AllocError, Global};
 use std::marker::Model;
@@ -105,7 +109,7 @@ impl HeldProperty {
     pub(crate) fn has_name(&self, name: &[u8]) -> bool
         ensures { result ≡ is_of_name name.now self.now }
     {
-        self.name().eq_ignore_ascii_case(name)
+        is_same_name(self.name(), name)
     }
 
     /// A copy of the property.
@@ -143,6 +147,17 @@ impl HeldProperty {
             sign: self.sign,
             value,
         })
+    }
+}
+
+impl Length for HeldProperty {
+    ghost use Rattle.gw_reply.specs.Parts.{property_text};
+
+    ghost text = { property_text };
+
+    fn room_behind(&self, room: usize) -> Option<usize> {
+        let left = behind(room, 1)?;
+        behind(left, self.texts.as_slice().len())
     }
 }
 
@@ -253,5 +268,29 @@ impl HeldTail {
             word: kept_if(alloc, self.has_word, word)?,
             group: kept_if(alloc, self.has_group, group)?,
         })
+    }
+}
+
+/// Behind the text, if it is there.
+fn behind_if(room: usize, is_there: bool, text: &[u8]) -> Option<usize>
+    ensures { Leaves result room (length (text_if (if is_there then Some text.now else None))) }
+{
+    if is_there {
+        behind(room, text.len())
+    } else {
+        Some(room)
+    }
+}
+
+impl Length for HeldTail {
+    ghost use Rattle.gw_reply.specs.Parts.{tail_text};
+
+    ghost text = { tail_text };
+
+    fn room_behind(&self, room: usize) -> Option<usize> {
+        let (word, group) = self.texts.as_slice().split_at(self.split);
+        let left = behind(room, usize::from(self.equals))?;
+        let left = behind_if(left, self.has_word, word)?;
+        behind_if(left, self.has_group, group)
     }
 }

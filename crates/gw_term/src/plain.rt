@@ -1,4 +1,4 @@
-//! Descriptors of which nothing is told, and a merge where the record lies.
+//! Descriptors that surely fill nothing, and a merge where the record lies.
 
 ghost use Rattle.std.specs.Prelude.{◌≡◌, ◌≤◌, true, false, [], length, map, None, Some, IfSome, OnOk};
 ghost use Rattle.std.specs.List.{flat_map, list_all, list_any};
@@ -8,7 +8,7 @@ ghost use Rattle.gw_term.specs.Aligned.{IsMadeNew, remade};
 ghost use Rattle.gw_term.specs.Merge.{each, put_part, parts_in, is_named_in, merged, merged_properties, merged_stream};
 ghost use Rattle.gw_term.specs.Named.{has_states, named_by};
 ghost use Rattle.gw_term.specs.Places.{at_number, numbered, at_kind, put_kind, of_kinds};
-ghost use Rattle.gw_term.specs.Plain.{has_choice, is_plain_stream, is_plain_part, is_plain_one, are_plain, is_silent_one, are_silent, fill_none, AreKnown, IsMadeOf, stream_after, setting_after, with_stream_after, stream_or_none, with_streams_after, AreMade, AreSet, is_made_at, is_properties, with_properties, is_tail_of, retold, with_tail, with_tail_after, with_tails_after};
+ghost use Rattle.gw_term.specs.Plain.{has_choice, is_plain_stream, is_plain_part, is_plain_one, are_plain, fill_none, AreKnown, IsMadeOf, stream_after, setting_after, with_stream_after, stream_or_none, with_streams_after, AreMade, AreSet, is_made_at, is_properties, with_properties, is_tail_of, retold, with_tail, with_tail_after, with_tails_after};
 
 use crate::copies::{copied_stream, put};
 use crate::fault::ApplyFault;
@@ -70,34 +70,15 @@ fn is_plain_one(descriptor: &Descriptor<'_>) -> bool
 {
     match descriptor {
         Descriptor::Media(parts) => are_plain_parts(parts.as_slice()),
-        Descriptor::Audit(words) => words.is_empty(),
         _ => true,
     }
 }
 
-/// Whether nothing is told of the descriptors: they send no Local with a `$`, and no Audit but an empty one. The work is one pass over
-/// them.
+/// Whether the descriptors surely fill nothing, whatever the termination is: they send no Local with a `$`. The work is one pass over them.
 pub fn are_plain(descriptors: &[Descriptor<'_>]) -> bool
     ensures { result ≡ are_plain descriptors.now }
 {
     descriptors.iter().all(is_plain_one)
-}
-
-fn is_silent_one(descriptor: &Descriptor<'_>) -> bool
-    ensures { result ≡ is_silent_one descriptor.now }
-{
-    match descriptor {
-        Descriptor::Audit(items) => items.is_empty(),
-        _ => true,
-    }
-}
-
-/// Whether the descriptors send no Audit but an empty one: then nothing is told of them where they fill nothing, as at a termination without
-/// a slot. The work is one pass over them.
-pub fn are_silent(descriptors: &[Descriptor<'_>]) -> bool
-    ensures { result ≡ are_silent descriptors.now }
-{
-    descriptors.iter().all(is_silent_one)
 }
 
 /// Whether a setting is a tail of this kind.
@@ -620,9 +601,9 @@ impl Termination {
     }
 
     /// The termination becomes its record after the descriptors, as [`Termination::merged`] tells it, where it lies: what they do not
-    /// name is not copied, and where nothing was set it shares what they make. What they name and make was found before, once for many
-    /// records. One that has a slot by which they may fill a Local becomes a copy. The caller knows that it takes them, and that a record of
-    /// which nothing was set does.
+    /// name is not copied, and where nothing was set, or nothing is left of it, it shares what they make. What they name and make was found
+    /// before, once for many records. One that has a slot by which they may fill a Local becomes a copy. The caller knows that it takes
+    /// them, and that a record of which nothing was set does.
     ///
     /// # Errors
     ///

@@ -23,41 +23,57 @@ fn property_place(name: &[u8], list: &[HeldProperty]) -> usize
     ensures within { result ≤ length list.now }
 {
     for (i, property) in list.iter().enumerate() {
-        if property.name().eq_ignore_ascii_case(name) {
+        if property.has_name(name) {
             return i;
         }
     }
     list.len()
 }
 
-/// That one of these which the property is, if one is. The one at this place is looked at first, since properties are mostly sent in
-/// the order in which they are kept.
-fn made_already<'a>(
+/// The one at this place, if the property is that.
+fn made_at<'a>(
     property: &Property<Span<'_>>,
     made: &'a [HeldProperty],
     place: usize,
 ) -> Option<&'a HeldProperty>
     ensures { IfSome result (λ own. own.now ≡ property.now) }
 {
-    if let Some(own) = made.get(place) {
-        if own.is(property) {
-            return Some(own);
-        }
+    let own = made.get(place)?;
+    if own.is(property) {
+        return Some(own);
+    }
+    None
+}
+
+/// That one of these which the property is, if one is. They are mostly made in the order in which they are sent, but that Mode is none of
+/// them: so those are looked at first that stand where the property was sent, and before that.
+fn made_already<'a>(
+    property: &Property<Span<'_>>,
+    made: &'a [HeldProperty],
+    sent: usize,
+) -> Option<&'a HeldProperty>
+    ensures { IfSome result (λ own. own.now ≡ property.now) }
+{
+    if let Some(own) = made_at(property, made, sent) {
+        return Some(own);
+    }
+    if let Some(own) = made_at(property, made, sent.saturating_sub(1)) {
+        return Some(own);
     }
     made.iter().find(|own| own.is(property))
 }
 
-/// The property as it is kept at a place: a copy of that one of these which it is, and shares its texts if they may be shared; or else
-/// with copies of its texts.
+/// The property, which stands in this place of those that were sent, as it is kept: a copy of that one of these which it is, and shares its
+/// texts if they may be shared; or else with copies of its texts.
 fn held(
     alloc: Global,
     property: &Property<Span<'_>>,
     made: &[HeldProperty],
-    place: usize,
+    sent: usize,
 ) -> Result<HeldProperty, AllocError>
     ensures { IfOk result (λ held. held ≡ property.now) }
 {
-    if let Some(own) = made_already(property, made, place) {
+    if let Some(own) = made_already(property, made, sent) {
         return own.copied(alloc, Copying::Once);
     }
     HeldProperty::of(
@@ -68,11 +84,13 @@ fn held(
     )
 }
 
-/// The property takes the place of the one of its name, or goes last. It may be one of these that are made already.
+/// The property, which stands in this place of those that were sent, takes the place of the one of its name, or goes last. It may be one of
+/// these that are made already.
 pub(crate) fn put_property(
     alloc: Global,
     property: &Property<Span<'_>>,
     made: &[HeldProperty],
+    sent: usize,
     list: &mut Items<HeldProperty>,
 ) -> Result<(), ApplyFault>
     ensures { Becomes result list.new (put_property property.now list.old) }
@@ -82,7 +100,7 @@ pub(crate) fn put_property(
     if !is_there && list.len() >= MOST_PROPERTIES {
         return Err(ApplyFault::Code(Code::InsufficientResources));
     }
-    let kept = held(alloc, property, made, place)?;
+    let kept = held(alloc, property, made, sent)?;
     if is_there {
         list.set(place, kept);
     } else {
@@ -102,7 +120,7 @@ fn put_state(
     if is_service_states(property.name.as_bytes()) {
         return Ok(());
     }
-    put_property(alloc, property, &[], list)
+    put_property(alloc, property, &[], 0, list)
 }
 
 fn put_states(

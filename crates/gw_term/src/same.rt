@@ -1,7 +1,7 @@
 //! Whether the same was set of two terminations, wherever it lies.
 
 ghost use Rattle.std.specs.Prelude.{◌≡◌, true};
-ghost use Rattle.gw_term.specs.Aligned.{IsAligned};
+ghost use Rattle.gw_term.specs.Aligned.{IsAligned, IsRemade};
 ghost use Rattle.gw_term.specs.Lookups.{lower_names};
 ghost use Rattle.gw_term.specs.Settings.{settings_in};
 
@@ -44,7 +44,7 @@ fn are_same_properties(properties: &[HeldProperty], others: &[HeldProperty]) -> 
 }
 
 /// Whether the properties have the names of the others, in any case, in the same order.
-fn are_same_names(properties: &[HeldProperty], others: &[HeldProperty]) -> bool
+pub(crate) fn are_same_names(properties: &[HeldProperty], others: &[HeldProperty]) -> bool
     ensures { result ≡ true → lower_names properties.now ≡ lower_names others.now }
 {
     if properties.len() != others.len() {
@@ -69,6 +69,14 @@ pub(crate) fn is_aligned(stream: &Stream, made: &Stream) -> bool
 {
     is_same_mode(stream.mode, made.mode)
         && are_same_names(stream.properties.as_slice(), made.properties.as_slice())
+}
+
+/// Whether nothing is left of the stream where descriptors name all that the other has, which they made of none: it is aligned with that
+/// one, and has no text that this one does not have. The names are compared last.
+pub(crate) fn is_remade(stream: &Stream, made: &Stream) -> bool
+    ensures { result ≡ true → IsRemade made.now stream.now }
+{
+    made.local.hides(&stream.local) && made.remote.hides(&stream.remote) && is_aligned(stream, made)
 }
 
 /// Whether it is the other stream.

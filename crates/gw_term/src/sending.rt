@@ -2,7 +2,7 @@
 
 ghost use Rattle.std.specs.Prelude.{◌≡◌, true, IfOk, IfSome};
 ghost use Rattle.std.specs.List.{All};
-ghost use Rattle.gw_term.specs.Aligned.{IsAlignedIn, TakesAt};
+ghost use Rattle.gw_term.specs.Aligned.{IsAlignedIn, IsRemadeAt, IsRemadeIn, IsStreamIn, TakesAt};
 ghost use Rattle.gw_term.specs.Named.{named_by};
 ghost use Rattle.gw_term.specs.Plain.{are_plain, fill_none, AreKnown, IsMadeBy, IsMadeOf};
 ghost use Rattle.gw_term.specs.Room.{Takes};
@@ -11,7 +11,7 @@ use crate::named::Named;
 use crate::plain::are_plain;
 use crate::record::{Stream, Termination};
 use crate::room::has_space_at;
-use crate::same::is_aligned;
+use crate::same::{are_same_names, is_aligned, is_remade};
 use crate::settings::{Setting, Settings};
 use crate::text::Copying;
 use gw_base::{NoMemory, Rules};
@@ -122,23 +122,79 @@ impl<'a, 'b> Sending<'a, 'b> {
         None
     }
 
-    /// Whether it was learnt that a termination takes the descriptors. The work is that of looking at what was set of it and of the few
-    /// that were learnt.
+    /// The stream of this number that they make where there is none, if they make one.
+    fn made_stream(&self, number: u8) -> Option<&Stream>
+        ensures { IfSome result (λ made. IsStreamIn self.now.made number made.now) }
+    {
+        if number < 1 || number > 4 {
+            return None;
+        }
+        self.made.stream(number)
+    }
+
+    /// Whether nothing is left of the stream of this number after the descriptors: it is of the mode of the one that they make where there is
+    /// none, with properties of the same names in the same order, and has no Local or Remote that this one does not have.
+    fn remakes_stream(&self, number: u8, stream: &Stream) -> bool
+        ensures { result ≡ true → IsRemadeIn self.now.made number stream.now }
+    {
+        match self.made_stream(number) {
+            Some(made) => is_remade(stream, made),
+            None => false,
+        }
+    }
+
+    /// Whether nothing is left of a setting: it is such a stream, a tail of a kind that they make, or the properties, and those that they
+    /// make have the same names in the same order.
+    fn remakes_setting(&self, setting: &Setting) -> bool
+        ensures { result ≡ true → IsRemadeAt self.now.made setting.now }
+    {
+        match setting {
+            Setting::Properties(list) => are_same_names(list.as_slice(), self.made.properties()),
+            Setting::Stream(number, stream) => self.remakes_stream(*number, stream),
+            Setting::Tail(kind, _) => self.made.tail(*kind).is_some(),
+        }
+    }
+
+    /// Whether nothing is left of any of these.
+    fn remakes_each(&self, settings: &[Setting]) -> bool
+        ensures { result ≡ true → All (IsRemadeAt self.now.made) settings.now }
+    {
+        for setting in settings {
+            if !self.remakes_setting(setting) {
+                return false;
+            }
+        }
+        true
+    }
+
+    /// Whether nothing is left of these settings after the descriptors: what they make of them is what they make of nothing. More settings
+    /// than they make are not all gone. The work is a comparison of names, and nothing is taken.
+    fn remakes(&self, settings: &Settings) -> bool
+        ensures { result ≡ true → IsMadeOf self.now.rules.now self.now.descriptors.now settings.now self.now.made }
+    {
+        let list = settings.list();
+        list.len() <= self.made.list().len() && self.remakes_each(list)
+    }
+
+    /// Whether it was learnt that a termination takes the descriptors, or nothing is left of what was set of it. The work is that of looking
+    /// at what was set of it and of the few that were learnt.
     pub fn knows(&self, termination: &Termination) -> bool
         requires { AreKnown self.now.descriptors.now self.now.named }
         ensures { result ≡ true → Takes self.now.rules.now self.now.descriptors.now termination.now }
     {
-        self.fills_none(termination.slot) && self.find(&termination.settings).is_some()
+        let settings = &termination.settings;
+        self.fills_none(termination.slot)
+            && (self.find(settings).is_some() || self.remakes(settings))
     }
 
     /// What they make of these settings, if nothing is set or it was learnt, in the block that all such records share.
     #[inline]
-    pub(crate) fn known_after(
+    fn found_after(
         &self,
         alloc: Global,
         settings: &Settings,
     ) -> Result<Option<Settings>, AllocError>
-        ensures { IfOk result (λ known. IfSome known (IsMadeOf self.now.rules.now self.now.descriptors.now settings.now)) }
+        ensures { IfOk result (λ found. IfSome found (IsMadeOf self.now.rules.now self.now.descriptors.now settings.now)) }
     {
         if settings.is_empty() {
             return Ok(Some(self.made.copied(alloc, Copying::Once)?));
@@ -149,9 +205,66 @@ impl<'a, 'b> Sending<'a, 'b> {
         }
     }
 
+    /// What they make of these settings, if nothing is left of them then, in the block that all such records share.
+    fn remade_after(
+        &self,
+        alloc: Global,
+        settings: &Settings,
+    ) -> Result<Option<Settings>, AllocError>
+        ensures { IfOk result (λ remade. IfSome remade (IsMadeOf self.now.rules.now self.now.descriptors.now settings.now)) }
+    {
+        if !self.remakes(settings) {
+            return Ok(None);
+        }
+        Ok(Some(self.made.copied(alloc, Copying::Once)?))
+    }
+
+    /// What they make of these settings, if nothing is set, it was learnt, or nothing is left of them then, in the block that all such
+    /// records share.
+    #[inline]
+    pub(crate) fn known_after(
+        &self,
+        alloc: Global,
+        settings: &Settings,
+    ) -> Result<Option<Settings>, AllocError>
+        ensures { IfOk result (λ known. IfSome known (IsMadeOf self.now.rules.now self.now.descriptors.now settings.now)) }
+    {
+        if let Some(after) = self.found_after(alloc, settings)? {
+            return Ok(Some(after));
+        }
+        self.remade_after(alloc, settings)
+    }
+
+    /// What they make of settings of which it is not known: what they make of nothing, if nothing is left of them, and else a merge into
+    /// one record; nothing where memory is wanting.
+    fn made_anew(&self, alloc: Global, settings: &Settings) -> Result<Option<Settings>, NoMemory>
+        ensures { IfOk result (λ made. IfSome made (IsMadeOf self.now.rules.now self.now.descriptors.now settings.now)) }
+    {
+        if let Some(after) = self.remade_after(alloc, settings)? {
+            return Ok(Some(after));
+        }
+        let again = settings.copied(alloc, Copying::Once)?;
+        match made_of(alloc, self.rules, self.descriptors, again) {
+            Ok(after) => Ok(Some(after)),
+            Err(_) => Ok(None),
+        }
+    }
+
+    /// What they make of settings is kept. Where no more is kept, what was kept before is let go.
+    fn keep(&mut self, before: Settings, after: Settings) -> Result<(), AllocError>
+        requires { IsMadeOf self.old.rules.now self.old.descriptors.now before after }
+        ensures { SendsTheSame self.old self.new }
+    {
+        if self.learnt.len() == MOST_LEARNT {
+            self.learnt.clear();
+        }
+        self.learnt.push(Learnt { before, after })?;
+        Ok(())
+    }
+
     /// Learns what they make of these settings, which is not known, if others share these, they take the descriptors, and fewer records were
     /// learnt in vain than may be. Answers that, if it was learnt. Where no more is kept, what was learnt before is let go. The work is that of
-    /// merging them into one record.
+    /// merging them into one record, or a comparison of names where nothing is left of them.
     #[inline(never)]
     fn learn(&mut self, alloc: Global, settings: &Settings) -> Result<Option<Settings>, NoMemory>
         ensures same { SendsTheSame self.old self.new }
@@ -161,20 +274,17 @@ impl<'a, 'b> Sending<'a, 'b> {
             return Ok(None);
         }
         self.tries -= 1;
-        let before = settings.copied(alloc, Copying::Once)?;
-        let again = settings.copied(alloc, Copying::Once)?;
-        let Ok(after) = made_of(alloc, self.rules, self.descriptors, again) else {
+        let Some(after) = self.made_anew(alloc, settings)? else {
             return Ok(None);
         };
+        let before = settings.copied(alloc, Copying::Once)?;
         let copy = after.copied(alloc, Copying::Once)?;
-        if self.learnt.len() == MOST_LEARNT {
-            self.learnt.clear();
-        }
-        self.learnt.push(Learnt { before, after })?;
+        self.keep(before, after)?;
         Ok(Some(copy))
     }
 
-    /// What they make of these settings, if that is known, or else can be learnt.
+    /// What they make of these settings, if that is known, or else can be learnt. Where others share them it is learnt, also where nothing is
+    /// left of them: so the next of these is told by its print, and its names are not compared.
     #[inline]
     pub(crate) fn learnt_after(
         &mut self,
@@ -184,11 +294,14 @@ impl<'a, 'b> Sending<'a, 'b> {
         ensures same { SendsTheSame self.old self.new }
         ensures after { IfOk result (λ known. IfSome known (IsMadeOf self.old.rules.now self.old.descriptors.now settings.now)) }
     {
-        if let Some(after) = self.known_after(alloc, settings)? {
+        if let Some(after) = self.found_after(alloc, settings)? {
             self.tries = MOST_TRIED;
             return Ok(Some(after));
         }
-        self.learn(alloc, settings)
+        if let Some(after) = self.learn(alloc, settings)? {
+            return Ok(Some(after));
+        }
+        Ok(self.remade_after(alloc, settings)?)
     }
 
     /// Whether the stream of this number has the mode of that which they make where there is none, and properties of the same names in the
@@ -196,10 +309,7 @@ impl<'a, 'b> Sending<'a, 'b> {
     fn is_aligned(&self, number: u8, stream: &Stream) -> bool
         ensures { result ≡ true → IsAlignedIn self.now.made number stream.now }
     {
-        if number < 1 || number > 4 {
-            return false;
-        }
-        match self.made.stream(number) {
+        match self.made_stream(number) {
             Some(made) => is_aligned(stream, made),
             None => false,
         }
@@ -241,12 +351,12 @@ impl<'a, 'b> Sending<'a, 'b> {
         ensures same { SendsTheSame self.old self.new }
         ensures takes { IfOk result (λ takes. takes ≡ true → Takes self.old.rules.now self.old.descriptors.now termination.now) }
     {
-        if self.knows(termination) {
-            self.tries = MOST_TRIED;
-            return Ok(true);
-        }
         if !self.fills_none(termination.slot) {
             return Ok(termination.has_space(self.descriptors));
+        }
+        if self.find(&termination.settings).is_some() {
+            self.tries = MOST_TRIED;
+            return Ok(true);
         }
         if self.learn(alloc, &termination.settings)?.is_some() {
             return Ok(true);

@@ -86,11 +86,12 @@ impl<'c> Sent<'_, '_, 'c> {
     }
 }
 
-/// A property of a LocalControl: Mode, or one of the list.
+/// A property of a LocalControl, which stands in this place of it: Mode, or one of the list.
 fn put_control(
     alloc: Global,
     property: &Property<Span<'_>>,
     made: &[HeldProperty],
+    sent: usize,
     stream: &mut Stream,
 ) -> Result<(), ApplyFault>
     ensures { Becomes result stream.new (put_control property.now stream.old) }
@@ -99,7 +100,7 @@ fn put_control(
         stream.mode = mode_set_by(property).unwrap_or(stream.mode);
         return Ok(());
     }
-    put_property(alloc, property, made, &mut stream.properties)
+    put_property(alloc, property, made, sent, &mut stream.properties)
 }
 
 fn put_controls(
@@ -110,8 +111,8 @@ fn put_controls(
 ) -> Result<(), ApplyFault>
     ensures { Becomes result stream.new (each put_control properties.now stream.old) }
 {
-    for property in properties {
-        put_control(alloc, property, made, stream)?;
+    for (place, property) in properties.iter().enumerate() {
+        put_control(alloc, property, made, place, stream)?;
     }
     Ok(())
 }

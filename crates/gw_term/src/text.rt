@@ -1,12 +1,15 @@
 //! A text that is kept: in a block of its own, or in one that copies share.
 
-ghost use Rattle.std.specs.Prelude.{◌≡◌, ◌++◌, IfOk, OnOk, None, Some, true};
+ghost use Rattle.std.specs.Prelude.{◌≡◌, ◌++◌, length, IfOk, OnOk, None, Some, true};
 ghost use Rattle.std.specs.Option.{option_or};
+ghost use Rattle.gw_length.specs.Rooms.{Leaves};
+ghost use Rattle.gw_reply.specs.Parts.{later_octets};
 ghost use Rattle.gw_term.specs.HeldTexts.{text_of};
 ghost use Rattle.gw_term.specs.Prints.{option_print};
 
 use crate::print::Print;
 use gw_base::Items;
+use gw_length::behind_octets;
 use std::alloc::{AllocError, Global};
 use std::marker::Model;
 use std::mem;
@@ -167,6 +170,17 @@ impl Text {
         }
     }
 
+    /// Whether nothing is seen of an old text that this one is put over: this one is there, or that one is not.
+    #[inline]
+    pub(crate) fn hides(&self, old: &Text) -> bool
+        ensures { result ≡ true → option_or self.now old.now ≡ self.now }
+    {
+        match &self.form {
+            Form::Missing => old.is_none(),
+            Form::Own(_) | Form::Shared(_) => true,
+        }
+    }
+
     /// It goes last in a print.
     pub(crate) fn push_to(&self, print: &mut Print) -> Result<(), AllocError>
         ensures { OnOk result (print.new ≡ print.old ++ option_print self.now) }
@@ -227,6 +241,17 @@ impl Text {
             Form::Missing => Ok(None),
             Form::Own(block) => Ok(Some(Items::from_slice(alloc, block.as_slice())?)),
             Form::Shared(block) => Ok(Some(Items::from_slice(alloc, block.as_slice())?)),
+        }
+    }
+
+    /// The room that is left behind a comma, the word and the text in braces, if there is a text.
+    pub(crate) fn room_behind(&self, room: usize, word: &[u8]) -> Option<usize>
+        ensures { Leaves result room (length (later_octets word.now self.now)) }
+    {
+        match &self.form {
+            Form::Missing => Some(room),
+            Form::Own(block) => behind_octets(room, word, block.as_slice()),
+            Form::Shared(block) => behind_octets(room, word, block.as_slice()),
         }
     }
 }

@@ -1,10 +1,7 @@
 -- How much room the reply to an action without commands takes in each context.
-use Rattle.std.proofs.Common.{◌≡◌, ℕ, ◌+◌, ◌-◌, ◌<◌, Bool, true, false, not, List, [], ◌∷◌, ◌++◌, length, map, take, get_or, decimal, Option, None, Some, Ok, arith, length-append, append-nil, refl, sym, ap, subst, ◌∙◌}
-use Rattle.std.specs.Prelude.{◌==◌, ◌≢◌, flat_map, if◌then◌else◌, is_some}
-use Rattle.std.proofs.lemmas.Grind.{flat_map-append}
-use Rattle.std.proofs.lemmas.List.{take_more}
+use Rattle.std.proofs.Common.{◌≡◌, ℕ, ◌+◌, ◌-◌, ◌<◌, true, false, List, [], ◌∷◌, ◌++◌, length, map, take, get_or, decimal, Option, None, Some, Ok, arith, length-append, append-nil, refl, sym, ap, subst, ◌∙◌}
+use Rattle.std.specs.Prelude.{◌==◌, ◌≢◌, flat_map, is_some}
 use Rattle.std.proofs.lemmas.List.Concat.{flat_map_single}
-use Rattle.std.proofs.lemmas.List.Folds.{length-flat_map-take}
 use Rattle.gw_base.specs.declared.context_words.Link.{Link}
 use Rattle.gw_base.specs.declared.command_words.CtxRef.TheVariants as ref
 use Rattle.gw_base.specs.declared.ids.CtxNum.{CtxNum}
@@ -13,12 +10,13 @@ use Rattle.gw_length.specs.Rooms.{Leaves}
 use Rattle.gw_length.specs.declared.telling.Telling.{Telling}
 use Rattle.gw_length.specs.declared.telling.Telling.TheVariants as telling
 use Rattle.gw_length.specs.Tellings.{told_behind}
-use Rattle.gw_length.proofs.Tellings.{not_le, length-later}
+pub use Rattle.gw_length.proofs.Counted.{leaves_behind, none_left, one_behind, none_behind}
+use Rattle.gw_length.proofs.Tellings.{not_within}
 use Rattle.gw_msg.specs.declared.message.Action.{Action}
 use Rattle.gw_msg.specs.declared.message.Command.{Command}
 use Rattle.gw_msg.specs.declared.message.ContextItem.{ContextItem}
 use Rattle.gw_refusal.specs.declared.at.At.TheVariants.{Each}
-use Rattle.gw_reply.specs.Lists.{comma, comma_separated, in_braces, later}
+use Rattle.gw_reply.specs.Lists.{comma_separated, in_braces, later}
 use Rattle.gw_reply.specs.declared.context_parts.ContextPart.{ContextPart}
 use Rattle.gw_reply.specs.declared.context_parts.ContextPart.TheVariants as part
 use Rattle.gw_reply.specs.ContextParts.{link_text, context_part_text}
@@ -31,41 +29,10 @@ use Rattle.gw_tx.proofs.TooLong.{length-joined, length-braces}
 
 -- ---- room
 
--- behind so many bytes, and then the others
-pub leaves_behind : (o : Option ℕ) (left room front more all : ℕ) → left + front ≡ room → all ≡ front + more → Leaves o left more → Leaves o room all
-leaves_behind (Some k) left room front more all h is l = omega (arith, h, is, l)
-leaves_behind None left room front more all h is l = omega (arith, h, is, l)
-
--- where none is left, there are more bytes than room
-pub none_left : (o : Option ℕ) (none : Bool) (room count : ℕ) → is_some o ≡ not none → none ≡ true → Leaves o room count → room < count
-none_left (Some left) none room count n e h = let clash : true ≡ false = n ∙ ap (λ (b : Bool). not b) e in absurd cc
-none_left None none room count n e h = h
-
 -- what has no room is too long
 pub none_is_too_long : {T : Type 0} (text : T → List ℕ) (front more : List T) (room : ℕ) (o : Option ℕ) → is_some o ≡ false → Leaves o room (length (later text more)) → told_behind text (telling.Within front room) more ≡ telling.TooLong
 none_is_too_long text front more room (Some left) none h = absurd cc
-none_is_too_long {T} text front more room None none h =
-    let taken : ℕ = length (later text more) in
-    ap (λ (b : Bool). let t : Telling T = if b then telling.Within (front ++ more) (room - taken) else telling.TooLong in t) (not_le taken room h)
-
--- one more of them
-pub one_behind : {X T : Type 0} (text : T → List ℕ) (f : X → List T) (xs : List X) (i : ℕ) (d : X) (left after room : ℕ) → i < length xs → left + length (later text (flat_map f (take i xs))) ≡ room → after + length (later text (f (get_or xs i d))) ≡ left → after + length (later text (flat_map f (take (i + 1) xs))) ≡ room
-one_behind text f xs i d left after room h so_far one =
-    let more = ap (λ l. length (later text (flat_map f l))) (take_more xs i d h) ∙ ap (λ l. length (later text l)) (flat_map-append f (take i xs) (get_or xs i d ∷ [])) ∙ length-later text (flat_map f (take i xs)) (f (get_or xs i d) ++ []) in
-    let last = ap (λ l. length (later text l)) (append-nil (f (get_or xs i d))) in
-    omega (arith, so_far, one, more, last)
-
--- no room for one of them is none for all
-pub none_behind : {X T : Type 0} (text : T → List ℕ) (f : X → List T) (xs : List X) (i : ℕ) (d : X) (left room : ℕ) → i < length xs → left + length (later text (flat_map f (take i xs))) ≡ room → left < length (later text (f (get_or xs i d))) → room < length (later text (flat_map f xs))
-none_behind text f xs i d left room h so_far few =
-    let all = length-flat_map-take (λ x. later text (f x)) xs i d h in
-    let whole = ap (λ l. length l) (both text f xs) in
-    let before = ap (λ l. length l) (both text f (take i xs)) in
-    omega (arith, so_far, few, all, whole, before)
-  where
-    both : {X T : Type 0} (text : T → List ℕ) (f : X → List T) (xs : List X) → later text (flat_map f xs) ≡ flat_map (λ x. later text (f x)) xs
-    both text f [] = refl
-    both text f (x ∷ xs) = flat_map-append (λ t. comma ∷ text t) (f x) (flat_map f xs) ∙ ap (λ l. later text (f x) ++ l) (both text f xs)
+none_is_too_long text front more room None none h = not_within text front more room h
 
 -- ---- parts
 

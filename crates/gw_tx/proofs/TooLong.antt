@@ -6,7 +6,7 @@ use Rattle.gw_base.specs.declared.ids.TxId.{TxId}
 use Rattle.gw_length.specs.declared.telling.Telling.{Telling}
 use Rattle.gw_length.specs.declared.telling.Telling.TheVariants as telling
 use Rattle.gw_length.specs.Tellings.{told_behind}
-use Rattle.gw_length.proofs.Lengths.{first_and_later}
+pub use Rattle.gw_length.proofs.Lengths.{length-joined, length-braces}
 use Rattle.gw_length.proofs.Tellings.{not_le}
 use Rattle.gw_reply.specs.Lists.{comma, comma_separated, in_braces, later}
 use Rattle.gw_reply.specs.declared.context_parts.ContextPart.{ContextPart}
@@ -21,15 +21,6 @@ use Rattle.gw_tx.specs.declared.told.Told.{Told}
 use Rattle.gw_tx.specs.declared.told.Told.TheVariants.{Whole, TooLong}
 use Rattle.gw_tx.specs.Told.{inside, told_of, within}
 use Rattle.gw_tx.specs.Transactions.{action_reply, answered}
-
--- a list has a comma less than its parts
-pub length-joined : {T : Type 0} (text : T → List ℕ) (first : T) (rest : List T) → suc (length (comma_separated (map text (first ∷ rest)))) ≡ length (later text (first ∷ rest))
-length-joined text first rest =
-    let all = ap (λ (t : List ℕ). length t) (first_and_later text first rest) in
-    omega (arith, all, length-append (text first) (later text rest))
-
-pub length-braces : (text : List ℕ) → length (in_braces text) ≡ length text + 2
-length-braces text = omega (arith, length-append text (codes "}"))
 
 -- texts behind others make a list no shorter
 pub behind_others : (xs ys : List (List ℕ)) → length (comma_separated ys) ≤ length (comma_separated (xs ++ ys))

@@ -44,10 +44,10 @@ returns-then-branch-clause-maps c =
     let a = c.args in
     let m : Maps = a.draft.now.maps in
     let takes : EachTakes a.for_members (targets a.at a.command.now m) m = subst (λ (l : List (List ℕ)). EachTakes a.for_members l m) c.requires.named (c.in_ok-change_each.ensures.takes c.if-branch.true) in
-    let whole = all_carried a.draft.now.keys a.rules.now a.at a.command.now a.slot m c.requires.sound c.requires.covered a.for_members c.requires.members m takes in
+    let is : c.change_each.new.draft.maps ≡ members_after a.for_members (targets a.at a.command.now m) m = c.in_ok-change_each.ensures.maps c.if-branch.true ∙ ap (λ (l : List (List ℕ)). members_after a.for_members l m) c.requires.named in
+    let whole = all_carried a.draft.now.keys a.rules.now a.at a.command.now a.slot m c.requires.sound c.requires.covered a.for_members c.requires.members c.change_each.new.draft.maps is takes in
     on_ok c.told_alike.result
-    (c.in_ok-change_each.ensures.maps c.if-branch.true ∙ ap (λ (l : List (List ℕ)). members_after a.for_members l m) c.requires.named
-    ∙ sym (ap (λ (o : Outcome CmdOutcome). o.maps) whole))
+    (is ∙ sym (ap (λ (o : Outcome CmdOutcome). o.maps) whole))
 
 pub returns-then-branch-clause-answer : goal.returns-then-branch-clause-answer
 returns-then-branch-clause-answer c =
@@ -55,7 +55,8 @@ returns-then-branch-clause-answer c =
     let m : Maps = a.draft.now.maps in
     let after : Maps = c.change_each.new.draft.maps in
     let takes : EachTakes a.for_members (targets a.at a.command.now m) m = subst (λ (l : List (List ℕ)). EachTakes a.for_members l m) c.requires.named (c.in_ok-change_each.ensures.takes c.if-branch.true) in
-    let whole = all_carried a.draft.now.keys a.rules.now a.at a.command.now a.slot m c.requires.sound c.requires.covered a.for_members c.requires.members after takes in
+    let is : after ≡ members_after a.for_members (targets a.at a.command.now m) m = c.in_ok-change_each.ensures.maps c.if-branch.true ∙ ap (λ (l : List (List ℕ)). members_after a.for_members l m) c.requires.named in
+    let whole = all_carried a.draft.now.keys a.rules.now a.at a.command.now a.slot m c.requires.sound c.requires.covered a.for_members c.requires.members after is takes in
     IfOk-weaker c.told_alike.result _ _
     (λ _ e. e ∙ ap (λ (l : List (List ℕ)). outcome_behind a.told (outcome_told a.at a.command.now (map (idle_reply a.command.now after) l))) c.requires.named
     ∙ ap (λ (o : Outcome CmdOutcome). outcome_behind a.told o.answer) (sym whole))

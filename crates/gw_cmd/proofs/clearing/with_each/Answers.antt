@@ -17,7 +17,7 @@ use Rattle.gw_cmd.proofs.clearing.with_each.Goals as goal
 pub leave_all-requires-clause-named : goal.leave_all-requires-clause-named
 leave_all-requires-clause-named c =
     let a = c.args in
-    c.deref-2.ensures.value ∙ c.in_ok-named.ensures ∙ targets_are a.draft.now.keys a.at a.number a.slot a.command.now a.draft.now.maps c.requires.sound c.requires.covered c.requires.clearing
+    c.deref-3.ensures.value ∙ c.in_ok-named.ensures ∙ targets_are a.draft.now.keys a.at a.number a.slot a.command.now a.draft.now.maps c.requires.sound c.requires.covered c.requires.clearing
 
 pub leave_all-requires-clause-ctx_key : goal.leave_all-requires-clause-ctx_key
 leave_all-requires-clause-ctx_key c =
@@ -27,7 +27,7 @@ leave_all-requires-clause-ctx_key c =
 pub leave_all-requires-clause-term_keys : goal.leave_all-requires-clause-term_keys
 leave_all-requires-clause-term_keys c = λ t h.
     let a = c.args in
-    let named = c.deref-2.ensures.value ∙ c.in_ok-named.ensures ∙ targets_are a.draft.now.keys a.at a.number a.slot a.command.now a.draft.now.maps c.requires.sound c.requires.covered c.requires.clearing in
+    let named = c.deref-3.ensures.value ∙ c.in_ok-named.ensures ∙ targets_are a.draft.now.keys a.at a.number a.slot a.command.now a.draft.now.maps c.requires.sound c.requires.covered c.requires.clearing in
     held a.draft.now.keys a.at a.number a.slot a.command.now a.draft.now.maps c.requires.sound c.requires.covered c.requires.clearing t (ap (λ (l : List (List ℕ)). is_in t l) (sym named) ∙ h)
 
 pub on_each-requires : goal.on_each-requires
@@ -35,27 +35,26 @@ on_each-requires c =
     let a = c.args in
     let m : Maps = a.draft.now.maps in
     let wild : is_wildcard a.command.now.term ≡ true = wildcard a.draft.now.keys a.at a.number a.slot a.command.now m c.requires.sound c.requires.covered c.requires.clearing in
-    ap (λ (l : List (List ℕ)). is_some_list l) (c.deref-3.ensures.value ∙ c.in_ok-named.ensures)
+    ap (λ (l : List (List ℕ)). is_some_list l) (c.deref-2.ensures.value ∙ c.in_ok-named.ensures)
     ∙ some_matched a.at a.slot a.command.now m wild (sym c.refusal_by_tables.ensures ∙ c.in_default.is)
 
 pub returns-clause-maps : goal.returns-clause-maps
 returns-clause-maps c =
     let a = c.args in
     let m : Maps = a.draft.now.maps in
-    let whole = cleared a.draft.now.keys a.at a.number a.slot a.command.now m c.requires.sound c.requires.covered c.requires.clearing a.rules.now m (sym c.refusal_by_tables.ensures ∙ c.in_default.is) in
-    c.in_ok-leave_all.ensures.maps ∙ ap (λ (l : List (List ℕ)). all_gone a.number l m) (c.deref-2.ensures.value ∙ c.in_ok-named.ensures)
+    let whole = cleared a.draft.now.keys a.at a.number a.slot a.command.now m c.requires.sound c.requires.covered c.requires.clearing a.rules.now (sym c.refusal_by_tables.ensures ∙ c.in_default.is) in
+    c.in_ok-leave_all.ensures.maps ∙ ap (λ (l : List (List ℕ)). all_gone a.number l m) (c.deref-3.ensures.value ∙ c.in_ok-named.ensures)
     ∙ sym (ap (λ (o : Outcome CmdOutcome). o.maps) whole)
 
 pub returns-clause-answer : goal.returns-clause-answer
 returns-clause-answer c =
     let a = c.args in
     let m : Maps = a.draft.now.maps in
-    let after : Maps = c.leave_all.new.self.maps in
-    let f : List ℕ → CommandReply = idle_reply a.command.now after in
+    let f : List ℕ → CommandReply = idle_reply a.command.now m in
     let replies : List CommandReply = map f (targets a.at a.command.now m) in
     let by : Bool → CmdOutcome = λ b. record (outcome_of a.at replies) { replies = if b then reply a.command.now a.command.now.term (first_error replies) ∷ [] else replies } in
-    let whole = cleared a.draft.now.keys a.at a.number a.slot a.command.now m c.requires.sound c.requires.covered c.requires.clearing a.rules.now after (sym c.refusal_by_tables.ensures ∙ c.in_default.is) in
-    c.outcome_of.ensures a.told (map f c.deref-3.result.now) c.in_ok-seen.ensures
-    ∙ ap (λ (l : List (List ℕ)). outcome_behind a.told (outcome_of a.at (map f l))) (c.deref-3.ensures.value ∙ c.in_ok-named.ensures)
+    let whole = cleared a.draft.now.keys a.at a.number a.slot a.command.now m c.requires.sound c.requires.covered c.requires.clearing a.rules.now (sym c.refusal_by_tables.ensures ∙ c.in_default.is) in
+    c.outcome_of.ensures a.told (map f c.deref-2.result.now) c.in_ok-seen.ensures
+    ∙ ap (λ (l : List (List ℕ)). outcome_behind a.told (outcome_of a.at (map f l))) (c.deref-2.ensures.value ∙ c.in_ok-named.ensures)
     ∙ ap (λ (b : Bool). outcome_behind a.told (by b)) (sym c.requires.told)
     ∙ ap (λ (o : Outcome CmdOutcome). outcome_behind a.told o.answer) (sym whole)

@@ -42,7 +42,7 @@ pub returns-clause-maps : goal.returns-clause-maps
 returns-clause-maps c =
     let a = c.args in
     let m : Maps = a.draft.now.maps in
-    let whole = cleared a.draft.now.keys a.at a.number a.slot a.command.now m c.requires.sound c.requires.covered c.requires.clearing a.rules.now m (sym c.refusal_by_tables.ensures ∙ c.in_default.is) in
+    let whole = cleared a.draft.now.keys a.at a.number a.slot a.command.now m c.requires.sound c.requires.covered c.requires.clearing a.rules.now (sym c.refusal_by_tables.ensures ∙ c.in_default.is) in
     on_ok c.outcome_of_all.result
     (c.in_ok-leave_all.ensures.maps ∙ ap (λ (l : List (List ℕ)). all_gone a.number l m) (c.deref-2.ensures.value ∙ c.in_ok-named.ensures)
     ∙ sym (ap (λ (o : Outcome CmdOutcome). o.maps) whole))
@@ -56,14 +56,14 @@ returns-clause-answer c =
     let replies : List CommandReply = map (idle_reply a.command.now m) ts in
     let wild : is_wildcard a.command.now.term ≡ true = wildcard a.draft.now.keys a.at a.number a.slot a.command.now m c.requires.sound c.requires.covered c.requires.clearing in
     let all = c.seen_idle-seen.ensures ∙ seen_idle a.command.now m TooLong TooLong ts (some_matched a.at a.slot a.command.now m wild none) refl in
-    let whole = cleared a.draft.now.keys a.at a.number a.slot a.command.now m c.requires.sound c.requires.covered c.requires.clearing a.rules.now m none in
+    let whole = cleared a.draft.now.keys a.at a.number a.slot a.command.now m c.requires.sound c.requires.covered c.requires.clearing a.rules.now none in
     IfOk-weaker c.outcome_of_all.result _ _ (λ _ e. e ∙ ap (λ (o : Outcome CmdOutcome). outcome_behind a.told o.answer) (sym whole)) (c.outcome_of_all.ensures TooLong replies all)
 
 pub returns-then-not-has_one_reply-clause-maps : goal.returns-then-not-has_one_reply-clause-maps
 returns-then-not-has_one_reply-clause-maps c =
     let a = c.args in
     let m : Maps = a.draft.now.maps in
-    let whole = cleared a.draft.now.keys a.at a.number a.slot a.command.now m c.requires.sound c.requires.covered c.requires.clearing a.rules.now m (sym c.refusal_by_tables.ensures ∙ c.in_default.is) in
+    let whole = cleared a.draft.now.keys a.at a.number a.slot a.command.now m c.requires.sound c.requires.covered c.requires.clearing a.rules.now (sym c.refusal_by_tables.ensures ∙ c.in_default.is) in
     c.in_ok-leave_all.ensures.maps ∙ ap (λ (l : List (List ℕ)). all_gone a.number l m) (c.deref-2.ensures.value ∙ c.in_ok-named.ensures)
     ∙ sym (ap (λ (o : Outcome CmdOutcome). o.maps) whole)
 
@@ -76,7 +76,7 @@ returns-then-not-has_one_reply-clause-answer c =
     let replies : List CommandReply = map (idle_reply a.command.now m) ts in
     let wild : is_wildcard a.command.now.term ≡ true = wildcard a.draft.now.keys a.at a.number a.slot a.command.now m c.requires.sound c.requires.covered c.requires.clearing in
     let all = c.seen_idle-seen.ensures ∙ seen_idle a.command.now m TooLong TooLong ts (some_matched a.at a.slot a.command.now m wild none) refl in
-    let whole = cleared a.draft.now.keys a.at a.number a.slot a.command.now m c.requires.sound c.requires.covered c.requires.clearing a.rules.now m none in
+    let whole = cleared a.draft.now.keys a.at a.number a.slot a.command.now m c.requires.sound c.requires.covered c.requires.clearing a.rules.now none in
     let long : a.told ≡ TooLong = c.requires.kept (sym c.has_one_reply.ensures ∙ c.if-not-has_one_reply.true) in
     c.outcome_of.ensures TooLong replies all ∙ ap (λ (t : Telling CommandReply). outcome_behind t (outcome_told a.at a.command.now replies)) (sym long)
     ∙ ap (λ (o : Outcome CmdOutcome). outcome_behind a.told o.answer) (sym whole)

@@ -6,6 +6,6 @@ returns-then-branch c = record {
   null = refl;
   verb = c.requires.verb;
   wildcard = c.requires.wildcard;
-  nothing = c.in_ok-merges_all.ensures.nothing c.if-branch.true;
+  unfilled = c.in_ok-merges_all.ensures.unfilled c.if-branch.true;
   taken = c.in_ok-merges_all.ensures.taken c.if-branch.true;
 }

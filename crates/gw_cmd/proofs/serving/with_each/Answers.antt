@@ -28,7 +28,7 @@ pub returns-clause-maps : goal.returns-clause-maps
 returns-clause-maps c =
     let a = c.args in
     let m : Maps = a.draft.now.maps in
-    c.in_ok-change.ensures.maps ∙ sym (ap (λ (o : Outcome CmdOutcome). o.maps) (all_carried a.rules.now a.command.now m a.for_all c.requires.for_all a.slot m (sym c.in_default.ensures)))
+    c.in_ok-change.ensures.maps ∙ sym (ap (λ (o : Outcome CmdOutcome). o.maps) (all_carried a.rules.now a.command.now m a.for_all c.requires.for_all a.slot c.change.new.draft.maps c.in_ok-change.ensures.maps (sym c.in_default.ensures)))
 
 pub returns-clause-answer : goal.returns-clause-answer
 returns-clause-answer c =
@@ -37,7 +37,7 @@ returns-clause-answer c =
     let f : List ℕ → CommandReply = idle_reply a.command.now after in
     let replies : List CommandReply = map f (targets Null a.command.now a.draft.now.maps) in
     let by : Bool → CmdOutcome = λ b. record (outcome_of Null replies) { replies = if b then reply a.command.now a.command.now.term (first_error replies) ∷ [] else replies } in
-    let whole = all_carried a.rules.now a.command.now a.draft.now.maps a.for_all c.requires.for_all a.slot after (sym c.in_default.ensures) in
+    let whole = all_carried a.rules.now a.command.now a.draft.now.maps a.for_all c.requires.for_all a.slot after c.in_ok-change.ensures.maps (sym c.in_default.ensures) in
     c.outcome_of.ensures a.told (map f c.deref-2.result.now) c.in_ok-seen.ensures
     ∙ ap (λ (l : List (List ℕ)). outcome_behind a.told (outcome_of Null (map f l))) (c.deref-2.ensures.value ∙ c.in_ok-named.ensures)
     ∙ ap (λ (b : Bool). outcome_behind a.told (by b)) (sym c.requires.told)

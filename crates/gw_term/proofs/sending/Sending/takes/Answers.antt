@@ -17,6 +17,12 @@ returns-then-not-fills_none-clause-takes c = λ h.
 pub returns-then-is_some-clause-takes : goal.returns-then-is_some-clause-takes
 returns-then-is_some-clause-takes c = λ _.
     let a = c.args in
+    let found : is_some c.find.result ≡ true = cc in
+    of_some _ c.find.result found c.find.ensures (λ after made. made_takes a.self.now.rules.now a.self.now.descriptors.now a.termination.now after.now (sym c.fills_none.ensures ∙ c.if-not-fills_none.false) made)
+
+pub returns-then-is_some-2-clause-takes : goal.returns-then-is_some-2-clause-takes
+returns-then-is_some-2-clause-takes c = λ _.
+    let a = c.args in
     let learnt : is_some c.in_ok-learn.field-0 ≡ true = cc in
     of_some _ c.in_ok-learn.field-0 learnt c.in_ok-learn.ensures.after (λ after made. made_takes a.self.now.rules.now a.self.now.descriptors.now a.termination.now after (sym c.fills_none.ensures ∙ c.if-not-fills_none.false) made)
 

@@ -1,0 +1,127 @@
+//! How long the answer of a termination to an Audit is: counted from its record, and not told.
+
+ghost use Rattle.std.specs.Prelude.{◌≤◌, ◌++◌, codes, length, Some};
+ghost use Rattle.std.specs.List.{flat_map};
+ghost use Rattle.gw_length.specs.Rooms.{Leaves};
+ghost use Rattle.gw_reply.specs.Lists.{later};
+ghost use Rattle.gw_reply.specs.Parts.{control_text, later_octets, media_text, part_text, stream_text};
+ghost use Rattle.gw_term.specs.Audit.{stream_told, media_told, tail_told, item_told, word_told};
+ghost use Rattle.gw_term.specs.Places.{at_number, at_kind, rising};
+
+use crate::record::{Stream, Termination};
+use crate::settings::Settings;
+use gw_base::Span;
+use gw_desc::{AuditItem, AuditItems, KeptKind, item_of};
+use gw_length::{Length, behind, behind_control, behind_state, item_length, kind_length};
+
+/// Behind what stands between the braces of a stream.
+fn behind_parts(room: usize, stream: &Stream) -> Option<usize>
+    ensures { Leaves result room (length (control_text stream.now.mode stream.now.properties ++ later_octets (codes "Local") stream.now.local ++ later_octets (codes "Remote") stream.now.remote)) }
+{
+    let left = behind_control(room, stream.mode, stream.properties.as_slice())?;
+    let left = stream.local.room_behind(left, b"Local")?;
+    stream.remote.room_behind(left, b"Remote")
+}
+
+/// Behind a comma and the stream, whose number has one digit.
+fn behind_stream(room: usize, number: u8, stream: &Stream) -> Option<usize>
+    requires first { 1 ≤ number }
+    requires last { number ≤ 4 }
+    ensures { Leaves result room (length (later stream_text (stream_told number (Some stream.now)))) }
+{
+    behind_parts(behind(room, b",Stream=1{}".len())?, stream)
+}
+
+/// Behind a comma and the stream of this number, if it is there.
+fn behind_numbered(room: usize, number: u8, settings: &Settings) -> Option<usize>
+    requires first { 1 ≤ number }
+    requires last { number ≤ 4 }
+    ensures { Leaves result room (length (later stream_text (stream_told number (at_number number settings.now.streams)))) }
+{
+    match settings.stream(number) {
+        Some(stream) => behind_stream(room, number, stream),
+        None => Some(room),
+    }
+}
+
+/// Behind the streams that are there, each with a comma before it.
+fn behind_streams(room: usize, settings: &Settings) -> Option<usize>
+    ensures { Leaves result room (length (later stream_text (rising stream_told settings.now.streams))) }
+{
+    let left = behind_numbered(room, 1, settings)?;
+    let left = behind_numbered(left, 2, settings)?;
+    let left = behind_numbered(left, 3, settings)?;
+    behind_numbered(left, 4, settings)
+}
+
+fn behind_media(room: usize, termination: &Termination) -> Option<usize>
+    ensures { Leaves result room (length (media_text (media_told termination.now))) }
+{
+    let settings = &termination.settings;
+    let left = behind(room, b"Media{}".len())?;
+    let left = behind_state(left, termination.service, settings.properties())?;
+    behind_streams(left, settings)
+}
+
+/// Behind the tail of this kind, or the bare word where there is none.
+fn behind_tail(room: usize, kind: KeptKind, settings: &Settings) -> Option<usize>
+    ensures { Leaves result room (length (part_text (tail_told kind (at_kind kind settings.now.tails)))) }
+{
+    let left = behind(room, kind_length(kind))?;
+    match settings.tail(kind) {
+        Some(tail) => tail.room_behind(left),
+        None => Some(left),
+    }
+}
+
+fn behind_item(room: usize, termination: &Termination, item: AuditItem) -> Option<usize>
+    ensures { Leaves result room (length (part_text (item_told termination.now item))) }
+{
+    match item {
+        AuditItem::Media => behind_media(room, termination),
+        AuditItem::Kept(kind) => behind_tail(room, kind, &termination.settings),
+        AuditItem::Statistics | AuditItem::ObservedEvents | AuditItem::Packages => {
+            behind(room, item_length(item))
+        }
+    }
+}
+
+/// Behind a comma and what the word asks for.
+fn behind_word(room: usize, termination: &Termination, word: &[u8]) -> Option<usize>
+    ensures { Leaves result room (length (later part_text (word_told termination.now word.now))) }
+{
+    match item_of(word) {
+        Some(item) => behind_item(behind(room, 1)?, termination, item),
+        None => Some(room),
+    }
+}
+
+/// Behind what the words ask for, each with a comma before it.
+fn behind_words(room: usize, termination: &Termination, words: &[Span<'_>]) -> Option<usize>
+    ensures { Leaves result room (length (later part_text (flat_map (word_told termination.now) words.now))) }
+{
+    let mut left = room;
+    for word in words {
+        left = behind_word(left, termination, word.as_bytes())?;
+    }
+    Some(left)
+}
+
+impl Termination {
+    ghost use Rattle.std.specs.Prelude.{Ok};
+    ghost use Rattle.gw_reply.specs.Replies.{body_text};
+    ghost use Rattle.gw_term.specs.Audit.{audit_parts};
+
+    /// The room, in bytes, that is left in a reply behind what follows the TerminationID in the answer to an Audit, that of `audit`;
+    /// `None` where there is not so much. The work is linear in the words, and for each word in what was set; it takes no memory.
+    pub fn room_behind_audit(&self, room: usize, words: &AuditItems<'_>) -> Option<usize>
+        ensures { Leaves result room (length (body_text (Ok (audit_parts words.now self.now)))) }
+    {
+        let left = behind_words(room, self, words.as_slice())?;
+        if left == room {
+            return Some(room);
+        }
+        // Two braces more, and a comma less.
+        behind(left, 1)
+    }
+}
