@@ -233,7 +233,7 @@ def records(folder):
         ("a typical transaction, 4 terminations, bursts of 16", typical_work, 15_000),
         ("two Adds with Media and a Local to fill, beyond reading", two_adds(folder), 16_000),
         ("AuditValue=* under - with Media, 200 whose replies are too long, a termination", of_all(folder, 200, MEDIA, AUDIT_ALL), 500),
-        ("the same, 100 whose replies are told, a termination", of_all(folder, 100, MEDIA, AUDIT_ALL), 3_000),
+        ("the same, 100 whose replies are told, a termination", of_all(folder, 100, MEDIA, AUDIT_ALL), 4_000),
         ("ServiceChange of ROOT, a termination", of_all(folder, 200, None, RESTART), 500),
         ("bytes for 65,535 bare terminations", memory(folder, 65_535) - memory(folder, 1), 20_000_000),
     ]
