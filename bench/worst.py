@@ -259,6 +259,10 @@ def wildcards():
     yield wild("4,000 terminations with 32 properties, each with one of its own, one `Modify=*` of 30 others", own_each, inside, 1, 4_000, b"Error=533")
     yield wild("4,000 terminations with 32 properties, each with one of its own, one `Modify=*` of another", own_each, b"C=-{MF=*{M{O{a5=2}}}}", 1, 4_000,
                b"Error=533")
+    for streams, each in ((2, 17), (4, 32)):
+        controls = [b"ST=%d{O{%s}}" % (stream, b",".join(b"a%d=1" % n for n in range(each))) for stream in range(1, streams + 1)]
+        yield wild(f"2,000 terminations, one `Modify=*` of {each} properties in each of {streams} streams", [], listed(b"C=-{MF=*{M{", controls, b"}}}"), 1,
+                   2_000, b"Error=533", 2_000)
     own = each_its_own(b"{M{O{a=%d}}}")
     yield wild("4,000 terminations, each with a property of its own, one `Modify=*` of it", own, b"C=-{MF=*{M{O{a=0}}}}", 1, 4_000, b"Error=533")
     own = each_its_own(b"{M{R{v=%d}}}")

@@ -1,4 +1,4 @@
-//! Names of properties, which are the same in any case (own to this profile, as tokens are by RFC 3525, Annex B.1).
+//! Names of properties, which are the same in any case (own to this profile, as tokens are by RFC 3525, Annex B.2).
 
 ghost use Rattle.std.specs.Prelude.{◌≡◌};
 ghost use Rattle.gw_text.specs.Tokens.{is_same_word};
