@@ -90,7 +90,7 @@ module _ (rules : Rules) (n : CtxNum) (slot : Option ℕ) (c : Command) (m : Map
   not_refused h =
       let form = formed n c (tells.form n) in
       let some : is_some_list (targets (Each n) c m) ≡ true = ap (λ (l : List (List ℕ)). is_some_list l) (targets_are c.term form.0) ∙ h in
-      ap (λ (b : Bool). first_code (code_if UnknownContext b) (first_code (missing (Each n) slot c m c.term) (check_code c.verb c.descriptors))) (not_ended_at (Each n) c m refl form.0 form.1 some)
+      ap (λ (b : Bool). first_code (code_if UnknownContext b) (first_code (missing (Each n) slot c m c.term) (check_code c.verb c.descriptors))) (not_ended_at (Each n) c m form.0 form.1 some)
       ∙ ap (λ (o : Option Code). first_code o (check_code c.verb c.descriptors)) (not_missing c.term form.0 some) ∙ tells.right
 
   told_all : (replies : List CommandReply) → (if c.wild && is_wildcard c.term then reply c c.term (first_error replies) ∷ [] else replies) ≡ replies

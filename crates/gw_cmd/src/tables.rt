@@ -27,13 +27,13 @@ pub(crate) fn has_ended(draft: &Draft<'_>, at: At) -> bool
     }
 }
 
-/// The same, before a command is carried out on its targets, of which the caller says whether there are any: in an action for each context
-/// a member that a wildcard matches shows that the context is there, without a look-up.
+/// The same, before a command is carried out on its targets, of which the caller says whether there are any: a member that a wildcard
+/// matches shows that the context is there, without a look-up.
 fn has_ended_before(draft: &Draft<'_>, at: At, command: &Command<'_>, any: bool) -> bool
     requires { any ≡ is_some_list (targets at command.now draft.now.maps) }
     ensures { result ≡ has_ended at draft.now.maps }
 {
-    if any && at.is_each() && is_wildcard(&command.term) && !is_add(command.verb) {
+    if any && is_wildcard(&command.term) && !is_add(command.verb) {
         return false;
     }
     has_ended(draft, at)

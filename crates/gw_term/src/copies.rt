@@ -8,7 +8,7 @@ use crate::text::Copying;
 use gw_base::{Items, NoMemory};
 use std::alloc::{AllocError, Global};
 
-/// A copy of the properties.
+/// A copy of the properties, with no room for more. Where there are none, it takes no memory.
 #[inline(always)]
 pub(crate) fn copied_properties(
     alloc: Global,
@@ -17,7 +17,10 @@ pub(crate) fn copied_properties(
 ) -> Result<Items<HeldProperty>, AllocError>
     ensures { IfOk result (λ copy. copy ≡ properties.now) }
 {
-    let mut copy = Items::new(alloc);
+    if properties.is_empty() {
+        return Ok(Items::new(alloc));
+    }
+    let mut copy = Items::from(Vec::with_capacity(alloc, properties.len())?);
     for property in properties {
         copy.push(property.copied(alloc, copying)?)?;
     }

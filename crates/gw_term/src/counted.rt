@@ -9,7 +9,7 @@ ghost use Rattle.gw_term.specs.Audit.{stream_told, media_told, tail_told, item_t
 ghost use Rattle.gw_term.specs.Places.{at_number, at_kind, rising};
 
 use crate::record::{Stream, Termination};
-use crate::settings::Settings;
+use crate::settings::{Setting, Settings};
 use gw_base::Span;
 use gw_desc::{AuditItem, AuditItems, KeptKind, item_of};
 use gw_length::{Length, behind, behind_control, behind_state, item_length, kind_length};
@@ -44,10 +44,13 @@ fn behind_numbered(room: usize, number: u8, settings: &Settings) -> Option<usize
     }
 }
 
-/// Behind the streams that are there, each with a comma before it.
+/// Behind the streams that are there, each with a comma before it. Of most terminations nothing but the stream 1 was set.
 fn behind_streams(room: usize, settings: &Settings) -> Option<usize>
     ensures { Leaves result room (length (later stream_text (rising stream_told settings.now.streams))) }
 {
+    if let [Setting::Stream(1, stream)] = settings.list() {
+        return behind_stream(room, 1, stream);
+    }
     let left = behind_numbered(room, 1, settings)?;
     let left = behind_numbered(left, 2, settings)?;
     let left = behind_numbered(left, 3, settings)?;
