@@ -10,8 +10,9 @@ fill, and a Subtract of both.
 `--tables` measures one transaction as the tables grow.
 `--bursts` measures new transactions and repeats in bursts of 64 and of 1,024, with 4,096 kept replies.
 `--samples` measures transactions of every kind of a call (two Adds, a Modify and a Subtract, each with what it is sent with) among 1,000
-terminations and 4,096 kept replies, in bursts of 1, 4, 16 and 256; it fails where one costs more than 17,800 in bursts of 16, more than
-half as much again in bursts of its own, or more than a twentieth more in one of the others than in another.
+terminations and 4,096 kept replies, in bursts of 1, 4, 16 and 256, and with 4 kept replies in bursts of 16; it fails where one costs more
+than 17,800 in bursts of 16, more than half as much again in bursts of its own, or more than a twentieth more in one of the others than in
+another, or with 4,096 kept replies than with 4.
 `--waves` measures bursts of 1,024 transactions that stand in one another's way, or do not, with one worker and with three; it fails
 where the dearest costs more than ten times the mean.
 `--records` measures what carrying out costs where the copy of the tables is left out, and the memory of bare terminations; it
@@ -150,18 +151,23 @@ def calls(count):
 
 
 def samples(folder):
-    conf = config(folder, 1_000, keep=4_096)
     first, more = 4_200, 1_536
     bodies = calls(first + more)
     before = bursts(bodies[:first], 256)
-    base = instructions(conf, before)
+
+    def each(keep, sizes):
+        conf = config(folder, 1_000, keep=keep)
+        base = instructions(conf, before)
+        return {size: (instructions(conf, before + bursts(bodies[first:], size)) - base) / more for size in sizes}
+
     length = sum(len(HEAD) + len(body) for body in bodies[first:]) / more
     print(f"| 1,000 terminations, 4,096 replies kept: bursts of | instructions for one of {length:.0f} bytes |\n|---|---|")
-    work = {size: (instructions(conf, before + bursts(bodies[first:], size)) - base) / more for size in (1, 4, 16, 256)}
+    work, few = each(4_096, (1, 4, 16, 256)), each(4, (16,))[16]
     for size, found in work.items():
         print(f"| {size} | {found:,.0f} |")
+    print(f"| 16, 4 replies kept | {few:,.0f} |")
     alone = work.pop(1)
-    return work[16] > 17_800 or alone > 1.5 * work[16] or max(work.values()) > 1.05 * min(work.values())
+    return work[16] > 17_800 or alone > 1.5 * work[16] or max(work.values()) > 1.05 * min(work.values()) or work[16] > 1.05 * few
 
 
 # Bursts of 1,024 transactions: what each asks, by its number from 0, over contexts of two that were made before.
@@ -198,9 +204,11 @@ def of_all(folder, terms, fill, body):
     return (twice - once) / terms
 
 
-def memory(folder, terms):
-    """The bytes that the process has at most before it is given anything to answer: what it has once it sleeps at its input."""
+def memory(folder, terms, replay=b""):
+    """The bytes that the process has at most until it has answered this, and sleeps at its input."""
     run = subprocess.Popen([PROGRAM, "replay", config(folder, terms, slots=0)], stdin=subprocess.PIPE, stdout=subprocess.DEVNULL)
+    run.stdin.write(replay)
+    run.stdin.flush()
     asleep = 0
     while asleep < 5:
         time.sleep(0.05)
@@ -215,6 +223,15 @@ AUDIT_ALL = b"Transaction=%d{Context=-{AuditValue=*{Audit{Media}}}}"
 RESTART = b'Transaction=%d{Context=-{ServiceChange=ROOT{Services{Method=Restart,Reason="901"}}}}'
 TWO_ADDS = (b"Transaction=%d{Context=${Add=T/1{Media{Stream=1{LocalControl{Mode=SendReceive}}}},"
             b"Add=${Media{Stream=1{LocalControl{Mode=ReceiveOnly},Local{\nv=0\nc=IN IP4 $\nm=audio $ RTP/AVP 0\na=ptime:20\n}}}}}}")
+
+
+MEMBER = (b"Add=T/%d{Media{Stream=1{LocalControl{Mode=SendReceive},Local{\nv=0\nc=IN IP4 10.0.0.1\nm=audio 4000 RTP/AVP 0\n},"
+          b"Remote{\nv=0\nc=IN IP4 192.0.2.7\nm=audio 4000 RTP/AVP 0\n}}}}")
+
+
+def pairs(count):
+    """So many contexts of two members each, with Media, Local and Remote."""
+    return [b"Transaction=%d{Context=${%s}}" % (number, b",".join(MEMBER % term for term in (2 * number - 1, 2 * number))) for number in range(1, count + 1)]
 
 
 def two_adds(folder):
@@ -236,6 +253,8 @@ def records(folder):
         ("the same, 100 whose replies are told, a termination", of_all(folder, 100, MEDIA, AUDIT_ALL), 4_000),
         ("ServiceChange of ROOT, a termination", of_all(folder, 200, None, RESTART), 500),
         ("bytes for 65,535 bare terminations", memory(folder, 65_535) - memory(folder, 1), 20_000_000),
+        ("bytes for these, 8,000 contexts of two with Media, Local and Remote among them",
+         memory(folder, 65_535, bursts(pairs(8_000), 256)) - memory(folder, 1), 45_000_000),
     ]
     print("| What | instructions, or bytes | at most |\n|---|---|---|")
     for name, found, limit in lines:
