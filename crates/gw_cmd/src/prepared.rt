@@ -114,9 +114,9 @@ fn learn_behind(
     Ok(())
 }
 
-/// The descriptors of a Modify, ready to be merged into many, where they surely fill nothing, and they send no more properties than a list
-/// may have. Where there are other commands, what they make of the termination that those before it left is learnt: so are the members of
-/// which nothing else was set.
+/// The descriptors of a Modify, ready to be merged into many, where they surely fill nothing, and they send no more properties for a list
+/// than it may have. Where there are other commands, what they make of the termination that those before it left is learnt: so are the
+/// members of which nothing else was set.
 fn merge_of_many<'a, 'b>(
     alloc: Global,
     rules: &'a Rules,

@@ -12,15 +12,15 @@ use Rattle.gw_term.specs.declared.settings.Setting.{Setting}
 use Rattle.gw_term.specs.declared.settings.Setting.TheVariants as setting
 use Rattle.gw_term.specs.declared.streams.Merging.{Merging}
 use Rattle.gw_term.specs.Aligned.{IsAlignedIn, TakesAt}
-use Rattle.gw_term.specs.Lookups.{controls_sent, states_sent}
+use Rattle.gw_term.specs.Lookups.{states_sent}
 use Rattle.gw_term.specs.Merge.{each, put_part, parts_in, begun, unnamed, is_named_in, merged_properties, merged_stream}
 use Rattle.gw_term.specs.Plain.{fill_none, IsMadeBy, AreMade}
-use Rattle.gw_term.specs.Room.{HasSpaceFor, Takes}
+use Rattle.gw_term.specs.Room.{stream_sent, HasSpaceFor, Takes}
 use Rattle.gw_term.specs.Settings.{Settings, nothing_set, with_setting, with_settings, set_by}
 use Rattle.gw_term.proofs.Aligned.{made_named, parts_taken}
 use Rattle.gw_term.proofs.MadeOnce.{made_anywhere}
 use Rattle.gw_term.proofs.PropertyLists.{P, too_long}
-use Rattle.gw_term.proofs.RoomTaken.{not_too_long, states_at_most, controls_at_most_sent}
+use Rattle.gw_term.proofs.RoomTaken.{not_too_long}
 use Rattle.gw_term.proofs.Taken.{merged_here}
 use Rattle.gw_term.proofs.TooLong.{states_long, stream_by}
 use Rattle.gw_term.specs.Lookups.{IsTooLong}
@@ -40,14 +40,13 @@ module _ (rules : Rules) (slot : Option ℕ) (ds : List Descriptor) (h : fill_no
     pub properties : is_some (merged_properties ds s.properties) ≡ true
     pub streams : AreMade rules slot ds s.streams
 
-  list_fits : (list : List P) → HasSpaceFor ds list → is_some (merged_properties ds list) ≡ true
-  list_fits list has = some_made (merged_properties ds list) (λ none. not_too_long ds (states_sent ds) list has (states_at_most list ds) (states_long IsTooLong too_long ds list none))
+  list_fits : (list : List P) → HasSpaceFor (states_sent ds) list → is_some (merged_properties ds list) ≡ true
+  list_fits list has = some_made (merged_properties ds list) (λ none. not_too_long (states_sent ds) list has (states_long IsTooLong too_long ds list none))
 
-  spacious_fits : (number : ℕ) (s : Stream) → HasSpaceFor ds s.properties → is_some (merged_stream rules slot number ds (Some s)) ≡ true
+  spacious_fits : (number : ℕ) (s : Stream) → HasSpaceFor (stream_sent number ds) s.properties → is_some (merged_stream rules slot number ds (Some s)) ≡ true
   spacious_fits number s has =
       some_made (merged_stream rules slot number ds (Some s))
-      (λ none. not_too_long ds (controls_sent (flat_map (parts_in number) ds)) s.properties has (controls_at_most_sent s.properties number ds)
-      (stream_by IsTooLong too_long rules slot number ds (Some s) (list_any (is_named_in number) ds) refl none))
+      (λ none. not_too_long (stream_sent number ds) s.properties has (stream_by IsTooLong too_long rules slot number ds (Some s) (list_any (is_named_in number) ds) refl none))
 
   aligned_fits : (number : ℕ) (s : Stream) → IsAlignedIn all number s → is_some (merged_stream rules slot number ds (Some s)) ≡ true
   unfolding merged_stream

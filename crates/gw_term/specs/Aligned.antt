@@ -7,10 +7,10 @@ use Rattle.gw_desc.specs.declared.descriptor.Descriptor.{Descriptor}
 use Rattle.gw_term.specs.declared.record.Stream.{Stream}
 use Rattle.gw_term.specs.declared.settings.Setting.{Setting}
 use Rattle.gw_term.specs.declared.settings.Setting.TheVariants as setting
-use Rattle.gw_term.specs.Lookups.{lower_names}
+use Rattle.gw_term.specs.Lookups.{lower_names, states_sent}
 use Rattle.gw_term.specs.Merge.{begun, each, parts_in, put_part}
 use Rattle.gw_term.specs.Places.{at_kind, at_number}
-use Rattle.gw_term.specs.Room.{HasSpaceFor}
+use Rattle.gw_term.specs.Room.{stream_sent, HasSpaceFor}
 use Rattle.gw_term.specs.Settings.{Settings}
 
 -- the stream of this number that the descriptors make where there was none
@@ -42,8 +42,8 @@ pub record IsAlignedIn (all : Settings) (number : ℕ) (s : Stream) : Type 0 whe
 
 -- a setting that surely takes the descriptors, where they make all of this of a record of which nothing was set
 abbrev pub TakesAt : (all : Settings) → List Descriptor → Setting → Type 0
-TakesAt all descriptors (setting.Properties list) = HasSpaceFor descriptors list
-TakesAt all descriptors (setting.Stream number s) = IsAlignedIn all number s ⊎ HasSpaceFor descriptors s.properties
+TakesAt all descriptors (setting.Properties list) = HasSpaceFor (states_sent descriptors) list
+TakesAt all descriptors (setting.Stream number s) = IsAlignedIn all number s ⊎ HasSpaceFor (stream_sent number descriptors) s.properties
 TakesAt all descriptors (setting.Tail kind tail) = Unit {0}
 
 -- ---- where nothing is left of what was set

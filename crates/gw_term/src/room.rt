@@ -3,8 +3,10 @@
 ghost use Rattle.std.specs.Prelude.{◌≡◌, ◌≤◌, ◌+◌, [], true, not, length, All, IfSome};
 ghost use Rattle.std.specs.List.{filter, flat_map, list_any};
 ghost use Rattle.gw_desc.specs.Values.{is_mode, is_service_states};
-ghost use Rattle.gw_term.specs.Lookups.{is_of_name};
-ghost use Rattle.gw_term.specs.Room.{is_new_to, new_to, new_controls, new_in, new_by, IsRoomFor, HasRoom, HasRoomAt, HasSpace, HasSpaceFor, HasSpaceAt};
+ghost use Rattle.gw_term.specs.Lookups.{is_of_name, controls_in, controls_sent, states_sent};
+ghost use Rattle.gw_term.specs.Merge.{most_properties, parts_in_part, states_in_part};
+ghost use Rattle.gw_term.specs.Room.{is_new_to, new_to, stream_sent, IsRoomFor, HasRoom, HasRoomAt, HasSpace, HasSpaceFor, HasSpaceAt};
+ghost use Rattle.gw_term.specs.Settings.{nothing_set};
 
 use crate::held::HeldProperty;
 use crate::properties::{MOST_PROPERTIES, media_parts};
@@ -70,7 +72,7 @@ fn behind_states(
 
 /// The room that is left behind what a part of a stream sends that is new to the list.
 fn behind_part(room: usize, list: &[HeldProperty], part: &StreamPart<'_>) -> Option<usize>
-    ensures { IfSome result (λ left. left + length (new_controls list.now part.now) ≡ room) }
+    ensures { IfSome result (λ left. left + length (new_to list.now (filter (λ p. not (is_mode p.name)) (controls_in part.now))) ≡ room) }
 {
     match part {
         StreamPart::LocalControl(properties) => behind_controls(room, list, properties.as_slice()),
@@ -80,7 +82,7 @@ fn behind_part(room: usize, list: &[HeldProperty], part: &StreamPart<'_>) -> Opt
 
 /// The same of each of these.
 fn behind_parts(room: usize, list: &[HeldProperty], parts: &[StreamPart<'_>]) -> Option<usize>
-    ensures { IfSome result (λ left. left + length (flat_map (new_controls list.now) parts.now) ≡ room) }
+    ensures { IfSome result (λ left. left + length (new_to list.now (controls_sent parts.now)) ≡ room) }
 {
     let mut left = room;
     for part in parts {
@@ -89,55 +91,124 @@ fn behind_parts(room: usize, list: &[HeldProperty], parts: &[StreamPart<'_>]) ->
     Some(left)
 }
 
-/// The room that is left behind what a part of a Media sends that is new to the list, for whichever list it is sent.
-fn behind_media_part(room: usize, list: &[HeldProperty], part: &MediaPart<'_>) -> Option<usize>
-    ensures { IfSome result (λ left. left + length (new_in list.now part.now) ≡ room) }
+/// The room that is left behind what a part of a Media sends for the stream of this number that is new to the list. A part outside a Stream
+/// is one of stream 1.
+fn behind_part_of(
+    room: usize,
+    list: &[HeldProperty],
+    number: u8,
+    part: &MediaPart<'_>,
+) -> Option<usize>
+    ensures { IfSome result (λ left. left + length (new_to list.now (controls_sent (parts_in_part number part.now))) ≡ room) }
 {
     match part {
-        MediaPart::Outside(part) => behind_part(room, list, part),
-        MediaPart::Stream(_, parts) => behind_parts(room, list, parts.as_slice()),
-        MediaPart::TerminationState(properties) => behind_states(room, list, properties.as_slice()),
+        MediaPart::Outside(part) if number == 1 => behind_part(room, list, part),
+        MediaPart::Stream(other, parts) if *other == u16::from(number) => {
+            behind_parts(room, list, parts.as_slice())
+        }
+        _ => Some(room),
     }
 }
 
 /// The same of each of these.
-fn behind_media(room: usize, list: &[HeldProperty], parts: &[MediaPart<'_>]) -> Option<usize>
-    ensures { IfSome result (λ left. left + length (flat_map (new_in list.now) parts.now) ≡ room) }
+fn behind_parts_of(
+    room: usize,
+    list: &[HeldProperty],
+    number: u8,
+    parts: &[MediaPart<'_>],
+) -> Option<usize>
+    ensures { IfSome result (λ left. left + length (new_to list.now (controls_sent (flat_map (parts_in_part number) parts.now))) ≡ room) }
 {
     let mut left = room;
     for part in parts {
-        left = behind_media_part(left, list, part)?;
+        left = behind_part_of(left, list, number, part)?;
     }
     Some(left)
 }
 
-/// The room that is left of so much behind all that the descriptors send that is new to the list. The work is one pass over them, and for
-/// each property that is sent one over the list, or one look where they are kept in the order in which they are sent.
-fn behind_all(room: usize, list: &[HeldProperty], descriptors: &[Descriptor<'_>]) -> Option<usize>
-    ensures { IfSome result (λ left. left + length (flat_map (new_by list.now) descriptors.now) ≡ room) }
+/// The room that is left of so much behind what the descriptors send for the stream of this number that is new to the list. The work is one
+/// pass over them, and for each property that is sent for it one over the list, or one look where they are kept in the order in which they
+/// are sent.
+fn behind_stream(
+    room: usize,
+    list: &[HeldProperty],
+    number: u8,
+    descriptors: &[Descriptor<'_>],
+) -> Option<usize>
+    ensures { IfSome result (λ left. left + length (new_to list.now (stream_sent number descriptors.now)) ≡ room) }
 {
     let mut left = room;
     for descriptor in descriptors {
-        left = behind_media(left, list, media_parts(descriptor))?;
+        left = behind_parts_of(left, list, number, media_parts(descriptor))?;
     }
     Some(left)
 }
 
-/// How many properties a list may have before a merge of these descriptors, so that there is room for all that they send for lists, new
-/// ones or not: [`MOST_PROPERTIES`] where they send none, for Mode and ServiceStates are kept in no list; nothing where they send more than
-/// that. The work is one pass over them.
+/// The room that is left behind what TerminationStates among these send that is new to the list.
+fn behind_states_of(room: usize, list: &[HeldProperty], parts: &[MediaPart<'_>]) -> Option<usize>
+    ensures { IfSome result (λ left. left + length (new_to list.now (filter (λ p. not (is_service_states p.name)) (flat_map states_in_part parts.now))) ≡ room) }
+{
+    let mut left = room;
+    for part in parts {
+        if let MediaPart::TerminationState(properties) = part {
+            left = behind_states(left, list, properties.as_slice())?;
+        }
+    }
+    Some(left)
+}
+
+/// The room that is left of so much behind what the descriptors send for the termination's list that is new to it, for the same work.
+fn behind_all_states(
+    room: usize,
+    list: &[HeldProperty],
+    descriptors: &[Descriptor<'_>],
+) -> Option<usize>
+    ensures { IfSome result (λ left. left + length (new_to list.now (states_sent descriptors.now)) ≡ room) }
+{
+    let mut left = room;
+    for descriptor in descriptors {
+        left = behind_states_of(left, list, media_parts(descriptor))?;
+    }
+    Some(left)
+}
+
+/// How many properties a list may have before a merge of these descriptors, so that there is room for all that they send for one list, new
+/// ones or not, whichever list it is: [`MOST_PROPERTIES`] where they send none, for Mode and ServiceStates are kept in no list; nothing
+/// where they send more than that for one. The work is a pass over them for each list that a record may have.
 pub fn room_for(descriptors: &[Descriptor<'_>]) -> Option<usize>
     ensures { IfSome result (λ most. IsRoomFor descriptors.now most) }
 {
-    behind_all(MOST_PROPERTIES, &[], descriptors)
+    let own = behind_all_states(MOST_PROPERTIES, &[], descriptors)?;
+    let first = behind_stream(MOST_PROPERTIES, &[], 1, descriptors)?;
+    let second = behind_stream(MOST_PROPERTIES, &[], 2, descriptors)?;
+    let third = behind_stream(MOST_PROPERTIES, &[], 3, descriptors)?;
+    let fourth = behind_stream(MOST_PROPERTIES, &[], 4, descriptors)?;
+    Some(own.min(first).min(second).min(third).min(fourth))
 }
 
-/// Whether the list has room for what the descriptors send that is new to it.
-fn has_space_for(descriptors: &[Descriptor<'_>], list: &[HeldProperty]) -> bool
-    ensures { result ≡ true → HasSpaceFor descriptors.now list.now }
+/// The room that the list has.
+fn room_in(list: &[HeldProperty]) -> Option<usize>
+    ensures { IfSome result (λ room. length list.now + room ≡ most_properties) }
 {
-    match MOST_PROPERTIES.checked_sub(list.len()) {
-        Some(room) => behind_all(room, list, descriptors).is_some(),
+    MOST_PROPERTIES.checked_sub(list.len())
+}
+
+/// Whether the termination's list has room for what the descriptors send for it that is new to it.
+fn has_space_for_states(descriptors: &[Descriptor<'_>], list: &[HeldProperty]) -> bool
+    ensures { result ≡ true → HasSpaceFor (states_sent descriptors.now) list.now }
+{
+    match room_in(list) {
+        Some(room) => behind_all_states(room, list, descriptors).is_some(),
+        None => false,
+    }
+}
+
+/// Whether the list of the stream of this number has.
+fn has_space_for_stream(descriptors: &[Descriptor<'_>], number: u8, list: &[HeldProperty]) -> bool
+    ensures { result ≡ true → HasSpaceFor (stream_sent number descriptors.now) list.now }
+{
+    match room_in(list) {
+        Some(room) => behind_stream(room, list, number, descriptors).is_some(),
         None => false,
     }
 }
@@ -147,23 +218,25 @@ pub(crate) fn has_space_at(descriptors: &[Descriptor<'_>], setting: &Setting) ->
     ensures { result ≡ true → HasSpaceAt descriptors.now setting.now }
 {
     match setting {
-        Setting::Properties(list) => has_space_for(descriptors, list.as_slice()),
-        Setting::Stream(_, stream) => has_space_for(descriptors, stream.properties.as_slice()),
+        Setting::Properties(list) => has_space_for_states(descriptors, list.as_slice()),
+        Setting::Stream(number, stream) => {
+            has_space_for_stream(descriptors, *number, stream.properties.as_slice())
+        }
         Setting::Tail(_, _) => true,
     }
 }
 
-/// Whether each list of these has, and one in which nothing is: then a record of which they were set takes the descriptors. The work is
-/// a pass over the descriptors for each list, and a look at the list for each property that they send.
+/// Whether each list of these has, and each of a record of which nothing was set: then a record of which they were set takes the
+/// descriptors. The work is a pass over the descriptors for each list, and a look at the list for each property that they send for it.
 pub(crate) fn have_space(descriptors: &[Descriptor<'_>], settings: &[Setting]) -> bool
-    ensures { result ≡ true → HasSpaceFor descriptors.now [] × All (HasSpaceAt descriptors.now) settings.now }
+    ensures { result ≡ true → HasSpace descriptors.now nothing_set × All (HasSpaceAt descriptors.now) settings.now }
 {
     for setting in settings {
         if !has_space_at(descriptors, setting) {
             return false;
         }
     }
-    has_space_for(descriptors, &[])
+    room_for(descriptors).is_some()
 }
 
 /// Whether no list of a setting has more than so many properties.
@@ -197,8 +270,8 @@ impl Termination {
     {
         have_room(most, self.settings.list())
     }
-    /// Whether each list of the record has room for what the descriptors send that is new to it: then it takes them. The work is that of
-    /// looking at each property that they send, for each list.
+    /// Whether each list of the record has room for what the descriptors send for it that is new to it: then it takes them. The work is that
+    /// of looking at each property that they send, in the list that it is sent for.
     pub(crate) fn has_space(&self, descriptors: &[Descriptor<'_>]) -> bool
         ensures { result ≡ true → HasSpace descriptors.now self.now.settings }
     {

@@ -315,7 +315,7 @@ impl<'a, 'b> Sending<'a, 'b> {
         }
     }
 
-    /// Whether a setting surely takes the descriptors: it is such a stream, or its list has room for what is new to it.
+    /// Whether a setting surely takes the descriptors: it is such a stream, or its list has room for what they send for it that is new to it.
     fn takes_at(&self, setting: &Setting) -> bool
         ensures { result ≡ true → TakesAt self.now.made self.now.descriptors.now setting.now }
     {
@@ -340,8 +340,8 @@ impl<'a, 'b> Sending<'a, 'b> {
     }
 
     /// Whether a termination surely takes the descriptors: what they make of what was set of it was learnt, or is learnt now; or each list
-    /// of it has room for the properties that are new to it, or the names of those that they make where there is none. The work is that of
-    /// looking at what was set of it and of the few that were learnt, or at each property that they send.
+    /// of it has room for the properties sent for it that are new to it, or the names of those that they make where there is none. The work
+    /// is that of looking at what was set of it and of the few that were learnt, or at each property that they send.
     ///
     /// # Errors
     ///
