@@ -1,32 +1,57 @@
 //! Names of properties, which are the same in any case (own to this profile, as tokens are by RFC 3525, Annex B.2).
 
-ghost use Rattle.std.specs.Prelude.{◌≡◌};
+ghost use Rattle.std.specs.Prelude.{◌≡◌, ◌<◌, ◌+◌, ◌*◌, ◌%◌, ◌^◌};
 ghost use Rattle.gw_text.specs.Tokens.{is_same_word};
+ghost use Rattle.gw_term.specs.NameTags.{name_tag};
 
 /// Whether two texts are the same in any case. Most that are of one length are alike in each letter.
-fn is_same_text(text: &[u8], other: &[u8]) -> bool
+pub(crate) fn is_same_text(text: &[u8], other: &[u8]) -> bool
     ensures { result ≡ is_same_word text.now other.now }
 {
     text == other || text.eq_ignore_ascii_case(other)
 }
 
-/// Whether two names are the same in any case. The last bytes are looked at first: names of one package mostly differ there, if not in
-/// their lengths.
+/// Whether two names are the same in any case. They mostly differ in their lengths, or else in their last bytes, if they are of one package:
+/// so these are looked at first.
 #[inline]
 pub(crate) fn is_same_name(name: &[u8], other: &[u8]) -> bool
     ensures { result ≡ is_same_word name.now other.now }
 {
+    if name.len() != other.len() {
+        return false;
+    }
     let (Some((last, front)), Some((other_last, other_front))) = (
         name.split_last(),
         other.split_last(),
     ) else {
-        return name.is_empty() && other.is_empty();
+        return true;
     };
-    if front.len() != other_front.len() {
-        return false;
-    }
     if !last.eq_ignore_ascii_case(other_last) {
         return false;
     }
     is_same_text(front, other_front)
+}
+
+/// The tag with a byte behind it.
+#[inline(always)]
+fn with_byte(tag: u32, byte: u8) -> u32
+    requires { tag < 2 ^ 26 }
+    ensures { result ≡ tag * 32 + byte % 32 }
+{
+    tag * 32 + u32::from(byte % 32)
+}
+
+/// The tag of a name, which is the same in any case.
+#[inline]
+#[tactic(auto, unfolding(crate::specs::NameTags::name_tag))]
+pub(crate) fn name_tag(name: &[u8]) -> u32
+    ensures { result ≡ name_tag name.now }
+{
+    let tag = (name.len() % 65536) as u32;
+    match &name[name.len().saturating_sub(3)..] {
+        [a, b, c] => with_byte(with_byte(with_byte(tag, *a), *b), *c),
+        [a, b] => with_byte(with_byte(tag, *a), *b),
+        [a] => with_byte(tag, *a),
+        _ => tag,
+    }
 }
