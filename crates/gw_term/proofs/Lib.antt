@@ -17,6 +17,7 @@ pub mod MadeThere
 pub mod RoomTaken
 pub mod AlignedTaken
 pub mod SameNames
+pub mod NameTags
 pub mod Remade
 pub mod SamePlaces
 pub mod PrintEnds

@@ -11,6 +11,7 @@ pub mod RecordCodes
 pub mod Laws
 pub mod Limits
 pub mod Lookups
+pub mod NameTags
 pub mod KeptRecords
 pub mod Named
 pub mod Plain

@@ -5,9 +5,10 @@ ghost use Rattle.gw_length.specs.Rooms.{Leaves};
 ghost use Rattle.gw_reply.specs.Parts.{text_if};
 ghost use Rattle.gw_term.specs.HeldTexts.{text_of};
 ghost use Rattle.gw_term.specs.Lookups.{is_of_name};
+ghost use Rattle.gw_term.specs.NameTags.{name_tag};
 ghost use Rattle.gw_term.specs.Prints.{property_print, tail_print};
 
-use crate::names::is_same_name;
+use crate::names::{is_same_name, is_same_text};
 use crate::print::Print;
 use crate::text::{Copying, Text};
 use gw_base::{Items, Span};
@@ -31,21 +32,24 @@ fn joined(alloc: Global, first: &[u8], second: &[u8]) -> Result<Text, AllocError
 #[derive(Drop)]
 pub struct HeldProperty {
     sign: Sign,
+    /// That of the name.
+    tag: u32,
     texts: Text,
     /// How long the name is: where the value begins.
     split: usize,
 }
 
 impl Model for HeldProperty {
-    ghost use Rattle.std.specs.Prelude.{◌≤◌, ℕ, List, length};
+    ghost use Rattle.std.specs.Prelude.{◌≡◌, ◌≤◌, ℕ, List, length, take};
     ghost use Rattle.gw_desc.specs.declared.descriptor.Property.{Property as PropertyOf};
     ghost use Rattle.gw_term.specs.HeldTexts.{split_property, text_of};
+    ghost use Rattle.gw_term.specs.NameTags.{name_tag};
 
     ghost Value = { PropertyOf (List ℕ) };
 
     ghost view = { λ p. split_property p.sign p.split (text_of p.texts) };
 
-    ghost invariant = { λ p. p.split ≤ length (text_of p.texts) };
+    ghost invariant = { λ p. (p.split ≤ length (text_of p.texts)) × (p.tag ≡ name_tag (take p.split (text_of p.texts))) };
 }
 
 fn is_same_sign(a: Sign, b: Sign) -> bool
@@ -61,17 +65,20 @@ fn is_same_sign(a: Sign, b: Sign) -> bool
 }
 
 impl HeldProperty {
-    /// A property with copies of these texts.
+    /// A property with copies of these texts. The caller knows the tag of the name.
     pub(crate) fn of(
         alloc: Global,
         name: &[u8],
+        tag: u32,
         sign: Sign,
         value: &[u8],
     ) -> Result<HeldProperty, AllocError>
+        requires { tag ≡ name_tag name.now }
         ensures { IfOk result (λ held. held ≡ record { name = name.now; sign = sign; value = value.now }) }
     {
         Ok(HeldProperty {
             sign,
+            tag,
             texts: joined(alloc, name, value)?,
             split: name.len(),
         })
@@ -104,12 +111,37 @@ impl HeldProperty {
         &self.texts.as_slice()[..self.split]
     }
 
-    /// Whether it is of this name, in any case.
-    #[inline]
-    pub(crate) fn has_name(&self, name: &[u8]) -> bool
+    /// The tag of its name.
+    #[inline(always)]
+    pub(crate) fn tag(&self) -> u32
+        ensures { result ≡ name_tag self.now.name }
+    {
+        self.tag
+    }
+
+    /// Whether it is of this name, in any case, which has this tag. Another name mostly has another tag.
+    #[inline(always)]
+    #[tactic(auto, using(crate::proofs::NameTags::other_names))]
+    pub(crate) fn is_named(&self, tag: u32, name: &[u8]) -> bool
+        requires { tag ≡ name_tag name.now }
         ensures { result ≡ is_of_name name.now self.now }
     {
+        if self.tag != tag {
+            return false;
+        }
         is_same_name(self.name(), name)
+    }
+
+    /// Whether it is of the name of the other, in any case. They mostly are alike in each letter.
+    #[inline]
+    #[tactic(auto, using(crate::proofs::NameTags::other_names))]
+    pub(crate) fn has_same_name(&self, other: &HeldProperty) -> bool
+        ensures { result ≡ is_of_name other.now.name self.now }
+    {
+        if self.tag != other.tag {
+            return false;
+        }
+        is_same_text(self.name(), other.name())
     }
 
     /// A copy of the property.
@@ -119,6 +151,7 @@ impl HeldProperty {
     {
         Ok(HeldProperty {
             sign: self.sign,
+            tag: self.tag,
             texts: self.texts.copied(alloc, copying)?,
             split: self.split,
         })

@@ -3,12 +3,14 @@
 ghost use Rattle.std.specs.Prelude.{◌≡◌, ◌≤◌, length, IfOk, IfSome};
 ghost use Rattle.std.specs.List.{flat_map, list_any};
 ghost use Rattle.gw_term.specs.Named.{has_states};
+ghost use Rattle.gw_term.specs.NameTags.{name_tag};
 ghost use Rattle.gw_term.specs.Merge.{property_place, put_property, put_state, service_after, last_service, merged_service, merged_properties, states_in, states_in_part, media_parts, each};
 ghost use Rattle.gw_term.specs.Applies.{Becomes, Yields};
 
 use crate::copies::copied_properties;
 use crate::fault::ApplyFault;
 use crate::held::HeldProperty;
+use crate::names::name_tag;
 use crate::text::Copying;
 use gw_base::{Code, Items, Service, Span};
 use gw_desc::{Descriptor, MediaPart, Property, is_service_states, service_set_by};
@@ -17,13 +19,14 @@ use std::alloc::{AllocError, Global};
 /// How many properties a list may hold (own to this profile).
 pub const MOST_PROPERTIES: usize = 32;
 
-/// The place of the property of this name, in any case, or the length of the list.
-fn property_place(name: &[u8], list: &[HeldProperty]) -> usize
+/// The place of the property of this name, which has this tag, in any case, or the length of the list.
+fn property_place(tag: u32, name: &[u8], list: &[HeldProperty]) -> usize
+    requires { tag ≡ name_tag name.now }
     ensures value { result ≡ property_place name.now list.now }
     ensures within { result ≤ length list.now }
 {
     for (i, property) in list.iter().enumerate() {
-        if property.has_name(name) {
+        if property.is_named(tag, name) {
             return i;
         }
     }
@@ -54,6 +57,9 @@ fn made_already<'a>(
 ) -> Option<&'a HeldProperty>
     ensures { IfSome result (λ own. own.now ≡ property.now) }
 {
+    if made.is_empty() {
+        return None;
+    }
     if let Some(own) = made_at(property, made, sent) {
         return Some(own);
     }
@@ -63,22 +69,36 @@ fn made_already<'a>(
     made.iter().find(|own| own.is(property))
 }
 
-/// The property, which stands in this place of those that were sent, as it is kept: a copy of that one of these which it is, and shares its
-/// texts if they may be shared; or else with copies of its texts.
+/// The tag of the property's name: that of the property as it was made already, if it was.
+fn tag_for(property: &Property<Span<'_>>, own: Option<&HeldProperty>) -> u32
+    requires { IfSome own (λ own. own.now ≡ property.now) }
+    ensures { result ≡ name_tag property.now.name }
+{
+    match own {
+        Some(own) => own.tag(),
+        None => name_tag(property.name.as_bytes()),
+    }
+}
+
+/// The property, whose name has this tag, as it is kept: a copy of what was made of it already, if it was, which shares its texts if they
+/// may be shared; or else with copies of its texts.
 fn held(
     alloc: Global,
     property: &Property<Span<'_>>,
-    made: &[HeldProperty],
-    sent: usize,
+    tag: u32,
+    own: Option<&HeldProperty>,
 ) -> Result<HeldProperty, AllocError>
+    requires tagged { tag ≡ name_tag property.now.name }
+    requires made { IfSome own (λ own. own.now ≡ property.now) }
     ensures { IfOk result (λ held. held ≡ property.now) }
 {
-    if let Some(own) = made_already(property, made, sent) {
+    if let Some(own) = own {
         return own.copied(alloc, Copying::Once);
     }
     HeldProperty::of(
         alloc,
         property.name.as_bytes(),
+        tag,
         property.sign,
         property.value.as_bytes(),
     )
@@ -95,12 +115,14 @@ pub(crate) fn put_property(
 ) -> Result<(), ApplyFault>
     ensures { Becomes result list.new (put_property property.now list.old) }
 {
-    let place = property_place(property.name.as_bytes(), list.as_slice());
+    let own = made_already(property, made, sent);
+    let tag = tag_for(property, own);
+    let place = property_place(tag, property.name.as_bytes(), list.as_slice());
     let is_there = place < list.len();
     if !is_there && list.len() >= MOST_PROPERTIES {
         return Err(ApplyFault::Code(Code::InsufficientResources));
     }
-    let kept = held(alloc, property, made, sent)?;
+    let kept = held(alloc, property, tag, own)?;
     if is_there {
         list.set(place, kept);
     } else {

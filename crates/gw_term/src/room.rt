@@ -5,21 +5,29 @@ ghost use Rattle.std.specs.List.{filter, flat_map, list_any};
 ghost use Rattle.gw_desc.specs.Values.{is_mode, is_service_states};
 ghost use Rattle.gw_term.specs.Lookups.{is_of_name, controls_in, controls_sent, states_sent};
 ghost use Rattle.gw_term.specs.Merge.{most_properties, parts_in_part, states_in_part};
+ghost use Rattle.gw_term.specs.NameTags.{name_tag};
 ghost use Rattle.gw_term.specs.Room.{is_new_to, new_to, stream_sent, IsRoomFor, HasRoom, HasRoomAt, HasSpace, HasSpaceFor, HasSpaceAt};
 ghost use Rattle.gw_term.specs.Settings.{nothing_set};
 
 use crate::held::HeldProperty;
+use crate::names::name_tag;
 use crate::properties::{MOST_PROPERTIES, media_parts};
 use crate::record::Termination;
 use crate::settings::Setting;
 use gw_base::Span;
 use gw_desc::{Descriptor, MediaPart, Property, StreamPart, is_mode, is_service_states};
 
-/// Whether a property of the list has this name, in any case.
-fn has_name(list: &[HeldProperty], name: &[u8]) -> bool
+/// Whether a property of the list has this name, which has this tag, in any case.
+fn has_name(list: &[HeldProperty], tag: u32, name: &[u8]) -> bool
+    requires { tag ≡ name_tag name.now }
     ensures { result ≡ list_any (is_of_name name.now) list.now }
 {
-    list.iter().any(|own| own.has_name(name))
+    for own in list {
+        if own.is_named(tag, name) {
+            return true;
+        }
+    }
+    false
 }
 
 /// Whether no property of the list has the name of this one, in any case. That at this place is looked at first, since properties are
@@ -27,13 +35,17 @@ fn has_name(list: &[HeldProperty], name: &[u8]) -> bool
 fn is_new(property: &Property<Span<'_>>, place: usize, list: &[HeldProperty]) -> bool
     ensures { result ≡ is_new_to list.now property.now }
 {
+    if list.is_empty() {
+        return true;
+    }
     let name = property.name.as_bytes();
+    let tag = name_tag(name);
     if let Some(own) = list.get(place) {
-        if own.has_name(name) {
+        if own.is_named(tag, name) {
             return false;
         }
     }
-    !has_name(list, name)
+    !has_name(list, tag, name)
 }
 
 /// The room that is left behind those of a LocalControl that are new to the list: all but Mode, which no list holds.

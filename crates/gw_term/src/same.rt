@@ -55,7 +55,7 @@ pub(crate) fn are_same_names(properties: &[HeldProperty], others: &[HeldProperty
         let Some((other, rest)) = left.split_first() else {
             return false;
         };
-        if !property.has_name(other.name()) {
+        if !property.has_same_name(other) {
             return false;
         }
         left = rest;
