@@ -17,4 +17,5 @@ pub mod Named
 pub mod Plain
 pub mod Room
 pub mod Aligned
+pub mod ServicesAfter
 pub mod Sending

@@ -119,6 +119,14 @@ impl HeldProperty {
         self.tag
     }
 
+    /// Whether it is of this name, in any case. Not inlined, since it is asked where the tags are the same.
+    #[inline(never)]
+    fn has_name(&self, name: &[u8]) -> bool
+        ensures { result ≡ is_of_name name.now self.now }
+    {
+        is_same_name(self.name(), name)
+    }
+
     /// Whether it is of this name, in any case, which has this tag. Another name mostly has another tag.
     #[inline(always)]
     #[tactic(auto, using(crate::proofs::NameTags::other_names))]
@@ -129,7 +137,7 @@ impl HeldProperty {
         if self.tag != tag {
             return false;
         }
-        is_same_name(self.name(), name)
+        self.has_name(name)
     }
 
     /// Whether it is of the name of the other, in any case. They mostly are alike in each letter.

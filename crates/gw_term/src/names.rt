@@ -34,6 +34,7 @@ pub(crate) fn is_same_name(name: &[u8], other: &[u8]) -> bool
 
 /// The prime of FNV-1a for 32 bits, and how many tags there are.
 const PRIME: u64 = 16_777_619;
+
 const TAGS: u64 = 4_294_967_296;
 
 /// The tag with a byte behind it.

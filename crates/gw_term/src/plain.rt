@@ -13,7 +13,7 @@ ghost use Rattle.gw_term.specs.Plain.{has_choice, is_plain_stream, is_plain_part
 use crate::copies::{copied_stream, put};
 use crate::fault::ApplyFault;
 use crate::held::{HeldProperty, HeldTail};
-use crate::properties::{merged_properties, merged_service};
+use crate::properties::merged_properties;
 use crate::record::{Stream, Termination};
 use crate::same::is_aligned;
 use crate::sending::Sending;
@@ -581,8 +581,7 @@ impl Termination {
     {
         let slot = self.slot;
         self.settings.merge_all(alloc, sending, slot, known)?;
-        let descriptors = sending.descriptors;
-        self.service = merged_service(sending.named.states, descriptors, self.service);
+        self.service = sending.service_after(self.service);
         Ok(())
     }
 

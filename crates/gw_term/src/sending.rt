@@ -1,20 +1,23 @@
 //! Descriptors that are merged into many records, with what is found and made once for all of them.
 
 ghost use Rattle.std.specs.Prelude.{◌≡◌, true, IfOk, IfSome};
-ghost use Rattle.std.specs.List.{All};
+ghost use Rattle.std.specs.List.{All, list_any};
 ghost use Rattle.gw_term.specs.Aligned.{IsAlignedIn, IsRemadeAt, IsRemadeIn, IsStreamIn, TakesAt};
-ghost use Rattle.gw_term.specs.Named.{named_by};
+ghost use Rattle.gw_term.specs.Merge.{merged_service};
+ghost use Rattle.gw_term.specs.Named.{has_states, named_by};
 ghost use Rattle.gw_term.specs.Plain.{are_plain, fill_none, AreKnown, IsMadeBy, IsMadeOf};
 ghost use Rattle.gw_term.specs.Room.{Takes};
+ghost use Rattle.gw_term.specs.ServicesAfter.{AreServicesAfter};
 
 use crate::named::Named;
 use crate::plain::are_plain;
+use crate::properties::merged_service;
 use crate::record::{Stream, Termination};
 use crate::room::has_space_at;
 use crate::same::{are_same_names, is_aligned, is_remade};
 use crate::settings::{Setting, Settings};
 use crate::text::Copying;
-use gw_base::{NoMemory, Rules};
+use gw_base::{NoMemory, Rules, Service};
 use gw_desc::Descriptor;
 use std::alloc::{AllocError, Global};
 
@@ -45,6 +48,26 @@ fn made_of(
     }
 }
 
+/// The service state after descriptors, by that before them.
+#[derive(Clone, Copy)]
+pub struct ServicesAfter {
+    pub test: Service,
+    pub out_of_service: Service,
+    pub in_service: Service,
+}
+
+/// The service state after the descriptors, by that before them; whether a TerminationState is among these is known.
+fn services_after(is_named: bool, descriptors: &[Descriptor<'_>]) -> ServicesAfter
+    requires { is_named ≡ list_any has_states descriptors.now }
+    ensures { AreServicesAfter descriptors.now result }
+{
+    ServicesAfter {
+        test: merged_service(is_named, descriptors, Service::Test),
+        out_of_service: merged_service(is_named, descriptors, Service::OutOfService),
+        in_service: merged_service(is_named, descriptors, Service::InService),
+    }
+}
+
 /// What was set of some record, and what the descriptors make of that.
 #[derive(Drop)]
 pub(crate) struct Learnt {
@@ -63,6 +86,8 @@ pub struct Sending<'a, 'b> {
     pub descriptors: &'a [Descriptor<'b>],
     /// What they name.
     pub named: Named,
+    services: ServicesAfter,
+    ghost serviced_once: { AreServicesAfter descriptors.now services },
     is_plain: bool,
     ghost plain_once: { is_plain ≡ are_plain descriptors.now },
     pub(crate) made: Settings,
@@ -91,10 +116,13 @@ impl<'a, 'b> Sending<'a, 'b> {
         ensures named { IfOk result (λ sending. sending.named ≡ named_by descriptors.now) }
     {
         let made = made_of(alloc, rules, descriptors, Settings::new(alloc))?;
+        let named = Named::by(descriptors);
+        let services = services_after(named.states, descriptors);
         Ok(Sending {
             rules,
             descriptors,
-            named: Named::by(descriptors),
+            named,
+            services,
             is_plain: are_plain(descriptors),
             made,
             learnt: Vec::new(alloc),
@@ -108,6 +136,18 @@ impl<'a, 'b> Sending<'a, 'b> {
         ensures { result ≡ fill_none self.now.descriptors.now slot }
     {
         self.is_plain || slot.is_none()
+    }
+
+    /// The service state after the descriptors.
+    #[inline]
+    pub(crate) fn service_after(&self, old: Service) -> Service
+        ensures { result ≡ merged_service self.now.descriptors.now old }
+    {
+        match old {
+            Service::Test => self.services.test,
+            Service::OutOfService => self.services.out_of_service,
+            Service::InService => self.services.in_service,
+        }
     }
 
     /// What the descriptors make of these settings, if that was learnt. The work is a comparison with each of the few that were.
