@@ -225,6 +225,12 @@ def each_its_own(descriptors):
     return made([b"C=-{MF=T/%d%s}" % (number, descriptors % number) for number in range(1, 4_001)])
 
 
+def five_lists(properties, name=b"*"):
+    """A Modify of these properties in each list that a termination may have."""
+    sent = b",".join(properties)
+    return b"C=-{MF=%s{M{TS{%s},%s}}}" % (name, sent, b",".join(b"ST=%d{O{%s}}" % (stream, sent) for stream in range(1, 5)))
+
+
 def wildcards():
     full, two = made([context(1, 64)]), contexts(2_000)
     yield wild("4,000 terminations, `Modify=*` with a LocalControl", [], b"C=-{MF=*%s}" % MODE, 8, 4_000, b"Error=533")
@@ -263,6 +269,15 @@ def wildcards():
         controls = [b"ST=%d{O{%s}}" % (stream, b",".join(b"a%d=1" % n for n in range(each))) for stream in range(1, streams + 1)]
         yield wild(f"2,000 terminations, one `Modify=*` of {each} properties in each of {streams} streams", [], listed(b"C=-{MF=*{M{", controls, b"}}}"), 1,
                    2_000, b"Error=533", 2_000)
+    everywhere = five_lists([b"a%d=1" % n for n in range(32)])
+    yield wild("2,000 terminations, one `Modify=*` of 32 properties in each of five lists", [], everywhere, 1, 2_000, b"Error=533", 2_000)
+    mixed = made([five_lists([b"a%d=1" % n for n in reversed(range(32))])] + [five_lists([b"a0=%d" % (n + 1)], b"T/%d" % n) for n in range(1, 2_001)])
+    yield wild("2,000 terminations with 32 properties in each of five lists, each with one of its own in each, one `Modify=*` of these in another order", mixed,
+               everywhere, 1, 2_000, b"Error=533", 2_000)
+    ends = [b"a%02d%s=1" % (n, b"z" * 40) for n in range(32)]
+    alike = made([b"C=-{MF=*%s}" % listed(b"{M{O{", ends[::-1], b"}}}")] + [b"C=-{MF=T/%d{M{O{%s=%d}}}}" % (n, ends[0][:-2], n + 1) for n in range(1, 2_001)])
+    yield wild("2,000 terminations with 32 properties whose names have the same 40 last letters, each with one of its own, one `Modify=*` of 32 in another order",
+               alike, b"C=-{MF=*%s}" % listed(b"{M{O{", ends, b"}}}"), 1, 2_000, b"Error=533", 2_000)
     own = each_its_own(b"{M{O{a=%d}}}")
     yield wild("4,000 terminations, each with a property of its own, one `Modify=*` of it", own, b"C=-{MF=*{M{O{a=0}}}}", 1, 4_000, b"Error=533")
     own = each_its_own(b"{M{R{v=%d}}}")
