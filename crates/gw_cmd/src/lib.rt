@@ -24,6 +24,7 @@ mod serving;
 mod serving_members;
 mod sorted;
 mod tables;
+mod wildcards;
 
 pub use carry::{command, command_told};
 pub use gw_refusal::At;
