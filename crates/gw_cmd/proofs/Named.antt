@@ -1,4 +1,4 @@
--- The replies to a command that tells of each member have at least their names.
+-- The replies to a command that tells of each member have at least their names, and what answers its Audit.
 use Rattle.std.proofs.Common.{◌≡◌, ℕ, ◌≤◌, Bool, true, false, List, [], ◌∷◌, ◌++◌, length, map, codes, Option, None, Some, Result, refl, ap, ◌∙◌, arith, length-append}
 use Rattle.std.specs.Prelude.{◌&&◌, not, if◌then◌else◌}
 use Rattle.std.specs.List.{filter, flat_map}
@@ -18,47 +18,47 @@ use Rattle.gw_reply.specs.declared.parts.ReplyPart.{ReplyPart}
 use Rattle.gw_reply.specs.declared.reply.CommandReply.{CommandReply}
 use Rattle.gw_table.specs.Folds.{in_order}
 use Rattle.gw_table.specs.Maps.{Maps, ctx, members_of}
-use Rattle.gw_refusal.specs.declared.at.At.{At}
 use Rattle.gw_refusal.specs.declared.at.At.TheVariants.{Each}
 use Rattle.gw_refusal.specs.Asked.{is_some_list, is_wildcard, matches}
 use Rattle.gw_refusal.specs.Forms.{refusal_by_form}
-use Rattle.gw_refusal.specs.Places.{place_at}
 use Rattle.gw_refusal.specs.Targets.{those_in, matched, targets_of, targets}
 use Rattle.gw_cmd.specs.Commands.{reply, first_error, on_targets, carried, unless_refused, command}
 use Rattle.gw_cmd.specs.Effects.{on_name}
-use Rattle.gw_cmd.specs.Least.{bare_reply, bare_replies, TellsEach}
+use Rattle.gw_cmd.specs.Least.{shortest_result, least_reply, least_replies, TellsEach}
 use Rattle.gw_cmd.specs.Refusals.{code_if, missing, first_code, refusal_by_tables}
+use Rattle.gw_cmd.proofs.Shortest.{result_least}
 use Rattle.gw_cmd.proofs.NoEffect.{formed, not_ended_at}
 
 -- ---- texts
 
--- what follows a name makes a text no shorter
-no_shorter : (word t body : List ℕ) → length (word ++ codes "=" ++ t ++ []) ≤ length (word ++ codes "=" ++ t ++ body)
-no_shorter word t body = omega (arith, length-append (word ++ codes "=" ++ t) [], length-append (word ++ codes "=" ++ t) body)
+-- what follows a name makes a text no shorter than another that fewer bytes follow
+no_shorter : (word t few many : List ℕ) → length few ≤ length many → length (word ++ codes "=" ++ t ++ few) ≤ length (word ++ codes "=" ++ t ++ many)
+no_shorter word t few many h = omega (arith, h, length-append (word ++ codes "=" ++ t) few, length-append (word ++ codes "=" ++ t) many)
 
--- a reply is no shorter than one that tells no more than the name
-bare_least : (c : Command) (t : List ℕ) (result : Result (List ReplyPart) Code) → length (later command_reply_text (bare_reply c t ∷ [])) ≤ length (later command_reply_text (reply c (Name t) result ∷ []))
-bare_least c t result =
-    let less : length (command_reply_text (bare_reply c t)) ≤ length (command_reply_text (reply c (Name t) result)) = no_shorter (command_word c.verb) t (body_text result) in
-    omega (arith, less, length-append (command_reply_text (bare_reply c t)) [], length-append (command_reply_text (reply c (Name t) result)) [])
+-- no reply is shorter than the least one
+one_least : (rules : Rules) (n : CtxNum) (c : Command) (t : List ℕ) (m : Maps) → length (later command_reply_text (least_reply c t ∷ [])) ≤ length (later command_reply_text (reply c (Name t) (on_name rules (Some n) c t m).answer ∷ []))
+one_least rules n c t m =
+    let result : Result (List ReplyPart) Code = (on_name rules (Some n) c t m).answer in
+    let less : length (command_reply_text (least_reply c t)) ≤ length (command_reply_text (reply c (Name t) result)) = no_shorter (command_word c.verb) t (body_text (shortest_result c)) (body_text result) (result_least rules n c t m) in
+    omega (arith, less, length-append (command_reply_text (least_reply c t)) [], length-append (command_reply_text (reply c (Name t) result)) [])
 
-all_least : (rules : Rules) (at : At) (c : Command) (ts : List (List ℕ)) (m : Maps) → length (later command_reply_text (map (bare_reply c) ts)) ≤ length (later command_reply_text (on_targets rules at c ts m).answer.answers)
+all_least : (rules : Rules) (n : CtxNum) (c : Command) (ts : List (List ℕ)) (m : Maps) → length (later command_reply_text (map (least_reply c) ts)) ≤ length (later command_reply_text (on_targets rules (Each n) c ts m).answer.answers)
 unfolding in_order
-all_least rules at c [] m = omega arith
-all_least rules at c (t ∷ ts) m =
-    let one : CommandReply = reply c (Name t) (on_name rules (place_at at) c t m).answer in
-    let next : Maps = (on_name rules (place_at at) c t m).maps in
-    let rest : List CommandReply = (on_targets rules at c ts next).answer.answers in
-    omega (arith, length-later command_reply_text (bare_reply c t ∷ []) (map (bare_reply c) ts), length-later command_reply_text (one ∷ []) rest, bare_least c t (on_name rules (place_at at) c t m).answer, all_least rules at c ts next)
+all_least rules n c [] m = omega arith
+all_least rules n c (t ∷ ts) m =
+    let one : CommandReply = reply c (Name t) (on_name rules (Some n) c t m).answer in
+    let next : Maps = (on_name rules (Some n) c t m).maps in
+    let rest : List CommandReply = (on_targets rules (Each n) c ts next).answer.answers in
+    omega (arith, length-later command_reply_text (least_reply c t ∷ []) (map (least_reply c) ts), length-later command_reply_text (one ∷ []) rest, one_least rules n c t m, all_least rules n c ts next)
 
 -- member by member, or those that match
-by_member : (c : Command) (ts : List (List ℕ)) → flat_map (bare_replies c) ts ≡ map (bare_reply c) (filter (matches c.term) ts)
+by_member : (c : Command) (ts : List (List ℕ)) → flat_map (least_replies c) ts ≡ map (least_reply c) (filter (matches c.term) ts)
 by_member c [] = refl
 by_member c (t ∷ ts) = by (matches c.term t) (by_member c ts)
   where
-    by : (b : Bool) → flat_map (bare_replies c) ts ≡ map (bare_reply c) (filter (matches c.term) ts)
-        → (if b then bare_reply c t ∷ [] else []) ++ flat_map (bare_replies c) ts ≡ map (bare_reply c) (if b then t ∷ filter (matches c.term) ts else filter (matches c.term) ts)
-    by true h = ap (λ (l : List CommandReply). bare_reply c t ∷ l) h
+    by : (b : Bool) → flat_map (least_replies c) ts ≡ map (least_reply c) (filter (matches c.term) ts)
+        → (if b then least_reply c t ∷ [] else []) ++ flat_map (least_replies c) ts ≡ map (least_reply c) (if b then t ∷ filter (matches c.term) ts else filter (matches c.term) ts)
+    by true h = ap (λ (l : List CommandReply). least_reply c t ∷ l) h
     by false h = h
 
 -- ---- a command in one of the contexts
@@ -96,28 +96,28 @@ module _ (rules : Rules) (n : CtxNum) (slot : Option ℕ) (c : Command) (m : Map
   told_all : (replies : List CommandReply) → (if c.wild && is_wildcard c.term then reply c c.term (first_error replies) ∷ [] else replies) ≡ replies
   told_all replies = ap (λ (b : Bool). if b && is_wildcard c.term then reply c c.term (first_error replies) ∷ [] else replies) tells.alone
 
-  carried_least : (r : TermRef) → is_wildcard r ≡ true → c.term ≡ r → length (later command_reply_text (map (bare_reply c) named)) ≤ length (later command_reply_text (carried rules (Each n) slot c m r).answer.replies)
+  carried_least : (r : TermRef) → is_wildcard r ≡ true → c.term ≡ r → length (later command_reply_text (map (least_reply c) named)) ≤ length (later command_reply_text (carried rules (Each n) slot c m r).answer.replies)
   carried_least All w e =
       let ts : List (List ℕ) = targets (Each n) c m in
-      omega (arith, all_least rules (Each n) c ts m, ap (λ (l : List (List ℕ)). length (later command_reply_text (map (bare_reply c) l))) (targets_are c.term (formed n c (tells.form n)).0), ap (λ (l : List CommandReply). length (later command_reply_text l)) (told_all (on_targets rules (Each n) c ts m).answer.answers))
+      omega (arith, all_least rules n c ts m, ap (λ (l : List (List ℕ)). length (later command_reply_text (map (least_reply c) l))) (targets_are c.term (formed n c (tells.form n)).0), ap (λ (l : List CommandReply). length (later command_reply_text l)) (told_all (on_targets rules (Each n) c ts m).answer.answers))
   carried_least (Under prefix) w e =
       let ts : List (List ℕ) = targets (Each n) c m in
-      omega (arith, all_least rules (Each n) c ts m, ap (λ (l : List (List ℕ)). length (later command_reply_text (map (bare_reply c) l))) (targets_are c.term (formed n c (tells.form n)).0), ap (λ (l : List CommandReply). length (later command_reply_text l)) (told_all (on_targets rules (Each n) c ts m).answer.answers))
+      omega (arith, all_least rules n c ts m, ap (λ (l : List (List ℕ)). length (later command_reply_text (map (least_reply c) l))) (targets_are c.term (formed n c (tells.form n)).0), ap (λ (l : List CommandReply). length (later command_reply_text l)) (told_all (on_targets rules (Each n) c ts m).answer.answers))
   carried_least Root w e = absurd cc
   carried_least Choose w e = absurd cc
   carried_least (Name t) w e = absurd cc
   carried_least (Other text) w e = absurd cc
 
-  no_names : (l : List (List ℕ)) → is_some_list l ≡ false → (replies : List CommandReply) → length (later command_reply_text (map (bare_reply c) l)) ≤ length (later command_reply_text replies)
+  no_names : (l : List (List ℕ)) → is_some_list l ≡ false → (replies : List CommandReply) → length (later command_reply_text (map (least_reply c) l)) ≤ length (later command_reply_text replies)
   no_names [] h replies = omega arith
   no_names (t ∷ ts) h replies = absurd cc
 
-  by_names : length (later command_reply_text (map (bare_reply c) named)) ≤ length (later command_reply_text (command rules (Each n) slot c m).answer.replies)
+  by_names : length (later command_reply_text (map (least_reply c) named)) ≤ length (later command_reply_text (command rules (Each n) slot c m).answer.replies)
   unfolding command
   by_names = by (is_some_list named) refl
     where
       by : (b : Bool) → is_some_list named ≡ b
-          → length (later command_reply_text (map (bare_reply c) named)) ≤ length (later command_reply_text (unless_refused (first_code (refusal_by_form (Each n) c) (refusal_by_tables (Each n) slot c m)) (Each n) c m (carried rules (Each n) slot c m c.term)).answer.replies)
+          → length (later command_reply_text (map (least_reply c) named)) ≤ length (later command_reply_text (unless_refused (first_code (refusal_by_form (Each n) c) (refusal_by_tables (Each n) slot c m)) (Each n) c m (carried rules (Each n) slot c m c.term)).answer.replies)
       by true e =
           let form = formed n c (tells.form n) in
           let none : first_code (refusal_by_form (Each n) c) (refusal_by_tables (Each n) slot c m) ≡ None = ap (λ (o : Option Code). first_code o (refusal_by_tables (Each n) slot c m)) (tells.form n) ∙ not_refused e in
@@ -125,6 +125,6 @@ module _ (rules : Rules) (n : CtxNum) (slot : Option ℕ) (c : Command) (m : Map
       by false e = no_names named e (unless_refused (first_code (refusal_by_form (Each n) c) (refusal_by_tables (Each n) slot c m)) (Each n) c m (carried rules (Each n) slot c m c.term)).answer.replies
 
   -- its replies name each member that it matches
-  pub members_named : length (later command_reply_text (flat_map (bare_replies c) (members_of (ctx m n)))) ≤ length (later command_reply_text (command rules (Each n) slot c m).answer.replies)
+  pub members_named : length (later command_reply_text (flat_map (least_replies c) (members_of (ctx m n)))) ≤ length (later command_reply_text (command rules (Each n) slot c m).answer.replies)
   unfolding named
   members_named = omega (arith, by_names, ap (λ (l : List CommandReply). length (later command_reply_text l)) (by_member c (members_of (ctx m n))))

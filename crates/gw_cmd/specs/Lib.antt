@@ -16,6 +16,7 @@ pub mod Serving
 pub mod ServingMembers
 pub mod Sorted
 pub mod Suits
+pub mod Wildcards
 pub use Rattle.gw_refusal.specs.Asked
 pub use Rattle.gw_refusal.specs.Forms
 pub use Rattle.gw_refusal.specs.Places

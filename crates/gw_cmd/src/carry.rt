@@ -35,10 +35,11 @@ use crate::root::{every_serviced, root_parts};
 use crate::serving::{for_all, on_all_free};
 use crate::serving_members::{ForMembers, change_each, for_members};
 use crate::tables::{has_ended, is_some, refusal_by_tables, wrong_with};
+use crate::wildcards::named_by;
 use gw_base::{Code, Items, NoMemory, Rules, TermName, TermRef, Verb};
 use gw_length::Telling;
 use gw_msg::Command;
-use gw_refusal::{At, has_targets, is_add, service_asked, targets};
+use gw_refusal::{At, service_asked};
 use gw_reply::CommandReply;
 use gw_table::{Draft, slot_name};
 use std::alloc::Global;
@@ -270,22 +271,6 @@ fn on_members(
     carried(alloc, rules, draft, at, slot, command, named, told)
 }
 
-/// The names of the terminations that a command is for. Where no member of a context begins with its prefix, no name is copied.
-fn named_by(
-    alloc: Global,
-    draft: &Draft<'_>,
-    at: At,
-    command: &Command<'_>,
-) -> Result<Vec<TermName>, NoMemory>
-    ensures { IfOk result (λ named. named.items ≡ targets at command.now draft.now.maps) }
-{
-    let may_match_none = matches!(command.term, TermRef::Under(_)) && !at.is_null();
-    if may_match_none && !is_add(command.verb) && !has_targets(draft, at, command) {
-        return Ok(Vec::new(alloc));
-    }
-    targets(alloc, draft, at, command)
-}
-
 /// Carries out a command that its form allows and that is not by name, on its targets, unless the tables refuse it. What it does to all
 /// members of a context that match is done at once, if it can be.
 fn with_targets(
@@ -327,6 +312,43 @@ fn with_targets(
         ),
         None => carried(alloc, rules, draft, at, slot, command, named, told),
     }
+}
+
+/// Carries out a command that its form allows and that is not by name, on those that it is for now. Never inlined, so that commands by name
+/// do not pay for its locals.
+#[inline(never)]
+fn on_many(
+    alloc: Global,
+    rules: &Rules,
+    draft: &mut Draft<'_>,
+    at: At,
+    slot: Option<u16>,
+    command: &Command<'_>,
+    known: Option<&Prepared<'_, '_>>,
+    told: Telling<CommandReply>,
+) -> Result<CmdTold, NoMemory>
+    requires sound { IsSound draft.old.keys draft.old.maps }
+    requires covered { Holds draft.old.keys (command_keys at slot command.now draft.old.maps) }
+    requires unused { IsUnused slot draft.old.maps }
+    requires known { IfSome known (λ p. IsPrepared rules.now p.now command.now) }
+    requires form { refusal_by_form at command.now ≡ None }
+    requires many { (t : List ℕ) → command.now.term ≢ Name t }
+    ensures maps { OnOk result (draft.new.maps ≡ (allowed rules.now at slot command.now draft.old.maps).maps) }
+    ensures answer { IfOk result (λ done. done ≡ outcome_behind told (allowed rules.now at slot command.now draft.old.maps).answer) }
+    ensures keys { draft.new.keys ≡ draft.old.keys }
+{
+    let named = named_by(alloc, draft, at, command)?;
+    with_targets(
+        alloc,
+        rules,
+        draft,
+        at,
+        slot,
+        command,
+        named.as_slice(),
+        known,
+        told,
+    )
 }
 
 /// Carries one command out as [`command`] does, and tells its replies behind those before it. Where they are too long, none is kept,
@@ -378,8 +400,7 @@ pub fn command_told(
     if let Some(number) = cleared_by(draft, at, command) {
         return on_cleared(alloc, rules, draft, at, number, slot, command, known, told);
     }
-    let named = named_by(alloc, draft, at, command)?;
-    with_targets(alloc, rules, draft, at, slot, command, &named, known, told)
+    on_many(alloc, rules, draft, at, slot, command, known, told)
 }
 
 /// Carries one command out (RFC 3525, section 7.2): its refusals in their order, and then what it does to each termination

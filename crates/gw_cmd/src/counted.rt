@@ -23,7 +23,7 @@ const MANY: usize = 64;
 
 /// Whether the reply to a command for all that match tells what is audited of each: that to an AuditValue does, to a Modify and to a
 /// Subtract.
-fn tells_audit(verb: Verb) -> bool
+pub(crate) fn tells_audit(verb: Verb) -> bool
     ensures { result ≡ tells_audit verb }
 {
     matches!(verb, Verb::AuditValue | Verb::Modify | Verb::Subtract)

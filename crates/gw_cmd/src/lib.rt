@@ -24,6 +24,7 @@ mod serving;
 mod serving_members;
 mod sorted;
 mod tables;
+mod wildcards;
 
 pub use carry::{command, command_told};
 pub use gw_refusal::At;
@@ -31,7 +32,7 @@ pub use laws::{
     commands_keep_forms, commands_keep_tables_well_formed, commands_keep_to_their_keys,
     commands_on_other_keys_change_places, keys_are_needed, the_whole_is_a_key_of_commands_for_all,
 };
-pub use least::tells_each;
+pub use least::{least_body, tells_each};
 pub use nothing::{come_to_nothing, come_to_nothing_at, nothing_in_front, surely_act};
 pub use outcome::{CmdOutcome, CmdTold};
 pub use prepared::{Prepared, all_prepared, first_prepared, prepared_behind};

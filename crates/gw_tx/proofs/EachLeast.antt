@@ -33,7 +33,7 @@ use Rattle.gw_table.proofs.Folding.{in_order-more}
 use Rattle.gw_refusal.specs.declared.at.At.{At}
 use Rattle.gw_refusal.specs.declared.at.At.TheVariants.{Each}
 use Rattle.gw_cmd.specs.Commands.{command}
-use Rattle.gw_cmd.specs.Least.{bare_replies, TellsEach}
+use Rattle.gw_cmd.specs.Least.{least_replies, TellsEach}
 use Rattle.gw_cmd.proofs.Elsewhere.{as_is_elsewhere}
 use Rattle.gw_cmd.proofs.Named.{members_named}
 use Rattle.gw_tx.specs.Least.{least_in, least_in_all}
@@ -171,7 +171,7 @@ module _ (rules : Rules) (a : OwnedAction) (slot : Option ℕ) (c : Command) (ps
       let members : members_of (ctx ready n) ≡ members_of (ctx start n) = members_all n a.sent.props m n ∙ same in
       omega (
         arith,
-        ap (λ (l : List (List ℕ)). length (later command_reply_text (flat_map (bare_replies c) l))) members,
+        ap (λ (l : List (List ℕ)). length (later command_reply_text (flat_map (least_replies c) l))) members,
         members_named rules n slot c ready tells,
         first_told rules (Each n) slot c ps ready,
         ap (λ (l : List (Option ℕ × Command)). length (later command_reply_text (commands rules [] (Each n) l ready).answer.answers)) first,

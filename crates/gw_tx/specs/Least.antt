@@ -2,15 +2,16 @@
 use Rattle.std.specs.Prelude.{ℕ, ◌+◌, List, [], ◌∷◌, length, decimal}
 use Rattle.std.specs.List.{flat_map}
 use Rattle.gw_base.specs.declared.ids.CtxNum.{CtxNum}
-use Rattle.gw_cmd.specs.Least.{bare_replies}
+use Rattle.gw_cmd.specs.Least.{least_replies}
 use Rattle.gw_msg.specs.declared.message.Command.{Command}
 use Rattle.gw_reply.specs.Lists.{later}
 use Rattle.gw_reply.specs.Replies.{command_reply_text}
 use Rattle.gw_table.specs.Maps.{Maps, ctx, members_of}
 
--- so many bytes in one context: its frame, with the comma before it, and the names of these members, of which the first has none before it
+-- so many bytes in one context: its frame, with the comma before it, and the shortest replies for these members, of which the first has none
+-- before it
 abbrev pub least_in : Command → Maps → CtxNum → ℕ
-least_in c m n = 10 + length (decimal n.0) + length (later command_reply_text (flat_map (bare_replies c) (members_of (ctx m n))))
+least_in c m n = 10 + length (decimal n.0) + length (later command_reply_text (flat_map (least_replies c) (members_of (ctx m n))))
 
 abbrev pub least_in_all : Command → Maps → List CtxNum → ℕ
 least_in_all c m [] = 0

@@ -1,26 +1,26 @@
 //! How long the replies in each context are at least to an action with commands, counted before anything is told.
 
-ghost use Rattle.std.specs.Prelude.{◌≡◌, ◌∷◌, true, length, List, Option, ℕ};
+ghost use Rattle.std.specs.Prelude.{◌≡◌, ◌∷◌, ◌+◌, true, length, List, Option, ℕ};
 ghost use Rattle.std.specs.List.{flat_map};
 ghost use Rattle.gw_base.specs.declared.command_words.Rules.{Rules};
 ghost use Rattle.gw_base.specs.declared.ids.CtxNum.{CtxNum};
-ghost use Rattle.gw_cmd.specs.Least.{bare_replies};
+ghost use Rattle.gw_cmd.specs.Least.{least_replies, shortest_result};
 ghost use Rattle.gw_length.specs.Rooms.{Leaves};
 ghost use Rattle.gw_length.specs.Tellings.{told_behind};
 ghost use Rattle.gw_length.specs.declared.telling.Telling.TheVariants.{TooLong, Within};
 ghost use Rattle.gw_msg.specs.declared.message.Command.{Command as Sent};
 ghost use Rattle.gw_reply.specs.Commands.{command_word};
 ghost use Rattle.gw_reply.specs.Lists.{later};
-ghost use Rattle.gw_reply.specs.Replies.{command_reply_text, action_reply_text};
+ghost use Rattle.gw_reply.specs.Replies.{body_text, command_reply_text, action_reply_text};
 ghost use Rattle.gw_reply.specs.declared.reply.ActionReply.{ActionReply as Reply};
 ghost use Rattle.gw_reserve.specs.Owned.{OwnedAction, paired_action};
 ghost use Rattle.gw_table.specs.Maps.{Maps, ctx, members_of, numbers as all_numbers};
 ghost use Rattle.gw_tx.specs.Least.{least_in, least_in_all};
 ghost use Rattle.gw_tx.specs.Transactions.{in_all};
 
-use gw_base::{CtxNum, TermName, Verb};
-use gw_cmd::tells_each;
-use gw_length::{Telling, behind, behind_number};
+use gw_base::{CtxNum, TermName};
+use gw_cmd::{least_body, tells_each};
+use gw_length::{Telling, behind, behind_number, verb_length};
 use gw_msg::{Action, Command};
 use gw_refusal::matches;
 use gw_reply::ActionReply;
@@ -39,33 +39,22 @@ fn are_too_many(told: &Telling<ActionReply>, count: usize) -> bool
     }
 }
 
-/// How many bytes the word of a command has.
-fn word_length(verb: Verb) -> usize
-    ensures { result ≡ length (command_word verb) }
-{
-    match verb {
-        Verb::Add => b"Add".len(),
-        Verb::Modify => b"Modify".len(),
-        Verb::Move => b"Move".len(),
-        Verb::Subtract => b"Subtract".len(),
-        Verb::AuditValue => b"AuditValue".len(),
-        Verb::AuditCapability => b"AuditCapability".len(),
-        Verb::Notify => b"Notify".len(),
-        Verb::ServiceChange => b"ServiceChange".len(),
-    }
-}
-
-/// Behind the reply to a command, whose word is so long, for a member, with a comma before it, if no more is told than the name: all of the
-/// room, where the command is not for the member.
-fn behind_member(room: usize, command: &Command<'_>, word: usize, name: &TermName) -> Option<usize>
-    requires { word ≡ length (command_word command.now.verb) }
-    ensures { Leaves result room (length (later command_reply_text (bare_replies command.now name.now))) }
+/// Behind the shortest reply to a command for a member, with a comma before it, whose word and what follows the name in it have so many bytes:
+/// all of the room, where the command is not for the member.
+fn behind_member(
+    room: usize,
+    command: &Command<'_>,
+    around: usize,
+    name: &TermName,
+) -> Option<usize>
+    requires { around ≡ length (command_word command.now.verb) + length (body_text (shortest_result command.now)) }
+    ensures { Leaves result room (length (later command_reply_text (least_replies command.now name.now))) }
 {
     if !matches(&command.term, name) {
         return Some(room);
     }
     let left = behind(room, b",=".len())?;
-    let left = behind(left, word)?;
+    let left = behind(left, around)?;
     behind(left, name.as_bytes().len())
 }
 
@@ -73,34 +62,35 @@ fn behind_member(room: usize, command: &Command<'_>, word: usize, name: &TermNam
 fn behind_members(
     room: usize,
     command: &Command<'_>,
-    word: usize,
+    around: usize,
     members: &[TermName],
 ) -> Option<usize>
-    requires { word ≡ length (command_word command.now.verb) }
-    ensures { Leaves result room (length (later command_reply_text (flat_map (bare_replies command.now) members.now))) }
+    requires { around ≡ length (command_word command.now.verb) + length (body_text (shortest_result command.now)) }
+    ensures { Leaves result room (length (later command_reply_text (flat_map (least_replies command.now) members.now))) }
 {
     let mut left = room;
     for name in members {
-        left = behind_member(left, command, word, name)?;
+        left = behind_member(left, command, around, name)?;
     }
     Some(left)
 }
 
-/// Behind the reply in the context with this number, with a comma before it, if no more is told than the members that the command is for.
+/// Behind the reply in the context with this number, with a comma before it, if no more is told than the shortest replies for the members
+/// that the command is for.
 fn behind_least(
     room: usize,
     draft: &Draft<'_>,
     command: &Command<'_>,
-    word: usize,
+    around: usize,
     number: CtxNum,
 ) -> Option<usize>
-    requires { word ≡ length (command_word command.now.verb) }
+    requires { around ≡ length (command_word command.now.verb) + length (body_text (shortest_result command.now)) }
     ensures { Leaves result room (least_in command.now draft.now.maps number) }
 {
     let left = behind(room, b"Context={}".len())?;
     let left = behind_number(left, number.0)?;
     match draft.ctx(number) {
-        Some(context) => behind_members(left, command, word, context.members()),
+        Some(context) => behind_members(left, command, around, context.members()),
         None => Some(left),
     }
 }
@@ -114,10 +104,10 @@ fn behind_each_least(
 ) -> Option<usize>
     ensures { Leaves result room (least_in_all command.now draft.now.maps numbers.now) }
 {
-    let word = word_length(command.verb);
+    let around = verb_length(command.verb) + least_body(command);
     let mut left = room;
     for number in numbers {
-        left = behind_least(left, draft, command, word, *number)?;
+        left = behind_least(left, draft, command, around, *number)?;
     }
     Some(left)
 }

@@ -1,6 +1,6 @@
 use Rattle.std.proofs.Common.{◌≡◌, ◌<◌, ◌+◌, ℕ, List, Option, length, sym, subst}
 use Rattle.std.specs.List.{flat_map}
-use Rattle.gw_cmd.specs.Least.{bare_replies}
+use Rattle.gw_cmd.specs.Least.{least_replies}
 use Rattle.gw_length.specs.Rooms.{Leaves}
 use Rattle.gw_msg.specs.declared.message.Command.{Command}
 use Rattle.gw_reply.specs.Lists.{later}
@@ -14,9 +14,9 @@ returns-in_err-left c =
     let members : List (List ℕ) = c.args.members.now in
     let i : ℕ = c.loop-name.name-index in
     let name : List ℕ = c.name-item.result in
-    subst (λ (o : Option ℕ). Leaves o c.args.room (length (later command_reply_text (flat_map (bare_replies sent) members)))) (sym c.from_residual.ensures)
-    (none_behind command_reply_text (bare_replies sent) members i name c.loop-name.left c.args.room c.loop-name-test.true c.loop-name.invariant
-    (subst (λ (t : List ℕ). c.loop-name.left < length (later command_reply_text (bare_replies sent t))) c.name-item.is c.in_err-left.ensures))
+    subst (λ (o : Option ℕ). Leaves o c.args.room (length (later command_reply_text (flat_map (least_replies sent) members)))) (sym c.from_residual.ensures)
+    (none_behind command_reply_text (least_replies sent) members i name c.loop-name.left c.args.room c.loop-name-test.true c.loop-name.invariant
+    (subst (λ (t : List ℕ). c.loop-name.left < length (later command_reply_text (least_replies sent t))) c.name-item.is c.in_err-left.ensures))
 
 pub loop-name-preserved : goal.loop-name-preserved
 loop-name-preserved c =
@@ -24,5 +24,5 @@ loop-name-preserved c =
     let members : List (List ℕ) = c.args.members.now in
     let i : ℕ = c.loop-name.name-index in
     let name : List ℕ = c.name-item.result in
-    one_behind command_reply_text (bare_replies sent) members i name c.loop-name.left c.in_ok-left.left c.args.room c.loop-name-test.true c.loop-name.invariant
-    (subst (λ (t : List ℕ). c.in_ok-left.left + length (later command_reply_text (bare_replies sent t)) ≡ c.loop-name.left) c.name-item.is c.in_ok-left.ensures)
+    one_behind command_reply_text (least_replies sent) members i name c.loop-name.left c.in_ok-left.left c.args.room c.loop-name-test.true c.loop-name.invariant
+    (subst (λ (t : List ℕ). c.in_ok-left.left + length (later command_reply_text (least_replies sent t)) ≡ c.loop-name.left) c.name-item.is c.in_ok-left.ensures)
