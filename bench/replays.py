@@ -243,11 +243,22 @@ def two_adds(folder):
     return instructions(conf, bursts([told], 16)) - instructions(conf, unended)
 
 
+SHORT = b"Transaction=%d{Context=-{Subtract=T/1}}"
+
+
+def short(folder):
+    """A short transaction, each of a number of its own and so carried out, of many in a datagram."""
+    conf = config(folder, 4)
+    few, many = (instructions(conf, record(b" ".join(SHORT % number for number in range(1, count + 1))) + b".\n") for count in (512, 1_024))
+    return (many - few) / 512
+
+
 def records(folder):
     conf = config(folder, 4)
     typical_work = (instructions(conf, bursts(typical(2_048, 4), 16)) - instructions(conf, bursts(typical(1_024, 4), 16))) / 1_024
     lines = [
         ("a typical transaction, 4 terminations, bursts of 16", typical_work, 15_000),
+        ("a short transaction that is carried out, 1,024 in a datagram", short(folder), 4_000),
         ("two Adds with Media and a Local to fill, beyond reading", two_adds(folder), 16_000),
         ("AuditValue=* under - with Media, 200 whose replies are too long, a termination", of_all(folder, 200, MEDIA, AUDIT_ALL), 500),
         ("the same, 100 whose replies are told, a termination", of_all(folder, 100, MEDIA, AUDIT_ALL), 4_000),
