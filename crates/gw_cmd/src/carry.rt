@@ -314,7 +314,7 @@ fn with_targets(
     }
 }
 
-/// Carries out a command that its form allows and that is not by name, on those that it is for now. Never inlined, so that commands by name
+/// Carries out a command that its form allows and that is not by name, on its targets. Never inlined, so that commands by name
 /// do not pay for its locals.
 #[inline(never)]
 fn on_many(
