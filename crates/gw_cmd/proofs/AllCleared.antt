@@ -47,6 +47,7 @@ use Rattle.gw_cmd.specs.Idle.{audit_of, idle_answer, idle_reply}
 use Rattle.gw_cmd.specs.Keys.{member_keys, term_keys, command_keys}
 use Rattle.gw_cmd.specs.Refusals.{has_ended, missing, code_if, first_code, refusal_by_tables}
 use Rattle.gw_cmd.specs.Serving.{prefix_of}
+use Rattle.gw_cmd.proofs.Among.{targets_among}
 use Rattle.gw_cmd.proofs.LeftAlone.{StandsIn, member_one, stands_here, carried_on}
 use Rattle.gw_cmd.proofs.Ready.{has_term, among_term, ready}
 
@@ -125,20 +126,9 @@ module _ (keys : PartKeys) (at : At) (n : CtxNum) (slot : Option ℕ) (c : Comma
   wildcard = clearing.subtracts.wildcard
 
   pub targets_are : targets at c m ≡ members_of (ctx m n)
-  unfolding matched
   targets_are =
-      by c.term wildcard
-      ∙ ap (λ (v : Verb). filter (matches c.term) (those_in (if is_add v then None else place_at at) m)) clearing.subtracts.verb
-      ∙ ap (λ (p : Option CtxNum). filter (matches c.term) (those_in p m)) clearing.place
+      targets_among at c m n wildcard (ap (λ (v : Verb). is_add v) clearing.subtracts.verb) clearing.place
       ∙ all_kept (matches c.term) (members_of (ctx m n)) clearing.each
-    where
-      by : (r : TermRef) → is_wildcard r ≡ true → targets_of r at c m ≡ filter (matches c.term) (those_in (source at c) m)
-      by All w = refl
-      by (Under x) w = refl
-      by Root w = absurd cc
-      by Choose w = absurd cc
-      by (Name x) w = absurd cc
-      by (Other x) w = absurd cc
 
   member_key : (t : List ℕ) → has (member_keys at m) (Term t) ≡ true → holds keys (Term t) ≡ true
   member_key t h = covered (Term t) (among_term at slot c m (Term t) (by c.term wildcard ∙ h))

@@ -28,6 +28,7 @@ use Rattle.gw_refusal.specs.Forms.{is_left_out, is_misplaced, refusal_by_form}
 use Rattle.gw_refusal.specs.Places.{place_at, is_each, is_unmade}
 use Rattle.gw_refusal.specs.Targets.{those_in, matched, targets_of, targets}
 use Rattle.gw_refusal.proofs.Matching.{any_kept}
+use Rattle.gw_cmd.proofs.Among.{targets_among}
 use Rattle.gw_reply.specs.declared.parts.ReplyPart.{ReplyPart}
 use Rattle.gw_cmd.specs.declared.change.Change.TheVariants.{Stays}
 use Rattle.gw_cmd.specs.declared.change.Decided.{Decided}
@@ -164,19 +165,10 @@ module _ (n : CtxNum) (c : Command) where
             let tables = by_tables slot (missing_by slot c.term form.0 (matched_by c.term form.0 (none_matched form.1 h))) in
             (tables.0, ap (λ (x : Option Code). first_code x (refusal_by_tables (Each n) slot c m)) e ∙ tables.1)
 
--- a context of a number has the same targets, whichever action it is in
-same_targets : (n : CtxNum) (c : Command) (m : Maps) (r : TermRef) → targets_of r (Live n) c m ≡ targets_of r (Each n) c m
-unfolding matched
-same_targets n c m All = refl
-same_targets n c m (Under prefix) = refl
-same_targets n c m Root = refl
-same_targets n c m Choose = refl
-same_targets n c m (Name t) = refl
-same_targets n c m (Other text) = refl
-
 pub not_ended_at : (at : At) (c : Command) (m : Maps) → is_wildcard c.term ≡ true → is_add c.verb ≡ false → is_some_list (targets at c m) ≡ true → has_ended at m ≡ false
 not_ended_at (Each n) c m w add some = not_ended n c m w add some
-not_ended_at (Live n) c m w add some = not_ended n c m w add (sym (ap (λ (l : List (List ℕ)). is_some_list l) (same_targets n c m c.term)) ∙ some)
+not_ended_at (Live n) c m w add some =
+    not_ended n c m w add (ap (λ (l : List (List ℕ)). is_some_list l) (targets_among (Each n) c m n w add refl ∙ sym (targets_among (Live n) c m n w add refl)) ∙ some)
 not_ended_at Null c m w add some = refl
 not_ended_at (Unmade n) c m w add some = refl
 
