@@ -1,6 +1,6 @@
 -- A Subtract of all members of a context: what comes of each, and of all of them.
 use Rattle.std.proofs.Common.{◌≡◌, ℕ, Bool, true, false, cond, List, [], ◌∷◌, map, Option, None, Some, Result, Ok, bytes_eq, refl, sym, ap, subst, ◌∙◌}
-use Rattle.std.specs.Prelude.{◌≢◌, nat_eq, not, ◌&&◌, if◌then◌else◌}
+use Rattle.std.specs.Prelude.{◌≢◌, nat_eq, not, ◌&&◌}
 use Rattle.std.specs.List.{filter, list_all, starts_with}
 use Rattle.std.specs.Option.{is_none, is_some, unwrap_or}
 use Rattle.gw_base.specs.declared.code.Code.{Code}
@@ -37,7 +37,7 @@ use Rattle.gw_refusal.specs.declared.at.At.TheVariants.{Null, Live, Unmade, Each
 use Rattle.gw_refusal.specs.Asked.{is_add, is_some_list, is_wildcard, matches, audited}
 use Rattle.gw_refusal.specs.Forms.{refusal_by_form}
 use Rattle.gw_refusal.specs.Places.{place_at, is_each}
-use Rattle.gw_refusal.specs.Targets.{those_in, source, matched, targets_of, targets}
+use Rattle.gw_refusal.specs.Targets.{those_in, targets}
 use Rattle.gw_cmd.specs.declared.change.Change.TheVariants.{Leaves}
 use Rattle.gw_cmd.specs.declared.outcome.CmdOutcome.{CmdOutcome}
 use Rattle.gw_cmd.specs.Clearing.{SubtractsMany, IsClearing}

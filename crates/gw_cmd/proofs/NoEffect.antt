@@ -25,7 +25,7 @@ use Rattle.gw_refusal.specs.declared.at.At.{At}
 use Rattle.gw_refusal.specs.declared.at.At.TheVariants.{Null, Live, Unmade, Each}
 use Rattle.gw_refusal.specs.Asked.{is_add, is_move, is_modify, is_subtract, is_service_change, brings, is_unsupported, is_root, is_choose, is_other_term, is_wildcard, matches, audited, is_some_list, method, delay, is_other_method, is_other_delay}
 use Rattle.gw_refusal.specs.Forms.{is_left_out, is_misplaced, refusal_by_form}
-use Rattle.gw_refusal.specs.Places.{place_at, is_each, is_unmade}
+use Rattle.gw_refusal.specs.Places.{place_at, is_unmade}
 use Rattle.gw_refusal.specs.Targets.{those_in, matched, targets_of, targets}
 use Rattle.gw_refusal.proofs.Matching.{any_kept}
 use Rattle.gw_cmd.proofs.Among.{targets_among}
