@@ -41,6 +41,7 @@ pub(crate) fn code_of(reply: &CommandReply) -> Option<Code>
 }
 
 /// What a command with one reply gave, told behind those before it.
+#[inline(always)]
 pub(crate) fn one(
     told: Telling<CommandReply>,
     at: At,
@@ -57,6 +58,7 @@ pub(crate) fn one(
 }
 
 /// One reply to the TerminationID as sent.
+#[inline(always)]
 pub(crate) fn refused(
     told: Telling<CommandReply>,
     at: At,

@@ -10,7 +10,7 @@ use Rattle.gw_reply.proofs.Joins.{told_first}
 use Rattle.gw_length.specs.Rooms.{Leaves}
 
 module _ (parts rest : List ContextPart) (first : ContextPart) (r : Result (List CommandReply) Code) (split : parts ≡ first ∷ rest) where
-  told_length : length (told_text parts r) ≡ length (context_part_text first) + (length (later context_part_text rest) + length (later_replies command_reply_text r))
+  pub told_length : length (told_text parts r) ≡ length (context_part_text first) + (length (later context_part_text rest) + length (later_replies command_reply_text r))
   told_length =
       let now = later context_part_text rest in let end = later_replies command_reply_text r in
       let all = ap (λ (l : List ContextPart). length (told_text l r)) split ∙ ap (λ (t : List ℕ). length t) (told_first first rest r) in

@@ -1,5 +1,6 @@
 -- Replies that are told as they come, within a limit on their text (own).
-use Rattle.std.specs.Prelude.{ℕ, ◌-◌, nat_le, if◌then◌else◌, List, ◌++◌, length}
+use Rattle.std.specs.Prelude.{ℕ, ◌-◌, nat_le, if◌then◌else◌, List, [], ◌++◌, length}
+use Rattle.gw_reply.specs.declared.reply.ActionReply.{ActionReply}
 use Rattle.gw_reply.specs.Lists.{later}
 use Rattle.gw_length.specs.declared.telling.Telling.{Telling}
 use Rattle.gw_length.specs.declared.telling.Telling.TheVariants.{All, Within, TooLong}
@@ -13,3 +14,9 @@ abbrev pub told_behind : {T : Type 0} → (T → List ℕ) → Telling T → Lis
 told_behind text (All front) more = All (front ++ more)
 told_behind text (Within front room) more = told_within front more room (length (later text more))
 told_behind text TooLong more = TooLong
+
+-- of the parts of an action no more is told than of the action
+abbrev pub inside : {T : Type 0} → Telling ActionReply → Telling T
+inside (All replies) = All []
+inside (Within replies room) = Within [] room
+inside TooLong = TooLong

@@ -1,6 +1,6 @@
 //! The error descriptor (RFC 3525, section 7.1.19).
 
-use crate::wire::{WireText, write_number};
+use crate::wire::{WireText, write_opening};
 use gw_base::Code;
 use std::alloc::AllocError;
 
@@ -11,8 +11,8 @@ impl WireText for Code {
 
     fn write_to(&self, out: &mut Vec<u8>) -> Result<(), AllocError> {
         out.extend_from_slice(b"Error=")?;
-        write_number(u32::from(self.number()), out)?;
-        out.extend_from_slice(b"{\"")?;
+        write_opening(u32::from(self.number()), out)?;
+        out.push(b'"')?;
         out.extend_from_slice(self.text().as_bytes())?;
         out.extend_from_slice(b"\"}")
     }

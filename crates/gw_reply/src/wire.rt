@@ -55,18 +55,30 @@ pub(crate) fn write_opening(number: u32, out: &mut Vec<u8>) -> Result<(), AllocE
     if out.capacity() - out.len() < SHORT {
         return write_long_opening(number, out);
     }
-    let last = digit(number);
-    let tens = digit(number / 10);
-    let hundreds = digit(number / 100);
-    let thousands = digit(number / 1_000);
     match number {
-        0..=9 => out.extend_from_slice(&[last, b'{']),
-        10..=99 => out.extend_from_slice(&[tens, last, b'{']),
-        100..=999 => out.extend_from_slice(&[hundreds, tens, last, b'{']),
-        1_000..=9_999 => out.extend_from_slice(&[thousands, hundreds, tens, last, b'{']),
+        0..=9 => out.extend_from_slice(&[digit(number), b'{']),
+        10..=99 => out.extend_from_slice(&[digit(number / 10), digit(number), b'{']),
+        100..=999 => {
+            let first = digit(number / 100);
+            out.extend_from_slice(&[first, digit(number / 10), digit(number), b'{'])
+        }
+        1_000..=9_999 => {
+            let first = digit(number / 1_000);
+            let second = digit(number / 100);
+            out.extend_from_slice(&[first, second, digit(number / 10), digit(number), b'{'])
+        }
         10_000..=99_999 => {
             let first = digit(number / 10_000);
-            out.extend_from_slice(&[first, thousands, hundreds, tens, last, b'{'])
+            let second = digit(number / 1_000);
+            let third = digit(number / 100);
+            out.extend_from_slice(&[
+                first,
+                second,
+                third,
+                digit(number / 10),
+                digit(number),
+                b'{',
+            ])
         }
         _ => write_long_opening(number, out),
     }

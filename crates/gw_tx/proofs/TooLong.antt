@@ -6,6 +6,7 @@ use Rattle.gw_base.specs.declared.ids.TxId.{TxId}
 use Rattle.gw_length.specs.declared.telling.Telling.{Telling}
 use Rattle.gw_length.specs.declared.telling.Telling.TheVariants as telling
 use Rattle.gw_length.specs.Tellings.{told_behind}
+use Rattle.gw_length.proofs.Frames.{longer}
 pub use Rattle.gw_length.proofs.Lengths.{length-joined, length-braces}
 use Rattle.gw_length.proofs.Tellings.{not_le}
 use Rattle.gw_reply.specs.Lists.{comma, comma_separated, in_braces, later}
@@ -21,21 +22,6 @@ use Rattle.gw_tx.specs.declared.told.Told.{Told}
 use Rattle.gw_tx.specs.declared.told.Told.TheVariants.{Whole, TooLong}
 use Rattle.gw_tx.specs.Told.{inside, told_of, within}
 use Rattle.gw_tx.specs.Transactions.{action_reply, answered}
-
--- texts behind others make a list no shorter
-pub behind_others : (xs ys : List (List ℕ)) → length (comma_separated ys) ≤ length (comma_separated (xs ++ ys))
-behind_others [] ys = omega arith
-behind_others (x ∷ []) [] = omega arith
-behind_others (x ∷ []) (y ∷ ys) = omega (arith, length-append x (comma ∷ comma_separated (y ∷ ys)))
-behind_others (x ∷ (z ∷ zs)) ys = omega (arith, length-append x (comma ∷ comma_separated (z ∷ (zs ++ ys))), behind_others (z ∷ zs) ys)
-
--- an action's text is no shorter than its commands, each with a comma
-longer : (ctx : List ℕ) (parts : List (List ℕ)) (replies : List CommandReply) → length (later command_reply_text replies) ≤ length (codes "Context=" ++ ctx ++ in_braces (comma_separated (parts ++ map command_reply_text replies)))
-longer ctx parts [] = omega arith
-longer ctx parts (r ∷ rs) =
-    let texts : List (List ℕ) = map command_reply_text (r ∷ rs) in
-    let inner : List ℕ = comma_separated (parts ++ texts) in
-    omega (arith, length-append ctx (in_braces inner), length-braces inner, length-joined command_reply_text r rs, behind_others parts texts)
 
 -- what is not told within is not
 pub is_else : {A : Type 0} (b : Bool) (front : List A) (left : ℕ) → (let t : Telling A = if b then telling.Within front left else telling.TooLong in t) ≡ telling.TooLong → b ≡ false

@@ -3,6 +3,7 @@ use Rattle.std.specs.Prelude.{ℕ, ◌==◌, Bool, false, nat_le, if◌then◌el
 use Rattle.gw_base.specs.declared.ids.TxId.{TxId}
 use Rattle.gw_length.specs.declared.telling.Telling.{Telling}
 use Rattle.gw_length.specs.declared.telling.Telling.TheVariants as telling
+pub use Rattle.gw_length.specs.Tellings.{inside}
 use Rattle.gw_length.specs.Tellings.{told_behind}
 use Rattle.gw_reply.specs.declared.reply.ActionReply.{ActionReply}
 use Rattle.gw_reply.specs.declared.reply.TxReply.{TxReply}
@@ -19,12 +20,6 @@ within limit reply = if nat_le (length (transaction_reply_text reply)) limit the
 -- what attempts came to, told behind what was told before them
 abbrev pub counted : {S A : Type 0} → (A → List ℕ) → Telling A → Attempts S A → Counted S A
 counted text told done = record { next = done.next; told = told_behind text told done.answers; stopped = done.stopped }
-
--- of the parts of an action no more is told than of the action
-abbrev pub inside : {T : Type 0} → Telling ActionReply → Telling T
-inside (telling.All replies) = telling.All []
-inside (telling.Within replies room) = telling.Within [] room
-inside telling.TooLong = telling.TooLong
 
 -- behind the last action
 abbrev pub told_of : TxId → Telling ActionReply → Told

@@ -69,6 +69,7 @@ fn action_in(
 }
 
 /// Carries an action out that is not refused for what it asks of its context, with what it owns.
+#[inline(always)]
 fn action_on(
     alloc: Global,
     rules: &Rules,
@@ -125,6 +126,7 @@ fn action_on(
 
 /// Carries one action out, with the number that it owns, and the entries of its commands before any others; tells its replies behind
 /// those of the actions before it.
+#[inline(always)]
 fn action(
     alloc: Global,
     rules: &Rules,

@@ -64,6 +64,7 @@ fn attempt(
 
 /// Carries commands out in order, with the slots that they own and what is known of them, up to the first that stops. Where nothing more is told, they are
 /// carried out all the same.
+#[inline(always)]
 pub(crate) fn commands(
     alloc: Global,
     rules: &Rules,
@@ -112,6 +113,7 @@ pub(crate) fn commands(
 
 /// Carries the commands of an action out in one context, and tells its reply, with what is told of the context, behind those of the
 /// actions before it.
+#[inline(always)]
 pub(crate) fn commands_in(
     alloc: Global,
     rules: &Rules,

@@ -1,6 +1,6 @@
 //! Replies of actions.
 
-ghost use Rattle.std.specs.Prelude.{◌≡◌, IfOk};
+ghost use Rattle.std.specs.Prelude.{◌≡◌, IfOk, Ok as Replies};
 ghost use Rattle.gw_refusal.specs.declared.at.At.{At};
 ghost use Rattle.gw_reply.specs.declared.reply.CommandReply.{CommandReply};
 ghost use Rattle.gw_reply.specs.Replies.{command_reply_text, action_reply_text};
@@ -27,6 +27,7 @@ fn answered(at: At) -> CtxRef
 }
 
 /// The only reply of an action, behind those that are told.
+#[inline(always)]
 fn one_action_reply(
     told: Telling<ActionReply>,
     reply: ActionReply,
@@ -58,8 +59,24 @@ pub(crate) fn action_error(
     one_action_reply(told, reply, true)
 }
 
+/// The reply of an action whose commands were attempted.
+fn action_reply(
+    at: At,
+    parts: Items<ContextPart>,
+    replies: Items<CommandReply>,
+) -> ActionReply
+    ensures { result ≡ record { ctx = answered at; parts = parts; result = Replies replies } }
+{
+    ActionReply {
+        ctx: answered(at),
+        parts,
+        result: Ok(replies),
+    }
+}
+
 /// What an action gave whose commands were attempted, with what is told of its context. Where the commands are too long, so is the
-/// action.
+/// action; where they are not, they are not counted again.
+#[inline(always)]
 pub(crate) fn replied(
     told: Telling<ActionReply>,
     parts: Items<ContextPart>,
@@ -73,14 +90,14 @@ pub(crate) fn replied(
         stopped,
     } = done;
     match within {
-        Telling::All(replies) | Telling::Within(replies, _) => {
-            let reply = ActionReply {
-                ctx: answered(next),
-                parts,
-                result: Ok(replies),
-            };
-            one_action_reply(told, reply, stopped)
+        Telling::All(replies) => {
+            one_action_reply(told, action_reply(next, parts, replies), stopped)
         }
+        Telling::Within(replies, left) => Ok(Counted {
+            next: (),
+            told: told.tell_counted(action_reply(next, parts, replies), left)?,
+            stopped,
+        }),
         Telling::TooLong => Ok(Counted {
             next: (),
             told: Telling::TooLong,

@@ -26,29 +26,29 @@ five n first thousands hundreds tens last e0 e1 e2 e3 e4 le h = let eq : decimal
 pub returns-in-0-to-9 : goal.returns-in-0-to-9
 returns-in-0-to-9 c =
     let n = c.args.number in
-    appended c.extend_from_slice.result c.args.out.now.items (c.digit-last.result ∷ []) c.extend_from_slice.new.self.items (decimal n) c.extend_from_slice.ensures.items
-    (one n c.digit-last.result c.digit-last.ensures (omega (arith, c.in-0-to-9)))
+    appended c.extend_from_slice.result c.args.out.now.items (c.digit.result ∷ []) c.extend_from_slice.new.self.items (decimal n) c.extend_from_slice.ensures.items
+    (one n c.digit.result c.digit.ensures (omega (arith, c.in-0-to-9)))
 
 pub returns-in-10-to-99 : goal.returns-in-10-to-99
 returns-in-10-to-99 c =
     let n = c.args.number in
-    appended c.extend_from_slice-in-10-to-99.result c.args.out.now.items (c.digit-tens.result ∷ c.digit-last.result ∷ []) c.extend_from_slice-in-10-to-99.new.self.items (decimal n) c.extend_from_slice-in-10-to-99.ensures.items
-    (two n c.digit-tens.result c.digit-last.result c.digit-tens.ensures c.digit-last.ensures (omega (arith, c.in-10-to-99)) (omega (arith, c.in-10-to-99)))
+    appended c.extend_from_slice-in-10-to-99.result c.args.out.now.items (c.digit-in-10-to-99.result ∷ c.digit-in-10-to-99-2.result ∷ []) c.extend_from_slice-in-10-to-99.new.self.items (decimal n) c.extend_from_slice-in-10-to-99.ensures.items
+    (two n c.digit-in-10-to-99.result c.digit-in-10-to-99-2.result c.digit-in-10-to-99.ensures c.digit-in-10-to-99-2.ensures (omega (arith, c.in-10-to-99)) (omega (arith, c.in-10-to-99)))
 
 pub returns-in-100-to-999 : goal.returns-in-100-to-999
 returns-in-100-to-999 c =
     let n = c.args.number in
-    appended c.extend_from_slice-in-100-to-999.result c.args.out.now.items (c.digit-hundreds.result ∷ c.digit-tens.result ∷ c.digit-last.result ∷ []) c.extend_from_slice-in-100-to-999.new.self.items (decimal n) c.extend_from_slice-in-100-to-999.ensures.items
-    (three n c.digit-hundreds.result c.digit-tens.result c.digit-last.result c.digit-hundreds.ensures c.digit-tens.ensures c.digit-last.ensures (omega (arith, c.in-100-to-999)) (omega (arith, c.in-100-to-999)))
+    appended c.extend_from_slice-in-100-to-999.result c.args.out.now.items (c.digit-first.result ∷ c.digit-in-100-to-999.result ∷ c.digit-in-100-to-999-2.result ∷ []) c.extend_from_slice-in-100-to-999.new.self.items (decimal n) c.extend_from_slice-in-100-to-999.ensures.items
+    (three n c.digit-first.result c.digit-in-100-to-999.result c.digit-in-100-to-999-2.result c.digit-first.ensures c.digit-in-100-to-999.ensures c.digit-in-100-to-999-2.ensures (omega (arith, c.in-100-to-999)) (omega (arith, c.in-100-to-999)))
 
 pub returns-in-1000-to-9999 : goal.returns-in-1000-to-9999
 returns-in-1000-to-9999 c =
     let n = c.args.number in
-    appended c.extend_from_slice-in-1000-to-9999.result c.args.out.now.items (c.digit-thousands.result ∷ c.digit-hundreds.result ∷ c.digit-tens.result ∷ c.digit-last.result ∷ []) c.extend_from_slice-in-1000-to-9999.new.self.items (decimal n) c.extend_from_slice-in-1000-to-9999.ensures.items
-    (four n c.digit-thousands.result c.digit-hundreds.result c.digit-tens.result c.digit-last.result c.digit-thousands.ensures c.digit-hundreds.ensures c.digit-tens.ensures c.digit-last.ensures (omega (arith, c.in-1000-to-9999)) (omega (arith, c.in-1000-to-9999)))
+    appended c.extend_from_slice-in-1000-to-9999.result c.args.out.now.items (c.digit-first-in-1000-to-9999.result ∷ c.digit-second.result ∷ c.digit-in-1000-to-9999.result ∷ c.digit-in-1000-to-9999-2.result ∷ []) c.extend_from_slice-in-1000-to-9999.new.self.items (decimal n) c.extend_from_slice-in-1000-to-9999.ensures.items
+    (four n c.digit-first-in-1000-to-9999.result c.digit-second.result c.digit-in-1000-to-9999.result c.digit-in-1000-to-9999-2.result c.digit-first-in-1000-to-9999.ensures c.digit-second.ensures c.digit-in-1000-to-9999.ensures c.digit-in-1000-to-9999-2.ensures (omega (arith, c.in-1000-to-9999)) (omega (arith, c.in-1000-to-9999)))
 
 pub returns-in-10000-to-99999 : goal.returns-in-10000-to-99999
 returns-in-10000-to-99999 c =
     let n = c.args.number in
-    appended c.extend_from_slice-in-10000-to-99999.result c.args.out.now.items (c.digit-first.result ∷ c.digit-thousands.result ∷ c.digit-hundreds.result ∷ c.digit-tens.result ∷ c.digit-last.result ∷ []) c.extend_from_slice-in-10000-to-99999.new.self.items (decimal n) c.extend_from_slice-in-10000-to-99999.ensures.items
-    (five n c.digit-first.result c.digit-thousands.result c.digit-hundreds.result c.digit-tens.result c.digit-last.result c.digit-first.ensures c.digit-thousands.ensures c.digit-hundreds.ensures c.digit-tens.ensures c.digit-last.ensures (omega (arith, c.in-10000-to-99999)) (omega (arith, c.in-10000-to-99999)))
+    appended c.extend_from_slice-in-10000-to-99999.result c.args.out.now.items (c.digit-first-in-10000-to-99999.result ∷ c.digit-second-in-10000-to-99999.result ∷ c.digit-third.result ∷ c.digit-in-10000-to-99999.result ∷ c.digit-in-10000-to-99999-2.result ∷ []) c.extend_from_slice-in-10000-to-99999.new.self.items (decimal n) c.extend_from_slice-in-10000-to-99999.ensures.items
+    (five n c.digit-first-in-10000-to-99999.result c.digit-second-in-10000-to-99999.result c.digit-third.result c.digit-in-10000-to-99999.result c.digit-in-10000-to-99999-2.result c.digit-first-in-10000-to-99999.ensures c.digit-second-in-10000-to-99999.ensures c.digit-third.ensures c.digit-in-10000-to-99999.ensures c.digit-in-10000-to-99999-2.ensures (omega (arith, c.in-10000-to-99999)) (omega (arith, c.in-10000-to-99999)))
