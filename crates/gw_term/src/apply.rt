@@ -168,6 +168,9 @@ impl Termination {
             made: None,
         };
         merge_into(alloc, &sent, &there, self, record.get_mut(), &mut filled)?;
+        if self.slot.is_none() {
+            record.get_mut().settings.share()?;
+        }
         Ok(Applied { record, filled })
     }
 

@@ -63,7 +63,7 @@ fn copied_termination(alloc: Global, old: &Termination) -> Result<Termination, A
         place: old.place,
         service: old.service,
         slot: old.slot,
-        settings: old.settings.copied(alloc, Copying::Once)?,
+        settings: old.settings.copied(alloc)?,
     })
 }
 

@@ -1,6 +1,6 @@
 //! Whether the same was set of two terminations, wherever it lies.
 
-ghost use Rattle.std.specs.Prelude.{◌≡◌, true};
+ghost use Rattle.std.specs.Prelude.{◌≡◌, true, Decides, IfSome};
 ghost use Rattle.gw_term.specs.Aligned.{IsAligned, IsRemade};
 ghost use Rattle.gw_term.specs.Lookups.{lower_names};
 ghost use Rattle.gw_term.specs.Settings.{settings_in};
@@ -128,14 +128,25 @@ fn are_same_settings(settings: &[Setting], others: &[Setting]) -> bool
 }
 
 impl Form {
-    /// Whether they are the same settings in the same order. Of two that are shared only the prints are compared.
+    /// Whether they are the same settings in the same order, as far as prints tell it.
+    #[inline]
+    fn told_same(&self, other: &Form) -> Option<bool>
+        ensures { IfSome result (λ is_same. Decides is_same (settings_in self.now ≡ settings_in other.now)) }
+    {
+        match (self, other) {
+            (Form::Shared(block), Form::Shared(other)) => block.told_same(other),
+            _ => None,
+        }
+    }
+
+    /// Whether they are the same settings in the same order. Of two that have prints only these are compared.
     fn is_same(&self, other: &Form) -> bool
         ensures { result ≡ true → settings_in self.now ≡ settings_in other.now }
     {
-        match (self, other) {
-            (Form::Shared(block), Form::Shared(other)) => block.is_same(other),
-            _ => are_same_settings(self.list(), other.list()),
+        if let Some(is_same) = self.told_same(other) {
+            return is_same;
         }
+        are_same_settings(self.list(), other.list())
     }
 }
 

@@ -16,7 +16,6 @@ use crate::record::{Stream, Termination};
 use crate::room::has_space_at;
 use crate::same::{are_same_names, is_aligned, is_remade};
 use crate::settings::{Setting, Settings};
-use crate::text::Copying;
 use gw_base::{NoMemory, Rules, Service};
 use gw_desc::Descriptor;
 use std::alloc::{AllocError, Global};
@@ -42,7 +41,7 @@ fn made_of(
     match Termination::set_so(before).merged(alloc, rules, descriptors) {
         Ok(applied) => {
             let after = applied.record.into_inner().into_settings();
-            Ok(after.copied(alloc, Copying::ForMany)?)
+            Ok(after.copied_for_many(alloc)?)
         }
         Err(_) => Err(NoMemory),
     }
@@ -237,10 +236,10 @@ impl<'a, 'b> Sending<'a, 'b> {
         ensures { IfOk result (λ found. IfSome found (IsMadeOf self.now.rules.now self.now.descriptors.now settings.now)) }
     {
         if settings.is_empty() {
-            return Ok(Some(self.made.copied(alloc, Copying::Once)?));
+            return Ok(Some(self.made.copied(alloc)?));
         }
         match self.find(settings) {
-            Some(after) => Ok(Some(after.copied(alloc, Copying::Once)?)),
+            Some(after) => Ok(Some(after.copied(alloc)?)),
             None => Ok(None),
         }
     }
@@ -256,7 +255,7 @@ impl<'a, 'b> Sending<'a, 'b> {
         if !self.remakes(settings) {
             return Ok(None);
         }
-        Ok(Some(self.made.copied(alloc, Copying::Once)?))
+        Ok(Some(self.made.copied(alloc)?))
     }
 
     /// What they make of these settings, if nothing is set, it was learnt, or nothing is left of them then, in the block that all such
@@ -283,7 +282,7 @@ impl<'a, 'b> Sending<'a, 'b> {
         if let Some(after) = self.remade_after(alloc, settings)? {
             return Ok(Some(after));
         }
-        let again = settings.copied(alloc, Copying::Once)?;
+        let again = settings.copied(alloc)?;
         match made_of(alloc, self.rules, self.descriptors, again) {
             Ok(after) => Ok(Some(after)),
             Err(_) => Ok(None),
@@ -310,15 +309,15 @@ impl<'a, 'b> Sending<'a, 'b> {
         ensures same { SendsTheSame self.old self.new }
         ensures after { IfOk result (λ learnt. IfSome learnt (IsMadeOf self.old.rules.now self.old.descriptors.now settings.now)) }
     {
-        if self.tries == 0 || !settings.are_shared() {
+        if self.tries == 0 || !settings.are_printed() {
             return Ok(None);
         }
         self.tries -= 1;
         let Some(after) = self.made_anew(alloc, settings)? else {
             return Ok(None);
         };
-        let before = settings.copied(alloc, Copying::Once)?;
-        let copy = after.copied(alloc, Copying::Once)?;
+        let before = settings.copied(alloc)?;
+        let copy = after.copied(alloc)?;
         self.keep(before, after)?;
         Ok(Some(copy))
     }

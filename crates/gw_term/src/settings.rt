@@ -14,6 +14,7 @@ use gw_base::Items;
 use gw_desc::{KeptKind, same_kept};
 use std::alloc::{AllocError, Global};
 use std::marker::Model;
+use std::mem;
 use std::sync::Arc;
 
 /// What may be set of a termination.
@@ -127,7 +128,7 @@ fn copied_form(alloc: Global, list: &[Setting], copying: Copying) -> Result<Form
     match copying {
         Copying::Once => Ok(Form::Own(copy)),
         Copying::ForMany => {
-            let shared = SharedSettings::of(alloc, copy)?;
+            let shared = SharedSettings::printed(alloc, copy)?;
             Ok(Form::Shared(Arc::new(alloc, shared)?))
         }
     }
@@ -195,9 +196,12 @@ impl Settings {
         }
     }
 
-    /// Whether they lie in a block that copies share.
-    pub(crate) fn are_shared(&self) -> bool {
-        matches!(self.form, Form::Shared(_))
+    /// Whether they lie in a block that has a print, so that they were set of many.
+    pub(crate) fn are_printed(&self) -> bool {
+        match &self.form {
+            Form::Own(_) => false,
+            Form::Shared(block) => block.are_printed(),
+        }
     }
 
     /// The allocator that they lie with.
@@ -227,15 +231,37 @@ impl Settings {
         }
     }
 
+    /// They lie in a block that copies share, without a print: so it takes a count to copy them. Where nothing is set, there is no block.
+    pub(crate) fn share(&mut self) -> Result<(), AllocError>
+        ensures { OnOk result (self.new ≡ self.old) }
+    {
+        if let Form::Own(block) = &mut self.form {
+            if !block.is_empty() {
+                let list = mem::replace(block, Vec::new(self.alloc));
+                let shared = SharedSettings::unprinted(list);
+                self.form = Form::Shared(Arc::new(self.alloc, shared)?);
+            }
+        }
+        Ok(())
+    }
+
     /// A copy, with no room for more: of settings that are shared the same block, and of others a block as is told.
     #[inline]
-    pub(crate) fn copied(&self, alloc: Global, copying: Copying) -> Result<Settings, AllocError>
+    pub(crate) fn copied(&self, alloc: Global) -> Result<Settings, AllocError>
         ensures { IfOk result (λ copy. copy ≡ self.now) }
     {
         let form = match &self.form {
-            Form::Own(block) => copied_form(alloc, block.as_slice(), copying)?,
+            Form::Own(block) => copied_form(alloc, block.as_slice(), Copying::Once)?,
             Form::Shared(block) => Form::Shared(block.clone()?),
         };
+        Ok(Settings { alloc, form })
+    }
+
+    /// A copy for many records, in a block that has a print.
+    pub(crate) fn copied_for_many(&self, alloc: Global) -> Result<Settings, AllocError>
+        ensures { IfOk result (λ copy. copy ≡ self.now) }
+    {
+        let form = copied_form(alloc, self.form.list(), Copying::ForMany)?;
         Ok(Settings { alloc, form })
     }
 

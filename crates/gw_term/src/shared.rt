@@ -1,6 +1,6 @@
-//! Settings that copies share, with their print, by which they are told from others at once.
+//! Settings that copies share, mostly with their print, by which they are told from others at once.
 
-ghost use Rattle.std.specs.Prelude.{◌≡◌, ◌++◌, Decides, IfOk, OnOk};
+ghost use Rattle.std.specs.Prelude.{◌≡◌, ◌++◌, Decides, IfOk, IfSome, OnOk};
 ghost use Rattle.gw_term.specs.Prints.{properties_print, stream_print, setting_print, settings_print};
 
 use crate::held::HeldProperty;
@@ -69,15 +69,16 @@ fn print_of(alloc: Global, list: &[Setting]) -> Result<Print, AllocError>
     Ok(print.shrunk())
 }
 
-/// Settings that copies share. They never change, and their print stands beside them. Contracts see the settings.
+/// Settings that copies share. They never change. The print of those that many records have stands beside them; those that were set of
+/// one record have none, since it takes more to make than it saves. Contracts see the settings.
 #[derive(Drop)]
 pub struct SharedSettings {
     list: Vec<Setting>,
-    print: Print,
+    print: Option<Print>,
 }
 
 impl Model for SharedSettings {
-    ghost use Rattle.std.specs.Prelude.{◌≡◌, List};
+    ghost use Rattle.std.specs.Prelude.{◌≡◌, List, IfSome};
     ghost use Rattle.gw_term.specs.Prints.{settings_print};
     ghost use Rattle.gw_term.specs.declared.settings.Setting.{Setting as SettingOf};
 
@@ -85,16 +86,32 @@ impl Model for SharedSettings {
 
     ghost view = { λ s. s.list.items };
 
-    ghost invariant = { λ s. s.print ≡ settings_print s.list.items };
+    ghost invariant = { λ s. IfSome s.print (λ print. print ≡ settings_print s.list.items) };
 }
 
 impl SharedSettings {
     /// These settings, with their print, which is made here. The work is linear in what they take.
-    pub(crate) fn of(alloc: Global, list: Vec<Setting>) -> Result<SharedSettings, AllocError>
+    pub(crate) fn printed(alloc: Global, list: Vec<Setting>) -> Result<SharedSettings, AllocError>
         ensures { IfOk result (λ shared. shared ≡ list.items) }
     {
         let print = print_of(alloc, list.as_slice())?;
-        Ok(SharedSettings { list, print })
+        Ok(SharedSettings {
+            list,
+            print: Some(print),
+        })
+    }
+
+    /// These settings, without a print.
+    pub(crate) fn unprinted(list: Vec<Setting>) -> SharedSettings
+        ensures { result ≡ list.items }
+    {
+        SharedSettings { list, print: None }
+    }
+
+    /// Whether their print is there.
+    #[inline]
+    pub(crate) fn are_printed(&self) -> bool {
+        self.print.is_some()
     }
 
     /// The settings.
@@ -105,11 +122,14 @@ impl SharedSettings {
         self.list.as_slice()
     }
 
-    /// Whether they are the other settings. Only the prints are compared.
+    /// Whether they are the other settings, as far as their prints tell it: nothing where one has no print. Only the prints are compared.
     #[inline]
-    pub(crate) fn is_same(&self, other: &SharedSettings) -> bool
-        ensures { Decides result (self.now ≡ other.now) }
+    pub(crate) fn told_same(&self, other: &SharedSettings) -> Option<bool>
+        ensures { IfSome result (λ is_same. Decides is_same (self.now ≡ other.now)) }
     {
-        self.print.is(&other.print)
+        match (&self.print, &other.print) {
+            (Some(print), Some(other)) => Some(print.is(other)),
+            _ => None,
+        }
     }
 }
