@@ -215,7 +215,7 @@ module _ (rules : Rules) (at : At) (c : Command) (verb : c.verb ≡ Modify) wher
   abbrev told : Termination → List ReplyPart
   told r = audit_parts (audited c.descriptors) r
 
-  merging_is : (r new : Termination) → r.place ≡ place_at at → merged rules c.descriptors r ≡ Some new → filled_by rules c.descriptors r ≡ [] → merging_done rules c.descriptors r (place_at at) (refusal_elsewhere (place_at at) r.place) ≡ Ok (record { record_after = new; parts = told new })
+  pub merging_is : (r new : Termination) → r.place ≡ place_at at → merged rules c.descriptors r ≡ Some new → filled_by rules c.descriptors r ≡ [] → merging_done rules c.descriptors r (place_at at) (refusal_elsewhere (place_at at) r.place) ≡ Ok (record { record_after = new; parts = told new })
   unfolding merging_done
   merging_is r new there is none =
       ap (λ (o : Option Code). merging_to rules c.descriptors r (place_at at) o (merged rules c.descriptors r)) (stands_here (place_at at) r.place there)

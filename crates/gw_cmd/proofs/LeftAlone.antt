@@ -68,7 +68,7 @@ stands_here place there e = ap (λ (p : Option CtxNum). refusal_elsewhere place 
     by true h = refl
     by false h = absurd cc
 
-audit_alone : (rules : Rules) (place : Option CtxNum) (c : Command) (t : List ℕ) (r : Termination) (m : Maps) → c.verb ≡ AuditValue → r.place ≡ place
+pub audit_alone : (rules : Rules) (place : Option CtxNum) (c : Command) (t : List ℕ) (r : Termination) (m : Maps) → c.verb ≡ AuditValue → r.place ≡ place
     → on_record rules place c t r m ≡ record { maps = m; answer = Ok (audit_parts (audited c.descriptors) r) }
 unfolding on_record
 audit_alone rules None c t r m verb there =

@@ -64,7 +64,8 @@ by_member c (t ∷ ts) = by (matches c.term t) (by_member c ts)
 -- ---- a command in one of the contexts
 
 module _ (rules : Rules) (n : CtxNum) (slot : Option ℕ) (c : Command) (m : Maps) (tells : TellsEach c) where
-  named : List (List ℕ)
+  -- those that it matches
+  unfoldable pub named : List (List ℕ)
   named = filter (matches c.term) (members_of (ctx m n))
 
   targets_are : (r : TermRef) → is_wildcard r ≡ true → targets_of r (Each n) c m ≡ named
@@ -96,35 +97,38 @@ module _ (rules : Rules) (n : CtxNum) (slot : Option ℕ) (c : Command) (m : Map
   told_all : (replies : List CommandReply) → (if c.wild && is_wildcard c.term then reply c c.term (first_error replies) ∷ [] else replies) ≡ replies
   told_all replies = ap (λ (b : Bool). if b && is_wildcard c.term then reply c c.term (first_error replies) ∷ [] else replies) tells.alone
 
-  carried_least : (r : TermRef) → is_wildcard r ≡ true → c.term ≡ r → length (later command_reply_text (map (least_reply c) named)) ≤ length (later command_reply_text (carried rules (Each n) slot c m r).answer.replies)
-  carried_least All w e =
-      let ts : List (List ℕ) = targets (Each n) c m in
-      omega (arith, all_least rules n c ts m, ap (λ (l : List (List ℕ)). length (later command_reply_text (map (least_reply c) l))) (targets_are c.term (formed n c (tells.form n)).0), ap (λ (l : List CommandReply). length (later command_reply_text l)) (told_all (on_targets rules (Each n) c ts m).answer.answers))
-  carried_least (Under prefix) w e =
-      let ts : List (List ℕ) = targets (Each n) c m in
-      omega (arith, all_least rules n c ts m, ap (λ (l : List (List ℕ)). length (later command_reply_text (map (least_reply c) l))) (targets_are c.term (formed n c (tells.form n)).0), ap (λ (l : List CommandReply). length (later command_reply_text l)) (told_all (on_targets rules (Each n) c ts m).answer.answers))
-  carried_least Root w e = absurd cc
-  carried_least Choose w e = absurd cc
-  carried_least (Name t) w e = absurd cc
-  carried_least (Other text) w e = absurd cc
+  module _ (least : List CommandReply) where
+    -- its targets are those that it matches
+    carried_least : (r : TermRef) → is_wildcard r ≡ true → length (later command_reply_text least) ≤ length (later command_reply_text (on_targets rules (Each n) c named m).answer.answers) → length (later command_reply_text least) ≤ length (later command_reply_text (carried rules (Each n) slot c m r).answer.replies)
+    carried_least All w h =
+        let ts : List (List ℕ) = targets (Each n) c m in
+        omega (arith, h, ap (λ (l : List (List ℕ)). length (later command_reply_text (on_targets rules (Each n) c l m).answer.answers)) (targets_are c.term (formed n c (tells.form n)).0), ap (λ (l : List CommandReply). length (later command_reply_text l)) (told_all (on_targets rules (Each n) c ts m).answer.answers))
+    carried_least (Under prefix) w h =
+        let ts : List (List ℕ) = targets (Each n) c m in
+        omega (arith, h, ap (λ (l : List (List ℕ)). length (later command_reply_text (on_targets rules (Each n) c l m).answer.answers)) (targets_are c.term (formed n c (tells.form n)).0), ap (λ (l : List CommandReply). length (later command_reply_text l)) (told_all (on_targets rules (Each n) c ts m).answer.answers))
+    carried_least Root w h = absurd cc
+    carried_least Choose w h = absurd cc
+    carried_least (Name t) w h = absurd cc
+    carried_least (Other text) w h = absurd cc
 
-  no_names : (l : List (List ℕ)) → is_some_list l ≡ false → (replies : List CommandReply) → length (later command_reply_text (map (least_reply c) l)) ≤ length (later command_reply_text replies)
-  no_names [] h replies = omega arith
-  no_names (t ∷ ts) h replies = absurd cc
+    -- what its targets have at least, its replies have, also where there is none
+    pub told_least : (is_some_list named ≡ false → least ≡ []) → length (later command_reply_text least) ≤ length (later command_reply_text (on_targets rules (Each n) c named m).answer.answers) → length (later command_reply_text least) ≤ length (later command_reply_text (command rules (Each n) slot c m).answer.replies)
+    unfolding command
+    told_least nothing h = by (is_some_list named) refl
+      where
+        by : (b : Bool) → is_some_list named ≡ b
+            → length (later command_reply_text least) ≤ length (later command_reply_text (unless_refused (first_code (refusal_by_form (Each n) c) (refusal_by_tables (Each n) slot c m)) (Each n) c m (carried rules (Each n) slot c m c.term)).answer.replies)
+        by true e =
+            let form = formed n c (tells.form n) in
+            let none : first_code (refusal_by_form (Each n) c) (refusal_by_tables (Each n) slot c m) ≡ None = ap (λ (o : Option Code). first_code o (refusal_by_tables (Each n) slot c m)) (tells.form n) ∙ not_refused e in
+            omega (arith, carried_least c.term form.0 h, ap (λ (o : Option Code). length (later command_reply_text (unless_refused o (Each n) c m (carried rules (Each n) slot c m c.term)).answer.replies)) none)
+        by false e = omega (arith, ap (λ (l : List CommandReply). length (later command_reply_text l)) (nothing e))
 
-  by_names : length (later command_reply_text (map (least_reply c) named)) ≤ length (later command_reply_text (command rules (Each n) slot c m).answer.replies)
-  unfolding command
-  by_names = by (is_some_list named) refl
-    where
-      by : (b : Bool) → is_some_list named ≡ b
-          → length (later command_reply_text (map (least_reply c) named)) ≤ length (later command_reply_text (unless_refused (first_code (refusal_by_form (Each n) c) (refusal_by_tables (Each n) slot c m)) (Each n) c m (carried rules (Each n) slot c m c.term)).answer.replies)
-      by true e =
-          let form = formed n c (tells.form n) in
-          let none : first_code (refusal_by_form (Each n) c) (refusal_by_tables (Each n) slot c m) ≡ None = ap (λ (o : Option Code). first_code o (refusal_by_tables (Each n) slot c m)) (tells.form n) ∙ not_refused e in
-          omega (arith, carried_least c.term form.0 refl, ap (λ (o : Option Code). length (later command_reply_text (unless_refused o (Each n) c m (carried rules (Each n) slot c m c.term)).answer.replies)) none)
-      by false e = no_names named e (unless_refused (first_code (refusal_by_form (Each n) c) (refusal_by_tables (Each n) slot c m)) (Each n) c m (carried rules (Each n) slot c m c.term)).answer.replies
+  no_names : (l : List (List ℕ)) → is_some_list l ≡ false → map (least_reply c) l ≡ []
+  no_names [] h = refl
+  no_names (t ∷ ts) h = absurd cc
 
   -- its replies name each member that it matches
   pub members_named : length (later command_reply_text (flat_map (least_replies c) (members_of (ctx m n)))) ≤ length (later command_reply_text (command rules (Each n) slot c m).answer.replies)
   unfolding named
-  members_named = omega (arith, by_names, ap (λ (l : List CommandReply). length (later command_reply_text l)) (by_member c (members_of (ctx m n))))
+  members_named = omega (arith, told_least (map (least_reply c) named) (no_names named) (all_least rules n c named m), ap (λ (l : List CommandReply). length (later command_reply_text l)) (by_member c (members_of (ctx m n))))

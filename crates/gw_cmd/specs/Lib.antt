@@ -2,6 +2,7 @@ pub mod Clearing
 pub mod Commands
 pub mod Counted
 pub mod Effects
+pub mod Foretold
 pub mod Heads
 pub mod Idle
 pub mod Keys

@@ -8,6 +8,7 @@ mod clearing;
 mod counted;
 mod decide;
 mod effects;
+mod foretold;
 mod heads;
 mod idle;
 mod laws;
@@ -27,6 +28,7 @@ mod tables;
 mod wildcards;
 
 pub use carry::{command, command_told};
+pub use foretold::behind_foretold;
 pub use gw_refusal::At;
 pub use laws::{
     commands_keep_forms, commands_keep_tables_well_formed, commands_keep_to_their_keys,
