@@ -19,6 +19,9 @@ pub mod AlignedTaken
 pub mod SameNames
 pub mod NameTags
 pub mod Remade
+pub mod AlikeLists
+pub mod AlikeSettings
+pub mod LearntLists
 pub mod SamePlaces
 pub mod PrintEnds
 pub mod AuditLengths

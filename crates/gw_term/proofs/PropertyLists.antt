@@ -25,11 +25,11 @@ pub named_same : (a b : List ℕ) → folded a ≡ folded b → bytes_eq (folded
 named_same a b = (bytes_eq-Decides (folded a) (folded b)).1
 
 -- a property of the same name in any case has the name where the other has it
-same_test : (name : List ℕ) (p q : P) → folded p.name ≡ folded q.name → is_of_name name p ≡ is_of_name name q
+pub same_test : (name : List ℕ) (p q : P) → folded p.name ≡ folded q.name → is_of_name name p ≡ is_of_name name q
 same_test name p q h = ap (λ (x : List ℕ). bytes_eq x (folded name)) h
 
 -- a name that is the same in any case finds the same
-same_any : (a b : List ℕ) (list : List P) → folded a ≡ folded b → list_any (is_of_name a) list ≡ list_any (is_of_name b) list
+pub same_any : (a b : List ℕ) (list : List P) → folded a ≡ folded b → list_any (is_of_name a) list ≡ list_any (is_of_name b) list
 same_any a b list h = ap (λ (x : List ℕ). list_any (λ (q : P). bytes_eq (folded q.name) x) list) h
 
 -- ---- where a name stands
@@ -117,7 +117,7 @@ put_there p list s =
     lt_is : (a b : ℕ) → a < b → nat_lt a b ≡ true
     lt_is a b h = grind (arith, lt-ltb)
 
-neither : (s t : Bool) → s || t ≡ false → (s ≡ false) × (t ≡ false)
+pub neither : (s t : Bool) → s || t ≡ false → (s ≡ false) × (t ≡ false)
 neither true t h = absurd cc
 neither false t h = (refl, h)
 
@@ -141,6 +141,16 @@ put_last p list s = rw (s.place, not_below (length list)) refl
   where
     not_below : (n : ℕ) → nat_lt n n ≡ false
     not_below n = grind (arith, ltb-false)
+
+stands_none : (p : P) (list : List P) → list_any (is_of_name p.name) list ≡ false → StandsNot p list
+stands_none p [] h = record { none = refl; place = refl }
+stands_none p (q ∷ qs) h =
+    let n = neither (is_of_name p.name q) (list_any (is_of_name p.name) qs) h in
+    stands_not p q qs n.0 (stands_none p qs n.1)
+
+-- one of a new name is put last, if there is room
+pub put_new : (p : P) (list : List P) → list_any (is_of_name p.name) list ≡ false → put_property p list ≡ cond (nat_lt (length list) most_properties) (Some (list ++ p ∷ [])) None
+put_new p list h = put_last p list (stands_none p list h)
 
 -- nothing is put where the name is new and the list is full
 pub record IsFull (p : P) (list : List P) : Type 0 where

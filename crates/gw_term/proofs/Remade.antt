@@ -56,7 +56,7 @@ module _ (rules : Rules) (ds : List Descriptor) (all : Settings) (is : IsMadeBy 
     pub same : stream_or_none rules None number ds old ≡ at_number number all.streams
 
   -- one that is made is named
-  named_there : (number : ℕ) (made : Stream) → IsStreamIn all number made → list_any (is_named_in number) ds ≡ true
+  pub named_there : (number : ℕ) (made : Stream) → IsStreamIn all number made → list_any (is_named_in number) ds ≡ true
   unfolding merged_stream
   named_there number made among =
       by (list_any (is_named_in number) ds) (each (put_part rules None number) (flat_map (parts_in number) ds) (begun None)) (sym among.there ∙ (made_stream rules None ds (none_fills ds) all is number among.first among.last).0)

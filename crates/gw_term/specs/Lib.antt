@@ -17,5 +17,7 @@ pub mod Named
 pub mod Plain
 pub mod Room
 pub mod Aligned
+pub mod Alike
 pub mod ServicesAfter
 pub mod Sending
+pub mod Learnt

@@ -20,11 +20,11 @@ pub(crate) fn copied_properties(
     if properties.is_empty() {
         return Ok(Items::new(alloc));
     }
-    let mut copy = Items::from(Vec::with_capacity(alloc, properties.len())?);
+    let mut copy = Vec::with_capacity(alloc, properties.len())?;
     for property in properties {
         copy.push(property.copied(alloc, copying)?)?;
     }
-    Ok(copy)
+    Ok(Items::from(copy))
 }
 
 /// A copy of the stream. Always inlined, so that it is made where it goes to.

@@ -1,6 +1,7 @@
 //! Terminations: what is kept of one, what descriptors do to it, and what it answers to an Audit.
 #![tactic(auto)]
 
+mod alike;
 mod apply;
 mod audit;
 mod copies;

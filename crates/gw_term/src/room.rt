@@ -18,7 +18,7 @@ use gw_base::Span;
 use gw_desc::{Descriptor, MediaPart, Property, StreamPart, is_mode, is_service_states};
 
 /// Whether a property of the list has this name, which has this tag, in any case.
-fn has_name(list: &[HeldProperty], tag: u32, name: &[u8]) -> bool
+pub(crate) fn has_name(list: &[HeldProperty], tag: u32, name: &[u8]) -> bool
     requires { tag ≡ name_tag name.now }
     ensures { result ≡ list_any (is_of_name name.now) list.now }
 {

@@ -1,7 +1,9 @@
 //! Descriptors that are merged into many records, with what is found and made once for all of them.
 
-ghost use Rattle.std.specs.Prelude.{◌≡◌, true, IfOk, IfSome};
+ghost use Rattle.std.specs.Prelude.{◌≡◌, ◌⊎◌, [], true, IfOk, IfSome};
 ghost use Rattle.std.specs.List.{All, list_any};
+ghost use Rattle.gw_term.specs.Alike.{AreWhole, IsWholeAt};
+ghost use Rattle.gw_term.specs.Learnt.{IsLearnt};
 ghost use Rattle.gw_term.specs.Aligned.{IsAlignedIn, IsRemadeAt, IsRemadeIn, IsStreamIn, TakesAt};
 ghost use Rattle.gw_term.specs.Merge.{merged_service};
 ghost use Rattle.gw_term.specs.Named.{has_states, named_by};
@@ -9,6 +11,7 @@ ghost use Rattle.gw_term.specs.Plain.{are_plain, fill_none, AreKnown, IsMadeBy, 
 ghost use Rattle.gw_term.specs.Room.{Takes};
 ghost use Rattle.gw_term.specs.ServicesAfter.{AreServicesAfter};
 
+use crate::alike::{are_alike, have_many, is_whole};
 use crate::named::Named;
 use crate::plain::are_plain;
 use crate::properties::merged_service;
@@ -72,6 +75,17 @@ fn services_after(is_named: bool, descriptors: &[Descriptor<'_>]) -> ServicesAft
 pub(crate) struct Learnt {
     pub(crate) before: Settings,
     pub(crate) after: Settings,
+    /// Whether no value of its properties is left: then they make the same of what is alike.
+    pub(crate) is_whole: bool,
+}
+
+/// Where no more is kept, what was learnt is let go.
+fn make_room(learnt: &mut Vec<Learnt>)
+    ensures { (learnt.new.items ≡ []) ⊎ (learnt.new.items ≡ learnt.old.items) }
+{
+    if learnt.len() == MOST_LEARNT {
+        learnt.clear();
+    }
 }
 
 /// Descriptors that are merged into many records, under the gateway's rules, with what they name, what they make of a record of which
@@ -92,8 +106,9 @@ pub struct Sending<'a, 'b> {
     pub(crate) made: Settings,
     ghost made_once: { IsMadeBy rules.now descriptors.now made },
     pub(crate) learnt: Vec<Learnt>,
-    ghost made_again: { All (λ l. IsMadeOf rules.now descriptors.now l.before l.after) learnt.items },
+    ghost made_again: { All (IsLearnt rules.now descriptors.now) learnt.items },
     tries: usize,
+    tries_alike: usize,
 }
 
 impl<'a, 'b> Sending<'a, 'b> {
@@ -126,6 +141,7 @@ impl<'a, 'b> Sending<'a, 'b> {
             made,
             learnt: Vec::new(alloc),
             tries: MOST_TRIED,
+            tries_alike: MOST_TRIED,
         })
     }
 
@@ -149,12 +165,13 @@ impl<'a, 'b> Sending<'a, 'b> {
         }
     }
 
-    /// What the descriptors make of these settings, if that was learnt. The work is a comparison with each of the few that were.
+    /// What the descriptors make of these settings, if that was learnt of settings that others share. The work is a comparison with each of
+    /// the few of which it was.
     fn find(&self, settings: &Settings) -> Option<&Settings>
         ensures { IfSome result (λ after. IsMadeOf self.now.rules.now self.now.descriptors.now settings.now after.now) }
     {
         for learnt in &self.learnt {
-            if settings.is_same(&learnt.before) {
+            if !learnt.is_whole && settings.is_same(&learnt.before) {
                 return Some(&learnt.after);
             }
         }
@@ -290,15 +307,39 @@ impl<'a, 'b> Sending<'a, 'b> {
     }
 
     /// What they make of settings is kept. Where no more is kept, what was kept before is let go.
-    fn keep(&mut self, before: Settings, after: Settings) -> Result<(), AllocError>
-        requires { IsMadeOf self.old.rules.now self.old.descriptors.now before after }
+    fn keep(&mut self, learnt: Learnt) -> Result<(), AllocError>
+        requires { IsLearnt self.old.rules.now self.old.descriptors.now learnt }
         ensures { SendsTheSame self.old self.new }
     {
-        if self.learnt.len() == MOST_LEARNT {
-            self.learnt.clear();
-        }
-        self.learnt.push(Learnt { before, after })?;
+        make_room(&mut self.learnt);
+        self.learnt.push(learnt)?;
         Ok(())
+    }
+
+    /// Learns what they make of these settings, which is not known, if they take the descriptors. Answers that, if it was learnt. It may be
+    /// known that no value of their properties is left then. The work is that of merging them into one record, or a comparison of names where
+    /// nothing is left of them.
+    fn learn_anew(
+        &mut self,
+        alloc: Global,
+        settings: &Settings,
+        is_whole: bool,
+    ) -> Result<Option<Settings>, NoMemory>
+        requires { is_whole ≡ true → AreWhole self.old.made settings.now }
+        ensures same { SendsTheSame self.old self.new }
+        ensures after { IfOk result (λ learnt. IfSome learnt (IsMadeOf self.old.rules.now self.old.descriptors.now settings.now)) }
+    {
+        let Some(after) = self.made_anew(alloc, settings)? else {
+            return Ok(None);
+        };
+        let before = settings.copied(alloc)?;
+        let copy = after.copied(alloc)?;
+        self.keep(Learnt {
+            before,
+            after,
+            is_whole,
+        })?;
+        Ok(Some(copy))
     }
 
     /// Learns what they make of these settings, which is not known, if others share these, they take the descriptors, and fewer records were
@@ -313,13 +354,104 @@ impl<'a, 'b> Sending<'a, 'b> {
             return Ok(None);
         }
         self.tries -= 1;
-        let Some(after) = self.made_anew(alloc, settings)? else {
+        self.learn_anew(alloc, settings, false)
+    }
+
+    /// Whether no value of the properties of a setting is left after the descriptors, wherever it stands: each name stands there once, and
+    /// among those that they make.
+    fn is_whole_at(&self, setting: &Setting) -> bool
+        ensures { result ≡ true → IsWholeAt self.now.made setting.now }
+    {
+        match setting {
+            Setting::Properties(list) => is_whole(list.as_slice(), self.made.properties()),
+            Setting::Stream(number, stream) => match self.made_stream(*number) {
+                Some(made) => is_whole(stream.properties.as_slice(), made.properties.as_slice()),
+                None => false,
+            },
+            Setting::Tail(_, _) => true,
+        }
+    }
+
+    /// The same of each of these.
+    fn is_whole_each(&self, settings: &[Setting]) -> bool
+        ensures { result ≡ true → All (IsWholeAt self.now.made) settings.now }
+    {
+        for setting in settings {
+            if !self.is_whole_at(setting) {
+                return false;
+            }
+        }
+        true
+    }
+
+    /// Whether no value of the properties of the settings is left after the descriptors.
+    fn are_whole(&self, settings: &Settings) -> bool
+        ensures { result ≡ true → AreWhole self.now.made settings.now }
+    {
+        self.is_whole_each(settings.list())
+    }
+
+    /// What the descriptors make of these settings, if it was learnt of others that are the same but for values of properties, of which
+    /// nothing is left. The work is a comparison of names with each of the few that were learnt.
+    fn find_alike(&self, settings: &Settings) -> Option<&Settings>
+        ensures { IfSome result (λ after. IsMadeOf self.now.rules.now self.now.descriptors.now settings.now after.now) }
+    {
+        for learnt in &self.learnt {
+            if learnt.is_whole && are_alike(settings, &learnt.before) {
+                return Some(&learnt.after);
+            }
+        }
+        None
+    }
+
+    /// Learns what they make of these settings, of which it is not known, if no value of their properties is left then, so that it is known of
+    /// all that are alike, and of fewer records it was learnt in vain than may be.
+    #[inline(never)]
+    fn learn_alike(&mut self, alloc: Global, settings: &Settings) -> Result<Option<Settings>, NoMemory>
+        ensures same { SendsTheSame self.old self.new }
+        ensures after { IfOk result (λ learnt. IfSome learnt (IsMadeOf self.old.rules.now self.old.descriptors.now settings.now)) }
+    {
+        if self.tries_alike == 0 {
             return Ok(None);
-        };
-        let before = settings.copied(alloc)?;
-        let copy = after.copied(alloc)?;
-        self.keep(before, after)?;
-        Ok(Some(copy))
+        }
+        self.tries_alike -= 1;
+        if !self.are_whole(settings) {
+            return Ok(None);
+        }
+        self.learn_anew(alloc, settings, true)
+    }
+
+    /// What they make of these settings, if nothing is left of them, or it was learnt of others that are alike, or can be.
+    #[inline(never)]
+    fn alike_of_many(&mut self, alloc: Global, settings: &Settings) -> Result<Option<Settings>, NoMemory>
+        ensures same { SendsTheSame self.old self.new }
+        ensures after { IfOk result (λ known. IfSome known (IsMadeOf self.old.rules.now self.old.descriptors.now settings.now)) }
+    {
+        if let Some(after) = self.remade_after(alloc, settings)? {
+            return Ok(Some(after));
+        }
+        if let Some(after) = self.find_alike(settings) {
+            let copy = after.copied(alloc)?;
+            self.tries_alike = MOST_TRIED;
+            return Ok(Some(copy));
+        }
+        self.learn_alike(alloc, settings)
+    }
+
+    /// The same, where they have many properties.
+    #[inline]
+    fn alike_after(
+        &mut self,
+        alloc: Global,
+        settings: &Settings,
+    ) -> Result<Option<Settings>, NoMemory>
+        ensures same { SendsTheSame self.old self.new }
+        ensures after { IfOk result (λ known. IfSome known (IsMadeOf self.old.rules.now self.old.descriptors.now settings.now)) }
+    {
+        if have_many(settings) {
+            return self.alike_of_many(alloc, settings);
+        }
+        Ok(None)
     }
 
     /// What they make of these settings, if that is known, or else can be learnt. Where others share them it is learnt, also where nothing is
@@ -339,6 +471,9 @@ impl<'a, 'b> Sending<'a, 'b> {
         }
         if let Some(after) = self.learn(alloc, settings)? {
             return Ok(Some(after));
+        }
+        if have_many(settings) {
+            return self.alike_of_many(alloc, settings);
         }
         Ok(self.remade_after(alloc, settings)?)
     }
@@ -398,6 +533,9 @@ impl<'a, 'b> Sending<'a, 'b> {
             return Ok(true);
         }
         if self.learn(alloc, &termination.settings)?.is_some() {
+            return Ok(true);
+        }
+        if self.alike_after(alloc, &termination.settings)?.is_some() {
             return Ok(true);
         }
         Ok(self.takes_each(termination.settings.list()))

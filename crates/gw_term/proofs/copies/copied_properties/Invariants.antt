@@ -3,4 +3,4 @@ use Rattle.gw_term.proofs.copies.copied_properties.Given as goal
 
 -- those so far are copied
 abbrev pub invariant-loop-property : goal.invariant-loop-property
-invariant-loop-property l = l.copy ≡ take l.property-index l.properties
+invariant-loop-property l = l.copy.items ≡ take l.property-index l.properties

@@ -26,13 +26,27 @@ returns-then-is_some-2-clause-takes c = λ _.
     let learnt : is_some c.in_ok-learn.field-0 ≡ true = cc in
     of_some _ c.in_ok-learn.field-0 learnt c.in_ok-learn.ensures.after (λ after made. made_takes a.self.now.rules.now a.self.now.descriptors.now a.termination.now after (sym c.fills_none.ensures ∙ c.if-not-fills_none.false) made)
 
+pub returns-then-is_some-3-clause-takes : goal.returns-then-is_some-3-clause-takes
+returns-then-is_some-3-clause-takes c = λ _.
+    let a = c.args in
+    let before = c.learn.new.self in
+    let same = c.learn.ensures.same in
+    let r = a.termination.now in
+    let known : is_some c.in_ok-alike_after.field-0 ≡ true = cc in
+    let fills : fill_none before.descriptors.now r.slot ≡ true = ap (λ (ds : List Descriptor). fill_none ds r.slot) same.descriptors ∙ sym c.fills_none.ensures ∙ c.if-not-fills_none.false in
+    let takes : Takes before.rules.now before.descriptors.now r = of_some _ c.in_ok-alike_after.field-0 known c.in_ok-alike_after.ensures.after (λ after made. made_takes before.rules.now before.descriptors.now r after fills made) in
+    subst (λ (rules : Rules). Takes rules a.self.now.descriptors.now r) same.rules (subst (λ (ds : List Descriptor). Takes before.rules.now ds r) same.descriptors takes)
+
 pub returns-clause-takes : goal.returns-clause-takes
 returns-clause-takes c = λ h.
     let a = c.args in
     let old = a.self.now in
-    let new = c.learn.new.self in
+    let new = c.alike_after.new.self in
     let r = a.termination.now in
-    let same = c.learn.ensures.same in
-    let fills : fill_none new.descriptors.now r.slot ≡ true = ap (λ (ds : List Descriptor). fill_none ds r.slot) same.descriptors ∙ sym c.fills_none.ensures ∙ c.if-not-fills_none.false in
+    let first = c.learn.ensures.same in
+    let second = c.alike_after.ensures.same in
+    let rules = second.rules ∙ first.rules in
+    let descriptors = second.descriptors ∙ first.descriptors in
+    let fills : fill_none new.descriptors.now r.slot ≡ true = ap (λ (ds : List Descriptor). fill_none ds r.slot) descriptors ∙ sym c.fills_none.ensures ∙ c.if-not-fills_none.false in
     let takes : Takes new.rules.now new.descriptors.now r = aligned_takes new.rules.now new.descriptors.now new.made r fills new.made_once c.list.result.now (c.takes_each.ensures h) c.list.ensures in
-    subst (λ (rules : Rules). Takes rules old.descriptors.now r) same.rules (subst (λ (ds : List Descriptor). Takes new.rules.now ds r) same.descriptors takes)
+    subst (λ (rules : Rules). Takes rules old.descriptors.now r) rules (subst (λ (ds : List Descriptor). Takes new.rules.now ds r) descriptors takes)

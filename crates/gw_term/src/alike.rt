@@ -1,0 +1,110 @@
+//! Whether settings are the same but for the values of properties, and whether all of these are sent anew.
+
+ghost use Rattle.std.specs.Prelude.{◌≡◌, true};
+ghost use Rattle.std.specs.List.{All, list_any};
+ghost use Rattle.gw_term.specs.Alike.{IsWhole, IsAlike, AlikeAt, AreAlike};
+ghost use Rattle.gw_term.specs.Lookups.{is_of_name};
+ghost use Rattle.gw_term.specs.Settings.{set_by};
+
+use crate::held::HeldProperty;
+use crate::record::Stream;
+use crate::room::has_name;
+use crate::same::{are_same_names, is_aligned};
+use crate::settings::{Setting, Settings};
+use gw_desc::same_kept;
+
+/// How many properties a list has at least of which it may be learnt what becomes of those that are alike. Shorter ones are merged as fast.
+const MANY: usize = 8;
+
+/// Whether one of these is of the name of the property, in any case.
+fn is_among(own: &HeldProperty, made: &[HeldProperty]) -> bool
+    ensures { result ≡ list_any (λ m. is_of_name m.name own.now) made.now }
+{
+    for other in made {
+        if own.has_same_name(other) {
+            return true;
+        }
+    }
+    false
+}
+
+/// Whether each name of the list stands there once, and among those that were made. The work is a look at both lists for each property.
+pub(crate) fn is_whole(list: &[HeldProperty], made: &[HeldProperty]) -> bool
+    ensures { result ≡ true → IsWhole made.now list.now }
+{
+    let mut left = list;
+    while let Some((own, behind)) = left.split_first() {
+        if !is_among(own, made) || has_name(behind, own.tag(), own.name()) {
+            return false;
+        }
+        left = behind;
+    }
+    true
+}
+
+/// Whether the streams are the same but for the values of their properties. The names are compared last.
+fn is_alike(stream: &Stream, other: &Stream) -> bool
+    ensures { result ≡ true → IsAlike stream.now other.now }
+{
+    stream.local.is_same(&other.local)
+        && stream.remote.is_same(&other.remote)
+        && is_aligned(stream, other)
+}
+
+/// Whether the settings are.
+fn is_alike_at(setting: &Setting, other: &Setting) -> bool
+    ensures { result ≡ true → AlikeAt setting.now other.now }
+{
+    match (setting, other) {
+        (Setting::Properties(list), Setting::Properties(others)) => {
+            are_same_names(list.as_slice(), others.as_slice())
+        }
+        (Setting::Stream(number, stream), Setting::Stream(other_number, other)) => {
+            *number == *other_number && is_alike(stream, other)
+        }
+        (Setting::Tail(kind, tail), Setting::Tail(other_kind, other)) => {
+            same_kept(*kind, *other_kind) && tail.is_same(other)
+        }
+        _ => false,
+    }
+}
+
+/// Whether the settings are, in the same order.
+fn are_alike_in(settings: &[Setting], others: &[Setting]) -> bool
+    ensures { result ≡ true → AreAlike (set_by settings.now) (set_by others.now) }
+{
+    let mut left = settings;
+    let mut right = others;
+    while let Some((setting, settings_behind)) = left.split_first() {
+        let Some((other, others_behind)) = right.split_first() else {
+            return false;
+        };
+        if !is_alike_at(setting, other) {
+            return false;
+        }
+        left = settings_behind;
+        right = others_behind;
+    }
+    right.is_empty()
+}
+
+/// Whether what was set is the same in the same order, but for the values of properties. The work is a comparison of texts and names.
+pub(crate) fn are_alike(settings: &Settings, others: &Settings) -> bool
+    ensures { result ≡ true → AreAlike settings.now others.now }
+{
+    are_alike_in(settings.list(), others.list())
+}
+
+/// Whether a setting has so many properties that it may be learnt what becomes of it.
+fn has_many_at(setting: &Setting) -> bool {
+    match setting {
+        Setting::Properties(list) => list.len() >= MANY,
+        Setting::Stream(_, stream) => stream.properties.len() >= MANY,
+        Setting::Tail(_, _) => false,
+    }
+}
+
+/// Whether one of the settings has.
+pub(crate) fn have_many(settings: &Settings) -> bool {
+    settings.list().iter().any(has_many_at)
+}
