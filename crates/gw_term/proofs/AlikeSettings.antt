@@ -1,16 +1,12 @@
 -- What descriptors make of settings that are alike, where no value of their properties is left.
 use Rattle.std.proofs.Common.{◌≡◌, ℕ, ◌==◌, eqb-true, if◌then◌else◌, Bool, true, false, List, [], ◌∷◌, Option, Some, None, refl, ap, sym, ◌∙◌, subst}
 use Rattle.std.specs.Prelude.{IfSome}
-use Rattle.std.specs.List.{All, list_any, flat_map}
+use Rattle.std.specs.List.{All, flat_map}
 use Rattle.std.specs.Option.{option_map}
 use Rattle.std.proofs.lemmas.List.Elements.{All-head, All-tail}
 use Rattle.gw_base.specs.declared.command_words.Rules.{Rules}
 use Rattle.gw_desc.specs.declared.descriptor.Descriptor.{Descriptor}
-use Rattle.gw_desc.specs.declared.descriptor.KeptKind.{KeptKind}
 use Rattle.gw_desc.specs.declared.descriptor.StreamPart.{StreamPart}
-use Rattle.gw_desc.specs.declared.descriptor.Tail.{Tail}
-use Rattle.gw_desc.specs.declared.values.Mode.{Mode}
-use Rattle.gw_term.specs.declared.places.PerKind.{PerKind}
 use Rattle.gw_term.specs.declared.places.PerStream.{PerStream}
 use Rattle.gw_term.specs.declared.record.Stream.{Stream}
 use Rattle.gw_term.specs.declared.record.Termination.{Termination}
@@ -20,7 +16,7 @@ use Rattle.gw_term.specs.declared.streams.Merging.{Merging}
 use Rattle.gw_term.specs.Aligned.{IsMadeNew}
 use Rattle.gw_term.specs.Alike.{IsWholeIn, IsWholeAt, AreWhole, IsAlike, AlikeAt, AlikeIf, AreAlike}
 use Rattle.gw_term.specs.Lookups.{controls_sent, states_sent}
-use Rattle.gw_term.specs.Merge.{and_then, each, put_part, put_property, parts_in, states_in, begun, is_named_in, merged, merged_media, merged_properties, merged_stream, with_media, Media}
+use Rattle.gw_term.specs.Merge.{and_then, each, put_part, put_property, parts_in, states_in, begun, merged, merged_media, merged_properties, merged_stream, with_media, Media}
 use Rattle.gw_term.specs.Places.{put_kind}
 use Rattle.gw_term.specs.Plain.{IsMadeBy, IsMadeOf}
 use Rattle.gw_term.specs.Record.{provisioned}
@@ -29,7 +25,6 @@ use Rattle.gw_term.proofs.Aligned.{made_named}
 use Rattle.gw_term.proofs.AlikeLists.{puts_agree, whole_agree}
 use Rattle.gw_term.proofs.Made.{mapped_from}
 use Rattle.gw_term.proofs.MadeOnce.{made_anywhere}
-use Rattle.gw_term.proofs.PropertyLists.{P}
 use Rattle.gw_term.proofs.Remade.{named_there}
 use Rattle.gw_term.proofs.StreamsFound.{states_are, parted, parts_are}
 use Rattle.gw_term.proofs.Taken.{none_fills}

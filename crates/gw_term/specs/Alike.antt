@@ -56,4 +56,3 @@ pub record AreAlike (s t : Settings) : Type 0 where
   pub properties : lower_names s.properties ≡ lower_names t.properties
   pub streams : Between (λ _. AlikeIf) s.streams t.streams
   pub tails : s.tails ≡ t.tails
-

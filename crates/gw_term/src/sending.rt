@@ -407,7 +407,11 @@ impl<'a, 'b> Sending<'a, 'b> {
     /// Learns what they make of these settings, of which it is not known, if no value of their properties is left then, so that it is known of
     /// all that are alike, and of fewer records it was learnt in vain than may be.
     #[inline(never)]
-    fn learn_alike(&mut self, alloc: Global, settings: &Settings) -> Result<Option<Settings>, NoMemory>
+    fn learn_alike(
+        &mut self,
+        alloc: Global,
+        settings: &Settings,
+    ) -> Result<Option<Settings>, NoMemory>
         ensures same { SendsTheSame self.old self.new }
         ensures after { IfOk result (λ learnt. IfSome learnt (IsMadeOf self.old.rules.now self.old.descriptors.now settings.now)) }
     {
@@ -423,7 +427,11 @@ impl<'a, 'b> Sending<'a, 'b> {
 
     /// What they make of these settings, if nothing is left of them, or it was learnt of others that are alike, or can be.
     #[inline(never)]
-    fn alike_of_many(&mut self, alloc: Global, settings: &Settings) -> Result<Option<Settings>, NoMemory>
+    fn alike_of_many(
+        &mut self,
+        alloc: Global,
+        settings: &Settings,
+    ) -> Result<Option<Settings>, NoMemory>
         ensures same { SendsTheSame self.old self.new }
         ensures after { IfOk result (λ known. IfSome known (IsMadeOf self.old.rules.now self.old.descriptors.now settings.now)) }
     {

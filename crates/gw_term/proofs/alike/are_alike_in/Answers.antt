@@ -1,4 +1,4 @@
-use Rattle.std.proofs.Common.{rules, ◌≡◌, ℕ, List, length}
+use Rattle.std.proofs.Common.{rules, ◌≡◌, length}
 use Rattle.std.proofs.lemmas.List.{nil_from_length}
 use Rattle.gw_term.proofs.AlikeSettings.{alike_by, none_left}
 use Rattle.gw_term.proofs.alike.are_alike_in.Goals as goal

@@ -1,4 +1,4 @@
-use Rattle.std.proofs.Common.{rules, ◌≡◌, subst, sym}
+use Rattle.std.proofs.Common.{rules, subst, sym}
 use Rattle.gw_term.specs.Alike.{AreWhole}
 use Rattle.gw_term.specs.Plain.{IsMadeOf}
 use Rattle.gw_term.specs.Settings.{Settings}
