@@ -356,8 +356,16 @@ def wildcards():
         yield wild("62 contexts of 64, one `Context=*{%s=*}` with an audit of Media" % verb.decode(), made(many), action, 1, 62 * 65, b"Error=533")
     audited = b"C=*{S=*{AT{M}}}"
     yield wild("300 contexts, one `Context=*{Subtract=*}` with an audit of Media", contexts(300), audited, 1, 600, b"Error=533")
-    yield wild("230 contexts, one `Context=*{Subtract=*}` with an audit of Media", contexts(230), audited, 1, 460, b"Error=533")
-    yield wild("200 contexts, one `Context=*{Modify=*}` of a property with an audit of Media", contexts(200), b"C=*{MF=*{M{O{a=1}},AT{M}}}", 1, 400, b"Error=533")
+    # Just too many for one reply, by the records, and as many as there may be before the shortest answers show it.
+    for count in (213, 230, 255):
+        yield wild(f"{count} contexts, one `Context=*{{Subtract=*}}` with an audit of Media", contexts(count), audited, 1, 2 * count, b"Error=533")
+    yield wild("220 contexts, one `Context=*{AuditValue=*}` of Media", contexts(220), b"C=*{AV=*{AT{M}}}", 1, 440, b"Error=533")
+    for count in (160, 200, 260):
+        yield wild(f"{count} contexts, one `Context=*{{Modify=*}}` of a property with an audit of Media", contexts(count), b"C=*{MF=*{M{O{a=1}},AT{M}}}", 1, 2 * count,
+                   b"Error=533")
+    for name, count, command in (("Subtract", 180, b"S=*{AT{M,E,SG}}"), ("AuditValue", 175, b"AV=*{AT{M,E,SG}}"), ("Modify", 126, b"MF=*{M{O{a=1}},AT{M,E,SG}}")):
+        yield wild(f"{count} contexts, one `Context=*{{{name}=*}}` with an audit of Media, Events and Signals", contexts(count), b"C=*{%s}" % command, 1, 2 * count,
+                   b"Error=533")
     yield wild("2,000 contexts, one `Context=*{Subtract=*}` with an audit of Media", two, audited, 1, 4_000, b"Error=533")
     ended = [HEAD + as_often(b"T=1{C=*{", b"O-S=T/*", b"}}")]
     yield Kind("62 contexts of 64, Subtracts of all of a context that ends with the first", made(many), ended, b"Error=533", 62 * 65, 4_000)

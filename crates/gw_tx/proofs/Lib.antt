@@ -19,3 +19,4 @@ pub mod TooLong
 pub mod TooMany
 pub mod Unowned
 pub mod EachLeast
+pub mod Totals

@@ -1,5 +1,5 @@
 -- How much room the reply to an action without commands takes in each context.
-use Rattle.std.proofs.Common.{◌≡◌, ℕ, ◌+◌, ◌-◌, ◌<◌, true, false, List, [], ◌∷◌, ◌++◌, length, map, take, get_or, decimal, Option, None, Some, Ok, arith, length-append, append-nil, refl, sym, ap, subst, ◌∙◌}
+use Rattle.std.proofs.Common.{◌≡◌, ℕ, ◌+◌, ◌<◌, true, false, List, [], ◌∷◌, ◌++◌, length, map, take, get_or, decimal, Option, None, Some, Ok, arith, length-append, append-nil, refl, sym, ap, subst, ◌∙◌}
 use Rattle.std.specs.Prelude.{◌==◌, ◌≢◌, flat_map, is_some}
 use Rattle.std.proofs.lemmas.List.Concat.{flat_map_single}
 use Rattle.gw_base.specs.declared.context_words.Link.{Link}
@@ -7,7 +7,6 @@ use Rattle.gw_base.specs.declared.command_words.CtxRef.TheVariants as ref
 use Rattle.gw_base.specs.declared.ids.CtxNum.{CtxNum}
 use Rattle.gw_ctx.specs.Contexts.{ContextRecord}
 use Rattle.gw_length.specs.Rooms.{Leaves}
-use Rattle.gw_length.specs.declared.telling.Telling.{Telling}
 use Rattle.gw_length.specs.declared.telling.Telling.TheVariants as telling
 use Rattle.gw_length.specs.Tellings.{told_behind}
 pub use Rattle.gw_length.proofs.Counted.{leaves_behind, none_left, one_behind, none_behind}

@@ -106,14 +106,15 @@ pub(crate) fn in_context(
     )
 }
 
-/// Carries an action out in each of the contexts. What is found of its commands alone is found once. A stop ends the commands of its context alone; that there was one is what the
-/// next would go on from.
+/// Carries an action out in each of the contexts. What is found of its commands alone is known. A stop ends the commands of its context alone;
+/// that there was one is what the next would go on from.
 fn in_all(
     alloc: Global,
     rules: &Rules,
     draft: &mut Draft<'_>,
     slots: &[Option<u16>],
     sent: &Action<'_>,
+    known: &[Prepared<'_, '_>],
     numbers: &[CtxNum],
     told: Telling<ActionReply>,
 ) -> Result<Counted<bool, ActionReply>, NoMemory>
@@ -121,6 +122,7 @@ fn in_all(
     requires unused { AreFreeSlots draft.old.maps slots.now }
     requires key { All (λ n. holds draft.old.keys (Ctx n) ≡ true) numbers.now }
     requires plain { ArePlain sent.now.props }
+    requires known { ArePrepared rules.now known.now sent.now.commands }
     ensures maps { (owned : Option CtxNum) → OnOk result (draft.new.maps ≡ (in_all rules.now (paired_action owned slots.now sent.now) numbers.now draft.old.maps).maps) }
     ensures answer { (owned : Option CtxNum) → IfOk result (λ done. done ≡ counted action_reply_text told (in_all rules.now (paired_action owned slots.now sent.now) numbers.now draft.old.maps).answer) }
     ensures keys { draft.new.keys ≡ draft.old.keys }
@@ -128,7 +130,6 @@ fn in_all(
     let wanted = wanted_by(sent.props.as_slice());
     let nothing = come_to_nothing(sent.commands.as_slice());
     let acts = surely_act(sent.commands.as_slice());
-    let known = all_prepared(alloc, rules, sent.commands.as_slice())?;
     let mut stopped = false;
     let mut told = told;
     for number in numbers {
@@ -141,7 +142,7 @@ fn in_all(
             *number,
             slots,
             sent,
-            &known,
+            known,
             nothing,
             acts,
             told,
@@ -179,8 +180,9 @@ pub(crate) fn action_for_each(
     let done = if sent.commands.is_empty() {
         action_alone(alloc, draft, sent, &numbers, told)?
     } else {
-        let told = told_before(draft, sent, &numbers, told);
-        in_all(alloc, rules, draft, slots, sent, &numbers, told)?
+        let known = all_prepared(alloc, rules, sent.commands.as_slice())?;
+        let told = told_before(alloc, rules, draft, sent, &known, &numbers, told);
+        in_all(alloc, rules, draft, slots, sent, &known, &numbers, told)?
     };
     Ok(Counted {
         next: (),

@@ -1,10 +1,12 @@
 //! How long the replies in each context are at least to an action with commands, counted before anything is told.
 
-ghost use Rattle.std.specs.Prelude.{◌≡◌, ◌∷◌, ◌+◌, true, length, List, Option, ℕ};
+ghost use Rattle.std.specs.Prelude.{◌≡◌, ◌<◌, ◌∷◌, ◌+◌, true, length, List, Option, ℕ, IfSome};
 ghost use Rattle.std.specs.List.{flat_map};
-ghost use Rattle.gw_base.specs.declared.command_words.Rules.{Rules};
+ghost use Rattle.gw_base.specs.NameLists.{NoDoubles};
+ghost use Rattle.gw_base.specs.declared.command_words.Rules.{Rules as Kept};
 ghost use Rattle.gw_base.specs.declared.ids.CtxNum.{CtxNum};
 ghost use Rattle.gw_cmd.specs.Least.{least_replies, shortest_result};
+ghost use Rattle.gw_cmd.specs.Prepared.{IsPrepared, ArePrepared};
 ghost use Rattle.gw_length.specs.Rooms.{Leaves};
 ghost use Rattle.gw_length.specs.Tellings.{told_behind};
 ghost use Rattle.gw_length.specs.declared.telling.Telling.TheVariants.{TooLong, Within};
@@ -18,20 +20,27 @@ ghost use Rattle.gw_table.specs.Maps.{Maps, ctx, members_of, numbers as all_numb
 ghost use Rattle.gw_tx.specs.Least.{least_in, least_in_all};
 ghost use Rattle.gw_tx.specs.Transactions.{in_all};
 
-use gw_base::{CtxNum, TermName};
-use gw_cmd::{least_body, tells_each};
+use crate::foretold::are_foretold_too_long;
+use gw_base::{CtxNum, Rules, TermName};
+use gw_cmd::{Prepared, first_prepared, least_body, tells_each};
 use gw_length::{Telling, behind, behind_number, verb_length};
 use gw_msg::{Action, Command};
 use gw_refusal::matches;
 use gw_reply::ActionReply;
 use gw_table::Draft;
+use std::alloc::Global;
 
 /// How many bytes the reply in a context has at least, with the comma before it: `,Context={}`.
 const LEAST: usize = 11;
 
+/// How many bytes stand around the command's word and what is told of one member in the reply in a context, or somewhat fewer: `,Context=12{=a1}`.
+/// Of more members than there is room for, told so, the shortest replies are counted first, since that costs less, and of fewer what the
+/// records tell.
+const AROUND: usize = 16;
+
 /// Whether there is surely no room for the replies in so many contexts.
 fn are_too_many(told: &Telling<ActionReply>, count: usize) -> bool
-    ensures { (rules : Rules) (a : OwnedAction) (ns : List CtxNum) (m : Maps) → length ns ≡ count → result ≡ true → told_behind action_reply_text told.now (in_all rules a ns m).answer.answers ≡ TooLong }
+    ensures { (rules : Kept) (a : OwnedAction) (ns : List CtxNum) (m : Maps) → length ns ≡ count → result ≡ true → told_behind action_reply_text told.now (in_all rules a ns m).answer.answers ≡ TooLong }
 {
     match told {
         Telling::Within(_, room) => room / LEAST < count,
@@ -112,52 +121,107 @@ fn behind_each_least(
     Some(left)
 }
 
+/// How many members there are in these contexts, if each has as many as the first of them: a guess, by one look-up.
+fn guessed_members(draft: &Draft<'_>, numbers: &[CtxNum]) -> usize {
+    let Some(number) = numbers.first() else {
+        return 0;
+    };
+    match draft.ctx(*number) {
+        Some(context) => numbers.len().saturating_mul(context.members().len()),
+        None => 0,
+    }
+}
+
+/// Whether there is no room for the shortest replies in these contexts.
+fn are_least_too_long(
+    room: usize,
+    draft: &Draft<'_>,
+    first: &Command<'_>,
+    numbers: &[CtxNum],
+) -> bool
+    ensures { result ≡ true → room < least_in_all first.now draft.now.maps numbers.now }
+{
+    behind_each_least(room, draft, first, numbers).is_none()
+}
+
 /// Whether there is surely no room for the replies in these contexts, which are all that there are, to an action of which this is the first
 /// command.
-fn is_too_long(room: usize, draft: &Draft<'_>, first: &Command<'_>, numbers: &[CtxNum]) -> bool
-    requires { numbers.now ≡ all_numbers draft.now.maps }
-    ensures { (rules : Rules) (a : OwnedAction) (slot : Option ℕ) (others : List (Option ℕ × Sent)) (front : List Reply) → a.commands ≡ (slot, first.now) ∷ others → result ≡ true → told_behind action_reply_text (Within front room) (in_all rules a numbers.now draft.now.maps).answer.answers ≡ TooLong }
+fn is_too_long(
+    alloc: Global,
+    rules: &Rules,
+    room: usize,
+    draft: &Draft<'_>,
+    first: &Command<'_>,
+    known: Option<&Prepared<'_, '_>>,
+    numbers: &[CtxNum],
+) -> bool
+    requires numbers { numbers.now ≡ all_numbers draft.now.maps }
+    requires known { IfSome known (λ p. IsPrepared rules.now p.now first.now) }
+    requires once { (n : CtxNum) → NoDoubles (members_of (ctx draft.now.maps n)) }
+    ensures { (a : OwnedAction) (slot : Option ℕ) (others : List (Option ℕ × Sent)) (front : List Reply) → a.commands ≡ (slot, first.now) ∷ others → result ≡ true → told_behind action_reply_text (Within front room) (in_all rules.now a numbers.now draft.now.maps).answer.answers ≡ TooLong }
 {
-    if tells_each(first) {
-        return behind_each_least(room, draft, first, numbers).is_none();
+    if !tells_each(first) {
+        return false;
     }
-    false
+    let each = AROUND + verb_length(first.verb) + least_body(first);
+    let many = guessed_members(draft, numbers) > room / each;
+    if many && are_least_too_long(room, draft, first, numbers) {
+        return true;
+    }
+    if are_foretold_too_long(alloc, rules, room, draft, first, known, numbers) {
+        return true;
+    }
+    !many && are_least_too_long(room, draft, first, numbers)
 }
 
 /// The same, behind what is told, of an action.
 fn are_too_long(
+    alloc: Global,
+    rules: &Rules,
     draft: &Draft<'_>,
     sent: &Action<'_>,
+    known: &[Prepared<'_, '_>],
     numbers: &[CtxNum],
     told: &Telling<ActionReply>,
 ) -> bool
-    requires { numbers.now ≡ all_numbers draft.now.maps }
-    ensures { (rules : Rules) (owned : Option CtxNum) (slots : List (Option ℕ)) → result ≡ true → told_behind action_reply_text told.now (in_all rules (paired_action owned slots sent.now) numbers.now draft.now.maps).answer.answers ≡ TooLong }
+    requires numbers { numbers.now ≡ all_numbers draft.now.maps }
+    requires known { ArePrepared rules.now known.now sent.now.commands }
+    requires once { (n : CtxNum) → NoDoubles (members_of (ctx draft.now.maps n)) }
+    ensures { (owned : Option CtxNum) (slots : List (Option ℕ)) → result ≡ true → told_behind action_reply_text told.now (in_all rules.now (paired_action owned slots sent.now) numbers.now draft.now.maps).answer.answers ≡ TooLong }
 {
     let Some(first) = sent.commands.as_slice().first() else {
         return false;
     };
     match told {
-        Telling::Within(_, room) => is_too_long(*room, draft, first, numbers),
+        Telling::Within(_, room) => {
+            let prepared = first_prepared(known);
+            is_too_long(alloc, rules, *room, draft, first, prepared, numbers)
+        }
         Telling::All(_) | Telling::TooLong => false,
     }
 }
 
 /// What is told before the replies in these contexts, which are all that there are: nothing more, where there is surely no room for all of
-/// them. The work is a look at each context and its members, as far as there is room.
+/// them. What is found of the commands alone is known. The work is a look at each context and its members, and, where these are audited,
+/// one look-up of each and that of counting what is told of it, as far as there is room.
 pub(crate) fn told_before(
+    alloc: Global,
+    rules: &Rules,
     draft: &Draft<'_>,
     sent: &Action<'_>,
+    known: &[Prepared<'_, '_>],
     numbers: &[CtxNum],
     told: Telling<ActionReply>,
 ) -> Telling<ActionReply>
-    requires { numbers.now ≡ all_numbers draft.now.maps }
-    ensures { (rules : Rules) (owned : Option CtxNum) (slots : List (Option ℕ)) → told_behind action_reply_text result (in_all rules (paired_action owned slots sent.now) numbers.now draft.now.maps).answer.answers ≡ told_behind action_reply_text told (in_all rules (paired_action owned slots sent.now) numbers.now draft.now.maps).answer.answers }
+    requires numbers { numbers.now ≡ all_numbers draft.now.maps }
+    requires known { ArePrepared rules.now known.now sent.now.commands }
+    requires once { (n : CtxNum) → NoDoubles (members_of (ctx draft.now.maps n)) }
+    ensures { (owned : Option CtxNum) (slots : List (Option ℕ)) → told_behind action_reply_text result (in_all rules.now (paired_action owned slots sent.now) numbers.now draft.now.maps).answer.answers ≡ told_behind action_reply_text told (in_all rules.now (paired_action owned slots sent.now) numbers.now draft.now.maps).answer.answers }
 {
     if are_too_many(&told, numbers.len()) {
         return Telling::TooLong;
     }
-    if are_too_long(draft, sent, numbers, &told) {
+    if are_too_long(alloc, rules, draft, sent, known, numbers, &told) {
         return Telling::TooLong;
     }
     told

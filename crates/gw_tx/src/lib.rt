@@ -6,6 +6,7 @@ mod alone;
 mod commands;
 mod contexts;
 mod counting;
+mod foretold;
 mod laws;
 mod least;
 mod links;

@@ -15,8 +15,6 @@ use Rattle.gw_table.specs.Parts.{Parted, PartKeys, holds}
 use Rattle.gw_table.proofs.Folding.{ended, rest_of, goes_on, ends}
 use Rattle.gw_refusal.specs.declared.at.At.TheVariants.{Each}
 use Rattle.gw_cmd.specs.Nothing.{ComeToNothing}
-use Rattle.gw_cmd.specs.declared.prepared.Prepared.{Prepared}
-use Rattle.gw_cmd.specs.Prepared.{ArePrepared}
 use Rattle.gw_cmd.proofs.Parted.{StaysPart}
 use Rattle.gw_reserve.specs.Owned.{OwnedAction, paired_action, paired_commands}
 use Rattle.gw_tx.specs.Footprints.{list_keys}
@@ -79,9 +77,7 @@ in_ready-requires-clause-nothing c = λ rules m e.
     subst (λ (l : List Command). ComeToNothing rules (Each n) l m) c.as_slice-2.ensures (c.come_to_nothing-nothing.ensures rules n m e)
 
 pub in_ready-requires-clause-known : goal.in_ready-requires-clause-known
-in_ready-requires-clause-known c =
-    subst (λ (l : List Prepared). ArePrepared c.args.rules.now l c.args.sent.now.commands) (sym c.deref.ensures.value)
-    (subst (λ (l : List Command). ArePrepared c.args.rules.now c.in_ok-known.known.items l) c.as_slice-4.ensures c.in_ok-known.ensures)
+in_ready-requires-clause-known c = c.requires.known
 
 pub loop-number-preserved : goal.loop-number-preserved
 loop-number-preserved c =
