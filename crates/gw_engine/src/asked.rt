@@ -7,7 +7,7 @@ ghost use Rattle.gw_engine.specs.Phases.{asks_from, asks_of, point_of, points_of
 use crate::heard::Heard;
 use gw_base::{Code, Items, NoMemory};
 use gw_board::Lent;
-use gw_kept::{Point, Ranges, Removal, RequestKey};
+use gw_kept::{LentKey, Point, Ranges, Removal};
 use gw_msg::{Item, Sender};
 use std::alloc::Global;
 
@@ -48,16 +48,15 @@ pub(crate) struct Ask<'h, 'a> {
     pub(crate) said: Said<'h, 'a>,
 }
 
-impl<'h> Ask<'h, '_> {
+impl<'h, 'a: 'h> Ask<'h, 'a> {
     /// What it is to the kept replies. An error is nothing to them.
     fn point(&self) -> Point<'h>
         ensures { result ≡ point_of self.now.said }
     {
         match &self.said {
-            Said::Request(sent) => Point::Request(RequestKey {
-                id: sent.request.id().0,
-                mid: *sent.mid.mid(),
-            }),
+            Said::Request(sent) => {
+                Point::Request(LentKey::new(sent.mid.again(), sent.request.id()))
+            }
             Said::Ack(removal) => Point::Ack(removal.again()),
             Said::Fault(_) => Point::Nothing,
         }
@@ -93,7 +92,7 @@ fn push_asks<'h, 'a>(asks: &mut Items<Ask<'h, 'a>>, datagram: &'h Heard<'a>) -> 
             Item::Ack(ranges) => asks.push(Ask {
                 peer,
                 said: Said::Ack(Removal {
-                    mid: *mid.mid(),
+                    mid: mid.again(),
                     ranges: Ranges::new(ranges.as_slice()),
                 }),
             })?,
@@ -103,6 +102,21 @@ fn push_asks<'h, 'a>(asks: &mut Items<Ask<'h, 'a>>, datagram: &'h Heard<'a>) -> 
     Ok(())
 }
 
+/// How much a datagram asks at most.
+fn most_of(datagram: &Heard<'_>) -> usize {
+    match &datagram.message {
+        Ok(message) => message.items.len(),
+        Err(_) => 1,
+    }
+}
+
+/// How much a burst asks at most.
+fn most_in(heard: &[Heard<'_>]) -> usize {
+    heard.iter().fold(0usize, |sum, datagram| {
+        sum.saturating_add(most_of(datagram))
+    })
+}
+
 /// What the messages of a burst ask, and the errors of its other texts. A reply asks nothing.
 pub(crate) fn asks_of<'h, 'a>(
     alloc: Global,
@@ -110,7 +124,7 @@ pub(crate) fn asks_of<'h, 'a>(
 ) -> Result<Items<Ask<'h, 'a>>, NoMemory>
     ensures { IfOk result (λ asks. asks ≡ asks_of heard.now) }
 {
-    let mut asks = Items::from(Vec::with_capacity(alloc, heard.len())?);
+    let mut asks = Items::from(Vec::with_capacity(alloc, most_in(heard))?);
     for datagram in heard {
         push_asks(&mut asks, datagram)?;
     }

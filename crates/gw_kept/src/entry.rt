@@ -4,6 +4,7 @@ ghost use Rattle.std.specs.Prelude.{◌≡◌};
 ghost use Rattle.gw_kept.specs.Order.{key_cmp};
 ghost use Rattle.gw_kept.specs.Pairs.{key_by, key_of};
 
+use crate::point::LentKey;
 use gw_base::{Items, Mid, TxId};
 use std::alloc::Global;
 use std::cmp::Ordering;
@@ -60,6 +61,13 @@ impl Entry {
         ensures { result ≡ key_cmp (key_of self.now) (key_by mid.now id) }
     {
         self.mid.cmp(mid).then(self.id.0.cmp(&id))
+    }
+
+    /// The key of the pair, lent.
+    pub(crate) fn lent_key(&self) -> LentKey<'_>
+        ensures { result ≡ key_of self.now }
+    {
+        LentKey::by(&self.mid, self.id.0)
     }
 
     /// The key of the pair.

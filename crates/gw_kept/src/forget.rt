@@ -12,8 +12,8 @@ ghost use Rattle.gw_kept.specs.Arrival.{AreSameApart, AreWithin, IsArrival};
 ghost use Rattle.gw_kept.specs.Order.{key_cmp, key_there, IsMarked, IsOrder, IsSpan};
 
 use crate::arrival::Arrival;
-use crate::entry::RequestKey;
 use crate::order::Order;
+use crate::point::LentKey;
 use crate::ring::{Ring, let_go};
 use gw_base::Mid;
 use gw_msg::AckRange;
@@ -39,7 +39,7 @@ fn number_at(front: &[u16], back: &[u16], at: usize) -> u16
 
 impl Order {
     /// From where on in the order no key comes before this one.
-    fn start_of(&self, ring: &Ring, key: &RequestKey) -> usize
+    fn start_of(&self, ring: &Ring, key: &LentKey<'_>) -> usize
         ensures bound { result ≤ deque_len self.now.numbers }
         ensures start { (order : IsOrder (keys_in ring.now.items) self.now.first self.now.numbers.items) → (at : ℕ) (d : Key) → at < length order.places → nat_le result at ≡ not (is_lt (key_cmp (key_there (keys_in ring.now.items) order.places at d) key.now)) }
     {
@@ -49,7 +49,7 @@ impl Order {
     }
 
     /// Up to where in the order no key comes behind this one.
-    fn end_of(&self, ring: &Ring, key: &RequestKey) -> usize
+    fn end_of(&self, ring: &Ring, key: &LentKey<'_>) -> usize
         ensures bound { result ≤ deque_len self.now.numbers }
         ensures end { (order : IsOrder (keys_in ring.now.items) self.now.first self.now.numbers.items) → (at : ℕ) (d : Key) → at < length order.places → nat_lt at result ≡ not (is_gt (key_cmp (key_there (keys_in ring.now.items) order.places at d) key.now)) }
     {
@@ -64,14 +64,8 @@ impl Order {
         ensures bound { (result.0 ≤ deque_len self.now.numbers) × (result.1 ≤ deque_len self.now.numbers) }
         ensures span { (order : IsOrder (keys_in ring.now.items) self.now.first self.now.numbers.items) → IsSpan (keys_in ring.now.items) order.places mid.now range.now result }
     {
-        let first = RequestKey {
-            mid: *mid,
-            id: range.first,
-        };
-        let last = RequestKey {
-            mid: *mid,
-            id: range.last,
-        };
+        let first = LentKey::by(mid, range.first);
+        let last = LentKey::by(mid, range.last);
         (self.start_of(ring, &first), self.end_of(ring, &last))
     }
 

@@ -10,9 +10,8 @@ ghost use Rattle.gw_kept.specs.Asked.{asked_cmp, asked_key};
 
 use crate::asked::AskedKey;
 use crate::class::{Class, Source};
-use crate::entry::RequestKey;
 use crate::kept::Kept;
-use crate::point::{Point, Removal};
+use crate::point::{LentKey, Point, Removal};
 use crate::row::Row;
 use std::alloc::{AllocError, Global};
 use std::collections::BTreeMap;
@@ -46,7 +45,7 @@ fn asked_places(
     let mut places = BTreeMap::new(alloc);
     for point in points {
         if let Point::Request(key) = point {
-            places.insert(AskedKey { key: *key }, kept.place(key))?;
+            places.insert(AskedKey { key: key.get() }, kept.place(key))?;
         }
     }
     Ok(places)
@@ -66,7 +65,7 @@ pub(crate) fn source(before: usize, place: usize) -> Source
 /// The place of a key's last pair, if that is kept: where acknowledgements have no say, if it is none before the oldest.
 pub(crate) fn kept_place(
     place: Option<usize>,
-    key: &RequestKey,
+    key: &LentKey<'_>,
     oldest: usize,
     left: &Option<Row>,
 ) -> Option<usize>
@@ -113,14 +112,14 @@ impl Index {
     }
 
     /// The class of a request that is asked, which is noted if it is new: one look-up in the index.
-    fn request_class(&mut self, alloc: Global, key: &RequestKey) -> Class
+    fn request_class(&mut self, alloc: Global, key: &LentKey<'_>) -> Class
         ensures exact { (asked : List Item) (s : Standing) → IsIndex asked self.old s → is_asked key.now asked ≡ true → (result ≡ class_of self.old.before s.pairs (kept_place key.now s)) × IsIndex asked self.new (behind_request self.old.most result key.now s) }
         ensures most { self.new.most ≡ self.old.most }
         ensures before { self.new.before ≡ self.old.before }
         ensures left { is_some self.new.left ≡ is_some self.old.left }
     {
         // Each request of the burst is asked, so that its key has a place here.
-        let Some(noted) = self.places.get_mut(&AskedKey { key: *key }) else {
+        let Some(noted) = self.places.get_mut(&AskedKey { key: key.get() }) else {
             return Class::Nothing;
         };
         let oldest = self.total.saturating_sub(self.most);
@@ -147,7 +146,7 @@ impl Index {
         ensures left { is_some self.new.left ≡ is_some self.old.left }
     {
         if let Some(row) = &mut self.left {
-            row.forget(&removal.mid, removal.ranges.as_slice());
+            row.forget(removal.mid.mid(), removal.ranges.as_slice());
         }
     }
 

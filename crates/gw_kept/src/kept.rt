@@ -6,7 +6,8 @@ ghost use Rattle.gw_kept.specs.Forgotten.{forgotten};
 ghost use Rattle.gw_kept.specs.Pairs.{key_of, bytes_for, bytes_at, none_kept, with_pair, dropped_by, AreDistinct, IsBounded};
 ghost use Rattle.gw_kept.specs.Rows.{kept_in};
 
-use crate::entry::{Entry, RequestKey};
+use crate::entry::Entry;
+use crate::point::LentKey;
 use crate::row::Row;
 use gw_base::{Mid, NoMemory, TxId};
 use gw_msg::AckRange;
@@ -81,10 +82,7 @@ impl Kept {
     pub fn find(&self, mid: &Mid, id: TxId) -> Option<&[u8]>
         ensures { option_copied result ≡ bytes_for (record { id = id.0; mid = mid.now }) self.now.pairs }
     {
-        let key = RequestKey {
-            id: id.0,
-            mid: *mid,
-        };
+        let key = LentKey::by(mid, id.0);
         match self.place(&key) {
             Some(place) => self.reply_at(place),
             None => None,
@@ -100,7 +98,7 @@ impl Kept {
 
     /// The place of a key's pair, counted from the oldest on: twice log k steps for k pairs, or once where it has none.
     #[inline(always)]
-    pub(crate) fn place(&self, key: &RequestKey) -> Option<usize>
+    pub(crate) fn place(&self, key: &LentKey<'_>) -> Option<usize>
         ensures place { result ≡ last_place key.now (keys_of self.now) }
         ensures distinct { AreDistinct self.now.pairs }
     {

@@ -12,7 +12,8 @@ ghost use Rattle.gw_kept.specs.Arrival.{IsArrival};
 ghost use Rattle.gw_kept.specs.declared.entry.RequestKey.{RequestKey as Key};
 
 use crate::arrival::Arrival;
-use crate::entry::{Entry, RequestKey};
+use crate::entry::Entry;
+use crate::point::LentKey;
 use crate::ring::{Ring, pair_at, places_left, take};
 use gw_base::Mid;
 use std::alloc::{AllocError, Global};
@@ -97,11 +98,11 @@ impl Order {
     /// Where a key stands in the order, or where it would stand: one step where it comes behind all others, as the next number of
     /// a sender mostly does, and else as many more as the count of pairs has binary digits.
     #[inline(always)]
-    pub fn search(&self, ring: &Ring, key: &RequestKey) -> Result<usize, usize>
+    pub fn search(&self, ring: &Ring, key: &LentKey<'_>) -> Result<usize, usize>
         ensures range { IsSearchInRange result (deque_len self.now.numbers) }
         ensures stand { (order : IsOrder (keys_in ring.now.items) self.now.first self.now.numbers.items) → IsStand (keys_in ring.now.items) order.places key.now result }
     {
-        if self.is_behind(ring, &key.mid, key.id) {
+        if self.is_behind(ring, key.mid(), key.id()) {
             return Err(self.numbers.len());
         }
         self.search_among(ring, key)
@@ -109,12 +110,12 @@ impl Order {
 
     /// The same by halves, wherever it comes.
     #[inline(never)]
-    fn search_among(&self, ring: &Ring, key: &RequestKey) -> Result<usize, usize>
+    fn search_among(&self, ring: &Ring, key: &LentKey<'_>) -> Result<usize, usize>
         ensures range { IsSearchInRange result (deque_len self.now.numbers) }
         ensures stand { (order : IsOrder (keys_in ring.now.items) self.now.first self.now.numbers.items) → IsStand (keys_in ring.now.items) order.places key.now result }
     {
         self.numbers
-            .binary_search_by(|number| self.compare(ring, *number, &key.mid, key.id))
+            .binary_search_by(|number| self.compare(ring, *number, key.mid(), key.id()))
     }
 
     /// Where the key of a pair stands in the order, or where it would stand.
@@ -123,7 +124,7 @@ impl Order {
         ensures range { IsSearchInRange result (deque_len self.now.numbers) }
         ensures stand { (order : IsOrder (keys_in ring.now.items) self.now.first self.now.numbers.items) → IsStand (keys_in ring.now.items) order.places (key_of pair.now) result }
     {
-        self.search_among(ring, &pair.key())
+        self.search_among(ring, &pair.lent_key())
     }
 
     /// Where the key of the pair in the foremost place stands: mostly in front, which is told by its number.
@@ -139,7 +140,7 @@ impl Order {
 
     /// The place of a key's pair, gaps counted.
     #[inline(always)]
-    pub fn find(&self, ring: &Ring, key: &RequestKey) -> Option<usize>
+    pub fn find(&self, ring: &Ring, key: &LentKey<'_>) -> Option<usize>
         requires { IsOrder (keys_in ring.now.items) self.now.first self.now.numbers.items }
         ensures { IsFound (keys_in ring.now.items) key.now result }
     {

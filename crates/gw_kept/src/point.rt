@@ -2,11 +2,73 @@
 
 ghost use Rattle.std.specs.Prelude.{◌≡◌};
 ghost use Rattle.gw_kept.specs.Classes.{point_in};
+ghost use Rattle.gw_kept.specs.Pairs.{key_by};
 
 use crate::entry::RequestKey;
-use gw_base::Mid;
-use gw_msg::{AckRange, Item};
+use gw_base::{Mid, TxId};
+use gw_msg::{AckRange, Item, Sender};
 use std::marker::Model;
+
+/// The key of a request, lent by the message that it came in. Contracts see the key itself.
+#[derive(Drop)]
+pub struct LentKey<'h> {
+    mid: Sender<'h>,
+    id: u32,
+}
+
+impl<'h> Model for LentKey<'h> {
+    ghost use Rattle.gw_kept.specs.declared.entry.RequestKey.{RequestKey as Key};
+
+    ghost Value = { Key };
+
+    ghost view = { λ a. record { mid = a.mid; id = a.id } };
+}
+
+impl<'h> LentKey<'h> {
+    /// That of a request of this sender under this number.
+    pub fn new(mid: Sender<'h>, id: TxId) -> Self
+        ensures { result ≡ key_by mid.entry id.0 }
+    {
+        LentKey { mid, id: id.0 }
+    }
+
+    /// That of this sender and this number.
+    #[inline(always)]
+    pub(crate) fn by(mid: &'h Mid, id: u32) -> Self
+        ensures { result ≡ key_by mid.now id }
+    {
+        LentKey {
+            mid: Sender::new(mid),
+            id,
+        }
+    }
+
+    /// Who asked.
+    #[inline(always)]
+    pub fn mid(&self) -> &'h Mid
+        ensures { result.now ≡ self.now.mid }
+    {
+        self.mid.mid()
+    }
+
+    /// The number of the transaction.
+    #[inline(always)]
+    pub fn id(&self) -> u32
+        ensures { result ≡ self.now.id }
+    {
+        self.id
+    }
+
+    /// The key, copied.
+    pub fn get(&self) -> RequestKey
+        ensures { result ≡ self.now }
+    {
+        RequestKey {
+            mid: *self.mid.mid(),
+            id: self.id,
+        }
+    }
+}
 
 /// The ranges of an acknowledgement, lent by the message that it came in. Contracts see the ranges themselves.
 #[derive(Drop)]
@@ -52,7 +114,7 @@ impl<'h> Ranges<'h> {
 #[derive(Drop)]
 pub struct Removal<'h> {
     /// Who sent it, byte for byte as sent.
-    pub mid: Mid,
+    pub mid: Sender<'h>,
     /// The numbers of its transactions.
     pub ranges: Ranges<'h>,
 }
@@ -63,7 +125,7 @@ impl<'h> Removal<'h> {
         ensures { result ≡ self.now }
     {
         Removal {
-            mid: self.mid,
+            mid: self.mid.again(),
             ranges: self.ranges.again(),
         }
     }
@@ -73,7 +135,7 @@ impl<'h> Removal<'h> {
 #[derive(Drop)]
 pub enum Point<'h> {
     /// A request, told by its key.
-    Request(RequestKey),
+    Request(LentKey<'h>),
     /// An acknowledgement.
     Ack(Removal<'h>),
     /// Another item, which has nothing to do with them.
@@ -82,14 +144,11 @@ pub enum Point<'h> {
 
 impl<'h> Point<'h> {
     /// What an item in a message of this sender is.
-    pub fn of(mid: Mid, item: &'h Item<'_>) -> Point<'h>
-        ensures { result ≡ point_in mid item.now }
+    pub fn of(mid: Sender<'h>, item: &'h Item<'_>) -> Point<'h>
+        ensures { result ≡ point_in mid.entry item.now }
     {
         match item {
-            Item::Request(request) => Point::Request(RequestKey {
-                id: request.id().0,
-                mid,
-            }),
+            Item::Request(request) => Point::Request(LentKey::new(mid, request.id())),
             Item::Ack(ranges) => Point::Ack(Removal {
                 mid,
                 ranges: Ranges::new(ranges.as_slice()),

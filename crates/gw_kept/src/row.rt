@@ -10,8 +10,9 @@ ghost use Rattle.gw_kept.specs.Rows.{gapped, present, kept_in, keys_in, places_f
 
 use crate::arrival::Arrival;
 use crate::change::Turn;
-use crate::entry::{Entry, RequestKey};
+use crate::entry::Entry;
 use crate::order::Order;
+use crate::point::LentKey;
 use crate::ring::{Ring, close_gaps, pair_at, pop};
 use circular_buffer::HeapCircularBuffer;
 use gw_base::Mid;
@@ -108,7 +109,7 @@ impl Row {
     /// How many pairs are before a key's pair, gaps not counted, if it has one: twice log k steps for k pairs. Each pair has a key
     /// of its own.
     #[inline(always)]
-    pub fn rank(&self, key: &RequestKey) -> Option<usize>
+    pub fn rank(&self, key: &LentKey<'_>) -> Option<usize>
         ensures rank { result ≡ last_place key.now (keys_of (kept_in self.now)) }
         ensures distinct { AreDistinct (present self.now.row) }
     {
@@ -120,7 +121,7 @@ impl Row {
 
     /// The place of a key's pair, gaps counted: log k steps for k pairs. Each pair has a key of its own.
     #[inline(always)]
-    pub fn find(&self, key: &RequestKey) -> Option<usize>
+    pub fn find(&self, key: &LentKey<'_>) -> Option<usize>
         ensures found { IsFound (keys_in self.now.row) key.now result }
         ensures distinct { AreDistinct (present self.now.row) }
     {
@@ -128,7 +129,7 @@ impl Row {
     }
 
     /// Whether a key has a pair.
-    pub fn has(&self, key: &RequestKey) -> bool
+    pub fn has(&self, key: &LentKey<'_>) -> bool
         ensures { result ≡ has_pair key.now (keys_of (kept_in self.now)) }
     {
         self.find(key).is_some()
@@ -211,7 +212,7 @@ impl Row {
                         self.push(entry);
                     }
                 }
-                Turn::Forget(removal) => self.forget(&removal.mid, removal.ranges.as_slice()),
+                Turn::Forget(removal) => self.forget(removal.mid.mid(), removal.ranges.as_slice()),
             }
         }
     }
@@ -264,12 +265,12 @@ impl Row {
     }
 
     /// Keeps a key, without a reply, where no pair has it.
-    pub fn push_key(&mut self, alloc: Global, key: &RequestKey)
+    pub fn push_key(&mut self, alloc: Global, key: &LentKey<'_>)
         ensures keys { last_place key.now (keys_of (kept_in self.old)) ≡ None → keys_of (kept_in self.new) ≡ keep_last self.old.most (keys_of (kept_in self.old) ++ key.now ∷ []) }
         ensures most { self.new.most ≡ self.old.most }
     {
         if !self.has(key) {
-            self.push(key.alone(alloc));
+            self.push(key.get().alone(alloc));
         }
     }
 }

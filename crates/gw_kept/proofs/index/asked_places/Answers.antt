@@ -1,7 +1,8 @@
-use Rattle.std.proofs.Common.{ap, ◌∙◌}
+use Rattle.std.proofs.Common.{sym, ap, ◌∙◌}
 use Rattle.std.specs.BTreeMap.{get}
 use Rattle.gw_kept.specs.Asked.{asked_cmp, asked_key}
-use Rattle.gw_kept.specs.Classes.{keys_of}
+use Rattle.gw_kept.specs.Classes.{keys_of, last_place}
+use Rattle.gw_kept.specs.declared.point.Point.TheVariants as point
 use Rattle.gw_kept.proofs.Indexes.{asks_not, key_more, no_key_more}
 use Rattle.gw_kept.proofs.index.asked_places.Goals as goal
 use Rattle.gw_kept.proofs.index.asked_places.Goals.{in-Request+in_ok-insert, in_default}
@@ -14,7 +15,7 @@ loop-point-preserved c =
     elim c.match-point.branch [
       | in-Request+in_ok-insert w ↦ λ q.
           ap (λ m. get asked_cmp m (asked_key q)) w.places-is
-          ∙ key_more (λ k. get asked_cmp c.loop-point.places (asked_key k)) (λ k. get asked_cmp w.insert.new.self (asked_key k)) pairs c.args.points.now c.loop-point.point-index x w.in-Request.key w.place.result c.loop-point-test.true c.point-item.is w.in-Request.is w.place.ensures.place inv (λ k. w.in_ok-insert.ensures.updates.0 (asked_key k)) q
+          ∙ key_more (λ k. get asked_cmp c.loop-point.places (asked_key k)) (λ k. get asked_cmp w.insert.new.self (asked_key k)) pairs c.args.points.now c.loop-point.point-index x w.get.result w.place.result c.loop-point-test.true c.point-item.is (w.in-Request.is ∙ ap (λ k. point.Request k) (sym w.get.ensures)) (w.place.ensures.place ∙ ap (λ q. last_place q pairs) (sym w.get.ensures)) inv (λ k. w.in_ok-insert.ensures.updates.0 (asked_key k)) q
       | in_default w ↦ λ q.
           ap (λ m. get asked_cmp m (asked_key q)) w.places-is
           ∙ no_key_more (λ k. get asked_cmp c.loop-point.places (asked_key k)) pairs c.args.points.now c.loop-point.point-index x c.loop-point-test.true c.point-item.is (asks_not x w.in_default.not-Request) inv q

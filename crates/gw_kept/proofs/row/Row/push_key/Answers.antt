@@ -10,10 +10,10 @@ use Rattle.gw_kept.proofs.row.Row.push_key.Goals as goal
 pub push-requires : goal.push-requires
 push-requires c =
     let es = present c.args.self.now.row in
-    ap (λ key. bytes_for key es) c.alone.ensures ∙ has_not c.args.key.now es c.if-not-has.ensures
+    ap (λ key. bytes_for key es) (c.alone.ensures ∙ c.get.ensures) ∙ has_not c.args.key.now es c.if-not-has.ensures
 
 pub returns-then-not-has-clause-keys : goal.returns-then-not-has-clause-keys
 returns-then-not-has-clause-keys c =
     let now = c.args.self.now in
     let k = kept_in now in
-    λ none. ap keys_of c.push.ensures.pairs ∙ sym (keys_last k.most k.pairs c.alone.result) ∙ ap (λ key. keep_last k.most (keys_of k ++ key ∷ [])) c.alone.ensures
+    λ none. ap keys_of c.push.ensures.pairs ∙ sym (keys_last k.most k.pairs c.alone.result) ∙ ap (λ key. keep_last k.most (keys_of k ++ key ∷ [])) (c.alone.ensures ∙ c.get.ensures)
