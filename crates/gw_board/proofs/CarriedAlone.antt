@@ -18,6 +18,7 @@ use Rattle.gw_board.specs.Boards.{Seen, Handed, core_of, asked_of, with_open, wi
 use Rattle.gw_board.specs.Carried.{Asked, keys_of, done, carried}
 use Rattle.gw_board.specs.Core.{Standing, Pending, Opened, Closed, Place, Job, pending, open_with, closed_with, meets_at, meets_any, MayOpen}
 use Rattle.gw_board.specs.Fitting.{Each, out, Stands, Beside, Stand}
+use Rattle.gw_board.specs.GoingOn.{MayGoOn}
 use Rattle.gw_board.specs.Journal.{Original, led as led_to, undone}
 use Rattle.gw_board.specs.OpenJobs.{IsSameBurst}
 use Rattle.gw_board.specs.Results.{is_open, carried_on, NothingIsOpen}
@@ -190,6 +191,13 @@ module _ (b : Seen) (w : IsOnTheWay b) (none : NothingIsOpen (core_of b)) (i : �
 
     whole_after : way.fits.whole ≡ o.maps
     whole_after = sym (cut_none (out ended.places) way.fits.whole (out_of_none ended.places none_ended)) ∙ sym way.fits.maps ∙ same_outcome
+
+    is_ended : ended ≡ record { manner = b.manner; begun = b.begun; maps = o.maps; places = slice_set b.places i closed; originals = ended.originals }
+    is_ended = λ j. record { manner = b.manner; begun = b.begun; maps = same_outcome j; places = same_places j; originals = ended.originals }
+
+    -- with the place closed the way goes on, by the journal that opening and closing it leaves
+    pub alone_goes_on : MayGoOn b.manner b.begun o.maps (slice_set b.places i closed)
+    alone_goes_on = record { originals = ended.originals; way = subst IsOnTheWay is_ended way; none = alone_none }
 
     -- whichever keys changed: the last original leads to maps that those before it lead on from
     pub alone_way : (front : List Original) (last : Original) (m : Maps) → led_to last o.maps ≡ m → undone front m ≡ b.begun → IsOnTheWay (with_alone b i a front last)

@@ -1,4 +1,5 @@
 pub mod Alike
+pub mod Begun
 pub mod Behind
 pub mod CarriedAlone
 pub mod Closing
@@ -7,6 +8,7 @@ pub mod Drawing
 pub mod Ending
 pub mod Ends
 pub mod FirstOfAll
+pub mod GoingOn
 pub mod InTurn
 pub mod KeptIn
 pub mod Leading

@@ -5,6 +5,7 @@ pub mod Carried
 pub mod Core
 pub mod Endings
 pub mod Fitting
+pub mod GoingOn
 pub mod Jobs
 pub mod Journal
 pub mod Limits

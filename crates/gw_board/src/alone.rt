@@ -1,17 +1,21 @@
 //! Carrying places out one after another, on the tables where they lie.
 
-ghost use Rattle.std.specs.Prelude.{◌≡◌, ◌+◌, true, take, IfErr, IfOk, IfSome, OnErr, OnOk, slice_get};
+ghost use Rattle.std.specs.Prelude.{◌≡◌, ◌+◌, ◌<◌, true, length, map, take, vec_len, IfErr, IfOk, IfSome, OnErr, OnOk, slice_get};
 ghost use Rattle.gw_reserve.specs.Owned.{AreFreeSlots};
+ghost use Rattle.gw_table.specs.Maps.{Maps};
 ghost use Rattle.gw_table.specs.Originals.{keys_written};
+ghost use Rattle.gw_table.specs.Parts.{Over, start_of};
 ghost use Rattle.gw_table.specs.Stored.{maps_of, AreReady, NoneIsOut};
 ghost use Rattle.gw_table.specs.WellFormed.{AreWellFormed};
 ghost use Rattle.gw_board.specs.Alone.{FindsFirst, WasCarried, AreAsBegun};
+ghost use Rattle.gw_board.specs.GoingOn.{MayGoOn};
 ghost use Rattle.gw_board.specs.Boards.{asked_of, begun_board, core_of, is_closed, is_pending_at, AllClosed, GivesTheFold, unclosed};
 ghost use Rattle.gw_board.specs.OpenJobs.{IsSameBurst};
 ghost use Rattle.gw_board.specs.Results.{NothingIsOpen};
-ghost use Rattle.gw_board.specs.Seats.{standing_of};
+ghost use Rattle.gw_board.specs.Met.{PendsAt};
+ghost use Rattle.gw_board.specs.Seats.{standing_of, place_of};
 
-use crate::asked::{Asked, is_seen_for_all};
+use crate::asked::{Asked, Task, is_seen_for_all};
 use crate::board::Board;
 use crate::job::carry_on;
 use crate::journal::{last_alone, put_all_back};
@@ -19,6 +23,7 @@ use crate::manner::Manner;
 use crate::original::Original;
 use crate::seat::{Seat, Stage, all_pending, set_stage};
 use gw_base::{Items, NoMemory};
+use gw_draw::Gate;
 use gw_table::{Draft, Originals, Tables};
 use std::alloc::Global;
 use std::mem;
@@ -79,6 +84,81 @@ fn is_closed(seat: &Seat<'_, '_, '_>) -> bool
     ensures { result ≡ is_closed (standing_of seat.now.stage) }
 {
     matches!(seat.stage, Stage::Closed(_))
+}
+
+/// What a place asks, if it is pending.
+pub(crate) fn pending_at<'b, 'h, 'a>(
+    seats: &[Seat<'b, 'h, 'a>],
+    place: usize,
+) -> Option<Task<'b, 'h, 'a>>
+    ensures { PendsAt (slice_get (map place_of seats.now) place) result }
+{
+    let seat = seats.get(place)?;
+    match seat.stage {
+        Stage::Pending => Some(seat.task.task().again()),
+        _ => None,
+    }
+}
+
+/// Carries out the request of a place, if it is pending, on a draft of whole tables, and closes the place with its reply. The gate is
+/// passed before. The caller knows that nothing is open, that all earlier places are closed, and that what is pending may be carried out
+/// from the draft's maps on.
+///
+/// # Errors
+///
+/// Want of memory. The place stays pending, and nothing is known of the draft but its keys.
+fn carry_place<G: Gate>(
+    alloc: Global,
+    manner: &Manner,
+    seats: &mut Vec<Seat<'_, '_, '_>>,
+    place: usize,
+    draft: &mut Draft<'_>,
+    gate: &G,
+) -> Result<(), NoMemory>
+    requires inside { place < length seats.old.items }
+    requires over { draft.old.keys ≡ Over (start_of draft.old.keys) }
+    requires goes_on { (begun : Maps) × MayGoOn manner.now begun draft.old.maps (map place_of seats.old.items) }
+    requires first { AllClosed (take place (map place_of seats.old.items)) }
+    ensures goes_on { OnOk result ((begun : Maps) → MayGoOn manner.now begun draft.old.maps (map place_of seats.old.items) → MayGoOn manner.now begun draft.new.maps (map place_of seats.new.items)) }
+    ensures closed { OnOk result (AllClosed (take (place + 1) (map place_of seats.new.items))) }
+    ensures asked { asked_of (map place_of seats.new.items) ≡ asked_of (map place_of seats.old.items) }
+    ensures len { vec_len seats.new ≡ vec_len seats.old }
+    ensures keys { draft.new.keys ≡ draft.old.keys }
+{
+    let Some(task) = pending_at(seats, place) else {
+        return Ok(());
+    };
+    gate.pass(0);
+    let text = carry_on(alloc, manner, task.get(), draft)?;
+    set_stage(seats, place, Stage::Closed(text));
+    Ok(())
+}
+
+/// Carries out what is pending, one place after another, on a draft of whole tables. The caller knows that nothing is open, and that what
+/// is pending may be carried out from the draft's maps on.
+///
+/// # Errors
+///
+/// Want of memory. Some places may be closed then, and nothing is known of the draft but its keys.
+fn carry_each<G: Gate>(
+    alloc: Global,
+    manner: &Manner,
+    seats: &mut Vec<Seat<'_, '_, '_>>,
+    draft: &mut Draft<'_>,
+    gate: &G,
+) -> Result<(), NoMemory>
+    requires over { draft.old.keys ≡ Over (start_of draft.old.keys) }
+    requires goes_on { (begun : Maps) × MayGoOn manner.now begun draft.old.maps (map place_of seats.old.items) }
+    ensures goes_on { OnOk result ((begun : Maps) → MayGoOn manner.now begun draft.old.maps (map place_of seats.old.items) → MayGoOn manner.now begun draft.new.maps (map place_of seats.new.items)) }
+    ensures closed { OnOk result (AllClosed (map place_of seats.new.items)) }
+    ensures asked { asked_of (map place_of seats.new.items) ≡ asked_of (map place_of seats.old.items) }
+    ensures len { vec_len seats.new ≡ vec_len seats.old }
+    ensures keys { draft.new.keys ≡ draft.old.keys }
+{
+    for place in 0..seats.len() {
+        carry_place(alloc, manner, seats, place, draft, gate)?;
+    }
+    Ok(())
 }
 
 impl Board<'_, '_, '_> {
@@ -153,6 +233,41 @@ impl Board<'_, '_, '_> {
         self.tables = left.tables;
         set_stage(&mut self.seats, place, Stage::Closed(left.text));
         let Ok(()) = self.originals.push(Original::of_writes(left.originals)) else {
+            unreachable!()
+        };
+        Ok(())
+    }
+
+    /// Carries out all that is pending, one place after another, as `carry_alone` does each of them; the gate is passed with the number 0
+    /// before each. The tables are moved into a draft once for all. The caller knows that nothing is open.
+    ///
+    /// # Errors
+    ///
+    /// Want of memory. The board is as it was when it was made: every place is pending.
+    pub fn carry_rest<G: Gate>(&mut self, alloc: Global, gate: &G) -> Result<(), NoMemory>
+        requires open { NothingIsOpen (core_of self.old) }
+        ensures none { NothingIsOpen (core_of self.new) }
+        ensures closed { OnOk result (AllClosed self.new.places) }
+        ensures same { IsSameBurst self.old self.new }
+        ensures outcome { GivesTheFold self.new }
+        ensures err { OnErr result (self.new ≡ begun_board self.old.manner (asked_of self.old.places) self.old.begun) }
+    {
+        if self.first_unclosed(0).is_none() {
+            return Ok(());
+        }
+        let tables = mem::replace(&mut self.tables, Tables::new(alloc));
+        let writes = room_for(self.seats.len());
+        let earlier = last_alone(alloc, writes, &mut self.originals);
+        let mut draft = Draft::of_tables(tables, earlier);
+        let Ok(()) = carry_each(alloc, &self.manner, &mut self.seats, &mut draft, gate) else {
+            self.tables = draft.undone();
+            put_all_back(&mut self.tables, &mut self.originals);
+            all_pending(&mut self.seats);
+            return Err(NoMemory);
+        };
+        let (tables, found) = draft.into_tables();
+        self.tables = tables;
+        let Ok(()) = self.originals.push(Original::of_writes(found)) else {
             unreachable!()
         };
         Ok(())

@@ -14,6 +14,7 @@ ghost use Rattle.gw_board.specs.Planned.{MayOpenInTurn, MayOpenWith};
 ghost use Rattle.gw_board.specs.Seats.{standing_of, place_of};
 ghost use Rattle.gw_board.specs.declared.planned.Planned.{Planned as APlanned};
 
+use crate::alone::pending_at;
 use crate::asked::Task;
 use crate::board::Board;
 use crate::fault::OpenFault;
@@ -114,11 +115,7 @@ impl<'b, 'h, 'a> Board<'b, 'h, 'a> {
     pub(crate) fn pending_task(&self, place: usize) -> Option<Task<'b, 'h, 'a>>
         ensures { PendsAt (slice_get self.now.places place) result }
     {
-        let seat = self.seats.get(place)?;
-        match seat.stage {
-            Stage::Pending => Some(seat.task.task().again()),
-            _ => None,
-        }
+        pending_at(&self.seats, place)
     }
 
     /// The keys of a pending place, which meet those of no earlier one.

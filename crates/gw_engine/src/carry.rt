@@ -75,9 +75,12 @@ fn carry_all<R: Threads + Sync, G: Gate>(
     ensures err { OnErr result (NothingIsOpen (core_of board.new)) }
     ensures same { IsSameBurst board.old board.new }
 {
+    if crew.workers == 1 {
+        return board.carry_rest(alloc, crew.gate);
+    }
     let mut closed = 0;
     while let Some(place) = board.first_unclosed(closed) {
-        if crew.workers == 1 || board.is_for_all(place) || board.is_last(place) {
+        if board.is_for_all(place) || board.is_last(place) {
             crew.gate.pass(0);
             board.carry_alone(alloc, place)?;
             closed = place;

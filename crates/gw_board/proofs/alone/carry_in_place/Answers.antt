@@ -1,22 +1,8 @@
-use Rattle.std.proofs.Common.{◌≡◌, List, true, ap, sym, subst, ◌∙◌}
-use Rattle.gw_table.specs.declared.originals.Write.{Write}
-use Rattle.gw_table.specs.Originals.{before_all, undone as taken}
-use Rattle.gw_table.specs.Parts.{PartKeys, Parted, Over, start_of}
-use Rattle.gw_table.specs.Stored.{Stored, maps_of, is_ready, KeepReady}
-use Rattle.gw_table.proofs.InPlace.{begun_ready, maps_before_all}
+use Rattle.std.proofs.Common.{ap, ◌∙◌}
+use Rattle.gw_table.specs.Parts.{Parted}
 use Rattle.gw_board.specs.Carried.{done}
+use Rattle.gw_board.proofs.Begun.{kept_since, start_maps}
 use Rattle.gw_board.proofs.alone.carry_in_place.Goals as goal
-
--- where the changes began, as the draft tells it
-module _ (tables : Stored) (earlier : List Write) (first : Parted) (keys : PartKeys) (made : first ≡ record { keys = Over (before_all earlier tables); maps = maps_of tables }) (same : keys ≡ first.keys) where
-  start_is : start_of keys ≡ before_all earlier tables
-  start_is = ap start_of (same ∙ ap (λ (p : Parted). p.keys) made)
-
-  start_maps : maps_of (start_of keys) ≡ taken earlier (maps_of tables)
-  start_maps = ap (λ (s : Stored). maps_of s) start_is ∙ maps_before_all earlier tables
-
-  kept_since : (t : Stored) → KeepReady (start_of keys) t → KeepReady tables t
-  kept_since t kept k h = kept k (subst (λ (s : Stored). is_ready s k ≡ true) (sym start_is) (begun_ready earlier tables k h))
 
 pub returns-in_default-clause-err : goal.returns-in_default-clause-err
 returns-in_default-clause-err c = record {

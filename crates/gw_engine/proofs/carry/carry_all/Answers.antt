@@ -1,4 +1,4 @@
-use Rattle.gw_engine.proofs.Unclosed.{some_unclosed}
+use Rattle.gw_board.proofs.GoingOn.{some_unclosed}
 use Rattle.gw_engine.proofs.carry.carry_all.Goals as goal
 
 pub carry_wave-requires-clause-some : goal.carry_wave-requires-clause-some

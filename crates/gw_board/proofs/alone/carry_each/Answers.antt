@@ -1,0 +1,22 @@
+use Rattle.std.proofs.Common.{sym, ap, ◌∙◌}
+use Rattle.gw_table.specs.Parts.{Over, PartKeys, start_of}
+use Rattle.gw_board.proofs.alone.carry_each.Goals as goal
+
+pub carry_place-requires-clause-over : goal.carry_place-requires-clause-over
+carry_place-requires-clause-over g c κs within = c.loop-place.invariant.over ∙ c.requires.over ∙ ap (λ (k : PartKeys). Over (start_of k)) (sym c.loop-place.invariant.over)
+
+pub carry_place-requires-clause-goes_on : goal.carry_place-requires-clause-goes_on
+carry_place-requires-clause-goes_on g c κs within =
+    let h = c.requires.goes_on in
+    (h.0, c.loop-place.invariant.goes_on h.0 h.1)
+
+pub loop-place-preserved : goal.loop-place-preserved
+loop-place-preserved g c =
+    let so_far = c.loop-place.invariant in
+    record {
+      over = c.carry_place.ensures.keys ∙ so_far.over;
+      goes_on = λ begun h. c.in_ok-carry_place.ensures.goes_on begun (so_far.goes_on begun h);
+      closed = c.in_ok-carry_place.ensures.closed;
+      asked = c.carry_place.ensures.asked ∙ so_far.asked;
+      len = c.carry_place.ensures.len ∙ so_far.len;
+    }

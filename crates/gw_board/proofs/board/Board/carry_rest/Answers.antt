@@ -1,0 +1,266 @@
+use Rattle.std.proofs.Common.{◌≡◌, ◌≤◌, ℕ, true, not, List, ◌∷◌, ◌++◌, [], map, length, Option, None, Some, refl, sym, ap, subst, ◌∙◌, arith}
+use Rattle.std.specs.Option.{is_some}
+use Rattle.std.specs.Prelude.{◌&&◌}
+use Rattle.gw_table.specs.Maps.{Maps}
+use Rattle.gw_table.specs.declared.originals.Write.{Write}
+use Rattle.gw_table.specs.Originals.{keys_written, undone as taken}
+use Rattle.gw_table.specs.Parts.{Parted}
+use Rattle.gw_table.specs.Stored.{Stored, maps_of, names_entry, AreReady, KeepReady, NoneIsOut}
+use Rattle.gw_board.specs.BoardView.{value_of, IsOnTheWay, IsKeptIn}
+use Rattle.gw_board.specs.Boards.{Seen, asked_of, begun_board, core_of, AllClosed, GivesTheFold, unclosed}
+use Rattle.gw_board.specs.Carried.{Asked}
+use Rattle.gw_board.specs.Core.{Place, pending}
+use Rattle.gw_board.specs.Alone.{FindsFirst}
+use Rattle.gw_board.specs.Fitting.{Each}
+use Rattle.gw_board.specs.GoingOn.{MayGoOn}
+use Rattle.gw_board.specs.Journal.{Original, undone}
+use Rattle.gw_board.specs.OpenJobs.{IsSameBurst}
+use Rattle.gw_board.specs.Results.{NothingIsOpen}
+use Rattle.gw_board.specs.Seats.{place_of, original_of_writes}
+use Rattle.gw_board.proofs.Begun.{kept_since, start_maps}
+use Rattle.gw_board.proofs.CarriedAlone.{took_back, took_ready}
+use Rattle.gw_board.proofs.Comes.{out_of_none}
+use Rattle.gw_board.proofs.GoingOn.{led_behind, led_from, none_left, none_pending, some_unclosed, with_journal}
+use Rattle.gw_board.proofs.KeptIn.{all_ready, begun_kept, none_out}
+use Rattle.gw_board.proofs.OnTheWay.{asked-pending, begun_way, gives_the_fold}
+use Rattle.gw_board.proofs.Orders.{each_joined}
+use Rattle.gw_board.proofs.SeatFacts.{unclosed-pending, length-places, length-asked}
+use Rattle.gw_board.proofs.board.Board.carry_rest.Goals as goal
+use Rattle.gw_board.proofs.board.Board.carry_rest.Given.{Over}
+use Rattle.gw_board.proofs.board.Board.carry_rest.Goals.{After-all_pending, In-Ok-push}
+
+-- what the caller knows of the board holds of it as its fields are
+none_here : (b now : Seen) → b ≡ now → NothingIsOpen (core_of now) → NothingIsOpen (core_of b)
+none_here b now e h = subst (λ (x : Seen). NothingIsOpen (core_of x)) (sym e) h
+
+-- the draft begins on the way
+started : (b : Seen) → IsOnTheWay b → NothingIsOpen (core_of b) → (maps : Maps) → maps ≡ b.maps → MayGoOn b.manner b.begun maps b.places
+started b w none maps e = subst (λ (m : Maps). MayGoOn b.manner b.begun m b.places) (sym e) (record { originals = b.originals; way = w; none = none })
+
+-- a place is not closed, so there is room for an original
+found_some : (places : List Place) (r : Option ℕ) → FindsFirst places r → is_some r ≡ true → 1 ≤ unclosed places
+found_some places None f e = absurd cc
+found_some places (Some i) f e = some_unclosed places i f.here
+
+pub returns-then-is_none-clause-outcome : goal.returns-then-is_none-clause-outcome
+returns-then-is_none-clause-outcome g c = subst (λ (x : Seen). GivesTheFold x) c.self.view_is (gives_the_fold (value_of c.self.inside) c.self.invariant.on_the_way)
+
+pub of_tables-draft-requires-clause-here : goal.of_tables-draft-requires-clause-here
+of_tables-draft-requires-clause-here g c =
+    let b : Seen = value_of c.self.inside in
+    subst NoneIsOut (sym c.replace-tables.ensures.value)
+    (none_out b c.self.inside.tables c.self.invariant.kept (none_here b c.args.self.now c.self.view_is c.requires.«open»))
+
+pub of_tables-draft-requires-clause-ready : goal.of_tables-draft-requires-clause-ready
+of_tables-draft-requires-clause-ready g c =
+    let b : Seen = value_of c.self.inside in
+    subst (AreReady (keys_written c.last_alone-earlier.result)) (sym c.replace-tables.ensures.value)
+    (took_ready b.originals c.last_alone-earlier.new.originals.items (original_of_writes c.last_alone-earlier.result) c.last_alone-earlier.ensures.last c.self.inside.tables c.self.invariant.kept.ready).1
+
+pub carry_each-requires-clause-goes_on : goal.carry_each-requires-clause-goes_on
+carry_each-requires-clause-goes_on g c κs within =
+    let b : Seen = value_of c.self.inside in
+    let maps_are : c.of_tables-draft.result.maps ≡ b.maps = ap (λ (p : Parted). p.maps) c.of_tables-draft.ensures ∙ ap (λ (s : Stored). maps_of s) c.replace-tables.ensures.value in
+    (b.begun, started b c.self.invariant.on_the_way (none_here b c.args.self.now c.self.view_is c.requires.«open») c.of_tables-draft.result.maps maps_are)
+
+-- ---- after want of memory
+
+pub put_all_back-requires-clause-ready : goal.put_all_back-requires-clause-ready
+put_all_back-requires-clause-ready g c =
+    let b : Seen = value_of c.self.inside in
+    let after : List Original = c.last_alone-earlier.new.originals.items in
+    let kept : KeepReady c.self.inside.tables c.undone.result =
+    subst (λ (s : Stored). KeepReady s c.undone.result) c.replace-tables.ensures.value
+    (kept_since c.replace-tables.result c.last_alone-earlier.result c.of_tables-draft.result c.carry_each.new.draft.keys c.of_tables-draft.ensures c.carry_each.ensures.keys c.undone.result c.undone.ensures.kept) in
+    all_ready after c.self.inside.tables c.undone.result kept
+    (took_ready b.originals after (original_of_writes c.last_alone-earlier.result) c.last_alone-earlier.ensures.last c.self.inside.tables c.self.invariant.kept.ready).0
+
+module _ (g : Over) (c : After-all_pending g) where
+  abbrev before : Seen
+  before = value_of c.self.inside
+
+  abbrev earlier : List Write
+  earlier = c.last_alone-earlier.result
+
+  abbrev after : List Original
+  after = c.last_alone-earlier.new.originals.items
+
+  abbrev back : Stored
+  back = c.put_all_back.new.tables
+
+  abbrev left : Seen
+  left = record { manner = before.manner; begun = before.begun; maps = maps_of back; places = map place_of c.all_pending.new.seats.items; originals = c.put_all_back.new.originals.items }
+
+  places_are : map place_of c.all_pending.new.seats.items ≡ map pending (asked_of before.places)
+  places_are = c.all_pending.ensures.places ∙ ap (λ (l : List Asked). map pending l) c.carry_each.ensures.asked
+
+  undone_maps : maps_of c.undone.result ≡ taken earlier before.maps
+  undone_maps =
+      c.undone.ensures.maps
+      ∙ start_maps c.replace-tables.result earlier c.of_tables-draft.result c.carry_each.new.draft.keys c.of_tables-draft.ensures c.carry_each.ensures.keys
+      ∙ ap (λ (s : Stored). taken earlier (maps_of s)) c.replace-tables.ensures.value
+
+  maps_begun : maps_of back ≡ before.begun
+  maps_begun =
+      c.put_all_back.ensures.maps
+      ∙ ap (undone after) undone_maps
+      ∙ took_back before.originals after (original_of_writes earlier) c.last_alone-earlier.ensures.last before.maps
+      ∙ led_from before c.self.invariant.on_the_way (none_here before c.args.self.now c.self.view_is c.requires.«open»)
+
+  is_begun : left ≡ begun_board before.manner (asked_of before.places) before.begun
+  is_begun = λ j. record { manner = before.manner; begun = before.begun; maps = maps_begun j; places = places_are j; originals = c.put_all_back.ensures.none j }
+
+  begun_again : IsOnTheWay (begun_board before.manner (asked_of before.places) before.begun)
+  begun_again = begun_way before.manner (asked_of before.places) before.begun c.self.invariant.on_the_way.begun.well c.self.invariant.on_the_way.begun.unused
+
+pub invariant_of-self : goal.invariant_of-self
+invariant_of-self g c =
+    let all : unclosed (map place_of c.all_pending.new.seats.items) ≡ length (asked_of (before g c).places) = ap unclosed (places_are g c) ∙ unclosed-pending (asked_of (before g c).places) in
+    let asked : length (asked_of (before g c).places) ≡ length (before g c).places = length-asked (before g c).places in
+    let places : length (before g c).places ≡ length c.self.inside.seats.items = length-places c.self.inside.seats.items in
+    let none : length c.put_all_back.new.originals.items ≡ 0 = ap length c.put_all_back.ensures.none in
+    let room = c.self.invariant.room.all in
+    let replies = c.self.invariant.room.replies in
+    let len = c.all_pending.ensures.len in
+    let carried = c.carry_each.ensures.len in
+    let taken = c.last_alone-earlier.ensures.capacity in
+    let space = c.put_all_back.ensures.capacity in
+    let o = c.put_all_back.new.originals.ok.0 in
+    let s = c.self.inside.seats.ok.0 in
+    record {
+      on_the_way = subst IsOnTheWay (sym (is_begun g c)) (begun_again g c);
+      kept = subst (IsKeptIn (back g c)) (sym (is_begun g c)) (begun_kept (before g c).manner (asked_of (before g c).places) (before g c).begun (back g c) c.put_all_back.ensures.here);
+      room = record { originals = omega arith; all = omega arith; replies = omega arith; no_replies = c.self.invariant.room.no_replies };
+    }
+
+pub returns-in_default-clause-none : goal.returns-in_default-clause-none
+returns-in_default-clause-none g c = subst (λ (x : Seen). NothingIsOpen (core_of x)) (sym (is_begun g c)) (none_pending (asked_of (before g c).places))
+
+pub returns-in_default-clause-same : goal.returns-in_default-clause-same
+returns-in_default-clause-same g c =
+    let same : IsSameBurst (before g c) (left g c) = record { manner = refl; begun = refl; asked = ap asked_of (places_are g c) ∙ asked-pending (asked_of (before g c).places) } in
+    subst (λ (x : Seen). IsSameBurst x (left g c)) c.self.view_is same
+
+pub returns-in_default-clause-outcome : goal.returns-in_default-clause-outcome
+returns-in_default-clause-outcome g c = gives_the_fold (left g c) (subst IsOnTheWay (sym (is_begun g c)) (begun_again g c))
+
+pub returns-in_default-clause-err : goal.returns-in_default-clause-err
+returns-in_default-clause-err g c = is_begun g c ∙ ap (λ (x : Seen). begun_board x.manner (asked_of x.places) x.begun) c.self.view_is
+
+-- ---- with all replies
+
+pub unreachable-requires : goal.unreachable-requires
+unreachable-requires g c =
+    let some : 1 ≤ unclosed (value_of c.self.inside).places =
+    subst (λ (x : Seen). 1 ≤ unclosed x.places) (sym c.self.view_is)
+    (found_some c.args.self.now.places c.first_unclosed.result c.first_unclosed.ensures.first (c.is_none.ensures ∙ ap (λ b. not b) c.if-is_none.false)) in
+    let room = c.self.invariant.room.originals in
+    let taken = c.last_alone-earlier.ensures.len in
+    let space = c.last_alone-earlier.ensures.capacity in
+    let full = c.in_default-push.ensures.full in
+    omega arith
+
+module _ (g : Over) (c : In-Ok-push g) where
+  abbrev b : Seen
+  b = value_of c.self.inside
+
+  abbrev way : IsOnTheWay b
+  way = c.self.invariant.on_the_way
+
+  none : NothingIsOpen (core_of b)
+  none = none_here b c.args.self.now c.self.view_is c.requires.«open»
+
+  some : 1 ≤ unclosed b.places
+  some =
+      subst (λ (x : Seen). 1 ≤ unclosed x.places) (sym c.self.view_is)
+      (found_some c.args.self.now.places c.first_unclosed.result c.first_unclosed.ensures.first (c.is_none.ensures ∙ ap (λ b. not b) c.if-is_none.false))
+
+  abbrev tables : Stored
+  tables = c.into_tables-tables.result.0
+
+  abbrev found : List Write
+  found = c.into_tables-tables.result.1
+
+  abbrev begun_with : List Write
+  begun_with = c.last_alone-earlier.result
+
+  -- the journal before what was found
+  abbrev front : List Original
+  front = c.last_alone-earlier.new.originals.items
+
+  abbrev last : Original
+  last = original_of_writes found
+
+  abbrev places : List Place
+  places = map place_of c.carry_each.new.seats.items
+
+  abbrev maps : Maps
+  maps = c.carry_each.new.draft.maps
+
+  went : MayGoOn b.manner b.begun maps places
+  went = c.in-Ok.ensures.goes_on b.begun (started b way none c.of_tables-draft.result.maps (ap (λ (p : Parted). p.maps) c.of_tables-draft.ensures ∙ ap (λ (s : Stored). maps_of s) c.replace-tables.ensures.value))
+
+  originals_are : c.push.new.self.items ≡ front ++ last ∷ []
+  originals_are = c.in-Ok-push.ensures.items ∙ ap (λ (o : Original). front ++ o ∷ []) c.of_writes.ensures
+
+  maps_are : maps_of tables ≡ maps
+  maps_are = c.into_tables-tables.ensures.maps
+
+  leads : taken found maps ≡ taken begun_with b.maps
+  leads =
+      ap (taken found) (sym maps_are)
+      ∙ c.into_tables-tables.ensures.back
+      ∙ start_maps c.replace-tables.result begun_with c.of_tables-draft.result c.carry_each.new.draft.keys c.of_tables-draft.ensures c.carry_each.ensures.keys
+      ∙ ap (λ (s : Stored). taken begun_with (maps_of s)) c.replace-tables.ensures.value
+
+  led : undone front (taken begun_with b.maps) ≡ b.begun
+  led = took_back b.originals front (original_of_writes begun_with) c.last_alone-earlier.ensures.last b.maps ∙ led_from b way none
+
+  abbrev new : Seen
+  new = record { manner = b.manner; begun = b.begun; maps = maps_of tables; places = places; originals = c.push.new.self.items }
+
+  is_new : new ≡ record { manner = b.manner; begun = b.begun; maps = maps; places = places; originals = front ++ last ∷ [] }
+  is_new = λ j. record { manner = b.manner; begun = b.begun; maps = maps_are j; places = places; originals = originals_are j }
+
+  new_way : IsOnTheWay new
+  new_way = subst IsOnTheWay (sym is_new) (with_journal b.manner b.begun maps places went (front ++ last ∷ []) (led_behind front last maps (taken begun_with b.maps) b.begun leads led))
+
+  kept : KeepReady c.self.inside.tables tables
+  kept =
+      subst (λ (s : Stored). KeepReady s tables) c.replace-tables.ensures.value
+      (kept_since c.replace-tables.result begun_with c.of_tables-draft.result c.carry_each.new.draft.keys c.of_tables-draft.ensures c.carry_each.ensures.keys tables c.into_tables-tables.ensures.kept)
+
+  front_ready : Each (λ o. AreReady o.keys tables) front
+  front_ready =
+      all_ready front c.self.inside.tables tables kept
+      (took_ready b.originals front (original_of_writes begun_with) c.last_alone-earlier.ensures.last c.self.inside.tables c.self.invariant.kept.ready).0
+
+  new_kept : IsKeptIn tables new
+  new_kept = record {
+    out = λ k. c.into_tables-tables.ensures.here k ∙ ap (λ x. x && names_entry k) (sym (out_of_none places went.none k));
+    ready = subst (Each (λ o. AreReady o.keys tables)) (sym originals_are) (each_joined (λ o. AreReady o.keys tables) front (last ∷ []) front_ready (c.into_tables-tables.ensures.ready, tt));
+  }
+
+pub invariant_of-self-2 : goal.invariant_of-self-2
+invariant_of-self-2 g c =
+    let all_closed : unclosed (map place_of c.carry_each.new.seats.items) ≡ 0 = none_left (places g c) c.in-Ok.ensures.closed in
+    let one : 1 ≤ unclosed (map place_of c.self.inside.seats.items) = some g c in
+    let room = c.self.invariant.room.originals in
+    let all = c.self.invariant.room.all in
+    let replies = c.self.invariant.room.replies in
+    let taken = c.last_alone-earlier.ensures.len in
+    let given = c.last_alone-earlier.ensures.capacity in
+    let len = c.carry_each.ensures.len in
+    let more = c.in-Ok-push.ensures.len in
+    let space = c.in-Ok-push.ensures.capacity in
+    record {
+      on_the_way = new_way g c;
+      kept = new_kept g c;
+      room = record { originals = omega arith; all = omega arith; replies = omega arith; no_replies = c.self.invariant.room.no_replies };
+    }
+
+pub returns-clause-none : goal.returns-clause-none
+returns-clause-none g c = (went g c).none
+
+pub returns-clause-outcome : goal.returns-clause-outcome
+returns-clause-outcome g c = gives_the_fold (new g c) (new_way g c)
