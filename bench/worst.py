@@ -225,6 +225,11 @@ def each_its_own(descriptors):
     return made([b"C=-{MF=T/%d%s}" % (number, descriptors % number) for number in range(1, 4_001)])
 
 
+def in_each(action, count, apart=0):
+    """So many contexts of one: the action in each, with its number, that of its member, which may lie apart, and its number again."""
+    return made([action % (number, number + apart, number) for number in range(1, count + 1)])
+
+
 def five_lists(properties, name=b"*"):
     """A Modify of these properties in each list that a termination may have."""
     sent = b",".join(properties)
@@ -367,6 +372,20 @@ def wildcards():
         yield wild(f"{count} contexts, one `Context=*{{{name}=*}}` with an audit of Media, Events and Signals", contexts(count), b"C=*{%s}" % command, 1, 2 * count,
                    b"Error=533")
     yield wild("2,000 contexts, one `Context=*{Subtract=*}` with an audit of Media", two, audited, 1, 4_000, b"Error=533")
+    with_one = contexts(150) + made([b"C=*{MF=*{M{O{b=1}}}}"])
+    another = b"C=*{MF=*{M{O{a=1}},AT{M}}}"
+    yield wild("150 contexts whose members have a property, one `Context=*{Modify=*}` of another with an audit of Media", with_one, another, 1, 300, b"Error=533")
+    for count in (150, 300):
+        own = contexts(count) + in_each(b"C=%d{MF=T/%d{M{O{b=%d}}}}", count)
+        yield wild(f"{count} contexts, each with a property of its own, one `Context=*{{Modify=*}}` of another with an audit of Media", own, another, 1, 2 * count,
+                   b"Error=533")
+    own = two + in_each(b"C=%d{MF=T/%d{M{O{a=%d}}}}", 2_000)
+    yield wild("2,000 contexts, each with a property of its own, one `Context=*{Modify=*}` of it", own, b"C=*{MF=*{M{O{a=0}}}}", 1, 4_000, b"Error=533")
+    chosen = made([b",".join([b"C=${A=$}"] * 400)] * 5)
+    for name, sent, all_sent in (("a property of its own, one `Context=*{Modify=*}` of it", b"M{O{a=%d}}", b"M{O{a=0}}"),
+                                 ("a Remote of its own, one `Context=*{Modify=*}` with another", b"M{R{v=%d}}", b"M{R{v=0}}")):
+        own = chosen + in_each(b"C=%d{MF=RTP/%d{" + sent + b"}}", 2_000, -1)
+        yield wild("2,000 contexts of a chosen termination, each with " + name, own, b"C=*{MF=*{%s}}" % all_sent, 1, 4_000, b"Error=533", 64)
     ended = [HEAD + as_often(b"T=1{C=*{", b"O-S=T/*", b"}}")]
     yield Kind("62 contexts of 64, Subtracts of all of a context that ends with the first", made(many), ended, b"Error=533", 62 * 65, 4_000)
     yield wild("no context, `Context=*`", [], b"C=*{S=*}", MOST, 0, b"Error=431")
