@@ -48,7 +48,8 @@ use Rattle.gw_tx.specs.Transactions.{action_reply, answered, attempt, attempted,
 use Rattle.gw_tx.proofs.AllContexts.{ctx-set_all}
 use Rattle.gw_tx.proofs.EachContext.{stays_each}
 use Rattle.gw_tx.proofs.SetProperties.{members-set, term-all}
-use Rattle.gw_tx.proofs.TooLong.{behind_others, length-braces, length-joined}
+use Rattle.gw_length.proofs.Frames.{behind_others}
+use Rattle.gw_tx.proofs.TooLong.{length-braces, length-joined}
 
 either_of : {A : Type 0} (P : A → Type 0) (b : Bool) (x y : A) → P x → P y → P (if b then x else y)
 either_of P true x y p q = p

@@ -60,11 +60,7 @@ pub(crate) fn action_error(
 }
 
 /// The reply of an action whose commands were attempted.
-fn action_reply(
-    at: At,
-    parts: Items<ContextPart>,
-    replies: Items<CommandReply>,
-) -> ActionReply
+fn action_reply(at: At, parts: Items<ContextPart>, replies: Items<CommandReply>) -> ActionReply
     ensures { result ≡ record { ctx = answered at; parts = parts; result = Replies replies } }
 {
     ActionReply {
