@@ -85,9 +85,8 @@ def inclusive(out, word):
     return max(found, default=0)
 
 
-# Functions that stay whole in the built program. The rest of `run` is reading, telling repeats, keeping replies and the copy.
-PARTS = {"carrying commands out": "gw_tx::commands::commands", "writing replies": "gw_engine::answer::text_of",
-         "all of `run`": "gw_engine::gateway::Gateway::run"}
+# Functions that stay whole in the built program. The rest of `run` is reading, telling repeats, keeping replies and copying answers.
+PARTS = {"carrying requests out, and writing their replies": "gw_board::job::carry_on", "all of `run`": "gw_engine::gateway::Gateway::run"}
 
 
 def rates(folder):
