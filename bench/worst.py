@@ -381,6 +381,9 @@ def wildcards():
                    b"Error=533")
     own = two + in_each(b"C=%d{MF=T/%d{M{O{a=%d}}}}", 2_000)
     yield wild("2,000 contexts, each with a property of its own, one `Context=*{Modify=*}` of it", own, b"C=*{MF=*{M{O{a=0}}}}", 1, 4_000, b"Error=533")
+    own = contexts(400) + in_each(b"C=%d{MF=T/%d" + listed(b"{M{O{", [b"p%d=1" % n for n in range(30)], b",p30=%d}}}}"), 400)
+    yield wild("400 contexts, each with 31 properties, one of its own, one `Context=*{Modify=*}` of one of them with an audit of Events", own,
+               b"C=*{MF=*{M{O{p3=0}},AT{E}}}", 1, 800, terms=400)
     chosen = made([b",".join([b"C=${A=$}"] * 400)] * 5)
     for name, sent, all_sent in (("a property of its own, one `Context=*{Modify=*}` of it", b"M{O{a=%d}}", b"M{O{a=0}}"),
                                  ("a Remote of its own, one `Context=*{Modify=*}` with another", b"M{R{v=%d}}", b"M{R{v=0}}")):
