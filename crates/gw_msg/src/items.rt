@@ -1,7 +1,9 @@
 //! The body of a message: its items, or an error.
 
 ghost use Rattle.std.proofs.Common.{arith};
-ghost use Rattle.std.specs.Prelude.{◌≡◌, IfOk};
+ghost use Rattle.std.specs.Prelude.{◌≡◌, ◌<◌, Some, None, vec_len, vec_capacity, IfOk, OnOk, MatchResult};
+ghost use Rattle.gw_text.specs.Lexical.{right_brace};
+ghost use Rattle.gw_text.specs.Sign.{sign_at};
 ghost use Rattle.gw_text.specs.Parts.{Gives, Finds};
 ghost use Rattle.gw_text.specs.Reader.{items_at, solid_as};
 ghost use Rattle.gw_msg.specs.ActionReading.{request_tree_at};
@@ -15,7 +17,7 @@ use crate::sender::Sender;
 use crate::words::{is_error_next, mid};
 use bumpalo::Bump;
 use gw_base::{Items, Listed, TxId};
-use gw_text::parts::{Parse, braced, items, put, sign, token};
+use gw_text::parts::{Parse, braced, list, put, sign, token};
 use gw_text::{Cursor, ParseFault, Token};
 use std::alloc::{AllocError, Global};
 
@@ -31,11 +33,28 @@ pub(crate) enum Trees {
 /// How deep groups may lie in a reply.
 const REPLY_DEPTH: u32 = 16;
 
+/// As many bytes as an item of a message of many mostly has at least.
+const ITEM_LENGTH: usize = 32;
+
 /// The most digits of an error code.
 const CODE_DIGITS: usize = 4;
 
 /// The greatest number that they write.
 const CODE_MAX: u32 = 9999;
+
+/// Takes the brace that closes a transaction, with the white space on both sides. Mostly there is none in front of it, and behind it one
+/// blank or none.
+#[inline(always)]
+#[tactic(auto, unfolding(gw_text::specs::Sign::sign_at, gw_text::specs::Sign::byte_at, gw_text::specs::SpaceScan::skip, gw_text::specs::SpaceScan::space_len))]
+fn close(cursor: &mut Cursor<'_>) -> Result<(), ParseFault>
+    ensures { MatchResult result (λ _. sign_at right_brace cursor.old ≡ Some cursor.new) (λ e. (e ≡ ParseFault.Syntax) × (sign_at right_brace cursor.old ≡ None)) }
+{
+    if cursor.byte(b'}') {
+        cursor.lwsp();
+        return Ok(());
+    }
+    sign(cursor, b'}')
+}
 
 /// The tree of a transaction, behind its token: its number and its actions.
 #[tactic(auto, using(crate::proofs::Laws::action_shrinks), unfolding(crate::specs::ActionReading::request_tree_at))]
@@ -47,7 +66,9 @@ pub(crate) fn request_tree<'a>(
 {
     sign(cursor, b'=')?;
     let id = cursor.uint32()?;
-    let actions = braced(bump, cursor)?;
+    sign(cursor, b'{')?;
+    let actions = list(bump, cursor)?;
+    close(cursor)?;
     Ok(Request {
         id: TxId(id.value),
         actions,
@@ -179,13 +200,43 @@ fn item<'a>(
     }
 }
 
-impl<'a> Parse<'a> for Item<'a> {
-    ghost read_at = { item_at };
+/// Makes room for another item. Where there is none, it is made for as many as so many bytes of text mostly have.
+///
+/// # Errors
+///
+/// `AllocError` where a growth was refused.
+#[inline(always)]
+fn make_room<'a>(parts: &mut Vec<Item<'a>, &'a Bump>, left: usize) -> Result<(), AllocError>
+    ensures items { OnOk result (parts.new.items ≡ parts.old.items) }
+    ensures room { OnOk result (vec_len parts.new < vec_capacity parts.new) }
+{
+    if parts.capacity() <= parts.len() {
+        parts.reserve(left / ITEM_LENGTH + 1)?;
+    }
+    Ok(())
+}
 
-    ghost fits = { Prim.search arith };
-
-    fn read(bump: &'a Bump, cursor: &mut Cursor<'a>) -> Result<Item<'a>, ParseFault> {
-        item(bump, cursor, None)
+/// The items to the end of the text, each of a byte at least, with the trees of transactions. Most messages have one item, which then
+/// takes a block of its own size.
+fn whole_items<'a>(
+    bump: &'a Bump,
+    cursor: &mut Cursor<'a>,
+) -> Result<Listed<'a, Item<'a>>, ParseFault>
+    ensures { Gives result cursor.new (items_at item_at cursor.old) }
+{
+    let mut parts = Vec::new(bump);
+    loop {
+        let part = item(bump, cursor, None)?;
+        cursor.lwsp();
+        if cursor.is_empty() {
+            if parts.is_empty() {
+                return Ok(Listed::one(bump, part)?);
+            }
+            put(&mut parts, part)?;
+            return Ok(Listed::kept(parts));
+        }
+        make_room(&mut parts, cursor.left())?;
+        parts.push_reserved(part);
     }
 }
 
@@ -230,7 +281,7 @@ fn all_items<'a>(
     ensures { Gives result cursor.new (items_at item_at cursor.old) }
 {
     match trees {
-        Trees::Kept => items(bump, cursor),
+        Trees::Kept => whole_items(bump, cursor),
         Trees::LetGo(alloc) => Ok(laid_out(bump, brief_items(alloc, bump, cursor)?)?),
     }
 }
