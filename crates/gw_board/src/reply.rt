@@ -12,7 +12,7 @@ ghost use Rattle.gw_board.specs.Seats.{standing_of};
 use crate::board::Board;
 use crate::seat::Stage;
 use gw_base::{Code, Items, Mid, NoMemory, TxId};
-use gw_reply::{TxReply, write_reply};
+use gw_reply::{TxReply, write_framed_reply, write_reply};
 use gw_tx::Told;
 use std::alloc::Global;
 
@@ -37,7 +37,10 @@ pub(crate) fn text_told(
     ensures { (reply : TxReply) → told.now ≡ within (reply_limit mid.now) reply → reply.id ≡ id → IfOk result (λ text. text ≡ reply_text mid.now reply) }
 {
     match told {
-        Told::Whole(reply) => Ok(Items::from(write_reply(alloc, reply, mid)?)),
+        Told::Whole(actions) => {
+            let text = write_framed_reply(alloc, id, actions.as_slice(), mid)?;
+            Ok(Items::from(text))
+        }
         Told::TooLong => {
             let short = TxReply {
                 id,

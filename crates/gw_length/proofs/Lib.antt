@@ -1,6 +1,5 @@
 pub mod Counted
-pub mod CountedOnce
-pub mod Frames
+pub mod Framed
 pub mod Lengths
 pub mod Tellings
 pub mod ToldLengths

@@ -110,37 +110,3 @@ impl Length for ActionReply {
         behind_told(left, self.parts.as_slice(), &self.result)
     }
 }
-
-/// Whether nothing stands between the braces of an action reply.
-fn tells_nothing(reply: &ActionReply) -> bool
-    ensures { (commands : List CommandReply) → reply.now.result ≡ Ok commands → result ≡ (length reply.now.parts == 0 && length commands == 0) }
-{
-    match &reply.result {
-        Ok(commands) => reply.parts.is_empty() && commands.is_empty(),
-        Err(_) => false,
-    }
-}
-
-/// How many bytes an action reply takes with the comma before it, less its ContextID and what stands between its braces, where each of
-/// this is counted with a comma before it: the first has none, so there is a byte less where anything stands there.
-fn frame_length(reply: &ActionReply) -> usize
-    ensures frame { (commands : List CommandReply) → reply.now.result ≡ Ok commands → result + length (later context_part_text reply.now.parts) + length (later command_reply_text commands) ≡ length (told_text reply.now.parts reply.now.result) + 11 }
-    ensures short { result ≤ 11 }
-{
-    if tells_nothing(reply) {
-        b",Context={}".len()
-    } else {
-        b"Context={}".len()
-    }
-}
-
-/// Behind what an action reply takes beside its command replies, with a comma before it, where these were counted before, each with a
-/// comma before it.
-#[inline(always)]
-pub(crate) fn behind_frame(room: usize, reply: &ActionReply) -> Option<usize>
-    ensures { (commands : List CommandReply) → reply.now.result ≡ Ok commands → Leaves result room (length (later action_reply_text (reply.now ∷ [])) - length (later command_reply_text commands)) }
-{
-    let left = behind(room, frame_length(reply))?;
-    let left = reply.ctx.room_behind(left)?;
-    behind_later(left, reply.parts.as_slice())
-}

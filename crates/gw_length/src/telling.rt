@@ -1,25 +1,54 @@
 //! Replies that are told as they come, within a limit on their text.
 
-ghost use Rattle.std.specs.Prelude.{◌≡◌, ◌∷◌, ◌++◌, [], length, List, Ok, IfOk};
+ghost use Rattle.std.specs.Prelude.{◌≡◌, ◌∷◌, ◌++◌, [], length, IfOk, OnOk};
 ghost use Rattle.gw_reply.specs.Lists.{later};
 ghost use Rattle.gw_length.specs.Rooms.{Leaves};
-ghost use Rattle.gw_reply.specs.Replies.{action_reply_text, command_reply_text};
-ghost use Rattle.gw_reply.specs.declared.reply.CommandReply.{CommandReply};
-ghost use Rattle.gw_length.specs.Tellings.{inside, told_behind};
-ghost use Rattle.gw_length.specs.declared.telling.Telling.TheVariants.{Within};
+ghost use Rattle.gw_length.specs.Tellings.{told_behind};
 
-use crate::replies::behind_frame;
-use crate::room::{Length, behind, behind_later};
+use crate::room::{Length, behind};
 use gw_base::{Items, NoMemory};
-use gw_reply::ActionReply;
+use gw_reply::{
+    ActionReply, CommandReply, ContextPart, write_action_reply, write_command_reply,
+    write_context_part,
+};
+use std::alloc::AllocError;
+
+/// What can be told: its text is counted, and written.
+pub trait Tell: Length + Drop {
+    /// The text goes behind what the buffer holds.
+    ///
+    /// # Errors
+    ///
+    /// `AllocError` where memory was refused; the buffer is then of no use.
+    fn write_to(&self, out: &mut Vec<u8>) -> Result<(), AllocError>
+        ensures { OnOk result (out.new.items ≡ out.old.items ++ Self.text self.now) };
+}
+
+impl Tell for CommandReply {
+    fn write_to(&self, out: &mut Vec<u8>) -> Result<(), AllocError> {
+        write_command_reply(self, out)
+    }
+}
+
+impl Tell for ActionReply {
+    fn write_to(&self, out: &mut Vec<u8>) -> Result<(), AllocError> {
+        write_action_reply(self, out)
+    }
+}
+
+impl Tell for ContextPart {
+    fn write_to(&self, out: &mut Vec<u8>) -> Result<(), AllocError> {
+        write_context_part(self, out)
+    }
+}
 
 /// Replies that are told as they come. What is kept of them is never longer, as text, than the room that there was at first.
 #[derive(Drop)]
 pub enum Telling<T> {
     /// All of them, however long.
     All(Items<T>),
-    /// All of them so far, and for how many bytes more there is room. Each reply takes its text and a comma.
-    Within(Items<T>, usize),
+    /// The text of all of them so far, each behind a comma, and for how many bytes more there is room.
+    Within(Items<u8>, usize),
     /// There was no room for all of them: none is kept, and nothing more need be told.
     TooLong,
 }
@@ -33,8 +62,25 @@ fn behind_one<T: Length>(room: usize, reply: &T) -> Option<usize>
     reply.room_behind(left)
 }
 
-impl<T: Length + Drop> Telling<T> {
-    /// One reply more, behind those that are told. The work is linear in the parts of the reply that there is room for.
+/// Room for so many bytes is made at once: most replies need no more.
+const ROOM: usize = 256;
+
+/// The text of a reply, which has so many bytes with the comma before it, goes behind those that are told.
+#[inline(always)]
+fn with_text<T: Tell>(told: Items<u8>, reply: &T, count: usize) -> Result<Items<u8>, NoMemory>
+    ensures { IfOk result (λ all. all ≡ told ++ later T.text (reply.now ∷ [])) }
+{
+    let mut out = told.into_vec();
+    if out.capacity() - out.len() < count {
+        out.reserve(count.max(ROOM))?;
+    }
+    out.push(b',')?;
+    reply.write_to(&mut out)?;
+    Ok(Items::from(out))
+}
+
+impl<T: Tell> Telling<T> {
+    /// One reply more, behind those that are told. The work is linear in the text of the reply, where there is room for it.
     ///
     /// # Errors
     ///
@@ -48,76 +94,13 @@ impl<T: Length + Drop> Telling<T> {
                 replies.push(reply)?;
                 Ok(Telling::All(replies))
             }
-            Telling::Within(mut replies, room) => {
+            Telling::Within(told, room) => {
                 let Some(left) = behind_one(room, &reply) else {
                     return Ok(Telling::TooLong);
                 };
-                replies.push(reply)?;
-                Ok(Telling::Within(replies, left))
+                Ok(Telling::Within(with_text(told, &reply, room - left)?, left))
             }
             Telling::TooLong => Ok(Telling::TooLong),
-        }
-    }
-
-    /// More replies, behind those that are told. The work is linear in the parts of the replies that there is room for.
-    ///
-    /// # Errors
-    ///
-    /// Want of memory.
-    pub fn tell_all(self, more: Items<T>) -> Result<Telling<T>, NoMemory>
-        ensures { IfOk result (λ told. told ≡ told_behind T.text self more) }
-    {
-        match self {
-            Telling::All(mut replies) => {
-                replies.append(more)?;
-                Ok(Telling::All(replies))
-            }
-            Telling::Within(mut replies, room) => {
-                let Some(left) = behind_later(room, more.as_slice()) else {
-                    return Ok(Telling::TooLong);
-                };
-                replies.append(more)?;
-                Ok(Telling::Within(replies, left))
-            }
-            Telling::TooLong => Ok(Telling::TooLong),
-        }
-    }
-}
-
-/// The reply to an action goes last, and so much room is left.
-fn with_reply(
-    front: Items<ActionReply>,
-    reply: ActionReply,
-    left: usize,
-) -> Result<Telling<ActionReply>, NoMemory>
-    ensures { IfOk result (λ told. told ≡ Within (front ++ reply ∷ []) left) }
-{
-    let mut front = front;
-    front.push(reply)?;
-    Ok(Telling::Within(front, left))
-}
-
-impl Telling<ActionReply> {
-    /// The reply to an action, behind those that are told, where its command replies were told within the room that there was for the
-    /// action, and left so much of it: these are not counted again. The work is linear in the parts that are told of the context.
-    ///
-    /// # Errors
-    ///
-    /// Want of memory.
-    #[inline(always)]
-    pub fn tell_counted(
-        self,
-        reply: ActionReply,
-        left: usize,
-    ) -> Result<Telling<ActionReply>, NoMemory>
-        ensures { (commands : List CommandReply) → reply.result ≡ Ok commands → told_behind command_reply_text (inside self) commands ≡ Within commands left → IfOk result (λ told. told ≡ told_behind action_reply_text self (reply ∷ [])) }
-    {
-        match self {
-            Telling::Within(front, _) => match behind_frame(left, &reply) {
-                Some(left) => with_reply(front, reply, left),
-                None => Ok(Telling::TooLong),
-            },
-            other => other.tell(reply),
         }
     }
 }

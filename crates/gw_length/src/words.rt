@@ -11,6 +11,7 @@ ghost use Rattle.gw_reply.specs.Terminations.{term_text};
 use crate::room::{Length, behind, behind_number};
 use gw_base::{Code, CtxNum, CtxRef, Flow, Link, Service, TermRef, Verb};
 use gw_desc::{AuditItem, KeptKind, Mode};
+use gw_reply::error_descriptor;
 
 pub(crate) fn mode_length(mode: Mode) -> usize
     ensures { result ≡ length (mode_word mode) }
@@ -105,9 +106,7 @@ impl Length for Code {
     ghost text = { error_text };
 
     fn room_behind(&self, room: usize) -> Option<usize> {
-        let left = behind(room, b"Error={\"\"}".len())?;
-        let left = behind_number(left, u32::from(self.number()))?;
-        behind(left, self.text().len())
+        behind(room, error_descriptor(*self).len())
     }
 }
 

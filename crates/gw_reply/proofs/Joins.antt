@@ -53,20 +53,20 @@ one_written text front parts i part before here out more begun one e =
 -- ---- what an action reply tells
 
 -- texts behind a comma each
-abbrev behind : List (List ℕ) → List ℕ
+abbrev pub behind : List (List ℕ) → List ℕ
 behind texts = later (λ (t : List ℕ). t) texts
 
-first_then : (first : List ℕ) (texts : List (List ℕ)) → comma_separated (first ∷ texts) ≡ first ++ behind texts
+pub first_then : (first : List ℕ) (texts : List (List ℕ)) → comma_separated (first ∷ texts) ≡ first ++ behind texts
 first_then first [] = sym (append-nil first)
 first_then first (next ∷ rest) = ap (λ t. first ++ comma ∷ t) (first_then next rest)
 
-behind_map : {T : Type 0} (text : T → List ℕ) (parts : List T) (texts : List (List ℕ)) → behind (map text parts ++ texts) ≡ later text parts ++ behind texts
+pub behind_map : {T : Type 0} (text : T → List ℕ) (parts : List T) (texts : List (List ℕ)) → behind (map text parts ++ texts) ≡ later text parts ++ behind texts
 behind_map text [] texts = refl
 behind_map text (part ∷ parts) texts =
     ap (λ t. comma ∷ (text part ++ t)) (behind_map text parts texts)
     ∙ ap (λ t. comma ∷ t) (sym (append_assoc (text part) (later text parts) (behind texts)))
 
-behind_all : {T : Type 0} (text : T → List ℕ) (parts : List T) → behind (map text parts) ≡ later text parts
+pub behind_all : {T : Type 0} (text : T → List ℕ) (parts : List T) → behind (map text parts) ≡ later text parts
 behind_all text [] = refl
 behind_all text (part ∷ parts) = ap (λ t. comma ∷ (text part ++ t)) (behind_all text parts)
 

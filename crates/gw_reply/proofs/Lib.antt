@@ -1,3 +1,4 @@
 mod Digits
+pub mod Framed
 pub mod Joins
 pub mod TextLengths

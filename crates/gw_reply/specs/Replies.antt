@@ -1,6 +1,8 @@
 -- Replies (RFC 3525, section 8.2.2 and Annex B.2, transactionReply, actionReply, commandReply; without white space: own).
-use Rattle.std.specs.Prelude.{ℕ, Bool, true, false, List, [], ◌∷◌, ◌++◌, map, codes, decimal, Result, Ok, Err}
+use Rattle.std.specs.Prelude.{ℕ, Bool, true, false, List, [], ◌∷◌, ◌++◌, drop, map, codes, decimal, Result, Ok, Err}
 use Rattle.gw_base.specs.declared.code.Code.{Code}
+use Rattle.gw_base.specs.declared.ids.TxId.{TxId}
+use Rattle.gw_base.specs.declared.command_words.CtxRef.{CtxRef}
 use Rattle.gw_reply.specs.declared.reply.TxReply.{TxReply}
 use Rattle.gw_reply.specs.declared.reply.ActionReply.{ActionReply}
 use Rattle.gw_reply.specs.declared.reply.CommandReply.{CommandReply}
@@ -42,6 +44,10 @@ told_text parts result = comma_separated (map context_part_text parts ++ replies
 abbrev pub action_reply_text : ActionReply → List ℕ
 action_reply_text reply = codes "Context=" ++ context_text reply.ctx ++ in_braces (told_text reply.parts reply.result)
 
+-- Context=<ContextID>{..} of what stands between the braces, where each part of it has a comma before it
+abbrev pub framed : CtxRef → List ℕ → List ℕ
+framed ctx inner = codes "Context=" ++ context_text ctx ++ in_braces (drop 1 inner)
+
 -- each of the replies behind a comma, or the error behind one
 abbrev pub later_replies : {T : Type 0} → (T → List ℕ) → Result (List T) Code → List ℕ
 later_replies text (Ok replies) = later text replies
@@ -55,3 +61,7 @@ replies_behind text true replies = later_replies text replies
 -- Reply=<TransactionID>{..}
 abbrev pub transaction_reply_text : TxReply → List ℕ
 transaction_reply_text reply = codes "Reply=" ++ decimal reply.id.0 ++ in_braces (replies_text action_reply_text reply.result)
+
+-- the same of its action replies, each behind a comma
+abbrev pub framed_reply : TxId → List ℕ → List ℕ
+framed_reply id actions = codes "Reply=" ++ decimal id.0 ++ in_braces (drop 1 actions)

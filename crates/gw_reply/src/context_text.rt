@@ -1,7 +1,7 @@
 //! The text of what an action reply tells of its context itself.
 
-ghost use Rattle.std.specs.Prelude.{◌≡◌};
-ghost use Rattle.gw_reply.specs.ContextParts.{flow_word};
+ghost use Rattle.std.specs.Prelude.{◌≡◌, ◌++◌, OnOk};
+ghost use Rattle.gw_reply.specs.ContextParts.{context_part_text, flow_word};
 
 use crate::context_parts::ContextPart;
 use crate::wire::{WireText, write_number, write_parts};
@@ -52,4 +52,15 @@ impl WireText for ContextPart {
             }
         }
     }
+}
+
+/// Writes what is told of a context behind what the buffer holds.
+///
+/// # Errors
+///
+/// `AllocError` where memory was refused; the buffer is then of no use.
+pub fn write_context_part(part: &ContextPart, out: &mut Vec<u8>) -> Result<(), AllocError>
+    ensures { OnOk result (out.new.items ≡ out.old.items ++ context_part_text part.now) }
+{
+    part.write_to(out)
 }

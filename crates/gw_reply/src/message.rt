@@ -1,11 +1,11 @@
 //! Whole messages: the header and a reply or an error (RFC 3525, section 8.3).
 
 ghost use Rattle.std.specs.Prelude.{◌≡◌, ◌+◌, ◌≤◌, length, IfOk};
-ghost use Rattle.gw_reply.specs.Replies.{transaction_reply_text};
+ghost use Rattle.gw_reply.specs.Replies.{framed_reply, transaction_reply_text};
 ghost use Rattle.gw_reply.specs.Messages.{message_text, longest_header, longest_message, longest_short_reply, too_long, reply_text, fault_text};
 
 use crate::reply::TxReply;
-use crate::wire::WireText;
+use crate::wire::{WireText, write_opening};
 use gw_base::{Code, Mid, NoMemory, TxId};
 use std::alloc::Global;
 
@@ -55,6 +55,35 @@ pub fn write_reply(alloc: Global, reply: &TxReply, mid: &Mid) -> Result<Vec<u8>,
         return Ok(text);
     }
     write_message(alloc, &too_long(reply.id), mid)
+}
+
+/// So many bytes stand round the mId and the action replies in a message with a reply at most, where the first of these has a comma before it.
+const AROUND: usize = b"MEGACO/1 \nReply=4294967295{}".len();
+
+/// The message with the reply to the transaction of this number, from the texts of its action replies, each behind a comma.
+///
+/// # Errors
+///
+/// Want of memory.
+pub fn write_framed_reply(
+    alloc: Global,
+    id: TxId,
+    actions: &[u8],
+    mid: &Mid,
+) -> Result<Vec<u8>, NoMemory>
+    ensures { IfOk result (λ text. text.items ≡ message_text mid.now (framed_reply id actions.now)) }
+{
+    let mid = mid.as_bytes();
+    let mut out = Vec::with_capacity(alloc, AROUND + mid.len() + actions.len())?;
+    out.extend_from_slice(b"MEGACO/1 ")?;
+    out.extend_from_slice(mid)?;
+    out.extend_from_slice(b"\nReply=")?;
+    write_opening(id.0, &mut out)?;
+    if let Some((_, joined)) = actions.split_first() {
+        out.extend_from_slice(joined)?;
+    }
+    out.push(b'}')?;
+    Ok(out)
 }
 
 /// The message whose body is the error, from the gateway of this mId: the answer to a datagram that is no message.

@@ -1,14 +1,16 @@
 //! The text of replies to commands, actions and transactions (RFC 3525, section 8.2.2 and Annex B.2).
 
-ghost use Rattle.std.specs.Prelude.{◌≡◌, ◌++◌, OnOk};
-ghost use Rattle.gw_reply.specs.Replies.{body_text, told_text};
+ghost use Rattle.std.specs.Prelude.{◌≡◌, ◌+◌, ◌∷◌, ◌++◌, IfOk, OnOk, codes, length};
+ghost use Rattle.gw_reply.specs.Lists.{comma};
+ghost use Rattle.gw_reply.specs.Replies.{action_reply_text, body_text, command_reply_text, framed, told_text};
 
 use crate::context_parts::ContextPart;
-use crate::identifiers::{write_command, write_context};
+use crate::identifiers::{context_word, write_command, write_context};
 use crate::parts::ReplyPart;
 use crate::reply::{ActionReply, CommandReply, TxReply};
 use crate::wire::{WireText, write_opening, write_parts, write_replies};
-use gw_base::{Code, Items};
+use gw_base::{Code, CtxRef, Items};
+use itoa::Buffer;
 use std::alloc::AllocError;
 
 /// What follows the TerminationID: the parts in braces, if there are any, or an error in braces.
@@ -68,6 +70,70 @@ impl WireText for ActionReply {
         out.push(b'}')?;
         Ok(())
     }
+}
+
+/// Writes the reply to a command behind what the buffer holds.
+///
+/// # Errors
+///
+/// `AllocError` where memory was refused; the buffer is then of no use.
+pub fn write_command_reply(reply: &CommandReply, out: &mut Vec<u8>) -> Result<(), AllocError>
+    ensures { OnOk result (out.new.items ≡ out.old.items ++ command_reply_text reply.now) }
+{
+    reply.write_to(out)
+}
+
+/// Writes the reply to an action behind what the buffer holds.
+///
+/// # Errors
+///
+/// `AllocError` where memory was refused; the buffer is then of no use.
+pub fn write_action_reply(reply: &ActionReply, out: &mut Vec<u8>) -> Result<(), AllocError>
+    ensures { OnOk result (out.new.items ≡ out.old.items ++ action_reply_text reply.now) }
+{
+    reply.write_to(out)
+}
+
+/// What stands in front of the ContextID.
+const HEAD: &[u8] = b",Context=";
+
+/// Fills the place with the head of an action reply.
+fn fill_head(place: &mut [u8], word: &[u8])
+    requires { length place.old ≡ length word.now + 9 }
+    ensures { place.new ≡ codes ",Context=" ++ word.now }
+{
+    let (first, last) = place.split_at_mut(HEAD.len());
+    first.copy_from_slice(HEAD);
+    last.copy_from_slice(word);
+}
+
+/// The reply to an action in this context, behind a comma: from what stands between its braces, where each part of that has a comma before
+/// it. It is made in the buffer that it is given.
+///
+/// # Errors
+///
+/// `AllocError` where memory was refused.
+pub fn framed_action(ctx: &CtxRef, inner: Vec<u8>) -> Result<Vec<u8>, AllocError>
+    ensures { IfOk result (λ out. out.items ≡ comma ∷ framed ctx.now inner.items) }
+{
+    let mut digits = Buffer::new();
+    let word = context_word(ctx, &mut digits);
+    let mut out = inner;
+    let length = out.len();
+    out.extend_from_slice(HEAD)?;
+    out.extend_from_slice(word)?;
+    if length == 0 {
+        out.extend_from_slice(b"{}")?;
+        return Ok(out);
+    }
+    // What stands between the braces makes way for the head, and its first comma for the brace.
+    let front = out.len() - length;
+    out.copy_within(..length, front);
+    let (head, _) = out.as_mut_slice().split_at_mut(front);
+    fill_head(head, word);
+    out[front] = b'{';
+    out.push(b'}')?;
+    Ok(out)
 }
 
 impl WireText for TxReply {

@@ -1,14 +1,15 @@
 -- What is told of a context in the room that there is.
-use Rattle.std.proofs.Common.{◌≡◌, ℕ, ◌-◌, ◌*◌, ◌≤◌, ◌<◌, nat_le, suc, Bool, true, false, List, [], ◌∷◌, ◌++◌, length, map, codes, Option, None, Some, is_some, arith, length-append, refl, ap, sym, subst}
-use Rattle.std.specs.Prelude.{◌==◌, flat_map, if◌then◌else◌}
-use Rattle.std.proofs.lemmas.Bool.{leb-false}
+use Rattle.std.proofs.Common.{◌≡◌, ℕ, ◌*◌, ◌≤◌, ◌<◌, suc, Bool, true, false, List, [], ◌∷◌, ◌++◌, length, map, codes, Option, None, Some, is_some, arith, length-append, refl, ap, sym, subst}
+use Rattle.std.specs.Prelude.{◌==◌, flat_map}
 use Rattle.gw_base.specs.declared.context_words.Link.{Link}
 use Rattle.gw_base.specs.declared.ids.CtxNum.{CtxNum}
 use Rattle.gw_ctx.specs.Contexts.{ContextRecord}
 use Rattle.gw_length.specs.declared.telling.Telling.{Telling}
 use Rattle.gw_length.specs.declared.telling.Telling.TheVariants as telling
 use Rattle.gw_length.specs.Tellings.{told_behind}
-use Rattle.gw_length.proofs.Tellings.{not_le}
+use Rattle.gw_length.proofs.Framed.{untold}
+use Rattle.gw_length.proofs.Lengths.{length-joined, length-braces}
+use Rattle.gw_length.proofs.Tellings.{not_within}
 use Rattle.gw_msg.specs.declared.message.Action.{Action}
 use Rattle.gw_msg.specs.declared.message.Command.{Command}
 use Rattle.gw_refusal.specs.declared.at.At.{At}
@@ -26,19 +27,17 @@ use Rattle.gw_table.specs.Maps.{Maps, ctx}
 use Rattle.gw_tx.specs.Properties.{told_items, told_of_item, at_least_priority, context_parts_if}
 use Rattle.gw_tx.specs.Told.{inside}
 use Rattle.gw_tx.specs.Transactions.{action_reply, answered, reply_alone, AreThere}
-use Rattle.gw_tx.proofs.TooLong.{length-joined, length-braces, is_else}
 
 -- ---- links
 
 -- where there is no room for the links, each behind a comma, there is none for the part that they are
-pub links_too_long : (front : List ContextPart) (links : List Link) (room : ℕ) → room < length (later link_text links) → told_behind context_part_text (telling.Within front room) (part.Topology links ∷ []) ≡ telling.TooLong
+pub links_too_long : (front : List ℕ) (links : List Link) (room : ℕ) → room < length (later link_text links) → told_behind context_part_text (telling.Within front room) (part.Topology links ∷ []) ≡ telling.TooLong
 links_too_long front [] room h = absurd (omega arith)
 links_too_long front (l ∷ ls) room h =
     let joined : List ℕ = comma_separated (map link_text (l ∷ ls)) in
     let told : ContextPart = part.Topology (l ∷ ls) in
-    let taken : ℕ = length (later context_part_text (told ∷ [])) in
-    let one : taken ≡ suc (length (context_part_text told)) = omega (arith, length-append (context_part_text told) []) in
-    ap (λ (b : Bool). let t : Telling ContextPart = if b then telling.Within (front ++ told ∷ []) (room - taken) else telling.TooLong in t) (not_le taken room (omega (arith, h, one, length-joined link_text l ls, length-braces joined)))
+    let one : length (later context_part_text (told ∷ [])) ≡ suc (length (context_part_text told)) = omega (arith, length-append (context_part_text told) []) in
+    not_within context_part_text front (told ∷ []) room (omega (arith, h, one, length-joined link_text l ls, length-braces joined))
 
 -- ---- the parts of an action
 
@@ -59,13 +58,10 @@ longer ctx (p ∷ ps) replies =
 pub parts_too_long : (told : Telling ActionReply) (parts : List ContextPart) (a : Attempts At CommandReply) → told_behind context_part_text (inside told) parts ≡ telling.TooLong → telling.TooLong ≡ told_behind action_reply_text told (action_reply parts a ∷ [])
 parts_too_long (telling.All front) parts a e = absurd cc
 parts_too_long (telling.Within front room) parts a e =
-    let taken : ℕ = length (later context_part_text parts) in
-    let more = leb-false taken room (is_else (nat_le taken room) ([] ++ parts) (room - taken) e) in
+    let more = untold (later context_part_text parts) room telling.TooLong (λ text left is. absurd cc) (sym e) in
     let reply : ActionReply = action_reply parts a in
-    let action : ℕ = length (later action_reply_text (reply ∷ [])) in
-    let one : action ≡ suc (length (action_reply_text reply)) = omega (arith, length-append (action_reply_text reply) []) in
-    let all = longer (context_text (answered a.next)) parts (map command_reply_text a.answers) in
-    sym (ap (λ (b : Bool). let t : Telling ActionReply = if b then telling.Within (front ++ reply ∷ []) (room - action) else telling.TooLong in t) (not_le action room (omega (arith, more, one, all))))
+    let one : length (later action_reply_text (reply ∷ [])) ≡ suc (length (action_reply_text reply)) = omega (arith, length-append (action_reply_text reply) []) in
+    sym (not_within action_reply_text front (reply ∷ []) room (omega (arith, more, one, longer (context_text (answered a.next)) parts (map command_reply_text a.answers))))
 parts_too_long telling.TooLong parts a e = refl
 
 -- ---- how long the reply in a context is at least
@@ -104,8 +100,5 @@ replies_least a m (n ∷ ns) none there =
       replies_least a m ns none (λ k d l. there (suc k) d (omega arith)),
     )
 
-pub no_room : (front : List ActionReply) (room : ℕ) (a : Action) (m : Maps) (ns : List CtxNum) → a.commands ≡ [] → AreThere m ns → room < 20 * length ns → told_behind action_reply_text (telling.Within front room) (map (reply_alone a m) ns) ≡ telling.TooLong
-no_room front room a m ns none there h =
-    let replies : List ActionReply = map (reply_alone a m) ns in
-    let taken : ℕ = length (later action_reply_text replies) in
-    ap (λ (b : Bool). let t : Telling ActionReply = if b then telling.Within (front ++ replies) (room - taken) else telling.TooLong in t) (not_le taken room (omega (arith, h, replies_least a m ns none there)))
+pub no_room : (front : List ℕ) (room : ℕ) (a : Action) (m : Maps) (ns : List CtxNum) → a.commands ≡ [] → AreThere m ns → room < 20 * length ns → told_behind action_reply_text (telling.Within front room) (map (reply_alone a m) ns) ≡ telling.TooLong
+no_room front room a m ns none there h = not_within action_reply_text front (map (reply_alone a m) ns) room (omega (arith, h, replies_least a m ns none there))

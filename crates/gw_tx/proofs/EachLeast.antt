@@ -1,5 +1,5 @@
 -- Each context of an action for each tells of the members that its first command matches, and no context changes the members of another.
-use Rattle.std.proofs.Common.{◌≡◌, ℕ, ◌+◌, ◌-◌, ◌≤◌, ◌<◌, nat_eq, Bool, true, false, T, ◌&&◌, cond, List, [], ◌∷◌, ◌++◌, length, map, decimal, Option, None, Some, refl, sym, ap, subst, ◌∙◌, arith, length-append}
+use Rattle.std.proofs.Common.{◌≡◌, ℕ, ◌+◌, ◌≤◌, ◌<◌, nat_eq, Bool, true, false, T, ◌&&◌, cond, List, [], ◌∷◌, ◌++◌, length, map, decimal, Option, None, Some, refl, sym, ap, subst, ◌∙◌, arith, length-append}
 use Rattle.std.specs.Prelude.{if◌then◌else◌}
 use Rattle.std.specs.List.{flat_map}
 use Rattle.std.specs.FinMap as finite
@@ -14,15 +14,14 @@ use Rattle.gw_base.specs.NameLists.{NoDoubles}
 use Rattle.gw_base.proofs.NameTests.{same_number}
 use Rattle.gw_base.proofs.Booleans.{refuted}
 use Rattle.gw_ctx.specs.Contexts.{ContextRecord}
-use Rattle.gw_length.specs.declared.telling.Telling.{Telling}
 use Rattle.gw_length.specs.declared.telling.Telling.TheVariants as telling
 use Rattle.gw_length.specs.Tellings.{told_behind}
-use Rattle.gw_length.proofs.Tellings.{length-later, not_le}
+use Rattle.gw_length.proofs.Tellings.{length-later, not_within}
 use Rattle.gw_msg.specs.declared.message.Command.{Command}
 use Rattle.gw_msg.specs.declared.message.ContextProp.{ContextProp}
 use Rattle.gw_reply.specs.Contexts.{context_text}
 use Rattle.gw_reply.specs.ContextParts.{context_part_text}
-use Rattle.gw_reply.specs.Lists.{comma_separated, in_braces, later}
+use Rattle.gw_reply.specs.Lists.{comma, comma_separated, in_braces, later}
 use Rattle.gw_reply.specs.declared.context_parts.ContextPart.{ContextPart}
 use Rattle.gw_reply.specs.declared.reply.ActionReply.{ActionReply}
 use Rattle.gw_reply.specs.declared.reply.CommandReply.{CommandReply}
@@ -48,14 +47,20 @@ use Rattle.gw_tx.specs.Transactions.{action_reply, answered, attempt, attempted,
 use Rattle.gw_tx.proofs.AllContexts.{ctx-set_all}
 use Rattle.gw_tx.proofs.EachContext.{stays_each}
 use Rattle.gw_tx.proofs.SetProperties.{members-set, term-all}
-use Rattle.gw_length.proofs.Frames.{behind_others}
-use Rattle.gw_tx.proofs.TooLong.{length-braces, length-joined}
+use Rattle.gw_length.proofs.Lengths.{length-braces, length-joined}
 
 either_of : {A : Type 0} (P : A → Type 0) (b : Bool) (x y : A) → P x → P y → P (if b then x else y)
 either_of P true x y p q = p
 either_of P false x y p q = q
 
 -- ---- the text of one reply
+
+-- texts behind others make a list no shorter
+behind_others : (xs ys : List (List ℕ)) → length (comma_separated ys) ≤ length (comma_separated (xs ++ ys))
+behind_others [] ys = omega arith
+behind_others (x ∷ []) [] = omega arith
+behind_others (x ∷ []) (y ∷ ys) = omega (arith, length-append x (comma ∷ comma_separated (y ∷ ys)))
+behind_others (x ∷ (z ∷ zs)) ys = omega (arith, length-append x (comma ∷ comma_separated (z ∷ (zs ++ ys))), behind_others (z ∷ zs) ys)
 
 -- the commands, each with a comma before it, but for the first
 inner_least : (parts : List (List ℕ)) (answers : List CommandReply) → length (later command_reply_text answers) ≤ length (comma_separated (parts ++ map command_reply_text answers)) + 1
@@ -220,12 +225,9 @@ module _ (rules : Rules) (a : OwnedAction) (start : Maps) (least : CtxNum → �
       )
 
   -- so there may be no room for all of them
-  too_long : (front : List ActionReply) (room : ℕ) → room < in_total least (numbers start) → told_behind action_reply_text (telling.Within front room) (in_all rules a (numbers start) start).answer.answers ≡ telling.TooLong
+  too_long : (front : List ℕ) (room : ℕ) → room < in_total least (numbers start) → told_behind action_reply_text (telling.Within front room) (in_all rules a (numbers start) start).answer.answers ≡ telling.TooLong
   too_long front room h =
-      let replies : List ActionReply = (in_all rules a (numbers start) start).answer.answers in
-      let taken : ℕ = length (later action_reply_text replies) in
-      ap (λ (b : Bool). let t : Telling ActionReply = if b then telling.Within (front ++ replies) (room - taken) else telling.TooLong in t)
-      (not_le taken room (omega (arith, h, each_takes (numbers start) (numbers_apart start) false start (as_at_first start (numbers start)))))
+      not_within action_reply_text front (in_all rules a (numbers start) start).answer.answers room (omega (arith, h, each_takes (numbers start) (numbers_apart start) false start (as_at_first start (numbers start))))
 
 module _ (rules : Rules) (a : OwnedAction) (slot : Option ℕ) (c : Command) (ps : List (Option ℕ × Command)) (first : a.commands ≡ (slot, c) ∷ ps) (tells : TellsEach c) (start : Maps) where
   -- the shortest replies
@@ -244,7 +246,7 @@ module _ (rules : Rules) (a : OwnedAction) (slot : Option ℕ) (c : Command) (ps
         framed parts done n (next_each rules n (Each n) a.commands ready refl),
       )
 
-  pub no_room : (front : List ActionReply) (room : ℕ) → room < least_in_all c start (numbers start) → told_behind action_reply_text (telling.Within front room) (in_all rules a (numbers start) start).answer.answers ≡ telling.TooLong
+  pub no_room : (front : List ℕ) (room : ℕ) → room < least_in_all c start (numbers start) → told_behind action_reply_text (telling.Within front room) (in_all rules a (numbers start) start).answer.answers ≡ telling.TooLong
   no_room front room h = too_long rules a start (least_in c start) here_least front room h
 
   -- those by the tables at first
@@ -264,5 +266,5 @@ module _ (rules : Rules) (a : OwnedAction) (slot : Option ℕ) (c : Command) (ps
           framed parts done n (next_each rules n (Each n) a.commands ready refl),
         )
 
-    pub none_foretold : (front : List ActionReply) (room : ℕ) → room < foretold_in_all rules c start (numbers start) → told_behind action_reply_text (telling.Within front room) (in_all rules a (numbers start) start).answer.answers ≡ telling.TooLong
+    pub none_foretold : (front : List ℕ) (room : ℕ) → room < foretold_in_all rules c start (numbers start) → told_behind action_reply_text (telling.Within front room) (in_all rules a (numbers start) start).answer.answers ≡ telling.TooLong
     none_foretold front room h = too_long rules a start (foretold_in rules c start) here_foretold front room h

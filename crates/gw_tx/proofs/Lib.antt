@@ -15,7 +15,7 @@ pub mod RequestKeys
 pub mod RoomCounted
 pub mod SetProperties
 pub mod Steps
-pub mod TooLong
+pub mod Limits
 pub mod TooMany
 pub mod Unowned
 pub mod EachLeast

@@ -24,12 +24,12 @@ use Rattle.gw_reply.specs.Replies.{action_reply_text}
 use Rattle.gw_table.specs.Maps.{Maps, number}
 use Rattle.gw_tx.specs.Properties.{links_told, told_items, told_of_item, at_least_priority, context_parts_if}
 use Rattle.gw_tx.specs.Transactions.{action_reply, reply_alone}
-use Rattle.gw_tx.proofs.TooLong.{length-joined, length-braces}
+use Rattle.gw_length.proofs.Lengths.{length-joined, length-braces}
 
 -- ---- room
 
 -- what has no room is too long
-pub none_is_too_long : {T : Type 0} (text : T → List ℕ) (front more : List T) (room : ℕ) (o : Option ℕ) → is_some o ≡ false → Leaves o room (length (later text more)) → told_behind text (telling.Within front room) more ≡ telling.TooLong
+pub none_is_too_long : {T : Type 0} (text : T → List ℕ) (front : List ℕ) (more : List T) (room : ℕ) (o : Option ℕ) → is_some o ≡ false → Leaves o room (length (later text more)) → told_behind text (telling.Within front room) more ≡ telling.TooLong
 none_is_too_long text front more room (Some left) none h = absurd cc
 none_is_too_long text front more room None none h = not_within text front more room h
 

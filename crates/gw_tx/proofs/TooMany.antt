@@ -1,12 +1,10 @@
 -- Each context of an action for each tells a reply, which has at least its frame.
-use Rattle.std.proofs.Common.{◌≡◌, ℕ, ◌*◌, ◌-◌, ◌≤◌, ◌<◌, Bool, false, List, [], ◌∷◌, ◌++◌, length, arith, length-append, ap}
-use Rattle.std.specs.Prelude.{if◌then◌else◌}
+use Rattle.std.proofs.Common.{◌≡◌, ℕ, ◌*◌, ◌≤◌, ◌<◌, Bool, false, List, [], ◌∷◌, length, arith, length-append, ap}
 use Rattle.gw_base.specs.declared.command_words.Rules.{Rules}
 use Rattle.gw_base.specs.declared.ids.CtxNum.{CtxNum}
-use Rattle.gw_length.specs.declared.telling.Telling.{Telling}
 use Rattle.gw_length.specs.declared.telling.Telling.TheVariants as telling
 use Rattle.gw_length.specs.Tellings.{told_behind}
-use Rattle.gw_length.proofs.Tellings.{length-later, not_le}
+use Rattle.gw_length.proofs.Tellings.{length-later, not_within}
 use Rattle.gw_reply.specs.Contexts.{context_text}
 use Rattle.gw_reply.specs.Lists.{in_braces, later}
 use Rattle.gw_reply.specs.declared.reply.ActionReply.{ActionReply}
@@ -19,7 +17,7 @@ use Rattle.gw_table.proofs.Folding.{in_order-more}
 use Rattle.gw_refusal.specs.declared.at.At.TheVariants.{Each}
 use Rattle.gw_tx.specs.Properties.{context_parts_if, set_properties}
 use Rattle.gw_tx.specs.Transactions.{action_reply, commands, in_each, in_all}
-use Rattle.gw_tx.proofs.TooLong.{length-braces}
+use Rattle.gw_length.proofs.Lengths.{length-braces}
 
 framed : (reply : ActionReply) → 11 ≤ length (later action_reply_text (reply ∷ []))
 framed reply =
@@ -37,8 +35,5 @@ each_framed rules a stopped (n ∷ ns) m =
     omega (arith, all, length-later action_reply_text (reply ∷ []) rest, framed reply, each_framed rules a now.answer.next ns now.maps)
 
 -- so there is a number of contexts for which there is no room
-pub too_many : (rules : Rules) (a : OwnedAction) (ns : List CtxNum) (m : Maps) (front : List ActionReply) (room : ℕ) → room < length ns * 11 → told_behind action_reply_text (telling.Within front room) (in_all rules a ns m).answer.answers ≡ telling.TooLong
-too_many rules a ns m front room h =
-    let replies : List ActionReply = (in_all rules a ns m).answer.answers in
-    let taken : ℕ = length (later action_reply_text replies) in
-    ap (λ (b : Bool). let t : Telling ActionReply = if b then telling.Within (front ++ replies) (room - taken) else telling.TooLong in t) (not_le taken room (omega (arith, h, each_framed rules a false ns m)))
+pub too_many : (rules : Rules) (a : OwnedAction) (ns : List CtxNum) (m : Maps) (front : List ℕ) (room : ℕ) → room < length ns * 11 → told_behind action_reply_text (telling.Within front room) (in_all rules a ns m).answer.answers ≡ telling.TooLong
+too_many rules a ns m front room h = not_within action_reply_text front (in_all rules a ns m).answer.answers room (omega (arith, h, each_framed rules a false ns m))

@@ -22,7 +22,7 @@ use crate::owned::{entries_behind, next_entry};
 use crate::properties::refusal_of_properties;
 use crate::replies::action_error;
 use crate::told::Counted;
-use gw_base::{Code, CtxNum, CtxRef, Items, NoMemory, Rules};
+use gw_base::{Code, CtxNum, CtxRef, NoMemory, Rules};
 use gw_cmd::At;
 use gw_length::Telling;
 use gw_msg::Action;
@@ -87,20 +87,8 @@ fn action_on(
     ensures keys { draft.new.keys ≡ draft.old.keys }
 {
     let asked = sent.commands.as_slice();
-    let none = Items::new(alloc);
     match sent.ctx {
-        CtxRef::Null => commands_in(
-            alloc,
-            rules,
-            draft,
-            &[],
-            At::Null,
-            slots,
-            asked,
-            &[],
-            none,
-            told,
-        ),
+        CtxRef::Null => commands_in(alloc, rules, draft, &[], At::Null, slots, asked, &[], told),
         CtxRef::Num(number) => action_in(alloc, rules, draft, number, slots, sent, told),
         CtxRef::Choose => match number {
             Some(number) => {
@@ -114,7 +102,6 @@ fn action_on(
                     slots,
                     asked,
                     &[],
-                    none,
                     told,
                 )
             }

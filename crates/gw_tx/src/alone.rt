@@ -16,9 +16,9 @@ ghost use Rattle.gw_tx.specs.Transactions.{in_all, reply_alone, AreThere};
 
 use crate::counting::{behind_each_alone, told_items};
 use crate::setting::set_properties_of_all;
-use crate::telling::{context_parts_if, parts_within};
-use crate::told::Counted;
-use gw_base::{CtxNum, CtxRef, Items, NoMemory};
+use crate::telling::context_parts_if;
+use crate::told::{Counted, inside};
+use gw_base::{CtxNum, CtxRef, NoMemory};
 use gw_length::Telling;
 use gw_msg::Action;
 use gw_reply::ActionReply;
@@ -70,12 +70,8 @@ fn tell_alone(
     ensures { IfOk result (λ all. all ≡ told_behind action_reply_text told (reply_alone sent.now draft.now.maps number ∷ [])) }
 {
     let parts = context_parts_if(alloc, draft, number, sent, &told)?;
-    let (parts, told) = parts_within(alloc, parts, told);
-    told.tell(ActionReply {
-        ctx: CtxRef::Num(number),
-        parts,
-        result: Ok(Items::new(alloc)),
-    })
+    let none = inside(alloc, &told);
+    told.tell_action(CtxRef::Num(number), parts, none)
 }
 
 /// Tells the replies in these contexts, behind those before them. They are counted first, so that none is made where there is no room for

@@ -1,6 +1,6 @@
 //! The commands of an action.
 
-ghost use Rattle.std.specs.Prelude.{◌≡◌, not, IfOk, IfSome, OnOk};
+ghost use Rattle.std.specs.Prelude.{◌≡◌, [], not, IfOk, IfSome, OnOk};
 ghost use Rattle.std.specs.List.{list_any};
 ghost use Rattle.gw_cmd.specs.Keys.{command_keys};
 ghost use Rattle.gw_cmd.specs.Prepared.{IsPrepared, ArePrepared};
@@ -16,11 +16,11 @@ use crate::owned::next_entry;
 use crate::replies::replied;
 use crate::setting::set_when_made;
 use crate::told::{Counted, inside};
-use gw_base::{Items, NoMemory, Rules};
+use gw_base::{NoMemory, Rules};
 use gw_cmd::{At, Prepared, command_told, first_prepared, prepared_behind};
 use gw_length::Telling;
 use gw_msg::{Command, ContextProp};
-use gw_reply::{ActionReply, CommandReply, ContextPart};
+use gw_reply::{ActionReply, CommandReply};
 use gw_table::Draft;
 use std::alloc::Global;
 
@@ -111,8 +111,8 @@ pub(crate) fn commands(
     })
 }
 
-/// Carries the commands of an action out in one context, and tells its reply, with what is told of the context, behind those of the
-/// actions before it.
+/// Carries the commands of an action out in one context of which nothing else is told, and tells its reply behind those of the actions
+/// before it.
 #[inline(always)]
 pub(crate) fn commands_in(
     alloc: Global,
@@ -123,7 +123,6 @@ pub(crate) fn commands_in(
     slots: &[Option<u16>],
     asked: &[Command<'_>],
     known: &[Prepared<'_, '_>],
-    parts: Items<ContextPart>,
     told: Telling<ActionReply>,
 ) -> Result<Counted<(), ActionReply>, NoMemory>
     requires covered { Covers draft.old (list_keys at (paired_commands slots.now asked.now) draft.old.maps) }
@@ -131,7 +130,7 @@ pub(crate) fn commands_in(
     requires known { ArePrepared rules.now known.now asked.now }
     requires plain { ArePlain late.now }
     ensures maps { OnOk result (draft.new.maps ≡ (all_commands rules.now late.now at (paired_commands slots.now asked.now) draft.old.maps).maps) }
-    ensures answer { IfOk result (λ done. done ≡ counted action_reply_text told (action_replied parts (all_commands rules.now late.now at (paired_commands slots.now asked.now) draft.old.maps).answer)) }
+    ensures answer { IfOk result (λ done. done ≡ counted action_reply_text told (action_replied [] (all_commands rules.now late.now at (paired_commands slots.now asked.now) draft.old.maps).answer)) }
     ensures keys { draft.new.keys ≡ draft.old.keys }
 {
     let done = commands(
@@ -145,5 +144,6 @@ pub(crate) fn commands_in(
         known,
         inside(alloc, &told),
     )?;
-    replied(told, parts, done)
+    let none = inside(alloc, &told);
+    replied(told, none, done)
 }

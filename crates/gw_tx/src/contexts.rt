@@ -22,7 +22,7 @@ use crate::alone::action_alone;
 use crate::least::told_before;
 use crate::replies::{action_error, replied};
 use crate::setting::{set_properties, set_wanted, wanted_by};
-use crate::telling::{context_parts_if, parts_within};
+use crate::telling::context_parts_if;
 use crate::told::{Counted, inside};
 use crate::untold::{few_or_many, untold};
 use gw_base::{Code, CtxNum, CtxRef, NoMemory, Rules};
@@ -59,11 +59,10 @@ fn in_ready(
     ensures keys { draft.new.keys ≡ draft.old.keys }
 {
     let asked = sent.commands.as_slice();
-    if let Telling::TooLong = told {
+    let parts = context_parts_if(alloc, draft, number, sent, &told)?;
+    if let Telling::TooLong = parts {
         return untold(alloc, rules, draft, at, slots, asked, known, nothing, acts);
     }
-    let parts = context_parts_if(alloc, draft, number, sent, &told)?;
-    let (parts, told) = parts_within(alloc, parts, told);
     let within = inside(alloc, &told);
     let done = few_or_many(alloc, rules, draft, at, slots, asked, known, within)?;
     replied(told, parts, done)

@@ -158,7 +158,7 @@ fn is_too_long(
     requires numbers { numbers.now ≡ all_numbers draft.now.maps }
     requires known { IfSome known (λ p. IsPrepared rules.now p.now first.now) }
     requires once { (n : CtxNum) → NoDoubles (members_of (ctx draft.now.maps n)) }
-    ensures { (a : OwnedAction) (slot : Option ℕ) (others : List (Option ℕ × Sent)) (front : List Reply) → a.commands ≡ (slot, first.now) ∷ others → result ≡ true → told_behind action_reply_text (Within front room) (in_all rules.now a numbers.now draft.now.maps).answer.answers ≡ TooLong }
+    ensures { (a : OwnedAction) (slot : Option ℕ) (others : List (Option ℕ × Sent)) (front : List ℕ) → a.commands ≡ (slot, first.now) ∷ others → result ≡ true → told_behind action_reply_text (Within front room) (in_all rules.now a numbers.now draft.now.maps).answer.answers ≡ TooLong }
 {
     if !tells_each(first) {
         return false;

@@ -1,8 +1,11 @@
 //! Replies of actions.
 
-ghost use Rattle.std.specs.Prelude.{◌≡◌, IfOk, Ok as Replies};
+ghost use Rattle.std.specs.Prelude.{◌≡◌, List, IfOk};
 ghost use Rattle.gw_refusal.specs.declared.at.At.{At};
+ghost use Rattle.gw_reply.specs.declared.context_parts.ContextPart.{ContextPart};
 ghost use Rattle.gw_reply.specs.declared.reply.CommandReply.{CommandReply};
+ghost use Rattle.gw_length.specs.Tellings.{told_behind};
+ghost use Rattle.gw_reply.specs.ContextParts.{context_part_text};
 ghost use Rattle.gw_reply.specs.Replies.{command_reply_text, action_reply_text};
 ghost use Rattle.gw_table.specs.declared.attempts.Attempts.{Attempts};
 ghost use Rattle.gw_tx.specs.Told.{counted, inside};
@@ -59,45 +62,19 @@ pub(crate) fn action_error(
     one_action_reply(told, reply, true)
 }
 
-/// The reply of an action whose commands were attempted.
-fn action_reply(at: At, parts: Items<ContextPart>, replies: Items<CommandReply>) -> ActionReply
-    ensures { result ≡ record { ctx = answered at; parts = parts; result = Replies replies } }
-{
-    ActionReply {
-        ctx: answered(at),
-        parts,
-        result: Ok(replies),
-    }
-}
-
-/// What an action gave whose commands were attempted, with what is told of its context. Where the commands are too long, so is the
-/// action; where they are not, they are not counted again.
+/// What an action gave whose commands were attempted, with what is told of its context. Where the commands or what is told of the context
+/// are too long, so is the action.
 #[inline(always)]
 pub(crate) fn replied(
     told: Telling<ActionReply>,
-    parts: Items<ContextPart>,
+    parts: Telling<ContextPart>,
     done: Counted<At, CommandReply>,
 ) -> Result<Counted<(), ActionReply>, NoMemory>
-    ensures { (a : Attempts At CommandReply) → done ≡ counted command_reply_text (inside told) a → IfOk result (λ reply. reply ≡ counted action_reply_text told (replied parts a)) }
+    ensures { (all : List ContextPart) (a : Attempts At CommandReply) → parts ≡ told_behind context_part_text (inside told) all → done ≡ counted command_reply_text (inside told) a → IfOk result (λ reply. reply ≡ counted action_reply_text told (replied all a)) }
 {
-    let Counted {
-        next,
-        told: within,
-        stopped,
-    } = done;
-    match within {
-        Telling::All(replies) => {
-            one_action_reply(told, action_reply(next, parts, replies), stopped)
-        }
-        Telling::Within(replies, left) => Ok(Counted {
-            next: (),
-            told: told.tell_counted(action_reply(next, parts, replies), left)?,
-            stopped,
-        }),
-        Telling::TooLong => Ok(Counted {
-            next: (),
-            told: Telling::TooLong,
-            stopped,
-        }),
-    }
+    Ok(Counted {
+        next: (),
+        told: told.tell_action(answered(done.next), parts, done.told)?,
+        stopped: done.stopped,
+    })
 }

@@ -45,10 +45,13 @@ pub fn transaction(
         request.actions.as_slice(),
         Telling::All(Items::new(alloc)),
     )?;
-    match told_of(request.id, told) {
-        Told::Whole(reply) => Ok(reply),
-        Told::TooLong => unreachable!(),
-    }
+    let Telling::All(replies) = told else {
+        unreachable!()
+    };
+    Ok(TxReply {
+        id: request.id,
+        result: Ok(replies),
+    })
 }
 
 /// Carries a request out as [`transaction`] does, and tells its reply only where its text has at most `limit` bytes: the bytes from
@@ -81,5 +84,5 @@ pub fn transaction_within(
         request.actions.as_slice(),
         told_within(alloc, request.id, limit),
     )?;
-    Ok(told_of(request.id, told))
+    Ok(told_of(told))
 }

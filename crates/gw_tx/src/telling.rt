@@ -5,22 +5,16 @@ ghost use Rattle.std.specs.List.{flat_map, list_any};
 ghost use Rattle.gw_length.specs.Rooms.{Leaves};
 ghost use Rattle.gw_length.specs.Tellings.{told_behind};
 ghost use Rattle.gw_length.specs.declared.telling.Telling.TheVariants.{TooLong};
-ghost use Rattle.gw_refusal.specs.declared.at.At.{At};
 ghost use Rattle.gw_reply.specs.ContextParts.{link_text, context_part_text};
 ghost use Rattle.gw_reply.specs.Lists.{later};
-ghost use Rattle.gw_reply.specs.Replies.{action_reply_text};
-ghost use Rattle.gw_reply.specs.declared.context_parts.ContextPart.{ContextPart};
 ghost use Rattle.gw_reply.specs.declared.context_parts.ContextPart.TheVariants.{Topology};
-ghost use Rattle.gw_reply.specs.declared.reply.CommandReply.{CommandReply};
 ghost use Rattle.gw_table.specs.Maps.{ctx};
-ghost use Rattle.gw_table.specs.declared.attempts.Attempts.{Attempts};
 ghost use Rattle.gw_tx.specs.Properties.{is_audit, is_nothing, items_in, items_of, kind_in, told_items, links_told, told_of_item, context_parts, context_parts_if};
-ghost use Rattle.gw_tx.specs.Told.{counted, inside, is_nothing_told, told_so_far};
-ghost use Rattle.gw_tx.specs.Transactions.{replied};
+ghost use Rattle.gw_tx.specs.Told.{inside, is_nothing_told, IsBegun};
 
 use crate::properties::has_audit;
 use crate::told::inside;
-use gw_base::{CtxNum, Items, NoMemory};
+use gw_base::{CtxNum, NoMemory};
 use gw_ctx::Context;
 use gw_length::{Length, Telling, behind};
 use gw_msg::{Action, ContextItem, ContextProp};
@@ -109,7 +103,8 @@ fn is_nothing(told: &Telling<ContextPart>) -> bool
     ensures { result ≡ is_nothing_told told.now }
 {
     match told {
-        Telling::All(parts) | Telling::Within(parts, _) => parts.is_empty(),
+        Telling::All(parts) => parts.is_empty(),
+        Telling::Within(text, _) => text.is_empty(),
         Telling::TooLong => false,
     }
 }
@@ -189,7 +184,7 @@ fn context_parts(
     sent: &Action<'_>,
     told: Telling<ContextPart>,
 ) -> Result<Telling<ContextPart>, NoMemory>
-    requires { told_so_far told ≡ [] }
+    requires { IsBegun told }
     ensures { IfOk result (λ all. all ≡ told_behind context_part_text told (context_parts sent.now context.now)) }
 {
     let all = tell_items(alloc, context, sent, told)?;
@@ -231,20 +226,5 @@ pub(crate) fn context_parts_if(
     match draft.ctx(number) {
         Some(context) => context_parts(alloc, context, sent, none),
         None => Ok(none),
-    }
-}
-
-/// The parts that are told of a context, with what is told of the actions before. Where the parts are too long, so is the action, and
-/// nothing more is told.
-pub(crate) fn parts_within(
-    alloc: Global,
-    parts: Telling<ContextPart>,
-    told: Telling<ActionReply>,
-) -> (Items<ContextPart>, Telling<ActionReply>)
-    ensures { (all : List ContextPart) (a : Attempts At CommandReply) → parts ≡ told_behind context_part_text (inside told) all → counted action_reply_text result.1 (replied result.0 a) ≡ counted action_reply_text told (replied all a) }
-{
-    match parts {
-        Telling::All(parts) | Telling::Within(parts, _) => (parts, told),
-        Telling::TooLong => (Items::new(alloc), Telling::TooLong),
     }
 }

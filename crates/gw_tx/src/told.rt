@@ -5,11 +5,11 @@ ghost use Rattle.gw_length.specs.Rooms.{Leaves};
 ghost use Rattle.gw_length.specs.Tellings.{told_behind};
 ghost use Rattle.gw_reply.specs.declared.reply.ActionReply.{ActionReply};
 ghost use Rattle.gw_reply.specs.Replies.{action_reply_text};
-ghost use Rattle.gw_tx.specs.Told.{inside, told_of, within};
+ghost use Rattle.gw_tx.specs.Told.{inside, told_of, within, IsLimited};
 
 use gw_base::{Items, TxId};
 use gw_length::{Telling, behind, behind_number};
-use gw_reply::{ActionReply, TxReply};
+use gw_reply::ActionReply;
 use std::alloc::Global;
 
 /// What attempts came to that are told as they come.
@@ -26,8 +26,8 @@ pub(crate) struct Counted<S, A> {
 /// What is told of a transaction within a limit.
 #[derive(Drop)]
 pub enum Told {
-    /// Its whole reply, whose text is not longer than the limit.
-    Whole(TxReply),
+    /// The text of its action replies, each behind a comma: that of its whole reply is not longer than the limit.
+    Whole(Items<u8>),
     /// The text of its reply is longer than the limit: no reply was kept.
     TooLong,
 }
@@ -54,7 +54,8 @@ fn room_in_braces(id: TxId, limit: usize) -> Option<usize>
 /// What is told of a transaction before its first action, where its text has so many bytes at most. The first action has no comma
 /// before it, so there is room for one more.
 pub(crate) fn told_within(alloc: Global, id: TxId, limit: usize) -> Telling<ActionReply>
-    ensures { (replies : List ActionReply) → told_of id (told_behind action_reply_text result replies) ≡ within limit (record { id = id; result = Replies replies }) }
+    ensures told { (replies : List ActionReply) → told_of (told_behind action_reply_text result replies) ≡ within limit (record { id = id; result = Replies replies }) }
+    ensures limited { IsLimited result }
 {
     match room_in_braces(id, limit) {
         Some(left) => Telling::Within(Items::new(alloc), left + 1),
@@ -62,15 +63,14 @@ pub(crate) fn told_within(alloc: Global, id: TxId, limit: usize) -> Telling<Acti
     }
 }
 
-/// What is told of a transaction behind its last action.
-pub(crate) fn told_of(id: TxId, told: Telling<ActionReply>) -> Told
-    ensures { result ≡ told_of id told }
+/// What is told of a transaction behind its last action, within a limit.
+pub(crate) fn told_of(told: Telling<ActionReply>) -> Told
+    requires { IsLimited told }
+    ensures { result ≡ told_of told }
 {
     match told {
-        Telling::All(replies) | Telling::Within(replies, _) => Told::Whole(TxReply {
-            id,
-            result: Ok(replies),
-        }),
+        Telling::Within(text, _) => Told::Whole(text),
         Telling::TooLong => Told::TooLong,
+        Telling::All(_) => unreachable!(),
     }
 }

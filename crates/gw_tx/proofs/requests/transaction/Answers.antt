@@ -1,4 +1,4 @@
-use Rattle.std.proofs.Common.{◌≡◌, ℕ, List, Option, Ok, sym, ap, ◌∙◌}
+use Rattle.std.proofs.Common.{◌≡◌, ℕ, List, Option, Ok, [], sym, ap, ◌∙◌}
 use Rattle.gw_base.specs.declared.ids.CtxNum.{CtxNum}
 use Rattle.gw_length.specs.declared.telling.Telling.{Telling}
 use Rattle.gw_length.specs.declared.telling.Telling.TheVariants as telling
@@ -10,18 +10,17 @@ use Rattle.gw_reply.specs.Replies.{action_reply_text}
 use Rattle.gw_table.specs.declared.attempts.Attempts.{Attempts}
 use Rattle.gw_table.specs.Maps.{Outcome}
 use Rattle.gw_reserve.specs.Owned.{paired_actions}
-use Rattle.gw_tx.specs.declared.told.Told.{Told}
-use Rattle.gw_tx.specs.declared.told.Told.TheVariants.{Whole, TooLong}
-use Rattle.gw_tx.specs.Told.{told_of}
 use Rattle.gw_tx.specs.Transactions.{actions, paired_transaction}
 use Rattle.gw_tx.proofs.requests.transaction.Goals as goal
 
-reply_in : TxReply → Told → TxReply
-reply_in other (Whole reply) = reply
-reply_in other TooLong = other
+-- the replies of a list
+abbrev listed : Telling ActionReply → List ActionReply
+listed (telling.All replies) = replies
+listed (telling.Within text room) = []
+listed telling.TooLong = []
 
 pub returns : goal.returns
-unfolding paired_transaction reply_in
+unfolding paired_transaction
 returns c =
     let on : List (Option CtxNum) → List (Option ℕ) → List Action → Outcome (Attempts Unit ActionReply) = λ n s a. actions c.args.rules.now (paired_actions n s a) c.args.draft.now.maps in
     let same : on c.as_slice.result.now c.as_slice-2.result.now c.as_slice-3.result.now ≡ on c.args.owned.now.contexts c.args.owned.now.slots c.args.request.now.actions =
@@ -30,10 +29,10 @@ returns c =
     ∙ ap (λ (l : List Action). on c.args.owned.now.contexts c.args.owned.now.slots l) c.as_slice-3.ensures in
     let reply : List ActionReply → TxReply = λ l. record { id = c.args.request.now.id; result = Ok l } in
     let all : List ActionReply = (on c.as_slice.result.now c.as_slice-2.result.now c.as_slice-3.result.now).answer.answers in
-    let told : Whole c.in-Whole.reply ≡ Whole (reply all) =
-    sym c.in-Whole.is ∙ c.told_of.ensures ∙ ap (λ (t : Telling ActionReply). told_of c.args.request.now.id t) (c.in_ok-told.ensures.answer ∙ ap (λ (l : List ActionReply). told_behind action_reply_text (telling.All l) all) c.new.ensures) in
+    let told : telling.All c.in-All.replies ≡ telling.All all =
+    sym c.in-All.is ∙ c.in_ok-told.ensures.answer ∙ ap (λ (l : List ActionReply). told_behind action_reply_text (telling.All l) all) c.new.ensures in
     record {
       maps = c.in_ok-told.ensures.maps ∙ ap (λ (o : Outcome (Attempts Unit ActionReply)). o.maps) same;
-      answer = ap (λ (t : Told). reply_in c.in-Whole.reply t) told ∙ ap (λ (o : Outcome (Attempts Unit ActionReply)). reply o.answer.answers) same;
+      answer = ap (λ (t : Telling ActionReply). reply (listed t)) told ∙ ap (λ (o : Outcome (Attempts Unit ActionReply)). reply o.answer.answers) same;
       keys = c.in_ok-told.ensures.keys;
     }

@@ -1,0 +1,73 @@
+-- The reply to an action within a limit: how long it is, and that it is no shorter than what stands between its braces.
+use Rattle.std.proofs.Common.{◌≡◌, ℕ, ◌+◌, ◌-◌, ◌≤◌, ◌<◌, Bool, true, false, nat_le, List, [], ◌∷◌, ◌++◌, drop, length, Ok, arith, length-append, length-drop, append-nil, refl, sym, ap, ◌∙◌}
+use Rattle.std.specs.Prelude.{if◌then◌else◌}
+use Rattle.std.proofs.lemmas.Bool.{leb-true, leb-false}
+use Rattle.gw_base.specs.declared.command_words.CtxRef.{CtxRef}
+use Rattle.gw_reply.specs.Contexts.{context_text}
+use Rattle.gw_reply.specs.ContextParts.{context_part_text}
+use Rattle.gw_reply.specs.Lists.{comma, in_braces, later}
+use Rattle.gw_reply.specs.Replies.{action_reply_text, command_reply_text, framed}
+use Rattle.gw_reply.specs.declared.context_parts.ContextPart.{ContextPart}
+use Rattle.gw_reply.specs.declared.reply.ActionReply.{ActionReply}
+use Rattle.gw_reply.specs.declared.reply.CommandReply.{CommandReply}
+use Rattle.gw_reply.proofs.Framed.{told_framed}
+use Rattle.gw_length.specs.Tellings.{told_within, told_behind}
+use Rattle.gw_length.specs.declared.telling.Telling.{Telling}
+use Rattle.gw_length.specs.declared.telling.Telling.TheVariants.{All, Within, TooLong}
+use Rattle.gw_length.proofs.Lengths.{length-braces}
+use Rattle.gw_length.proofs.Tellings.{if_room, if_none}
+
+-- the comma, the frame, and what stands in it
+framed_length : (ctx : CtxRef) (inner : List ℕ) → length (comma ∷ framed ctx inner) ≡ 11 + length (context_text ctx) + (length inner - 1)
+framed_length ctx inner = omega (arith, length-append (context_text ctx) (in_braces (drop 1 inner)), length-braces (drop 1 inner), length-drop 1 inner)
+
+-- what is told within a limit is all that there is
+abbrev text_of : {T : Type 0} → Telling T → List ℕ
+text_of (All replies) = []
+text_of (Within text room) = text
+text_of TooLong = []
+
+is_whole : {T : Type 0} (more text : List ℕ) (room left : ℕ) (fits : Bool) → (let t : Telling T = if fits then Within ([] ++ more) (room - length more) else TooLong in t) ≡ Within text left → text ≡ more
+is_whole more text room left true e = sym (ap (λ t. text_of t) e)
+is_whole more text room left false e = absurd cc
+
+pub whole : {T : Type 0} (more text : List ℕ) (room left : ℕ) (t : Telling T) → t ≡ Within text left → t ≡ told_within [] more room → text ≡ more
+whole more text room left t is e = is_whole more text room left (nat_le (length more) room) (sym e ∙ is)
+
+-- what is not told within a limit is longer
+pub untold : {T : Type 0} (more : List ℕ) (room : ℕ) (t : Telling T) → ((text : List ℕ) (left : ℕ) → t ≡ Within text left → ⊥) → t ≡ told_within [] more room → room < length more
+untold more room t none e = by (nat_le (length more) room) refl
+  where
+    by : (fits : Bool) → nat_le (length more) room ≡ fits → room < length more
+    by true f = absurd (none more (room - length more) (e ∙ if_room [] more room (leb-true (length more) room f)))
+    by false f = leb-false (length more) room f
+
+module _ (front : List ℕ) (room : ℕ) (ctx : CtxRef) (parts : List ContextPart) (replies : List CommandReply) where
+  abbrev reply : ActionReply
+  reply = record { ctx = ctx; parts = parts; result = Ok replies }
+
+  -- the text of the reply behind a comma
+  text_is : later action_reply_text (reply ∷ []) ≡ comma ∷ framed ctx (later context_part_text parts ++ later command_reply_text replies)
+  text_is = append-nil (comma ∷ action_reply_text reply) ∙ ap (λ (t : List ℕ). comma ∷ 67 ∷ 111 ∷ 110 ∷ 116 ∷ 101 ∷ 120 ∷ 116 ∷ 61 ∷ (context_text ctx ++ in_braces t)) (sym (told_framed parts replies))
+
+  pub told_is : told_within front (comma ∷ framed ctx (later context_part_text parts ++ later command_reply_text replies)) room ≡ told_behind action_reply_text (Within front room) (reply ∷ [])
+  told_is = ap (λ (t : List ℕ). told_within front t room) (sym text_is)
+
+  longer : (n : ℕ) → room < n → n ≤ length (later context_part_text parts) + length (later command_reply_text replies) → TooLong ≡ told_behind action_reply_text (Within front room) (reply ∷ [])
+  longer n more le =
+      let inner : List ℕ = later context_part_text parts ++ later command_reply_text replies in
+      sym (sym told_is ∙ if_none front (comma ∷ framed ctx inner) room (omega (arith, more, le, framed_length ctx inner, length-append (later context_part_text parts) (later command_reply_text replies))))
+
+  pub parts_too_long : (t : Telling ContextPart) → ((text : List ℕ) (left : ℕ) → t ≡ Within text left → ⊥) → t ≡ told_within [] (later context_part_text parts) room → TooLong ≡ told_behind action_reply_text (Within front room) (reply ∷ [])
+  parts_too_long t none e = longer (length (later context_part_text parts)) (untold (later context_part_text parts) room t none e) (omega arith)
+
+  pub replies_too_long : (t : Telling CommandReply) → ((text : List ℕ) (left : ℕ) → t ≡ Within text left → ⊥) → t ≡ told_within [] (later command_reply_text replies) room → TooLong ≡ told_behind action_reply_text (Within front room) (reply ∷ [])
+  replies_too_long t none e = longer (length (later command_reply_text replies)) (untold (later command_reply_text replies) room t none e) (omega arith)
+
+  -- where both are told, they are whole
+  pub told_whole : (texts : List ℕ) (more : List ℕ) (a b : ℕ) (p : Telling ContextPart) (r : Telling CommandReply) → p ≡ Within texts a → r ≡ Within more b → p ≡ told_within [] (later context_part_text parts) room → r ≡ told_within [] (later command_reply_text replies) room
+      → told_within front (comma ∷ framed ctx (texts ++ more)) room ≡ told_behind action_reply_text (Within front room) (reply ∷ [])
+  told_whole texts more a b p r is_p is_r e_p e_r =
+      ap (λ (t : List ℕ). told_within front (comma ∷ framed ctx (t ++ more)) room) (whole (later context_part_text parts) texts room a p is_p e_p)
+      ∙ ap (λ (t : List ℕ). told_within front (comma ∷ framed ctx (later context_part_text parts ++ t)) room) (whole (later command_reply_text replies) more room b r is_r e_r)
+      ∙ told_is
