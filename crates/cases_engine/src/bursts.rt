@@ -2,7 +2,7 @@
 
 use cases_text::{CaseFault, Page, number_of, split_word};
 use gw_base::Items;
-use gw_engine::Datagram;
+use gw_engine::{Datagram, Octets};
 use std::alloc::{AllocError, Global};
 
 /// What heads the datagrams of the controller that cases are about.
@@ -10,7 +10,7 @@ pub const CONTROLLER: &[u8] = b"MEGACO/1 [10.0.0.9]:2944 ";
 
 /// A datagram of these bytes.
 pub fn datagram_of(alloc: Global, peer: u32, bytes: &[u8]) -> Result<Datagram, AllocError> {
-    let bytes = Items::from_slice(alloc, bytes)?;
+    let bytes = Octets::from(Items::from_slice(alloc, bytes)?);
     Ok(Datagram { peer, bytes })
 }
 

@@ -2,6 +2,7 @@ pub mod Configured
 pub mod Hearing
 pub mod Beside
 pub mod Letters
+pub mod Parts
 pub mod NewForms
 pub mod InForm
 pub mod RepliesKept

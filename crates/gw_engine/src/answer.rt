@@ -12,6 +12,8 @@ use crate::classify::{Task, Work};
 use crate::crew::Crew;
 use crate::datagram::Datagram;
 use crate::drawn::{MOST_DRAWN, all_of};
+use crate::octets::Octets;
+use crate::texts::in_one_block;
 use gw_base::{Code, Items, Mid, NoMemory, TxId};
 use gw_board::Board;
 use gw_draw::{Gate, OpenGate, draw_map};
@@ -28,6 +30,17 @@ pub(crate) enum Draft<'k> {
     Over(TxId),
 }
 
+impl Draft<'_> {
+    /// How many bytes its text takes, if it is there.
+    #[inline(always)]
+    pub(crate) fn room(&self) -> usize {
+        match self {
+            Draft::Reply(bytes) => bytes.len(),
+            Draft::Fault(_) | Draft::Over(_) => 0,
+        }
+    }
+}
+
 /// An answer that is to be written, and for whom.
 #[derive(Drop)]
 pub(crate) struct Letter<'k> {
@@ -37,6 +50,9 @@ pub(crate) struct Letter<'k> {
 
 /// So many answers are worth one more worker.
 const ANSWERS_FOR_ONE: usize = 128;
+
+/// So many answers of a burst at most have a block each: one that they share takes three calls of the allocator, however many they are.
+const MOST_APART: usize = 4;
 
 /// A reply by where it is: one that was kept before the burst, or that of one of its new requests, all of which are carried out.
 fn reply_at<'k>(kept: &'k Kept, board: &'k Board<'_, '_, '_>, source: Source) -> Option<&'k [u8]>
@@ -50,7 +66,11 @@ fn reply_at<'k>(kept: &'k Kept, board: &'k Board<'_, '_, '_>, source: Source) ->
 }
 
 /// What is to be written of a task: nothing only where its reply is not there.
-fn letter_of<'k>(kept: &'k Kept, board: &'k Board<'_, '_, '_>, task: &Task) -> Option<Letter<'k>>
+pub(crate) fn letter_of<'k>(
+    kept: &'k Kept,
+    board: &'k Board<'_, '_, '_>,
+    task: &Task,
+) -> Option<Letter<'k>>
     requires { AllClosed board.now.places }
     ensures { (mid : List ℕ) (entries : List Pair) → AreTold board.now entries → answers_in mid result ≡ answer_for task.now.peer (text_due mid kept.now entries task.now.work) }
 {
@@ -66,7 +86,7 @@ fn letter_of<'k>(kept: &'k Kept, board: &'k Board<'_, '_, '_>, task: &Task) -> O
 }
 
 /// Writes a text.
-fn text_of(alloc: Global, mid: &Mid, draft: &Draft<'_>) -> Result<Items<u8>, NoMemory>
+pub(crate) fn text_of(alloc: Global, mid: &Mid, draft: &Draft<'_>) -> Result<Items<u8>, NoMemory>
     ensures { IfOk result (λ text. text ≡ text_in mid.now draft.now) }
 {
     match draft {
@@ -89,11 +109,11 @@ fn answer_to(alloc: Global, mid: &Mid, letter: &Letter<'_>) -> Result<Datagram, 
     let bytes = text_of(alloc, mid, &letter.draft)?;
     Ok(Datagram {
         peer: letter.peer,
-        bytes,
+        bytes: Octets::from(bytes),
     })
 }
 
-/// The answers, one after another.
+/// The answers, one after another, each in a block of its own.
 fn in_turn(
     alloc: Global,
     mid: &Mid,
@@ -104,13 +124,13 @@ fn in_turn(
     requires { AllClosed board.now.places }
     ensures { (entries : List Pair) → AreTold board.now entries → IfOk result (λ answers. answers ≡ answers_of mid.now kept.now entries tasks.now) }
 {
-    let mut answers = Items::from(Vec::with_capacity(alloc, tasks.len())?);
+    let mut answers = Vec::with_capacity(alloc, tasks.len())?;
     for task in tasks {
         if let Some(letter) = letter_of(kept, board, task) {
             answers.push(answer_to(alloc, mid, &letter)?)?;
         }
     }
-    Ok(answers)
+    Ok(Items::from(answers))
 }
 
 /// All that is to be written.
@@ -156,8 +176,8 @@ fn by_workers<R: Threads + Sync>(
     all_of(alloc, answers)
 }
 
-/// The answers, each for the peer that asked, by as many workers as they are worth. One needs no thread. The caller knows that every
-/// request on the board is carried out.
+/// The answers, each for the peer that asked, by as many workers as they are worth. One needs no thread, and writes all but a few into
+/// one block. The caller knows that every request on the board is carried out.
 ///
 /// # Errors
 ///
@@ -173,13 +193,16 @@ pub(crate) fn answers<R: Threads + Sync, G: Gate>(
     requires { AllClosed board.now.places }
     ensures { (entries : List Pair) → AreTold board.now entries → IfOk result (λ answers. answers ≡ answers_of mid.now kept.now entries tasks.now) }
 {
+    if tasks.len() <= MOST_APART {
+        return in_turn(alloc, mid, kept, board, tasks);
+    }
     let workers = crew.for_work(tasks.len(), ANSWERS_FOR_ONE);
     if workers == 1 {
-        return in_turn(alloc, mid, kept, board, tasks);
+        return in_one_block(alloc, mid, kept, board, tasks);
     }
     let letters = letters(alloc, kept, board, tasks)?;
     if letters.len() > MOST_DRAWN {
-        return in_turn(alloc, mid, kept, board, tasks);
+        return in_one_block(alloc, mid, kept, board, tasks);
     }
     by_workers(crew.rt, alloc, workers, mid, letters.as_slice())
 }

@@ -13,8 +13,10 @@ mod fault;
 mod gateway;
 mod heard;
 mod laws;
+mod octets;
 mod reserve;
 mod run;
+mod texts;
 mod wave;
 
 pub use datagram::Datagram;
@@ -23,3 +25,4 @@ pub use gateway::Gateway;
 pub use gw_base::Config;
 pub use gw_draw::{Gate, OpenGate};
 pub use laws::answers_are_read_as_messages;
+pub use octets::Octets;

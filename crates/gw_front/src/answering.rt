@@ -10,7 +10,7 @@ use crate::inbox::LONGEST_DATAGRAM;
 use crate::replay_fault::ReplayFault;
 use crate::writing::{finish, put};
 use gw_base::Items;
-use gw_engine::{Datagram, Gateway, OpenGate};
+use gw_engine::{Datagram, Gateway, Octets, OpenGate};
 use std::alloc::Global;
 use std::io::{ErrorKind, Read, Write};
 use std::thread::Threads;
@@ -68,6 +68,7 @@ pub fn answer<T: Threads + Sync, R: Read, W: Write>(
 {
     let bytes = read_input(alloc, reader)?;
     let mut held = Vec::with_capacity(alloc, PIECE)?;
+    let bytes = Octets::from(bytes);
     let burst = [Datagram { peer: 0, bytes }];
     let answers = gateway.run(rt, alloc, 1, burst.as_slice(), &OpenGate)?;
     write_bare(writer, &mut held, answers.as_slice())

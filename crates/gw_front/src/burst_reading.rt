@@ -11,7 +11,7 @@ use crate::reading::{read_byte, read_bytes};
 use crate::replay_fault::ReplayFault;
 use crate::spares::Spares;
 use gw_base::Items;
-use gw_engine::Datagram;
+use gw_engine::{Datagram, Octets};
 use std::alloc::Global;
 use std::io::{BufReader, Read};
 
@@ -56,7 +56,7 @@ fn read_datagram<R: Read>(
     ensures bytes { IfOk result (λ d. Consumes (reader_remaining R.remaining reader.old) (reader_remaining R.remaining reader.new) (d.bytes ++ 10 ∷ [])) }
     ensures fault { IfErr result (λ fault. IsBadDatagram size (reader_remaining R.remaining reader.old) fault) }
 {
-    let bytes = read_bytes(alloc, reader, spares, size)?;
+    let bytes = Octets::from(read_bytes(alloc, reader, spares, size)?);
     match read_byte(reader)? {
         Some(b'\n') => Ok(Datagram { peer, bytes }),
         Some(_) => Err(ReplayFault::BadHeader),

@@ -8,7 +8,7 @@ ghost use Rattle.gw_front.specs.Serving.{IsWithinLimits, burst_of};
 use crate::crew::Crew;
 use crate::exchange::Exchange;
 use gw_base::{Items, NoMemory};
-use gw_engine::{Datagram, Gate, Gateway};
+use gw_engine::{Datagram, Gate, Gateway, Octets};
 use std::alloc::{AllocError, Global};
 use std::io;
 use std::net::SocketAddr;
@@ -76,7 +76,7 @@ impl Inbox {
     {
         let peer = self.senders.len() as u32;
         self.senders.push(sender)?;
-        let bytes = Items::from_slice(alloc, bytes)?;
+        let bytes = Octets::from(Items::from_slice(alloc, bytes)?);
         self.datagrams.push(Datagram { peer, bytes })?;
         Ok(())
     }

@@ -47,9 +47,12 @@ impl Spares {
         }
     }
 
-    /// Keeps the block of a datagram, unless it is large or there are enough.
+    /// Keeps the block of a datagram, unless it is large, others lie in it too, or there are enough.
     fn give(&mut self, datagram: Datagram) {
-        let block = datagram.into_bytes().into_vec();
+        let Some(block) = datagram.into_block() else {
+            return;
+        };
+        let block = block.into_vec();
         if block.capacity() <= LARGEST && self.blocks.len() < MOST {
             // There is room.
             let _ = self.blocks.push(block);

@@ -2,7 +2,7 @@
 #![tactic(auto)]
 
 use gw_base::{Items, MediaAddr, Mid, TermName};
-use gw_engine::{Config, Datagram, Gateway, OpenGate};
+use gw_engine::{Config, Datagram, Gateway, Octets, OpenGate};
 use std::alloc::Global;
 use std::io::Write;
 
@@ -30,7 +30,7 @@ fn gateway(alloc: Global) -> anyhow::Result<Gateway> {
 
 fn main(rt: HostRuntime) -> anyhow::Result<()> {
     let mut gateway = gateway(rt.alloc())?;
-    let bytes = Items::from_slice(rt.alloc(), CALL)?;
+    let bytes = Octets::from(Items::from_slice(rt.alloc(), CALL)?);
     let burst = [Datagram { peer: PEER, bytes }];
     let answers = gateway.run(&rt, rt.alloc(), 1, burst.as_slice(), &OpenGate)?;
     let mut out = rt.stdout();

@@ -13,8 +13,8 @@ loop-task-preserved c = λ entries told.
     let due : Task → List Datagram = λ t. answer_for t.peer (text_of mid c.args.kept.now entries t.work) in
     let so_far = c.loop-task.invariant entries told in
     elim c.match-letter_of.branch [
-      | in-Some+in_ok-answer_to+in_ok-push w ↦ w.answers-is ∙ w.in_ok-push.ensures.ok ∙ ap (λ (d : Datagram). c.loop-task.answers ++ d ∷ []) w.in_ok-answer_to.ensures
-          ∙ one_more due c.args.tasks.now c.loop-task.task-index _ c.loop-task.answers (answers_in mid (Some w.in-Some.letter)) c.loop-task-test.true so_far (ap (answers_in mid) (sym w.in-Some.is) ∙ c.letter_of.ensures mid entries told)
-      | in_default w ↦ w.answers-is ∙ sym (append-nil c.loop-task.answers)
-          ∙ one_more due c.args.tasks.now c.loop-task.task-index _ c.loop-task.answers (answers_in mid None) c.loop-task-test.true so_far (ap (answers_in mid) (sym w.in_default.is) ∙ c.letter_of.ensures mid entries told)
+      | in-Some+in_ok-answer_to+in_ok-push w ↦ ap (λ v. v.items) w.answers-is ∙ w.in_ok-push.ensures.items ∙ ap (λ (d : Datagram). c.loop-task.answers.items ++ d ∷ []) w.in_ok-answer_to.ensures
+          ∙ one_more due c.args.tasks.now c.loop-task.task-index _ c.loop-task.answers.items (answers_in mid (Some w.in-Some.letter)) c.loop-task-test.true so_far (ap (answers_in mid) (sym w.in-Some.is) ∙ c.letter_of.ensures mid entries told)
+      | in_default w ↦ ap (λ v. v.items) w.answers-is ∙ sym (append-nil c.loop-task.answers.items)
+          ∙ one_more due c.args.tasks.now c.loop-task.task-index _ c.loop-task.answers.items (answers_in mid None) c.loop-task-test.true so_far (ap (answers_in mid) (sym w.in_default.is) ∙ c.letter_of.ensures mid entries told)
     ]
