@@ -253,14 +253,16 @@ fn is_any_too_high(props: &[ContextProp]) -> bool
     props.iter().any(is_too_high)
 }
 
-/// The first code that applies to what is asked of the context, whatever the tables hold. The work is one pass of what is asked for
-/// each kind.
+/// The first code that applies to what is asked of the context, whatever the tables hold. Where nothing is asked, none does. The work
+/// is one pass of what is asked for each kind.
 #[tactic(auto, unfolding(crate::specs::Properties::refusal_of_properties))]
 pub(crate) fn refusal_of_properties(sent: &Action<'_>) -> Option<Code>
     ensures { result ≡ refusal_of_properties sent.now }
 {
     let props = sent.props.as_slice();
-    if is_left_out(sent) {
+    if props.is_empty() {
+        None
+    } else if is_left_out(sent) {
         Some(Code::NotImplemented)
     } else if is_misplaced(sent) {
         Some(Code::IllegalCombination)
