@@ -1,6 +1,6 @@
 //! Carrying places out one after another, on the tables where they lie.
 
-ghost use Rattle.std.specs.Prelude.{◌≡◌, ◌+◌, ◌<◌, true, length, map, take, vec_len, IfErr, IfOk, IfSome, OnErr, OnOk, slice_get};
+ghost use Rattle.std.specs.Prelude.{◌≡◌, ◌+◌, ◌<◌, [], true, length, map, take, vec_len, IfErr, IfOk, IfSome, OnErr, OnOk, slice_get};
 ghost use Rattle.gw_reserve.specs.Owned.{AreFreeSlots};
 ghost use Rattle.gw_table.specs.Maps.{Maps};
 ghost use Rattle.gw_table.specs.Originals.{keys_written};
@@ -28,8 +28,8 @@ use gw_table::{Draft, Originals, Tables};
 use std::alloc::Global;
 use std::mem;
 
-/// A transaction of every day writes so many entries.
-const WRITES_OF_ONE: usize = 4;
+/// A transaction of every day writes so many entries, since several of a call write the same.
+const WRITES_OF_ONE: usize = 2;
 
 /// For so many writes room is made at first, at most.
 const MOST_AT_FIRST: usize = 1_024;
@@ -69,7 +69,8 @@ fn carry_in_place(
     ensures err { IfErr result (AreAsBegun tables earlier) }
 {
     let mut draft = Draft::of_tables(tables, earlier);
-    let Ok(text) = carry_on(alloc, manner, asked, &mut draft) else {
+    let mut block = Items::new(alloc);
+    let Ok(text) = carry_on(alloc, manner, asked, &mut draft, &mut block) else {
         return Err(draft.undone());
     };
     let (tables, originals) = draft.into_tables();
@@ -101,8 +102,8 @@ pub(crate) fn pending_at<'b, 'h, 'a>(
 }
 
 /// Carries out the request of a place, if it is pending, on a draft of whole tables, and closes the place with its reply. The gate is
-/// passed before. The caller knows that nothing is open, that all earlier places are closed, and that what is pending may be carried out
-/// from the draft's maps on.
+/// passed before. Texts are gathered in the block, which has nothing before and after. The caller knows that nothing is open, that all
+/// earlier places are closed, and that what is pending may be carried out from the draft's maps on.
 ///
 /// # Errors
 ///
@@ -113,8 +114,10 @@ fn carry_place<G: Gate>(
     seats: &mut Vec<Seat<'_, '_, '_>>,
     place: usize,
     draft: &mut Draft<'_>,
+    block: &mut Items<u8>,
     gate: &G,
 ) -> Result<(), NoMemory>
+    requires empty { block.old ≡ [] }
     requires inside { place < length seats.old.items }
     requires over { draft.old.keys ≡ Over (start_of draft.old.keys) }
     requires goes_on { (begun : Maps) × MayGoOn manner.now begun draft.old.maps (map place_of seats.old.items) }
@@ -124,12 +127,13 @@ fn carry_place<G: Gate>(
     ensures asked { asked_of (map place_of seats.new.items) ≡ asked_of (map place_of seats.old.items) }
     ensures len { vec_len seats.new ≡ vec_len seats.old }
     ensures keys { draft.new.keys ≡ draft.old.keys }
+    ensures empty { block.new ≡ [] }
 {
     let Some(task) = pending_at(seats, place) else {
         return Ok(());
     };
     gate.pass(0);
-    let text = carry_on(alloc, manner, task.get(), draft)?;
+    let text = carry_on(alloc, manner, task.get(), draft, block)?;
     set_stage(seats, place, Stage::Closed(text));
     Ok(())
 }
@@ -155,8 +159,9 @@ fn carry_each<G: Gate>(
     ensures len { vec_len seats.new ≡ vec_len seats.old }
     ensures keys { draft.new.keys ≡ draft.old.keys }
 {
+    let mut block = Items::new(alloc);
     for place in 0..seats.len() {
-        carry_place(alloc, manner, seats, place, draft, gate)?;
+        carry_place(alloc, manner, seats, place, draft, &mut block, gate)?;
     }
     Ok(())
 }

@@ -1,6 +1,6 @@
 //! Jobs: pending requests that are handed out, each with the entries that it may touch.
 
-ghost use Rattle.std.specs.Prelude.{◌≡◌, IfOk, OnOk, true, false};
+ghost use Rattle.std.specs.Prelude.{◌≡◌, [], IfOk, OnOk, true, false};
 ghost use Rattle.gw_reserve.specs.Owned.{AreFreeSlots};
 ghost use Rattle.gw_tx.specs.Footprints.{Covers};
 ghost use Rattle.gw_board.specs.Boards.{outcome_of};
@@ -16,6 +16,7 @@ use gw_table::{Draft, Part};
 use gw_tx::transaction_within;
 use std::alloc::Global;
 use std::marker::Model;
+use std::mem;
 
 /// A request of an open place, with the entries that it may touch, which are out of the tables meanwhile. It may be carried out
 /// wherever its holder likes.
@@ -54,7 +55,7 @@ impl Job<'_, '_, '_> {
 }
 
 /// Carries a request out on a draft that covers it, and writes the reply. What is behind the limit of a reply is carried out, and not
-/// told.
+/// told. Texts are gathered in the block, which has nothing, and is left for the next request.
 ///
 /// # Errors
 ///
@@ -64,19 +65,33 @@ pub(crate) fn carry_on(
     manner: &Manner,
     asked: &Asked<'_, '_>,
     draft: &mut Draft<'_>,
+    block: &mut Items<u8>,
 ) -> Result<Items<u8>, NoMemory>
+    requires empty { block.old ≡ [] }
     requires covered { Covers draft.old (keys_of asked.now draft.old.maps) }
     requires unused { AreFreeSlots draft.old.maps asked.now.owned.slots }
     ensures maps { OnOk result (draft.new.maps ≡ (done manner.now asked.now draft.old.maps).maps) }
     ensures reply { IfOk result (λ text. text ≡ (done manner.now asked.now draft.old.maps).answer) }
     ensures keys { draft.new.keys ≡ draft.old.keys }
+    ensures empty { block.new ≡ [] }
 {
     let scratch = Bump::new(alloc);
     let request = asked.request.tree(&scratch)?;
     let mid = &manner.mid;
     let limit = reply_limit(mid);
-    let told = transaction_within(alloc, &manner.rules, draft, request, &asked.owned, limit)?;
-    text_told(alloc, mid, request.id, &told)
+    let room = mem::replace(block, Items::new(alloc));
+    let told = transaction_within(
+        alloc,
+        &manner.rules,
+        draft,
+        request,
+        &asked.owned,
+        room,
+        limit,
+    )?;
+    let text = text_told(alloc, mid, request.id, &told)?;
+    *block = told.into_block(alloc);
+    Ok(text)
 }
 
 /// Carries a job's request out on a draft over its part, and writes the reply; the job stays as it is. The work is that of the
@@ -91,7 +106,8 @@ pub fn carry(alloc: Global, job: &Job<'_, '_, '_>) -> Result<(Part, Items<u8>), 
     ensures reply { IfOk result (λ new. new.1 ≡ (outcome_of job.now).answer) }
 {
     let mut draft = Draft::of_part(alloc, &job.part);
-    let text = carry_on(alloc, &job.manner, job.task.get(), &mut draft)?;
+    let mut block = Items::new(alloc);
+    let text = carry_on(alloc, &job.manner, job.task.get(), &mut draft, &mut block)?;
     Ok((draft.into_part(alloc)?, text))
 }
 

@@ -15,7 +15,7 @@ ghost use Rattle.gw_tx.specs.Transactions.{attempt, commands as all_commands, re
 use crate::owned::next_entry;
 use crate::replies::replied;
 use crate::setting::set_when_made;
-use crate::told::{Counted, inside};
+use crate::told::{Counted, begun, inside};
 use gw_base::{NoMemory, Rules};
 use gw_cmd::{At, Prepared, command_told, first_prepared, prepared_behind};
 use gw_length::Telling;
@@ -133,17 +133,9 @@ pub(crate) fn commands_in(
     ensures answer { IfOk result (λ done. done ≡ counted action_reply_text told (action_replied [] (all_commands rules.now late.now at (paired_commands slots.now asked.now) draft.old.maps).answer)) }
     ensures keys { draft.new.keys ≡ draft.old.keys }
 {
-    let done = commands(
-        alloc,
-        rules,
-        draft,
-        late,
-        at,
-        slots,
-        asked,
-        known,
-        inside(alloc, &told),
-    )?;
+    let mut told = told;
+    let within = begun(alloc, &mut told);
+    let done = commands(alloc, rules, draft, late, at, slots, asked, known, within)?;
     let none = inside(alloc, &told);
     replied(told, none, done)
 }

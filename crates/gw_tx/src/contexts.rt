@@ -23,7 +23,7 @@ use crate::least::told_before;
 use crate::replies::{action_error, replied};
 use crate::setting::{set_properties, set_wanted, wanted_by};
 use crate::telling::context_parts_if;
-use crate::told::{Counted, inside};
+use crate::told::{Counted, begun};
 use crate::untold::{few_or_many, untold};
 use gw_base::{Code, CtxNum, CtxRef, NoMemory, Rules};
 use gw_cmd::{At, Prepared, all_prepared, come_to_nothing, surely_act};
@@ -63,7 +63,8 @@ fn in_ready(
     if let Telling::TooLong = parts {
         return untold(alloc, rules, draft, at, slots, asked, known, nothing, acts);
     }
-    let within = inside(alloc, &told);
+    let mut told = told;
+    let within = begun(alloc, &mut told);
     let done = few_or_many(alloc, rules, draft, at, slots, asked, known, within)?;
     replied(told, parts, done)
 }

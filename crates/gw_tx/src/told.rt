@@ -1,6 +1,6 @@
 //! What is told of a transaction: its replies as they come, within a limit or without.
 
-ghost use Rattle.std.specs.Prelude.{◌≡◌, ◌+◌, List, length, decimal, Ok as Replies};
+ghost use Rattle.std.specs.Prelude.{◌≡◌, ◌+◌, [], List, length, decimal, Ok as Replies};
 ghost use Rattle.gw_length.specs.Rooms.{Leaves};
 ghost use Rattle.gw_length.specs.Tellings.{told_behind};
 ghost use Rattle.gw_reply.specs.declared.reply.ActionReply.{ActionReply};
@@ -11,6 +11,7 @@ use gw_base::{Items, TxId};
 use gw_length::{Telling, behind, behind_number};
 use gw_reply::ActionReply;
 use std::alloc::Global;
+use std::mem;
 
 /// What attempts came to that are told as they come.
 #[derive(Drop)]
@@ -32,6 +33,22 @@ pub enum Told {
     TooLong,
 }
 
+impl Told {
+    /// The block that the texts lay in, with nothing, to be used again.
+    pub fn into_block(self, alloc: Global) -> Items<u8>
+        ensures { result ≡ [] }
+    {
+        match self {
+            Told::Whole(text) => {
+                let mut block = text;
+                block.clear();
+                block
+            }
+            Told::TooLong => Items::new(alloc),
+        }
+    }
+}
+
 /// What may be told of the parts of an action, before the first of them: no more than of the action.
 pub(crate) fn inside<T: Drop>(alloc: Global, told: &Telling<ActionReply>) -> Telling<T>
     ensures { result ≡ inside told.now }
@@ -43,6 +60,21 @@ pub(crate) fn inside<T: Drop>(alloc: Global, told: &Telling<ActionReply>) -> Tel
     }
 }
 
+/// What may be told of the commands of an action, before the first of them, as [`inside`] says. Where nothing is told before the action,
+/// it goes into the block that this would lie in.
+pub(crate) fn begun<T: Drop>(alloc: Global, told: &mut Telling<ActionReply>) -> Telling<T>
+    ensures begun { result ≡ inside told.old }
+    ensures same { told.new ≡ told.old }
+{
+    if let Telling::Within(text, room) = told {
+        if text.is_empty() {
+            let block = mem::replace(text, Items::new(alloc));
+            return Telling::Within(block, *room);
+        }
+    }
+    inside(alloc, told)
+}
+
 /// The room between the braces of a reply of this number, whose text has so many bytes at most.
 fn room_in_braces(id: TxId, limit: usize) -> Option<usize>
     ensures { Leaves result limit (length (decimal id.0) + 8) }
@@ -51,14 +83,15 @@ fn room_in_braces(id: TxId, limit: usize) -> Option<usize>
     behind_number(left, id.0)
 }
 
-/// What is told of a transaction before its first action, where its text has so many bytes at most. The first action has no comma
-/// before it, so there is room for one more.
-pub(crate) fn told_within(alloc: Global, id: TxId, limit: usize) -> Telling<ActionReply>
+/// What is told of a transaction before its first action, where its text has so many bytes at most; it goes into the block, which has
+/// nothing. The first action has no comma before it, so there is room for one more.
+pub(crate) fn told_within(block: Items<u8>, id: TxId, limit: usize) -> Telling<ActionReply>
+    requires { block ≡ [] }
     ensures told { (replies : List ActionReply) → told_of (told_behind action_reply_text result replies) ≡ within limit (record { id = id; result = Replies replies }) }
     ensures limited { IsLimited result }
 {
     match room_in_braces(id, limit) {
-        Some(left) => Telling::Within(Items::new(alloc), left + 1),
+        Some(left) => Telling::Within(block, left + 1),
         None => Telling::TooLong,
     }
 }

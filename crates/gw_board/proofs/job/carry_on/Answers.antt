@@ -21,4 +21,4 @@ returns-clause-reply c =
     c.in_ok-told.ensures.answer
     ∙ (λ i. within (c.reply_limit-limit.ensures i) (paired_transaction rules (request i) (paired (request i) a.owned) m).answer) in
     let same : reply.id ≡ c.in_ok-request.request.now.id = same_id rules a.request (paired a.request a.owned) m ∙ ap (λ (r : Request). r.id) (sym request) in
-    c.text_told.ensures reply told same
+    c.in_ok-text.ensures reply told same
