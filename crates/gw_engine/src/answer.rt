@@ -30,17 +30,6 @@ pub(crate) enum Draft<'k> {
     Over(TxId),
 }
 
-impl Draft<'_> {
-    /// How many bytes its text takes, if it is there.
-    #[inline(always)]
-    pub(crate) fn room(&self) -> usize {
-        match self {
-            Draft::Reply(bytes) => bytes.len(),
-            Draft::Fault(_) | Draft::Over(_) => 0,
-        }
-    }
-}
-
 /// An answer that is to be written, and for whom.
 #[derive(Drop)]
 pub(crate) struct Letter<'k> {
@@ -52,7 +41,7 @@ pub(crate) struct Letter<'k> {
 const ANSWERS_FOR_ONE: usize = 128;
 
 /// So many answers of a burst at most have a block each: one that they share takes three calls of the allocator, however many they are.
-const MOST_APART: usize = 4;
+const MOST_APART: usize = 3;
 
 /// A reply by where it is: one that was kept before the burst, or that of one of its new requests, all of which are carried out.
 fn reply_at<'k>(kept: &'k Kept, board: &'k Board<'_, '_, '_>, source: Source) -> Option<&'k [u8]>

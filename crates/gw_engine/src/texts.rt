@@ -69,18 +69,8 @@ impl Texts {
     }
 }
 
-/// How many bytes the replies take that are there. Errors and refusals are few, and are not counted.
-fn room_for<'k>(kept: &'k Kept, board: &'k Board<'_, '_, '_>, tasks: &[Task]) -> usize
-    requires { AllClosed board.now.places }
-{
-    let mut room = 0usize;
-    for task in tasks {
-        if let Some(letter) = letter_of(kept, board, task) {
-            room = room.saturating_add(letter.draft.room());
-        }
-    }
-    room
-}
+/// Room for so many bytes is made at once for each answer: few replies need more, and then the block grows.
+const ROOM: usize = 128;
 
 /// Writes the texts of the answers, one behind the other.
 fn written(
@@ -95,7 +85,7 @@ fn written(
     ensures within { IfOk result (λ texts. All (IsWithin (length texts.block.items)) texts.marks.items) }
 {
     let mut texts = Texts {
-        block: Vec::with_capacity(alloc, room_for(kept, board, tasks))?,
+        block: Vec::with_capacity(alloc, tasks.len().saturating_mul(ROOM))?,
         marks: Vec::with_capacity(alloc, tasks.len())?,
     };
     for task in tasks {
