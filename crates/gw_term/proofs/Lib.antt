@@ -25,3 +25,4 @@ pub mod LearntLists
 pub mod SamePlaces
 pub mod PrintEnds
 pub mod AuditLengths
+pub mod Shapes

@@ -1,7 +1,10 @@
--- Prints of settings: bytes that are the same only for the same settings, since each print tells where it ends (own).
-use Rattle.std.specs.Prelude.{ℕ, ◌/◌, ◌%◌, true, false, List, [], ◌∷◌, ◌++◌, length, replicate, Option, Some, None}
+-- Prints of settings: bytes that are the same only for the same settings, since each print tells where it ends (own). The print of a shape
+-- tells all but the values of properties, whose names it has in lower case.
+use Rattle.std.specs.Prelude.{ℕ, ◌/◌, ◌%◌, true, false, List, [], ◌∷◌, ◌++◌, length, map, replicate, Option, Some, None}
 use Rattle.std.specs.List.{flat_map}
+use Rattle.gw_desc.specs.Twice.{folded}
 use Rattle.gw_desc.specs.declared.descriptor.Property.{Property}
+use Rattle.gw_desc.specs.declared.descriptor.Sign.TheVariants.{Equal}
 use Rattle.gw_desc.specs.declared.descriptor.Tail.{Tail}
 use Rattle.gw_term.specs.Numbers.{flag_number, sign_number, mode_number, kind_number}
 use Rattle.gw_term.specs.declared.record.Stream.{Stream}
@@ -43,3 +46,34 @@ setting_print (setting.Tail kind tail) = 2 ∷ kind_number kind ∷ tail_print t
 -- how many there are, and each
 unfoldable pub settings_print : List Setting → List ℕ
 settings_print list = number_print (length list) ++ flat_map setting_print list
+
+-- ---- of the shape
+
+-- a property without its value, with its name in lower case
+abbrev pub bare : Property (List ℕ) → Property (List ℕ)
+bare p = record { name = folded p.name; sign = Equal; value = [] }
+
+-- a setting whose properties are so
+abbrev pub bared : Setting → Setting
+bared (setting.Properties list) = setting.Properties (map bare list)
+bared (setting.Stream number s) = setting.Stream number (record s { properties = map bare s.properties })
+bared (setting.Tail kind tail) = setting.Tail kind tail
+
+unfoldable pub name_print : Property (List ℕ) → List ℕ
+name_print p = property_print (bare p)
+
+-- how many there are, and each name
+unfoldable pub names_print : List (Property (List ℕ)) → List ℕ
+names_print list = number_print (length list) ++ flat_map name_print list
+
+unfoldable pub stream_shape : Stream → List ℕ
+stream_shape s = mode_number s.mode ∷ names_print s.properties ++ option_print s.local ++ option_print s.remote
+
+unfoldable pub setting_shape : Setting → List ℕ
+setting_shape (setting.Properties list) = 0 ∷ names_print list
+setting_shape (setting.Stream number stream) = 1 ∷ number ∷ stream_shape stream
+setting_shape (setting.Tail kind tail) = 2 ∷ kind_number kind ∷ tail_print tail
+
+-- how many there are, and the shape of each
+unfoldable pub settings_shape : List Setting → List ℕ
+settings_shape list = number_print (length list) ++ flat_map setting_shape list

@@ -1,16 +1,16 @@
 //! Whether settings are the same but for the values of properties, and whether all of these are sent anew.
 
-ghost use Rattle.std.specs.Prelude.{◌≡◌, true};
+ghost use Rattle.std.specs.Prelude.{◌≡◌, true, IfSome};
 ghost use Rattle.std.specs.List.{All, list_any};
 ghost use Rattle.gw_term.specs.Alike.{IsWhole, IsAlike, AlikeAt, AreAlike};
 ghost use Rattle.gw_term.specs.Lookups.{is_of_name};
-ghost use Rattle.gw_term.specs.Settings.{set_by};
+ghost use Rattle.gw_term.specs.Settings.{set_by, settings_in};
 
 use crate::held::HeldProperty;
 use crate::record::Stream;
 use crate::room::has_name;
 use crate::same::{are_same_names, is_aligned};
-use crate::settings::{Setting, Settings};
+use crate::settings::{Form, Setting, Settings};
 use gw_desc::same_kept;
 
 /// How many properties a list has at least of which it may be learnt what becomes of those that are alike. Shorter ones are merged as fast.
@@ -88,11 +88,35 @@ fn are_alike_in(settings: &[Setting], others: &[Setting]) -> bool
     right.is_empty()
 }
 
-/// Whether what was set is the same in the same order, but for the values of properties. The work is a comparison of texts and names.
+impl Form {
+    /// Whether they are, as far as prints tell it.
+    #[inline]
+    fn told_alike(&self, other: &Form) -> Option<bool>
+        ensures { IfSome result (λ is_alike. is_alike ≡ true → AreAlike (set_by (settings_in self.now)) (set_by (settings_in other.now))) }
+    {
+        match (self, other) {
+            (Form::Shared(block), Form::Shared(other)) => block.told_alike(other),
+            _ => None,
+        }
+    }
+
+    /// Whether they are. Of two whose shapes have prints only these are compared.
+    fn is_alike(&self, other: &Form) -> bool
+        ensures { result ≡ true → AreAlike (set_by (settings_in self.now)) (set_by (settings_in other.now)) }
+    {
+        if let Some(is_alike) = self.told_alike(other) {
+            return is_alike;
+        }
+        are_alike_in(self.list(), other.list())
+    }
+}
+
+/// Whether what was set is the same in the same order, but for the values of properties. The work is a comparison of the prints of their
+/// shapes, or else of texts and names.
 pub(crate) fn are_alike(settings: &Settings, others: &Settings) -> bool
     ensures { result ≡ true → AreAlike settings.now others.now }
 {
-    are_alike_in(settings.list(), others.list())
+    settings.form.is_alike(&others.form)
 }
 
 /// Whether a setting has so many properties that it may be learnt what becomes of it.
@@ -105,6 +129,6 @@ fn has_many_at(setting: &Setting) -> bool {
 }
 
 /// Whether one of the settings has.
-pub(crate) fn have_many(settings: &Settings) -> bool {
-    settings.list().iter().any(has_many_at)
+pub(crate) fn have_many(settings: &[Setting]) -> bool {
+    settings.iter().any(has_many_at)
 }

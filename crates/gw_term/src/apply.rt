@@ -169,7 +169,7 @@ impl Termination {
         };
         merge_into(alloc, &sent, &there, self, record.get_mut(), &mut filled)?;
         if self.slot.is_none() {
-            record.get_mut().settings.share()?;
+            record.get_mut().settings.share(&self.settings)?;
         }
         Ok(Applied { record, filled })
     }

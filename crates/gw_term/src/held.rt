@@ -6,7 +6,7 @@ ghost use Rattle.gw_reply.specs.Parts.{text_if};
 ghost use Rattle.gw_term.specs.HeldTexts.{text_of};
 ghost use Rattle.gw_term.specs.Lookups.{is_of_name};
 ghost use Rattle.gw_term.specs.NameTags.{name_tag};
-ghost use Rattle.gw_term.specs.Prints.{property_print, tail_print};
+ghost use Rattle.gw_term.specs.Prints.{name_print, property_print, tail_print};
 
 use crate::names::{is_same_name, is_same_text};
 use crate::print::Print;
@@ -176,6 +176,16 @@ impl HeldProperty {
         print.push_text(value)
     }
 
+    /// Its name goes last in the print of a shape, as a property without a value.
+    #[tactic(auto, unfolding(crate::specs::Prints::name_print, crate::specs::Prints::property_print))]
+    pub(crate) fn push_name_to(&self, print: &mut Print) -> Result<(), AllocError>
+        ensures { OnOk result (print.new ≡ print.old ++ name_print self.now) }
+    {
+        print.push_sign(Sign::Equal)?;
+        print.push_name(self.name())?;
+        print.push_text(&[])
+    }
+
     /// The property as it is told, with copies of its texts.
     pub(crate) fn told(&self, alloc: Global) -> Result<KeptProperty, AllocError>
         ensures { IfOk result (λ told. told ≡ self.now) }
@@ -297,6 +307,11 @@ impl HeldTail {
         print.push_flag(self.equals)?;
         print.push_text_if(self.has_word, word)?;
         print.push_text_if(self.has_group, group)
+    }
+
+    /// Whether its texts are long.
+    pub(crate) fn is_long(&self) -> bool {
+        self.texts.is_long()
     }
 
     /// The tail as it is told, with copies of its texts.

@@ -1,6 +1,7 @@
 //! A print that is being written: bytes that are the same only for what is the same.
 
 ghost use Rattle.std.specs.Prelude.{◌≡◌, ◌++◌, ◌∷◌, [], if◌then◌else◌, Decides, OnOk, None, Some};
+ghost use Rattle.gw_desc.specs.Twice.{folded};
 ghost use Rattle.gw_term.specs.Numbers.{flag_number, sign_number, mode_number, kind_number};
 ghost use Rattle.gw_term.specs.Prints.{number_print, text_print, option_print};
 
@@ -77,6 +78,18 @@ impl Print {
     {
         self.push_number(text.len())?;
         self.bytes.extend_from_slice(text)
+    }
+
+    /// A name goes last, in lower case, behind its length.
+    #[tactic(auto, unfolding(crate::specs::Prints::text_print))]
+    pub(crate) fn push_name(&mut self, name: &[u8]) -> Result<(), AllocError>
+        ensures { OnOk result (self.new ≡ self.old ++ text_print (folded name.now)) }
+    {
+        self.push_number(name.len())?;
+        for byte in name {
+            self.push(byte.to_ascii_lowercase())?;
+        }
+        Ok(())
     }
 
     /// Whether it is so goes last.

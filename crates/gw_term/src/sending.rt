@@ -9,6 +9,7 @@ ghost use Rattle.gw_term.specs.Merge.{merged_service};
 ghost use Rattle.gw_term.specs.Named.{has_states, named_by};
 ghost use Rattle.gw_term.specs.Plain.{are_plain, fill_none, AreKnown, IsMadeBy, IsMadeOf};
 ghost use Rattle.gw_term.specs.Room.{Takes};
+ghost use Rattle.gw_term.specs.Settings.{Settings as SettingsOf};
 ghost use Rattle.gw_term.specs.ServicesAfter.{AreServicesAfter};
 
 use crate::alike::{are_alike, have_many, is_whole};
@@ -425,7 +426,7 @@ impl<'a, 'b> Sending<'a, 'b> {
         self.learn_anew(alloc, settings, true)
     }
 
-    /// What they make of these settings, if nothing is left of them, or it was learnt of others that are alike, or can be.
+    /// What they make of these settings, if it was learnt of others that are alike, or nothing is left of them, or it can be learnt.
     #[inline(never)]
     fn alike_of_many(
         &mut self,
@@ -435,31 +436,31 @@ impl<'a, 'b> Sending<'a, 'b> {
         ensures same { SendsTheSame self.old self.new }
         ensures after { IfOk result (λ known. IfSome known (IsMadeOf self.old.rules.now self.old.descriptors.now settings.now)) }
     {
-        if let Some(after) = self.remade_after(alloc, settings)? {
-            return Ok(Some(after));
-        }
         if let Some(after) = self.find_alike(settings) {
             let copy = after.copied(alloc)?;
             self.tries_alike = MOST_TRIED;
             return Ok(Some(copy));
         }
-        self.learn_alike(alloc, settings)
+        if let Some(after) = self.learn_alike(alloc, settings)? {
+            return Ok(Some(after));
+        }
+        Ok(self.remade_after(alloc, settings)?)
     }
 
-    /// The same, where they have many properties.
+    /// Whether it is known what they make of settings that have many properties, or can be learnt, as [`Sending::alike_of_many`] says.
     #[inline]
-    fn alike_after(
-        &mut self,
-        alloc: Global,
-        settings: &Settings,
-    ) -> Result<Option<Settings>, NoMemory>
+    fn knows_alike(&mut self, alloc: Global, settings: &Settings) -> Result<bool, NoMemory>
         ensures same { SendsTheSame self.old self.new }
-        ensures after { IfOk result (λ known. IfSome known (IsMadeOf self.old.rules.now self.old.descriptors.now settings.now)) }
+        ensures known { IfOk result (λ knows. knows ≡ true → ((after : SettingsOf) × IsMadeOf self.old.rules.now self.old.descriptors.now settings.now after)) }
     {
-        if have_many(settings) {
-            return self.alike_of_many(alloc, settings);
+        if !have_many(settings.list()) {
+            return Ok(false);
         }
-        Ok(None)
+        if self.find_alike(settings).is_some() {
+            self.tries_alike = MOST_TRIED;
+            return Ok(true);
+        }
+        Ok(self.alike_of_many(alloc, settings)?.is_some())
     }
 
     /// What they make of these settings, if that is known, or else can be learnt. Where others share them it is learnt, also where nothing is
@@ -480,7 +481,7 @@ impl<'a, 'b> Sending<'a, 'b> {
         if let Some(after) = self.learn(alloc, settings)? {
             return Ok(Some(after));
         }
-        if have_many(settings) {
+        if have_many(settings.list()) {
             return self.alike_of_many(alloc, settings);
         }
         Ok(self.remade_after(alloc, settings)?)
@@ -543,7 +544,8 @@ impl<'a, 'b> Sending<'a, 'b> {
         if self.learn(alloc, &termination.settings)?.is_some() {
             return Ok(true);
         }
-        if self.alike_after(alloc, &termination.settings)?.is_some() {
+        let is_known = self.knows_alike(alloc, &termination.settings)?;
+        if is_known {
             return Ok(true);
         }
         Ok(self.takes_each(termination.settings.list()))

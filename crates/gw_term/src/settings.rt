@@ -7,6 +7,7 @@ ghost use Rattle.gw_term.specs.Settings.{settings_in};
 
 use crate::copies::{copied_properties, copied_stream};
 use crate::held::{HeldProperty, HeldTail};
+use crate::print::Print;
 use crate::record::Stream;
 use crate::shared::SharedSettings;
 use crate::text::Copying;
@@ -231,14 +232,23 @@ impl Settings {
         }
     }
 
-    /// They lie in a block that copies share, without a print: so it takes a count to copy them. Where nothing is set, there is no block.
-    pub(crate) fn share(&mut self) -> Result<(), AllocError>
+    /// The print of their shape, if it is there.
+    fn shape(&self) -> Option<&Arc<Print>> {
+        match &self.form {
+            Form::Own(_) => None,
+            Form::Shared(block) => block.shape(),
+        }
+    }
+
+    /// They lie in a block that copies share, without a print: so it takes a count to copy them. Where nothing is set, there is no block. The
+    /// print of their shape is that of what was set before, if it is the same.
+    pub(crate) fn share(&mut self, before: &Settings) -> Result<(), AllocError>
         ensures { OnOk result (self.new ≡ self.old) }
     {
         if let Form::Own(block) = &mut self.form {
             if !block.is_empty() {
                 let list = mem::replace(block, Vec::new(self.alloc));
-                let shared = SharedSettings::unprinted(list);
+                let shared = SharedSettings::unprinted(self.alloc, list, before.shape())?;
                 self.form = Form::Shared(Arc::new(self.alloc, shared)?);
             }
         }

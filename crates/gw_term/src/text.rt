@@ -140,6 +140,11 @@ impl Text {
         Ok(Text { form })
     }
 
+    /// Whether it is so long that its copies share its block from the start.
+    pub(crate) fn is_long(&self) -> bool {
+        self.as_slice().len() >= LONG
+    }
+
     /// Whether it is this text.
     fn is(&self, text: &[u8]) -> bool
         ensures { result ≡ true → self.now ≡ Some text.now }

@@ -26,25 +26,25 @@ returns-then-is_some-2-clause-takes c = λ _.
     let learnt : is_some c.in_ok-learn.field-0 ≡ true = cc in
     of_some _ c.in_ok-learn.field-0 learnt c.in_ok-learn.ensures.after (λ after made. made_takes a.self.now.rules.now a.self.now.descriptors.now a.termination.now after (sym c.fills_none.ensures ∙ c.if-not-fills_none.false) made)
 
-pub returns-then-is_some-3-clause-takes : goal.returns-then-is_some-3-clause-takes
-returns-then-is_some-3-clause-takes c = λ _.
+pub returns-then-is_known-clause-takes : goal.returns-then-is_known-clause-takes
+returns-then-is_known-clause-takes c = λ _.
     let a = c.args in
     let before = c.learn.new.self in
     let same = c.learn.ensures.same in
     let r = a.termination.now in
-    let known : is_some c.in_ok-alike_after.field-0 ≡ true = cc in
+    let known = c.in_ok-is_known.ensures.known c.if-is_known.true in
     let fills : fill_none before.descriptors.now r.slot ≡ true = ap (λ (ds : List Descriptor). fill_none ds r.slot) same.descriptors ∙ sym c.fills_none.ensures ∙ c.if-not-fills_none.false in
-    let takes : Takes before.rules.now before.descriptors.now r = of_some _ c.in_ok-alike_after.field-0 known c.in_ok-alike_after.ensures.after (λ after made. made_takes before.rules.now before.descriptors.now r after fills made) in
+    let takes : Takes before.rules.now before.descriptors.now r = made_takes before.rules.now before.descriptors.now r known.0 fills known.1 in
     subst (λ (rules : Rules). Takes rules a.self.now.descriptors.now r) same.rules (subst (λ (ds : List Descriptor). Takes before.rules.now ds r) same.descriptors takes)
 
 pub returns-clause-takes : goal.returns-clause-takes
 returns-clause-takes c = λ h.
     let a = c.args in
     let old = a.self.now in
-    let new = c.alike_after.new.self in
+    let new = c.knows_alike.new.self in
     let r = a.termination.now in
     let first = c.learn.ensures.same in
-    let second = c.alike_after.ensures.same in
+    let second = c.knows_alike.ensures.same in
     let rules = second.rules ∙ first.rules in
     let descriptors = second.descriptors ∙ first.descriptors in
     let fills : fill_none new.descriptors.now r.slot ≡ true = ap (λ (ds : List Descriptor). fill_none ds r.slot) descriptors ∙ sym c.fills_none.ensures ∙ c.if-not-fills_none.false in

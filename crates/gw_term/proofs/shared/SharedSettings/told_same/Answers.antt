@@ -10,6 +10,6 @@ has_print_of list print = IfSome print (λ p. p ≡ settings_print list)
 
 pub returns-in-Some-Some : goal.returns-in-Some-Some
 returns-in-Some-Some c =
-    let one : c.in-Some-Some.print ≡ settings_print c.args.self.now = subst (has_print_of c.self.inside.list.items) c.in-Some-Some.is-0 c.self.invariant ∙ ap settings_print c.self.view_is in
-    let two : c.in-Some-Some.other ≡ settings_print c.args.other.now = subst (has_print_of c.other.inside.list.items) c.in-Some-Some.is-1 c.other.invariant ∙ ap settings_print c.other.view_is in
+    let one : c.in-Some-Some.print ≡ settings_print c.args.self.now = subst (has_print_of c.self.inside.list.items) c.in-Some-Some.is-0 c.self.invariant.0 ∙ ap settings_print c.self.view_is in
+    let two : c.in-Some-Some.other ≡ settings_print c.args.other.now = subst (has_print_of c.other.inside.list.items) c.in-Some-Some.is-1 c.other.invariant.0 ∙ ap settings_print c.other.view_is in
     prints_decide c.args.self.now c.args.other.now c.is.result ((λ e. sym one ∙ c.is.ensures.0 e ∙ two), (λ e. c.is.ensures.1 (one ∙ e ∙ sym two)))
