@@ -1,5 +1,5 @@
 -- What was learnt of a record that descriptors are merged into (own).
-use Rattle.std.specs.Prelude.{◌≡◌, true, List}
+use Rattle.std.specs.Prelude.{◌≡◌, ◌⊎◌, true, List}
 use Rattle.gw_base.specs.declared.command_words.Rules.{Rules}
 use Rattle.gw_desc.specs.declared.descriptor.Descriptor.{Descriptor}
 use Rattle.gw_term.specs.Alike.{AreAlike}
@@ -11,3 +11,7 @@ use Rattle.gw_term.specs.declared.sending.Learnt.{Learnt}
 pub record IsLearnt (rules : Rules) (descriptors : List Descriptor) (l : Learnt) : Type 0 where
   pub made : IsMadeOf rules descriptors l.before l.after
   pub alike : l.is_whole ≡ true → (s : Settings) → AreAlike s l.before → IsMadeOf rules descriptors s l.after
+
+-- it is known of these: they are what it was learnt of, or alike where that is enough
+abbrev pub IsToldBy : Learnt → Settings → Type 0
+IsToldBy l s = ((l.is_whole ≡ true) × AreAlike s l.before) ⊎ (s ≡ l.before)

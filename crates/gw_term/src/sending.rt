@@ -3,7 +3,7 @@
 ghost use Rattle.std.specs.Prelude.{◌≡◌, ◌⊎◌, [], true, IfOk, IfSome};
 ghost use Rattle.std.specs.List.{All, list_any};
 ghost use Rattle.gw_term.specs.Alike.{AreWhole, IsWholeAt};
-ghost use Rattle.gw_term.specs.Learnt.{IsLearnt};
+ghost use Rattle.gw_term.specs.Learnt.{IsLearnt, IsToldBy};
 ghost use Rattle.gw_term.specs.Aligned.{IsAlignedIn, IsRemadeAt, IsRemadeIn, IsStreamIn, TakesAt};
 ghost use Rattle.gw_term.specs.Merge.{merged_service};
 ghost use Rattle.gw_term.specs.Named.{has_states, named_by};
@@ -78,6 +78,20 @@ pub(crate) struct Learnt {
     pub(crate) after: Settings,
     /// Whether no value of its properties is left: then they make the same of what is alike.
     pub(crate) is_whole: bool,
+}
+
+impl Learnt {
+    /// Whether it is known of these settings: they are those that it was learnt of, or alike where that is enough.
+    #[inline]
+    fn tells(&self, settings: &Settings) -> bool
+        ensures { result ≡ true → IsToldBy self.now settings.now }
+    {
+        if self.is_whole {
+            are_alike(settings, &self.before)
+        } else {
+            settings.is_same(&self.before)
+        }
+    }
 }
 
 /// Where no more is kept, what was learnt is let go.
@@ -166,17 +180,30 @@ impl<'a, 'b> Sending<'a, 'b> {
         }
     }
 
-    /// What the descriptors make of these settings, if that was learnt of settings that others share. The work is a comparison with each of
-    /// the few of which it was.
-    fn find(&self, settings: &Settings) -> Option<&Settings>
-        ensures { IfSome result (λ after. IsMadeOf self.now.rules.now self.now.descriptors.now settings.now after.now) }
+    /// What was learnt of these settings, if it was, or of others that are the same but for values of properties of which nothing is left.
+    /// The work is a comparison with each of the few of which it was.
+    #[tactic(auto, using(crate::proofs::LearntLists::told_made))]
+    fn find(&self, settings: &Settings) -> Option<&Learnt>
+        ensures { IfSome result (λ learnt. IsMadeOf self.now.rules.now self.now.descriptors.now settings.now learnt.now.after) }
     {
         for learnt in &self.learnt {
-            if !learnt.is_whole && settings.is_same(&learnt.before) {
-                return Some(&learnt.after);
+            if learnt.tells(settings) {
+                return Some(learnt);
             }
         }
         None
+    }
+
+    /// It was not in vain that this was learnt: more may be.
+    #[inline]
+    fn note_found(&mut self, is_whole: bool)
+        ensures { SendsTheSame self.old self.new }
+    {
+        if is_whole {
+            self.tries_alike = MOST_TRIED;
+        } else {
+            self.tries = MOST_TRIED;
+        }
     }
 
     /// The stream of this number that they make where there is none, if they make one.
@@ -257,7 +284,7 @@ impl<'a, 'b> Sending<'a, 'b> {
             return Ok(Some(self.made.copied(alloc)?));
         }
         match self.find(settings) {
-            Some(after) => Ok(Some(after.copied(alloc)?)),
+            Some(learnt) => Ok(Some(learnt.after.copied(alloc)?)),
             None => Ok(None),
         }
     }
@@ -343,10 +370,24 @@ impl<'a, 'b> Sending<'a, 'b> {
         Ok(Some(copy))
     }
 
+    /// Learns what they make of these settings, as one that is not in vain may.
+    #[inline(never)]
+    fn learn_printed(
+        &mut self,
+        alloc: Global,
+        settings: &Settings,
+    ) -> Result<Option<Settings>, NoMemory>
+        ensures same { SendsTheSame self.old self.new }
+        ensures after { IfOk result (λ learnt. IfSome learnt (IsMadeOf self.old.rules.now self.old.descriptors.now settings.now)) }
+    {
+        self.tries = self.tries.saturating_sub(1);
+        self.learn_anew(alloc, settings, false)
+    }
+
     /// Learns what they make of these settings, which is not known, if others share these, they take the descriptors, and fewer records were
     /// learnt in vain than may be. Answers that, if it was learnt. Where no more is kept, what was learnt before is let go. The work is that of
     /// merging them into one record, or a comparison of names where nothing is left of them.
-    #[inline(never)]
+    #[inline]
     fn learn(&mut self, alloc: Global, settings: &Settings) -> Result<Option<Settings>, NoMemory>
         ensures same { SendsTheSame self.old self.new }
         ensures after { IfOk result (λ learnt. IfSome learnt (IsMadeOf self.old.rules.now self.old.descriptors.now settings.now)) }
@@ -354,8 +395,7 @@ impl<'a, 'b> Sending<'a, 'b> {
         if self.tries == 0 || !settings.are_printed() {
             return Ok(None);
         }
-        self.tries -= 1;
-        self.learn_anew(alloc, settings, false)
+        self.learn_printed(alloc, settings)
     }
 
     /// Whether no value of the properties of a setting is left after the descriptors, wherever it stands: each name stands there once, and
@@ -392,19 +432,6 @@ impl<'a, 'b> Sending<'a, 'b> {
         self.is_whole_each(settings.list())
     }
 
-    /// What the descriptors make of these settings, if it was learnt of others that are the same but for values of properties, of which
-    /// nothing is left. The work is a comparison of names with each of the few that were learnt.
-    fn find_alike(&self, settings: &Settings) -> Option<&Settings>
-        ensures { IfSome result (λ after. IsMadeOf self.now.rules.now self.now.descriptors.now settings.now after.now) }
-    {
-        for learnt in &self.learnt {
-            if learnt.is_whole && are_alike(settings, &learnt.before) {
-                return Some(&learnt.after);
-            }
-        }
-        None
-    }
-
     /// Learns what they make of these settings, of which it is not known, if no value of their properties is left then, so that it is known of
     /// all that are alike, and of fewer records it was learnt in vain than may be.
     #[inline(never)]
@@ -426,9 +453,9 @@ impl<'a, 'b> Sending<'a, 'b> {
         self.learn_anew(alloc, settings, true)
     }
 
-    /// What they make of these settings, if it was learnt of others that are alike, or nothing is left of them, or it can be learnt.
+    /// What they make of these settings, of which it is not known, if it can be learnt of all that are alike, or nothing is left of them.
     #[inline(never)]
-    fn alike_of_many(
+    fn alike_anew(
         &mut self,
         alloc: Global,
         settings: &Settings,
@@ -436,18 +463,13 @@ impl<'a, 'b> Sending<'a, 'b> {
         ensures same { SendsTheSame self.old self.new }
         ensures after { IfOk result (λ known. IfSome known (IsMadeOf self.old.rules.now self.old.descriptors.now settings.now)) }
     {
-        if let Some(after) = self.find_alike(settings) {
-            let copy = after.copied(alloc)?;
-            self.tries_alike = MOST_TRIED;
-            return Ok(Some(copy));
-        }
         if let Some(after) = self.learn_alike(alloc, settings)? {
             return Ok(Some(after));
         }
         Ok(self.remade_after(alloc, settings)?)
     }
 
-    /// Whether it is known what they make of settings that have many properties, or can be learnt, as [`Sending::alike_of_many`] says.
+    /// Whether it can be learnt what they make of settings that have many properties, as [`Sending::alike_anew`] says.
     #[inline]
     fn knows_alike(&mut self, alloc: Global, settings: &Settings) -> Result<bool, NoMemory>
         ensures same { SendsTheSame self.old self.new }
@@ -456,11 +478,7 @@ impl<'a, 'b> Sending<'a, 'b> {
         if !have_many(settings.list()) {
             return Ok(false);
         }
-        if self.find_alike(settings).is_some() {
-            self.tries_alike = MOST_TRIED;
-            return Ok(true);
-        }
-        Ok(self.alike_of_many(alloc, settings)?.is_some())
+        Ok(self.alike_anew(alloc, settings)?.is_some())
     }
 
     /// What they make of these settings, if that is known, or else can be learnt. Where others share them it is learnt, also where nothing is
@@ -474,15 +492,20 @@ impl<'a, 'b> Sending<'a, 'b> {
         ensures same { SendsTheSame self.old self.new }
         ensures after { IfOk result (λ known. IfSome known (IsMadeOf self.old.rules.now self.old.descriptors.now settings.now)) }
     {
-        if let Some(after) = self.found_after(alloc, settings)? {
-            self.tries = MOST_TRIED;
+        if settings.is_empty() {
+            return Ok(Some(self.made.copied(alloc)?));
+        }
+        if let Some(learnt) = self.find(settings) {
+            let is_whole = learnt.is_whole;
+            let after = learnt.after.copied(alloc)?;
+            self.note_found(is_whole);
             return Ok(Some(after));
         }
         if let Some(after) = self.learn(alloc, settings)? {
             return Ok(Some(after));
         }
         if have_many(settings.list()) {
-            return self.alike_of_many(alloc, settings);
+            return self.alike_anew(alloc, settings);
         }
         Ok(self.remade_after(alloc, settings)?)
     }
@@ -537,8 +560,9 @@ impl<'a, 'b> Sending<'a, 'b> {
         if !self.fills_none(termination.slot) {
             return Ok(termination.has_space(self.descriptors));
         }
-        if self.find(&termination.settings).is_some() {
-            self.tries = MOST_TRIED;
+        if let Some(learnt) = self.find(&termination.settings) {
+            let is_whole = learnt.is_whole;
+            self.note_found(is_whole);
             return Ok(true);
         }
         if self.learn(alloc, &termination.settings)?.is_some() {
