@@ -15,7 +15,7 @@ use Rattle.gw_term.specs.declared.settings.Setting.{Setting}
 use Rattle.gw_term.specs.declared.settings.Setting.TheVariants as setting
 
 -- what is printed can be told from its print and what stands behind it
-abbrev Ends : (A : Type 0) → (A → List ℕ) → Type 0
+abbrev pub Ends : (A : Type 0) → (A → List ℕ) → Type 0
 Ends A print = (a b : A) (r s : List ℕ) → print a ++ r ≡ print b ++ s → (a ≡ b) × (r ≡ s)
 
 -- ---- of two prints, the one behind the other, and of as many
@@ -27,7 +27,7 @@ module _ {A B : Type 0} (print : A → List ℕ) (other : B → List ℕ) (ends 
       let second = other_ends c d r s first.1 in
       (first.0, second.0, second.1)
 
-each_ends : {A : Type 0} (print : A → List ℕ) → Ends A print → (xs ys : List A) (r s : List ℕ) → length xs ≡ length ys → flat_map print xs ++ r ≡ flat_map print ys ++ s → (xs ≡ ys) × (r ≡ s)
+pub each_ends : {A : Type 0} (print : A → List ℕ) → Ends A print → (xs ys : List A) (r s : List ℕ) → length xs ≡ length ys → flat_map print xs ++ r ≡ flat_map print ys ++ s → (xs ≡ ys) × (r ≡ s)
 each_ends print ends [] [] r s long e = (refl, e)
 each_ends print ends [] (y ∷ ys) r s long e = absurd (omega (arith, long))
 each_ends print ends (x ∷ xs) [] r s long e = absurd (omega (arith, long))
@@ -47,7 +47,7 @@ full_end (suc m) (suc n) x y r s h k e =
     let more = full_end m n x y r s h k rest in
     (ap suc more.0, more.1, more.2)
 
-number_ends : Ends ℕ number_print
+pub number_ends : Ends ℕ number_print
 unfolding number_print
 number_ends a b r s e =
     let whole : replicate (a / 255) 255 ++ (a % 255 ∷ r) ≡ replicate (b / 255) 255 ++ (b % 255 ∷ s) = sym (append_assoc (replicate (a / 255) 255) (a % 255 ∷ []) r) ∙ e ∙ append_assoc (replicate (b / 255) 255) (b % 255 ∷ []) s in
@@ -64,13 +64,13 @@ bytes_end (x ∷ xs) (y ∷ ys) r s long e =
     let rest = bytes_end xs ys r s (omega (arith, long)) behind in
     (cc (first, rest.0), rest.1)
 
-text_ends : Ends (List ℕ) text_print
+pub text_ends : Ends (List ℕ) text_print
 unfolding text_print
 text_ends a b r s e =
     let long = number_ends (length a) (length b) (a ++ r) (b ++ s) (sym (append_assoc (number_print (length a)) a r) ∙ e ∙ append_assoc (number_print (length b)) b s) in
     bytes_end a b r s long.0 long.1
 
-option_ends : Ends (Option (List ℕ)) option_print
+pub option_ends : Ends (Option (List ℕ)) option_print
 unfolding option_print
 option_ends None None r s e = (refl, cc)
 option_ends None (Some b) r s e = absurd (cc)
@@ -82,7 +82,7 @@ option_ends (Some a) (Some b) r s e =
 
 -- ---- of what has a number
 
-first_ends : (x y : ℕ) (r s : List ℕ) → x ∷ r ≡ y ∷ s → (x ≡ y) × (r ≡ s)
+pub first_ends : (x y : ℕ) (r s : List ℕ) → x ∷ r ≡ y ∷ s → (x ≡ y) × (r ≡ s)
 first_ends x y r s e = (cc, cc)
 
 flag_known : (a b : Bool) → flag_number a ≡ flag_number b → a ≡ b
@@ -94,7 +94,7 @@ flag_known true true e = refl
 sign_known : (a b : Sign) → sign_number a ≡ sign_number b → a ≡ b
 sign_known a b e = sym (same_sign a) ∙ ap sign_at e ∙ same_sign b
 
-mode_known : (a b : Mode) → mode_number a ≡ mode_number b → a ≡ b
+pub mode_known : (a b : Mode) → mode_number a ≡ mode_number b → a ≡ b
 mode_known a b e = sym (same_mode a) ∙ ap mode_at e ∙ same_mode b
 
 same_kind : (k : KeptKind) → kind_at (kind_number k) ≡ k
@@ -103,7 +103,7 @@ same_kind Signals = refl
 same_kind DigitMap = refl
 same_kind EventBuffer = refl
 
-kind_known : (a b : KeptKind) → kind_number a ≡ kind_number b → a ≡ b
+pub kind_known : (a b : KeptKind) → kind_number a ≡ kind_number b → a ≡ b
 kind_known a b e = sym (same_kind a) ∙ ap kind_at e ∙ same_kind b
 
 -- ---- of what is set
@@ -134,7 +134,7 @@ stream_ends a b r s e =
     let last = option_ends a.remote b.remote r s parts.2 in
     (λ i. record { mode = mode i; properties = parts.0 i; local = parts.1 i; remote = last.0 i }, last.1)
 
-tail_ends : Ends (Tail (List ℕ)) tail_print
+pub tail_ends : Ends (Tail (List ℕ)) tail_print
 unfolding tail_print
 tail_ends a b r s e =
     let begun = first_ends (flag_number a.equals) (flag_number b.equals) ((option_print a.word ++ option_print a.group) ++ r) ((option_print b.word ++ option_print b.group) ++ s) e in

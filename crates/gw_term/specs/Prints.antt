@@ -1,10 +1,9 @@
 -- Prints of settings: bytes that are the same only for the same settings, since each print tells where it ends (own). The print of a shape
 -- tells all but the values of properties, whose names it has in lower case.
-use Rattle.std.specs.Prelude.{ℕ, ◌/◌, ◌%◌, true, false, List, [], ◌∷◌, ◌++◌, length, map, replicate, Option, Some, None}
+use Rattle.std.specs.Prelude.{ℕ, ◌/◌, ◌%◌, true, false, List, [], ◌∷◌, ◌++◌, length, replicate, Option, Some, None}
 use Rattle.std.specs.List.{flat_map}
 use Rattle.gw_desc.specs.Twice.{folded}
 use Rattle.gw_desc.specs.declared.descriptor.Property.{Property}
-use Rattle.gw_desc.specs.declared.descriptor.Sign.TheVariants.{Equal}
 use Rattle.gw_desc.specs.declared.descriptor.Tail.{Tail}
 use Rattle.gw_term.specs.Numbers.{flag_number, sign_number, mode_number, kind_number}
 use Rattle.gw_term.specs.declared.record.Stream.{Stream}
@@ -49,18 +48,8 @@ settings_print list = number_print (length list) ++ flat_map setting_print list
 
 -- ---- of the shape
 
--- a property without its value, with its name in lower case
-abbrev pub bare : Property (List ℕ) → Property (List ℕ)
-bare p = record { name = folded p.name; sign = Equal; value = [] }
-
--- a setting whose properties are so
-abbrev pub bared : Setting → Setting
-bared (setting.Properties list) = setting.Properties (map bare list)
-bared (setting.Stream number s) = setting.Stream number (record s { properties = map bare s.properties })
-bared (setting.Tail kind tail) = setting.Tail kind tail
-
 unfoldable pub name_print : Property (List ℕ) → List ℕ
-name_print p = property_print (bare p)
+name_print p = text_print (folded p.name)
 
 -- how many there are, and each name
 unfoldable pub names_print : List (Property (List ℕ)) → List ℕ

@@ -120,6 +120,7 @@ pub(crate) fn are_alike(settings: &Settings, others: &Settings) -> bool
 }
 
 /// Whether a setting has so many properties that it may be learnt what becomes of it.
+#[inline]
 fn has_many_at(setting: &Setting) -> bool {
     match setting {
         Setting::Properties(list) => list.len() >= MANY,
@@ -129,6 +130,7 @@ fn has_many_at(setting: &Setting) -> bool {
 }
 
 /// Whether one of the settings has.
+#[inline]
 pub(crate) fn have_many(settings: &[Setting]) -> bool {
     settings.iter().any(has_many_at)
 }

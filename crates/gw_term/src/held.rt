@@ -176,14 +176,12 @@ impl HeldProperty {
         print.push_text(value)
     }
 
-    /// Its name goes last in the print of a shape, as a property without a value.
-    #[tactic(auto, unfolding(crate::specs::Prints::name_print, crate::specs::Prints::property_print))]
+    /// Its name goes last in the print of a shape.
+    #[tactic(auto, unfolding(crate::specs::Prints::name_print))]
     pub(crate) fn push_name_to(&self, print: &mut Print) -> Result<(), AllocError>
         ensures { OnOk result (print.new ≡ print.old ++ name_print self.now) }
     {
-        print.push_sign(Sign::Equal)?;
-        print.push_name(self.name())?;
-        print.push_text(&[])
+        print.push_name(self.name())
     }
 
     /// The property as it is told, with copies of its texts.

@@ -20,6 +20,7 @@ mod room;
 mod same;
 mod sending;
 mod settings;
+mod shape;
 mod shared;
 mod streams;
 mod tails;

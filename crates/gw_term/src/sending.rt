@@ -271,6 +271,21 @@ impl<'a, 'b> Sending<'a, 'b> {
             && (self.find(settings).is_some() || self.remakes(settings))
     }
 
+    /// What they make of these settings, if nothing is set, in the block that all such records share.
+    #[inline]
+    fn made_of_none(
+        &self,
+        alloc: Global,
+        settings: &Settings,
+    ) -> Result<Option<Settings>, AllocError>
+        ensures { IfOk result (λ made. IfSome made (IsMadeOf self.now.rules.now self.now.descriptors.now settings.now)) }
+    {
+        if settings.is_empty() {
+            return Ok(Some(self.made.copied(alloc)?));
+        }
+        Ok(None)
+    }
+
     /// What they make of these settings, if nothing is set or it was learnt, in the block that all such records share.
     #[inline]
     fn found_after(
@@ -280,8 +295,8 @@ impl<'a, 'b> Sending<'a, 'b> {
     ) -> Result<Option<Settings>, AllocError>
         ensures { IfOk result (λ found. IfSome found (IsMadeOf self.now.rules.now self.now.descriptors.now settings.now)) }
     {
-        if settings.is_empty() {
-            return Ok(Some(self.made.copied(alloc)?));
+        if let Some(made) = self.made_of_none(alloc, settings)? {
+            return Ok(Some(made));
         }
         match self.find(settings) {
             Some(learnt) => Ok(Some(learnt.after.copied(alloc)?)),
@@ -492,8 +507,8 @@ impl<'a, 'b> Sending<'a, 'b> {
         ensures same { SendsTheSame self.old self.new }
         ensures after { IfOk result (λ known. IfSome known (IsMadeOf self.old.rules.now self.old.descriptors.now settings.now)) }
     {
-        if settings.is_empty() {
-            return Ok(Some(self.made.copied(alloc)?));
+        if let Some(made) = self.made_of_none(alloc, settings)? {
+            return Ok(Some(made));
         }
         if let Some(learnt) = self.find(settings) {
             let is_whole = learnt.is_whole;

@@ -1,16 +1,15 @@
 //! Settings that copies share, mostly with their print, by which they are told from others at once, or with that of their shape.
 
 ghost use Rattle.std.specs.Prelude.{◌≡◌, ◌++◌, true, Decides, IfOk, IfSome, OnOk};
-ghost use Rattle.std.specs.Arc.{arc_value};
 ghost use Rattle.gw_term.specs.Alike.{AreAlike};
-ghost use Rattle.gw_term.specs.Prints.{properties_print, stream_print, setting_print, settings_print, names_print, stream_shape, setting_shape, settings_shape};
+ghost use Rattle.gw_term.specs.Prints.{properties_print, stream_print, setting_print, settings_print};
 ghost use Rattle.gw_term.specs.Settings.{set_by};
 
-use crate::alike::have_many;
 use crate::held::HeldProperty;
 use crate::print::Print;
 use crate::record::Stream;
 use crate::settings::Setting;
+use crate::shape::shape_if_many;
 use std::alloc::{AllocError, Global};
 use std::marker::Model;
 use std::sync::Arc;
@@ -74,103 +73,25 @@ fn print_of(alloc: Global, list: &[Setting]) -> Result<Print, AllocError>
     Ok(print.shrunk())
 }
 
-/// The names of properties go last.
-#[tactic(auto, unfolding(crate::specs::Prints::names_print))]
-fn push_names(print: &mut Print, properties: &[HeldProperty]) -> Result<(), AllocError>
-    ensures { OnOk result (print.new ≡ print.old ++ names_print properties.now) }
-{
-    print.push_number(properties.len())?;
-    for property in properties {
-        property.push_name_to(print)?;
-    }
-    Ok(())
-}
-
-/// The shape of a stream goes last.
-#[tactic(auto, unfolding(crate::specs::Prints::stream_shape))]
-fn push_stream_shape(print: &mut Print, stream: &Stream) -> Result<(), AllocError>
-    ensures { OnOk result (print.new ≡ print.old ++ stream_shape stream.now) }
-{
-    print.push_mode(stream.mode)?;
-    push_names(print, stream.properties.as_slice())?;
-    stream.local.push_to(print)?;
-    stream.remote.push_to(print)
-}
-
-/// The shape of a setting goes last.
-#[tactic(auto, unfolding(crate::specs::Prints::setting_shape))]
-fn push_shape(print: &mut Print, setting: &Setting) -> Result<(), AllocError>
-    ensures { OnOk result (print.new ≡ print.old ++ setting_shape setting.now) }
-{
-    match setting {
-        Setting::Properties(list) => {
-            print.push(0)?;
-            push_names(print, list.as_slice())
-        }
-        Setting::Stream(number, stream) => {
-            print.push(1)?;
-            print.push(*number)?;
-            push_stream_shape(print, stream)
-        }
-        Setting::Tail(kind, tail) => {
-            print.push(2)?;
-            print.push_kind(*kind)?;
-            tail.push_to(print)
-        }
-    }
-}
-
-/// The print of the shape of settings.
-#[tactic(auto, unfolding(crate::specs::Prints::settings_shape))]
-fn shape_of(alloc: Global, list: &[Setting]) -> Result<Print, AllocError>
-    ensures { IfOk result (λ shape. shape ≡ settings_shape list.now) }
-{
-    let mut print = Print::new(alloc);
-    print.push_number(list.len())?;
-    for setting in list {
-        push_shape(&mut print, setting)?;
-    }
-    Ok(print.shrunk())
-}
-
-/// Whether a setting has a long text, which a print would hold once more.
-fn is_long(setting: &Setting) -> bool {
-    match setting {
-        Setting::Properties(_) => false,
-        Setting::Stream(_, stream) => stream.local.is_long() || stream.remote.is_long(),
-        Setting::Tail(_, tail) => tail.is_long(),
-    }
-}
-
-/// The print of the shape of settings, where it is worth to have it: it saves a comparison of many names. It is shared with the one that is
-/// given, if it is the same.
-fn shape_if_many(
-    alloc: Global,
-    list: &[Setting],
-    known: Option<&Arc<Print>>,
-) -> Result<Option<Arc<Print>>, AllocError>
-    ensures { IfOk result (λ found. IfSome found (λ shape. arc_value shape ≡ settings_shape list.now)) }
-{
-    if !have_many(list) || list.iter().any(is_long) {
-        return Ok(None);
-    }
-    let shape = shape_of(alloc, list)?;
-    if let Some(known) = known {
-        if shape.is(known) {
-            return Ok(Some(known.clone()?));
-        }
-    }
-    Ok(Some(Arc::new(alloc, shape)?))
-}
-
 /// Settings that copies share. They never change. The print of those that many records have stands beside them; those that were set of
 /// one record have none, since it takes more to make than it saves. Where they have many properties, the print of their shape stands there
 /// too, which tells those that are the same but for the values of properties. Contracts see the settings.
-#[derive(Drop)]
 pub struct SharedSettings {
     list: Vec<Setting>,
-    print: Option<Print>,
+    print: Option<Arc<Print>>,
     shape: Option<Arc<Print>>,
+}
+
+// By hand, as that of a setting; it stands where a block is let go, and there alone.
+impl Drop for SharedSettings {
+    #[inline(always)]
+    fn drop(self) {
+        let SharedSettings {
+            list: _,
+            print: _,
+            shape: _,
+        } = self;
+    }
 }
 
 impl Model for SharedSettings {
@@ -183,7 +104,7 @@ impl Model for SharedSettings {
 
     ghost view = { λ s. s.list.items };
 
-    ghost invariant = { λ s. IfSome s.print (λ print. print ≡ settings_print s.list.items) × IfSome s.shape (λ shape. arc_value shape ≡ settings_shape s.list.items) };
+    ghost invariant = { λ s. IfSome s.print (λ print. arc_value print ≡ settings_print s.list.items) × IfSome s.shape (λ shape. arc_value shape ≡ settings_shape s.list.items) };
 }
 
 impl SharedSettings {
@@ -195,7 +116,7 @@ impl SharedSettings {
         let shape = shape_if_many(alloc, list.as_slice(), None)?;
         Ok(SharedSettings {
             list,
-            print: Some(print),
+            print: Some(Arc::new(alloc, print)?),
             shape,
         })
     }
@@ -252,9 +173,9 @@ impl SharedSettings {
     pub(crate) fn told_alike(&self, other: &SharedSettings) -> Option<bool>
         ensures { IfSome result (λ is_alike. is_alike ≡ true → AreAlike (set_by self.now) (set_by other.now)) }
     {
-        match (&self.shape, &other.shape) {
-            (Some(shape), Some(other)) => Some(shape.is(other)),
-            _ => None,
-        }
+        let (Some(shape), Some(other)) = (&self.shape, &other.shape) else {
+            return None;
+        };
+        Some(shape.is(other))
     }
 }

@@ -1,6 +1,6 @@
 use Rattle.std.proofs.Common.{◌≡◌, ◌++◌, flat_map, length, take}
 use Rattle.gw_term.specs.Prints.{number_print, name_print}
-use Rattle.gw_term.proofs.shared.push_names.Given as goal
+use Rattle.gw_term.proofs.shape.push_names.Given as goal
 
 -- the names so far are printed
 abbrev pub invariant-loop-property : goal.invariant-loop-property

@@ -1,6 +1,6 @@
 use Rattle.std.proofs.Common.{◌≡◌, ◌++◌, flat_map, length, take}
 use Rattle.gw_term.specs.Prints.{number_print, setting_shape}
-use Rattle.gw_term.proofs.shared.shape_of.Given as goal
+use Rattle.gw_term.proofs.shape.shape_of.Given as goal
 
 -- the shapes so far are printed
 abbrev pub invariant-loop-setting : goal.invariant-loop-setting
