@@ -109,6 +109,10 @@ module _ (c : Command) (m : Maps) (wildcard : is_wildcard c.term ≡ true) (stay
       by (Name x) w = absurd cc
       by (Other x) w = absurd cc
 
+  -- they are those of the null context whose names begin so
+  pub targets_begin : targets Null c m ≡ filter (λ t. starts_with nat_eq t (prefix_of c.term)) (filter (is_free m) (names m))
+  targets_begin = targets_are ∙ sym (twice_filtered (λ t. starts_with nat_eq t (prefix_of c.term)) (λ t. starts_with nat_eq t (prefix_of c.term)) (is_free m) (λ t. refl) (names m))
+
   -- their keys
   keys_of : (keys : PartKeys) (slot : Option ℕ) → Holds keys (command_keys Null slot c m) → refusal_by_form Null c ≡ None → refusal_by_tables Null slot c m ≡ None
       → (t : List ℕ) → is_in t (reached Free (prefix_of c.term) m) ≡ true → holds keys (Term t) ≡ true
@@ -302,7 +306,7 @@ module _ (rules : Rules) (c : Command) (m : Maps) where
   is_wild (Serve s) h = h.wildcard
   is_wild Merge h = h.wildcard
 
-  is_no_add : (a : ForAll) → IsForAll rules Null c m a → is_add c.verb ≡ false
+  pub is_no_add : (a : ForAll) → IsForAll rules Null c m a → is_add c.verb ≡ false
   is_no_add (Serve s) h = ap (λ (v : Verb). is_add v) h.verb
   is_no_add Merge h = ap (λ (v : Verb). is_add v) h.verb
 

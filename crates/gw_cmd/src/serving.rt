@@ -1,18 +1,22 @@
 //! A ServiceChange or a Modify of all terminations of the null context that match.
 
-ghost use Rattle.std.specs.Prelude.{◌≡◌, ◌&&◌, ℕ, true, false, None, List, IfOk, IfSome, OnOk};
+ghost use Rattle.std.specs.Prelude.{◌≡◌, ◌&&◌, ℕ, true, false, None, List, map, IfOk, IfSome, OnOk};
 ghost use Rattle.gw_base.specs.declared.command_words.Rules.{Rules as Kept};
 ghost use Rattle.gw_base.specs.declared.command_words.Verb.TheVariants.{Modify, ServiceChange};
 ghost use Rattle.gw_base.specs.declared.key.Key.TheVariants.{Term};
 ghost use Rattle.gw_base.specs.NameLists.{is_in};
+ghost use Rattle.gw_length.specs.Tellings.{told_behind};
 ghost use Rattle.gw_length.specs.declared.telling.Telling.TheVariants.{TooLong};
+ghost use Rattle.gw_reply.specs.Replies.{command_reply_text};
 ghost use Rattle.gw_table.specs.declared.reach.Reach.TheVariants.{Free};
 ghost use Rattle.gw_table.specs.Maps.{Maps};
 ghost use Rattle.gw_table.specs.Parts.{holds, Holds};
 ghost use Rattle.gw_table.specs.Served.{reached};
-ghost use Rattle.gw_refusal.specs.Asked.{is_wildcard};
+ghost use Rattle.gw_refusal.specs.Asked.{is_add, is_wildcard};
 ghost use Rattle.gw_refusal.specs.Forms.{refusal_by_form};
+ghost use Rattle.gw_refusal.specs.Targets.{targets};
 ghost use Rattle.gw_cmd.specs.Commands.{allowed};
+ghost use Rattle.gw_cmd.specs.Idle.{idle_reply};
 ghost use Rattle.gw_cmd.specs.Keys.{command_keys};
 ghost use Rattle.gw_cmd.specs.Serving.{prefix_of, fills_nothing, all_after, AreTaken, IsForAll};
 ghost use Rattle.gw_cmd.specs.Told.{outcome_behind};
@@ -22,7 +26,7 @@ use crate::outcome::CmdTold;
 use crate::replies::{has_one_reply, outcome_of, outcome_of_all, refused};
 use crate::tables::{is_some, refusal_by_tables};
 use gw_base::{NoMemory, Rules, Service, TermRef, Verb};
-use gw_length::Telling;
+use gw_length::{Telling, verb_length};
 use gw_msg::Command;
 use gw_refusal::{At, has_targets, is_wildcard, service_asked, targets};
 use gw_reply::CommandReply;
@@ -196,7 +200,8 @@ fn with_each(
     Ok(outcome_of(At::Null, seen))
 }
 
-/// Carries such a command out where nothing is kept of what its targets would be told one by one: none is named.
+/// Carries such a command out where nothing is kept of what its targets would be told one by one, or there is no room for it: none is
+/// named.
 fn with_none(
     alloc: Global,
     rules: &Rules,
@@ -209,7 +214,7 @@ fn with_none(
     requires covered { Holds draft.old.keys (command_keys At.Null slot command.now draft.old.maps) }
     requires form { refusal_by_form At.Null command.now ≡ None }
     requires for_all { IsForAll rules.now At.Null command.now draft.old.maps for_all }
-    requires kept { (command.now.wild && is_wildcard command.now.term) ≡ false → told ≡ TooLong }
+    requires kept { (command.now.wild && is_wildcard command.now.term) ≡ false → (after : Maps) → told_behind command_reply_text told (map (idle_reply command.now after) (targets At.Null command.now draft.old.maps)) ≡ TooLong }
     ensures maps { OnOk result (draft.new.maps ≡ (allowed rules.now At.Null slot command.now draft.old.maps).maps) }
     ensures answer { IfOk result (λ done. done ≡ outcome_behind told (allowed rules.now At.Null slot command.now draft.old.maps).answer) }
     ensures keys { draft.new.keys ≡ draft.old.keys }
@@ -226,8 +231,25 @@ fn with_none(
     outcome_of_all(alloc, told, At::Null, command, seen)
 }
 
+/// Whether more terminations of the null context match than there is room for replies, each of which has the command's word and, around
+/// that, a comma and a `=`. The work is at most one pass over the tables, which ends once there are more; none is named.
+fn are_too_many(draft: &Draft<'_>, command: &Command<'_>, told: &Telling<CommandReply>) -> bool
+    requires wildcard { is_wildcard command.now.term ≡ true }
+    requires stays { is_add command.now.verb ≡ false }
+    ensures { result ≡ true → (after : Maps) → told_behind command_reply_text told.now (map (idle_reply command.now after) (targets At.Null command.now draft.now.maps)) ≡ TooLong }
+{
+    match told {
+        Telling::Within(_, room) => {
+            let least = verb_length(command.verb) + b",=".len();
+            draft.has_more_free_under(prefix_of(&command.term), room / least)
+        }
+        Telling::All(_) | Telling::TooLong => false,
+    }
+}
+
 /// Carries out a command that its form allows and that does this to all terminations of the null context that match. The work is that
-/// of the tables' passes over all names, and of the merges; and where the reply of each is told, that of listing them.
+/// of the tables' passes over all names, and of the merges; and where the reply of each is told, and there may be room for all, that of
+/// listing them.
 pub(crate) fn on_all_free(
     alloc: Global,
     rules: &Rules,
@@ -244,7 +266,7 @@ pub(crate) fn on_all_free(
     ensures answer { IfOk result (λ done. done ≡ outcome_behind told (allowed rules.now At.Null slot command.now draft.old.maps).answer) }
     ensures keys { draft.new.keys ≡ draft.old.keys }
 {
-    if keeps_none(command, &told) {
+    if keeps_none(command, &told) || are_too_many(draft, command, &told) {
         with_none(alloc, rules, draft, slot, command, for_all, told)
     } else {
         with_each(alloc, rules, draft, slot, command, for_all, told)

@@ -1,6 +1,6 @@
 //! Terminations of the null context.
 
-ghost use Rattle.std.specs.Prelude.{◌≡◌, ◌&&◌, nat_eq, is_some, IfOk};
+ghost use Rattle.std.specs.Prelude.{◌≡◌, ◌&&◌, ◌<◌, nat_eq, true, is_some, length, IfOk};
 ghost use Rattle.std.specs.List.{filter, list_any, starts_with};
 ghost use Rattle.gw_table.specs.Free.{is_free_at};
 ghost use Rattle.gw_table.specs.Maps.{term, is_free, names};
@@ -58,6 +58,26 @@ impl Tables {
         }
         false
     }
+
+    /// Whether there are more than so many terminations of the null context with names that begin so. Where there are no more
+    /// terminations at all, none is looked at.
+    fn has_more_free_under(&self, prefix: &[u8], most: usize) -> bool
+        ensures { result ≡ true → most < length (filter (λ t. starts_with nat_eq t prefix.now) (filter (is_free (maps_of self.now)) (names (maps_of self.now)))) }
+    {
+        if self.terms.len() <= most {
+            return false;
+        }
+        let mut left = most;
+        for (name, site) in &self.terms {
+            if begins_with(name, prefix) && is_free_at(site) {
+                if left == 0 {
+                    return true;
+                }
+                left -= 1;
+            }
+        }
+        false
+    }
 }
 
 impl InPlace {
@@ -71,6 +91,12 @@ impl InPlace {
         ensures { result ≡ list_any (λ t. is_free self.now.maps t && starts_with nat_eq t prefix.now) (names self.now.maps) }
     {
         self.tables.has_free_under(prefix)
+    }
+
+    fn has_more_free_under(&self, prefix: &[u8], most: usize) -> bool
+        ensures { result ≡ true → most < length (filter (λ t. starts_with nat_eq t prefix.now) (filter (is_free self.now.maps) (names self.now.maps))) }
+    {
+        self.tables.has_more_free_under(prefix, most)
     }
 }
 
@@ -141,6 +167,18 @@ impl Draft<'_> {
         match &self.ground {
             Ground::OfPart(ground) => ground.has_free_under(prefix),
             Ground::OfTables(ground) => ground.has_free_under(prefix),
+        }
+    }
+
+    /// Whether there are more than so many terminations of the null context with names that begin so, where the draft is of whole tables; of
+    /// one of a part that is not said. The work is at most one pass over the tables, without a look-up and without memory, which ends once
+    /// there are more; and none where the tables have no more terminations at all.
+    pub fn has_more_free_under(&self, prefix: &[u8], most: usize) -> bool
+        ensures { result ≡ true → most < length (filter (λ t. starts_with nat_eq t prefix.now) (filter (is_free self.now.maps) (names self.now.maps))) }
+    {
+        match &self.ground {
+            Ground::OfPart(_) => false,
+            Ground::OfTables(ground) => ground.has_more_free_under(prefix, most),
         }
     }
 }

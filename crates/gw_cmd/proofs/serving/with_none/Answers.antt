@@ -1,16 +1,17 @@
-use Rattle.std.proofs.Common.{◌≡◌, ℕ, List, None, Result, Ok, Err, map, refl, sym, ap, ◌∙◌}
+use Rattle.std.proofs.Common.{◌≡◌, ℕ, Bool, false, List, [], ◌∷◌, None, Result, Ok, Err, map, refl, sym, ap, ◌∙◌}
+use Rattle.std.specs.Prelude.{◌&&◌, if◌then◌else◌}
 use Rattle.std.specs.Result.{OnOk}
 use Rattle.std.proofs.lemmas.Result.{IfOk-weaker}
-use Rattle.gw_length.specs.declared.telling.Telling.{Telling}
 use Rattle.gw_length.specs.declared.telling.Telling.TheVariants.{TooLong}
 use Rattle.gw_reply.specs.declared.reply.CommandReply.{CommandReply}
 use Rattle.gw_table.specs.declared.reach.Reach.TheVariants.{Free}
 use Rattle.gw_table.specs.Maps.{Maps, Outcome}
 use Rattle.gw_table.specs.Served.{reached}
 use Rattle.gw_refusal.specs.declared.at.At.TheVariants.{Null}
+use Rattle.gw_refusal.specs.Asked.{is_wildcard}
 use Rattle.gw_refusal.specs.Targets.{targets}
 use Rattle.gw_cmd.specs.declared.outcome.CmdOutcome.{CmdOutcome}
-use Rattle.gw_cmd.specs.Commands.{outcome_told}
+use Rattle.gw_cmd.specs.Commands.{reply, first_error, outcome_of}
 use Rattle.gw_cmd.specs.Idle.{idle_reply}
 use Rattle.gw_cmd.specs.Refusals.{refusal_by_tables}
 use Rattle.gw_cmd.specs.Serving.{prefix_of, all_after}
@@ -62,8 +63,8 @@ returns-then-not-has_one_reply-clause-answer c =
     let none : refusal_by_tables Null a.slot a.command.now m ≡ None = sym c.in_default.ensures in
     let ts : List (List ℕ) = targets Null a.command.now m in
     let replies : List CommandReply = map (idle_reply a.command.now after) ts in
-    let all = c.seen_idle-seen.ensures ∙ seen_idle a.command.now after TooLong TooLong ts (some_matched Null a.slot a.command.now m (is_wild a.rules.now a.command.now a.draft.now.maps a.for_all c.requires.for_all) none) refl in
+    let by : Bool → CmdOutcome = λ b. record (outcome_of Null replies) { replies = if b then reply a.command.now a.command.now.term (first_error replies) ∷ [] else replies } in
+    let each : (a.command.now.wild && is_wildcard a.command.now.term) ≡ false = sym c.has_one_reply.ensures ∙ c.if-not-has_one_reply.true in
+    let all = c.seen_idle-seen.ensures ∙ seen_idle a.command.now after a.told TooLong ts (some_matched Null a.slot a.command.now m (is_wild a.rules.now a.command.now a.draft.now.maps a.for_all c.requires.for_all) none) (sym (c.requires.kept each after)) in
     let whole = all_carried a.rules.now a.command.now m a.for_all c.requires.for_all a.slot after refl none in
-    let long : a.told ≡ TooLong = c.requires.kept (sym c.has_one_reply.ensures ∙ c.if-not-has_one_reply.true) in
-    c.outcome_of.ensures TooLong replies all ∙ ap (λ (t : Telling CommandReply). outcome_behind t (outcome_told Null a.command.now replies)) (sym long)
-    ∙ ap (λ (o : Outcome CmdOutcome). outcome_behind a.told o.answer) (sym whole)
+    c.outcome_of.ensures a.told replies all ∙ ap (λ (b : Bool). outcome_behind a.told (by b)) (sym each) ∙ ap (λ (o : Outcome CmdOutcome). outcome_behind a.told o.answer) (sym whole)
