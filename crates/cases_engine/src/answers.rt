@@ -1,23 +1,36 @@
 //! Answers, as cases tell them.
 
 use cases_text::Page;
+use gw_base::{Items, NoMemory};
 use gw_engine::Datagram;
 
 /// The peer that datagrams come from which are a burst of their own.
 pub const PEER: u32 = 7;
 
-/// A line for each answer.
-pub fn write_answers(out: &mut Page, answers: &[Datagram]) {
-    if answers.is_empty() {
+/// A line for an answer, if there is one. Its bytes are taken out, as who keeps them does.
+pub fn write_answer(answer: Option<Datagram>, out: &mut Page) -> Result<(), NoMemory> {
+    let Some(answer) = answer else {
         out.put(b"no answer");
+        return Ok(());
+    };
+    if answer.peer != PEER {
+        out.put(b"to ");
+        out.number(u64::from(answer.peer));
+        out.put(b": ");
     }
-    for answer in answers {
-        if answer.peer != PEER {
-            out.put(b"to ");
-            out.number(u64::from(answer.peer));
-            out.put(b": ");
-        }
-        out.message(answer.bytes.as_slice());
-        out.put(b"\n");
+    let bytes = answer.into_bytes(out.alloc())?;
+    out.message(bytes.as_slice());
+    out.put(b"\n");
+    Ok(())
+}
+
+/// A line for each answer.
+pub fn write_answers(answers: Items<Datagram>, out: &mut Page) -> Result<(), NoMemory> {
+    if answers.is_empty() {
+        return write_answer(None, out);
     }
+    for answer in answers.into_vec() {
+        write_answer(Some(answer), out)?;
+    }
+    Ok(())
 }

@@ -1,6 +1,6 @@
 //! Gateways that are alike, each with another number of workers: what the first is answered, each must be answered.
 
-use crate::answers::write_answers;
+use crate::answers::{write_answer, write_answers};
 use crate::gates::Waves;
 use crate::workers::{EACH, Workers};
 use cases_meeting::Meeting;
@@ -104,11 +104,10 @@ impl Common {
 }
 
 /// How many answers there are, and the last one.
-fn write_last(answers: &[Datagram], out: &mut Page) {
+fn write_last(answers: Items<Datagram>, out: &mut Page) -> Result<(), NoMemory> {
     out.number(answers.len() as u64);
     out.put(b" answers, the last:\n");
-    let from = answers.len().saturating_sub(1);
-    write_answers(out, answers.get(from..).unwrap_or(answers));
+    write_answer(answers.into_vec().pop(), out)
 }
 
 impl Crews {
@@ -247,8 +246,7 @@ fn write_meeting<R: Threads + Clock + Sync>(
     } else {
         b"given up\n"
     });
-    write_answers(out, answers.as_slice());
-    Ok(())
+    write_answers(answers, out)
 }
 
 /// What is told of a burst that one gateway carries out: in how many waves, where that is asked, on a page of its own.
@@ -265,19 +263,18 @@ fn write_told<R: Threads + Clock + Sync>(
             let waves = Waves::new(out.alloc())?;
             let answers = answers_of(rt, out.alloc(), crew, burst, &waves)?;
             waves.write(counts);
-            write_answers(out, answers.as_slice());
+            write_answers(answers, out)
         }
         Told::Each => {
             let answers = answers_of(rt, out.alloc(), crew, burst, &OpenGate)?;
-            write_answers(out, answers.as_slice());
+            write_answers(answers, out)
         }
         Told::Last => {
             let answers = answers_of(rt, out.alloc(), crew, burst, &OpenGate)?;
-            write_last(answers.as_slice(), out);
+            write_last(answers, out)
         }
-        Told::Meeting(place) => write_meeting(rt, crew, burst, place, out)?,
+        Told::Meeting(place) => write_meeting(rt, crew, burst, place, out),
     }
-    Ok(())
 }
 
 /// Sends a burst to each gateway, and writes what is told of it. Where one refuses it for memory, that is written in its place, and

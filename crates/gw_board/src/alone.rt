@@ -1,6 +1,6 @@
 //! Carrying places out one after another, on the tables where they lie.
 
-ghost use Rattle.std.specs.Prelude.{◌≡◌, ◌+◌, ◌<◌, [], true, length, map, take, vec_len, IfErr, IfOk, IfSome, OnErr, OnOk, slice_get};
+ghost use Rattle.std.specs.Prelude.{◌≡◌, ◌+◌, ◌<◌, true, length, map, take, vec_len, IfErr, IfOk, IfSome, OnErr, OnOk, slice_get};
 ghost use Rattle.gw_reserve.specs.Owned.{AreFreeSlots};
 ghost use Rattle.gw_table.specs.Maps.{Maps};
 ghost use Rattle.gw_table.specs.Originals.{keys_written};
@@ -102,7 +102,7 @@ pub(crate) fn pending_at<'b, 'h, 'a>(
 }
 
 /// Carries out the request of a place, if it is pending, on a draft of whole tables, and closes the place with its reply. The gate is
-/// passed before. Texts are gathered in the block, which has nothing before and after. The caller knows that nothing is open, that all
+/// passed before. Texts are gathered in the block, whatever it has. The caller knows that nothing is open, that all
 /// earlier places are closed, and that what is pending may be carried out from the draft's maps on.
 ///
 /// # Errors
@@ -117,7 +117,6 @@ fn carry_place<G: Gate>(
     block: &mut Items<u8>,
     gate: &G,
 ) -> Result<(), NoMemory>
-    requires empty { block.old ≡ [] }
     requires inside { place < length seats.old.items }
     requires over { draft.old.keys ≡ Over (start_of draft.old.keys) }
     requires goes_on { (begun : Maps) × MayGoOn manner.now begun draft.old.maps (map place_of seats.old.items) }
@@ -127,7 +126,6 @@ fn carry_place<G: Gate>(
     ensures asked { asked_of (map place_of seats.new.items) ≡ asked_of (map place_of seats.old.items) }
     ensures len { vec_len seats.new ≡ vec_len seats.old }
     ensures keys { draft.new.keys ≡ draft.old.keys }
-    ensures empty { block.new ≡ [] }
 {
     let Some(task) = pending_at(seats, place) else {
         return Ok(());

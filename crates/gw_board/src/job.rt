@@ -1,6 +1,6 @@
 //! Jobs: pending requests that are handed out, each with the entries that it may touch.
 
-ghost use Rattle.std.specs.Prelude.{◌≡◌, [], IfOk, OnOk, true, false};
+ghost use Rattle.std.specs.Prelude.{◌≡◌, IfOk, OnOk, true, false};
 ghost use Rattle.gw_reserve.specs.Owned.{AreFreeSlots};
 ghost use Rattle.gw_tx.specs.Footprints.{Covers};
 ghost use Rattle.gw_board.specs.Boards.{outcome_of};
@@ -55,7 +55,7 @@ impl Job<'_, '_, '_> {
 }
 
 /// Carries a request out on a draft that covers it, and writes the reply. What is behind the limit of a reply is carried out, and not
-/// told. Texts are gathered in the block, which has nothing, and is left for the next request.
+/// told. Texts are gathered in the block, which is left for the next request, whatever it has.
 ///
 /// # Errors
 ///
@@ -67,13 +67,11 @@ pub(crate) fn carry_on(
     draft: &mut Draft<'_>,
     block: &mut Items<u8>,
 ) -> Result<Items<u8>, NoMemory>
-    requires empty { block.old ≡ [] }
     requires covered { Covers draft.old (keys_of asked.now draft.old.maps) }
     requires unused { AreFreeSlots draft.old.maps asked.now.owned.slots }
     ensures maps { OnOk result (draft.new.maps ≡ (done manner.now asked.now draft.old.maps).maps) }
     ensures reply { IfOk result (λ text. text ≡ (done manner.now asked.now draft.old.maps).answer) }
     ensures keys { draft.new.keys ≡ draft.old.keys }
-    ensures empty { block.new ≡ [] }
 {
     let scratch = Bump::new(alloc);
     let request = asked.request.tree(&scratch)?;

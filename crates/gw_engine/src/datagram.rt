@@ -1,9 +1,10 @@
 //! What comes from a controller, and what goes back.
 
-ghost use Rattle.std.specs.Prelude.{◌≡◌, IfSome};
+ghost use Rattle.std.specs.Prelude.{◌≡◌, IfOk};
 
 use crate::octets::Octets;
 use gw_base::Items;
+use std::alloc::{AllocError, Global};
 
 /// A datagram: bytes from, or to, a peer.
 pub struct Datagram {
@@ -21,11 +22,16 @@ impl Drop for Datagram {
 }
 
 impl Datagram {
-    /// The block of its bytes alone, to be used again, unless other datagrams lie in it too.
-    pub fn into_block(self) -> Option<Items<u8>>
-        ensures { IfSome result (λ block. block ≡ self.bytes) }
+    /// Its bytes alone, in a block that no other datagram has: that which they lie in, or a copy where others lie in it too, as those of
+    /// other answers of the burst may.
+    ///
+    /// # Errors
+    ///
+    /// `AllocError` where the memory of a copy was refused.
+    pub fn into_bytes(self, alloc: Global) -> Result<Items<u8>, AllocError>
+        ensures { IfOk result (λ bytes. bytes ≡ self.bytes) }
     {
         let Datagram { peer: _, bytes } = self;
-        bytes.into_block()
+        bytes.into_bytes(alloc)
     }
 }

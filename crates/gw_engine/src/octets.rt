@@ -1,12 +1,12 @@
 //! The bytes of a datagram: in a block of their own, or in one that the answers of a burst share.
 
-ghost use Rattle.std.specs.Prelude.{◌≡◌, ◌==◌, ◌≤◌, length, IfOk, IfSome};
+ghost use Rattle.std.specs.Prelude.{◌≡◌, ◌==◌, ◌≤◌, length, IfOk};
 ghost use Rattle.std.specs.Arc.{arc_slice_items};
 ghost use Rattle.std.specs.List.{slice_range};
 ghost use Rattle.gw_engine.specs.Octets.{bytes_in};
 
 use gw_base::Items;
-use std::alloc::AllocError;
+use std::alloc::{AllocError, Global};
 use std::marker::Model;
 use std::sync::ArcSlice;
 
@@ -59,13 +59,13 @@ impl Drop for Form {
 }
 
 impl Form {
-    /// The block of the bytes, if no other datagram lies in it.
-    fn into_block(self) -> Option<Items<u8>>
-        ensures { IfSome result (λ block. block ≡ bytes_in self) }
+    /// The bytes in a block that no other datagram has: that which they lie in, or a copy where others lie in it too.
+    fn into_bytes(self, alloc: Global) -> Result<Items<u8>, AllocError>
+        ensures { IfOk result (λ bytes. bytes ≡ bytes_in self) }
     {
         match self {
-            Form::Own(block) => Some(block),
-            Form::Shared(_piece) => None,
+            Form::Own(block) => Ok(block),
+            Form::Shared(piece) => Items::from_slice(alloc, piece.as_slice()),
         }
     }
 }
@@ -130,11 +130,15 @@ impl Octets {
         self.as_slice().is_empty()
     }
 
-    /// The block of the bytes, to be used again, unless other datagrams lie in it too.
-    pub fn into_block(self) -> Option<Items<u8>>
-        ensures { IfSome result (λ block. block ≡ self) }
+    /// The bytes in a block that no other datagram has: that which they lie in, or a copy where others lie in it too.
+    ///
+    /// # Errors
+    ///
+    /// `AllocError` where the memory of a copy was refused.
+    pub fn into_bytes(self, alloc: Global) -> Result<Items<u8>, AllocError>
+        ensures { IfOk result (λ bytes. bytes ≡ self) }
     {
-        self.form.into_block()
+        self.form.into_bytes(alloc)
     }
 }
 

@@ -64,7 +64,7 @@ fn replay_all<T: Threads + Sync, G: Gate, R: Read, W: Write>(
         match next_burst(alloc, input, spares)? {
             Next::Burst(burst) => {
                 counts = carry_out(crew, alloc, out, held, gateway, burst.as_slice(), counts)?;
-                spares.give_all(burst);
+                spares.give_all(alloc, burst);
             }
             Next::Last(burst) => {
                 return carry_out(crew, alloc, out, held, gateway, burst.as_slice(), counts);

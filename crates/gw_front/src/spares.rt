@@ -47,12 +47,12 @@ impl Spares {
         }
     }
 
-    /// Keeps the block of a datagram, unless it is large, others lie in it too, or there are enough.
-    fn give(&mut self, datagram: Datagram) {
-        let Some(block) = datagram.into_block() else {
+    /// Keeps the block of a datagram, unless it is large or there are enough.
+    fn give(&mut self, alloc: Global, datagram: Datagram) {
+        let Ok(bytes) = datagram.into_bytes(alloc) else {
             return;
         };
-        let block = block.into_vec();
+        let block = bytes.into_vec();
         if block.capacity() <= LARGEST && self.blocks.len() < MOST {
             // There is room.
             let _ = self.blocks.push(block);
@@ -60,10 +60,10 @@ impl Spares {
     }
 
     /// Keeps the blocks of a burst.
-    pub(crate) fn give_all(&mut self, burst: Items<Datagram>) {
+    pub(crate) fn give_all(&mut self, alloc: Global, burst: Items<Datagram>) {
         self.last = burst.len();
         for datagram in burst.into_vec() {
-            self.give(datagram);
+            self.give(alloc, datagram);
         }
     }
 }

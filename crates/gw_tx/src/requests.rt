@@ -1,6 +1,6 @@
 //! Whole transactions.
 
-ghost use Rattle.std.specs.Prelude.{◌≡◌, [], IfOk, OnOk};
+ghost use Rattle.std.specs.Prelude.{◌≡◌, IfOk, OnOk};
 ghost use Rattle.gw_reserve.specs.Owned.{AreFreeSlots, paired};
 ghost use Rattle.gw_tx.specs.Footprints.{footprint_of, Covers};
 ghost use Rattle.gw_tx.specs.Told.{within};
@@ -55,8 +55,8 @@ pub fn transaction(
 }
 
 /// Carries a request out as [`transaction`] does, and tells its reply only where its text has at most `limit` bytes: the bytes from
-/// `Reply=` to the last brace, as they stand in a message. Texts are counted as the replies come, and go into the block, which has
-/// nothing. Once they are too long no reply is kept, and what is left to do is done all the same.
+/// `Reply=` to the last brace, as they stand in a message. Texts are counted as the replies come, and go into the block, of
+/// which nothing else is kept. Once they are too long no reply is kept, and what is left to do is done all the same.
 ///
 /// # Errors
 ///
@@ -70,7 +70,6 @@ pub fn transaction_within(
     block: Items<u8>,
     limit: usize,
 ) -> Result<Told, NoMemory>
-    requires empty { block ≡ [] }
     requires covered { Covers draft.old (footprint_of (paired request.now owned.now) draft.old.maps) }
     requires unused { AreFreeSlots draft.old.maps owned.now.slots }
     ensures maps { OnOk result (draft.new.maps ≡ (paired_transaction rules.now request.now (paired request.now owned.now) draft.old.maps).maps) }

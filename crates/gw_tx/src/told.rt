@@ -83,15 +83,16 @@ fn room_in_braces(id: TxId, limit: usize) -> Option<usize>
     behind_number(left, id.0)
 }
 
-/// What is told of a transaction before its first action, where its text has so many bytes at most; it goes into the block, which has
-/// nothing. The first action has no comma before it, so there is room for one more.
+/// What is told of a transaction before its first action, where its text has so many bytes at most; it goes into the block, of which
+/// nothing else is kept. The first action has no comma before it, so there is room for one more.
 pub(crate) fn told_within(block: Items<u8>, id: TxId, limit: usize) -> Telling<ActionReply>
-    requires { block ≡ [] }
     ensures told { (replies : List ActionReply) → told_of (told_behind action_reply_text result replies) ≡ within limit (record { id = id; result = Replies replies }) }
     ensures limited { IsLimited result }
 {
+    let mut text = block;
+    text.clear();
     match room_in_braces(id, limit) {
-        Some(left) => Telling::Within(block, left + 1),
+        Some(left) => Telling::Within(text, left + 1),
         None => Telling::TooLong,
     }
 }

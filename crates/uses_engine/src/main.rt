@@ -34,9 +34,9 @@ fn main(rt: HostRuntime) -> anyhow::Result<()> {
     let burst = [Datagram { peer: PEER, bytes }];
     let answers = gateway.run(&rt, rt.alloc(), 1, burst.as_slice(), &OpenGate)?;
     let mut out = rt.stdout();
-    for answer in answers.as_slice() {
+    for answer in answers.into_vec() {
         writeln!(out, "to peer {}:", answer.peer)?;
-        out.write_all(answer.bytes.as_slice())?;
+        out.write_all(answer.into_bytes(rt.alloc())?.as_slice())?;
         out.write_all(b"\n")?;
     }
     out.write_all(gateway.audit_tables(rt.alloc())?.as_slice())?;

@@ -19,5 +19,4 @@ loop-place-preserved g c =
       closed = c.in_ok-carry_place.ensures.closed;
       asked = c.carry_place.ensures.asked ∙ so_far.asked;
       len = c.carry_place.ensures.len ∙ so_far.len;
-      empty = c.carry_place.ensures.empty;
     }

@@ -1,4 +1,4 @@
-use Rattle.std.proofs.Common.{◌≡◌, [], map, take}
+use Rattle.std.proofs.Common.{◌≡◌, map, take}
 use Rattle.std.specs.Prelude.{vec_len}
 use Rattle.gw_table.specs.Maps.{Maps}
 use Rattle.gw_board.specs.Boards.{asked_of, AllClosed}
@@ -14,5 +14,4 @@ invariant-loop-place g l = record {
   closed : AllClosed (take l.place (map place_of l.seats.items));
   asked : asked_of (map place_of l.seats.items) ≡ asked_of (map place_of l.fn.seats.items);
   len : vec_len l.seats ≡ vec_len l.fn.seats;
-  empty : l.block ≡ [];
 }

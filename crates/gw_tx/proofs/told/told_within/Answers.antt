@@ -8,5 +8,5 @@ use Rattle.gw_tx.proofs.told.told_within.Goals as goal
 
 pub returns-in-Some-clause-told : goal.returns-in-Some-clause-told
 returns-in-Some-clause-told c = λ replies.
-    ap (λ (l : List ℕ). told_of (told_within l (later action_reply_text replies) (c.in-Some.left + 1))) c.requires
+    ap (λ (l : List ℕ). told_of (told_within l (later action_reply_text replies) (c.in-Some.left + 1))) c.clear.ensures
     ∙ framed c.args.id replies c.in-Some.left c.args.limit c.in-Some.ensures
