@@ -28,9 +28,13 @@ use std::alloc::{AllocError, Global};
 /// comparisons cost less than most merges.
 const MOST_LEARNT: usize = 4;
 
-/// Of how many records one behind the other it may be learnt in vain what the descriptors make of them. One that is unlike its neighbours
-/// takes a command that made it so; where many are, each is merged by itself.
-const MOST_TRIED: usize = 16;
+/// What it costs to learn what the descriptors make of a record, in records of which it is then known: where there are fewer of these, it
+/// is cheaper to merge each by itself.
+const COST: usize = 64;
+
+/// What there is for that at first, and at most: as many records are learnt in vain as are kept. Each that is known then gives one back. One
+/// that is unlike its neighbours takes a command that made it so; where many are, each is merged by itself.
+const CREDIT: usize = MOST_LEARNT * COST;
 
 /// What the descriptors make of what was set of a termination, in a block that copies share. Where a list would hold too many
 /// properties, memory is wanting.
@@ -122,8 +126,7 @@ pub struct Sending<'a, 'b> {
     ghost made_once: { IsMadeBy rules.now descriptors.now made },
     pub(crate) learnt: Vec<Learnt>,
     ghost made_again: { All (IsLearnt rules.now descriptors.now) learnt.items },
-    tries: usize,
-    tries_alike: usize,
+    credit: usize,
 }
 
 impl<'a, 'b> Sending<'a, 'b> {
@@ -155,8 +158,7 @@ impl<'a, 'b> Sending<'a, 'b> {
             is_plain: are_plain(descriptors),
             made,
             learnt: Vec::new(alloc),
-            tries: MOST_TRIED,
-            tries_alike: MOST_TRIED,
+            credit: CREDIT,
         })
     }
 
@@ -194,15 +196,13 @@ impl<'a, 'b> Sending<'a, 'b> {
         None
     }
 
-    /// It was not in vain that this was learnt: more may be.
+    /// What was learnt is known of one record more.
     #[inline]
-    fn note_found(&mut self, is_whole: bool)
+    fn note_found(&mut self)
         ensures { SendsTheSame self.old self.new }
     {
-        if is_whole {
-            self.tries_alike = MOST_TRIED;
-        } else {
-            self.tries = MOST_TRIED;
+        if self.credit < CREDIT {
+            self.credit += 1;
         }
     }
 
@@ -385,7 +385,7 @@ impl<'a, 'b> Sending<'a, 'b> {
         Ok(Some(copy))
     }
 
-    /// Learns what they make of these settings, as one that is not in vain may.
+    /// Learns what they make of these settings, for which there is credit.
     #[inline(never)]
     fn learn_printed(
         &mut self,
@@ -395,19 +395,19 @@ impl<'a, 'b> Sending<'a, 'b> {
         ensures same { SendsTheSame self.old self.new }
         ensures after { IfOk result (λ learnt. IfSome learnt (IsMadeOf self.old.rules.now self.old.descriptors.now settings.now)) }
     {
-        self.tries = self.tries.saturating_sub(1);
+        self.credit = self.credit.saturating_sub(COST);
         self.learn_anew(alloc, settings, false)
     }
 
-    /// Learns what they make of these settings, which is not known, if others share these, they take the descriptors, and fewer records were
-    /// learnt in vain than may be. Answers that, if it was learnt. Where no more is kept, what was learnt before is let go. The work is that of
+    /// Learns what they make of these settings, which is not known, if others share these, they take the descriptors, and there is credit for
+    /// it. Answers that, if it was learnt. Where no more is kept, what was learnt before is let go. The work is that of
     /// merging them into one record, or a comparison of names where nothing is left of them.
     #[inline]
     fn learn(&mut self, alloc: Global, settings: &Settings) -> Result<Option<Settings>, NoMemory>
         ensures same { SendsTheSame self.old self.new }
         ensures after { IfOk result (λ learnt. IfSome learnt (IsMadeOf self.old.rules.now self.old.descriptors.now settings.now)) }
     {
-        if self.tries == 0 || !settings.are_printed() {
+        if self.credit < COST || !settings.are_printed() {
             return Ok(None);
         }
         self.learn_printed(alloc, settings)
@@ -448,7 +448,7 @@ impl<'a, 'b> Sending<'a, 'b> {
     }
 
     /// Learns what they make of these settings, of which it is not known, if no value of their properties is left then, so that it is known of
-    /// all that are alike, and of fewer records it was learnt in vain than may be.
+    /// all that are alike, and there is credit for it.
     #[inline(never)]
     fn learn_alike(
         &mut self,
@@ -458,10 +458,10 @@ impl<'a, 'b> Sending<'a, 'b> {
         ensures same { SendsTheSame self.old self.new }
         ensures after { IfOk result (λ learnt. IfSome learnt (IsMadeOf self.old.rules.now self.old.descriptors.now settings.now)) }
     {
-        if self.tries_alike == 0 {
+        if self.credit < COST {
             return Ok(None);
         }
-        self.tries_alike -= 1;
+        self.credit -= COST;
         if !self.are_whole(settings) {
             return Ok(None);
         }
@@ -511,9 +511,8 @@ impl<'a, 'b> Sending<'a, 'b> {
             return Ok(Some(made));
         }
         if let Some(learnt) = self.find(settings) {
-            let is_whole = learnt.is_whole;
             let after = learnt.after.copied(alloc)?;
-            self.note_found(is_whole);
+            self.note_found();
             return Ok(Some(after));
         }
         if let Some(after) = self.learn(alloc, settings)? {
@@ -575,9 +574,8 @@ impl<'a, 'b> Sending<'a, 'b> {
         if !self.fills_none(termination.slot) {
             return Ok(termination.has_space(self.descriptors));
         }
-        if let Some(learnt) = self.find(&termination.settings) {
-            let is_whole = learnt.is_whole;
-            self.note_found(is_whole);
+        if self.find(&termination.settings).is_some() {
+            self.note_found();
             return Ok(true);
         }
         if self.learn(alloc, &termination.settings)?.is_some() {

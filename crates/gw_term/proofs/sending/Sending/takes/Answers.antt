@@ -2,7 +2,7 @@ use Rattle.std.proofs.Common.{◌≡◌, List, true, sym, ap, ◌∙◌, subst}
 use Rattle.std.specs.Prelude.{is_some}
 use Rattle.gw_base.specs.declared.command_words.Rules.{Rules}
 use Rattle.gw_desc.specs.declared.descriptor.Descriptor.{Descriptor}
-use Rattle.gw_term.specs.Plain.{fill_none, IsMadeOf}
+use Rattle.gw_term.specs.Plain.{fill_none}
 use Rattle.gw_term.specs.Room.{Takes}
 use Rattle.gw_term.proofs.AlignedTaken.{aligned_takes}
 use Rattle.gw_term.proofs.MadeOnce.{of_some, made_takes}
@@ -14,14 +14,14 @@ returns-then-not-fills_none-clause-takes c = λ h.
     let a = c.args in
     space_takes a.self.now.rules.now a.self.now.descriptors.now a.termination.now (c.has_space.ensures h)
 
-pub returns-in-Some-clause-takes : goal.returns-in-Some-clause-takes
-returns-in-Some-clause-takes c = λ _.
-    let a = c.args in
-    let made : IsMadeOf a.self.now.rules.now a.self.now.descriptors.now a.termination.now.settings c.in-Some.learnt.now.after = c.in-Some.ensures in
-    made_takes a.self.now.rules.now a.self.now.descriptors.now a.termination.now c.in-Some.learnt.now.after (sym c.fills_none.ensures ∙ c.if-not-fills_none.false) made
-
 pub returns-then-is_some-clause-takes : goal.returns-then-is_some-clause-takes
 returns-then-is_some-clause-takes c = λ _.
+    let a = c.args in
+    let found : is_some c.find.result ≡ true = cc in
+    of_some _ c.find.result found c.find.ensures (λ learnt made. made_takes a.self.now.rules.now a.self.now.descriptors.now a.termination.now learnt.now.after (sym c.fills_none.ensures ∙ c.if-not-fills_none.false) made)
+
+pub returns-then-is_some-2-clause-takes : goal.returns-then-is_some-2-clause-takes
+returns-then-is_some-2-clause-takes c = λ _.
     let a = c.args in
     let learnt : is_some c.in_ok-learn.field-0 ≡ true = cc in
     of_some _ c.in_ok-learn.field-0 learnt c.in_ok-learn.ensures.after (λ after made. made_takes a.self.now.rules.now a.self.now.descriptors.now a.termination.now after (sym c.fills_none.ensures ∙ c.if-not-fills_none.false) made)
