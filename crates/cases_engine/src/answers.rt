@@ -1,36 +1,36 @@
 //! Answers, as cases tell them.
 
 use cases_text::Page;
-use gw_base::{Items, NoMemory};
+use gw_base::Items;
 use gw_engine::Datagram;
 
 /// The peer that datagrams come from which are a burst of their own.
 pub const PEER: u32 = 7;
 
 /// A line for an answer, if there is one. Its bytes are taken out, as who keeps them does.
-pub fn write_answer(answer: Option<Datagram>, out: &mut Page) -> Result<(), NoMemory> {
+pub fn write_answer(answer: Option<Datagram>, out: &mut Page) {
     let Some(answer) = answer else {
         out.put(b"no answer");
-        return Ok(());
+        return;
     };
     if answer.peer != PEER {
         out.put(b"to ");
         out.number(u64::from(answer.peer));
         out.put(b": ");
     }
-    let bytes = answer.into_bytes(out.alloc())?;
-    out.message(bytes.as_slice());
+    match answer.into_bytes(out.alloc()) {
+        Ok(bytes) => out.message(bytes.as_slice()),
+        Err(_) => out.lose(),
+    }
     out.put(b"\n");
-    Ok(())
 }
 
 /// A line for each answer.
-pub fn write_answers(answers: Items<Datagram>, out: &mut Page) -> Result<(), NoMemory> {
+pub fn write_answers(answers: Items<Datagram>, out: &mut Page) {
     if answers.is_empty() {
-        return write_answer(None, out);
+        write_answer(None, out);
     }
     for answer in answers.into_vec() {
-        write_answer(Some(answer), out)?;
+        write_answer(Some(answer), out);
     }
-    Ok(())
 }

@@ -104,10 +104,10 @@ impl Common {
 }
 
 /// How many answers there are, and the last one.
-fn write_last(answers: Items<Datagram>, out: &mut Page) -> Result<(), NoMemory> {
+fn write_last(answers: Items<Datagram>, out: &mut Page) {
     out.number(answers.len() as u64);
     out.put(b" answers, the last:\n");
-    write_answer(answers.into_vec().pop(), out)
+    write_answer(answers.into_vec().pop(), out);
 }
 
 impl Crews {
@@ -246,7 +246,8 @@ fn write_meeting<R: Threads + Clock + Sync>(
     } else {
         b"given up\n"
     });
-    write_answers(answers, out)
+    write_answers(answers, out);
+    Ok(())
 }
 
 /// What is told of a burst that one gateway carries out: in how many waves, where that is asked, on a page of its own.
@@ -263,18 +264,19 @@ fn write_told<R: Threads + Clock + Sync>(
             let waves = Waves::new(out.alloc())?;
             let answers = answers_of(rt, out.alloc(), crew, burst, &waves)?;
             waves.write(counts);
-            write_answers(answers, out)
+            write_answers(answers, out);
         }
         Told::Each => {
             let answers = answers_of(rt, out.alloc(), crew, burst, &OpenGate)?;
-            write_answers(answers, out)
+            write_answers(answers, out);
         }
         Told::Last => {
             let answers = answers_of(rt, out.alloc(), crew, burst, &OpenGate)?;
-            write_last(answers, out)
+            write_last(answers, out);
         }
-        Told::Meeting(place) => write_meeting(rt, crew, burst, place, out),
+        Told::Meeting(place) => write_meeting(rt, crew, burst, place, out)?,
     }
+    Ok(())
 }
 
 /// Sends a burst to each gateway, and writes what is told of it. Where one refuses it for memory, that is written in its place, and

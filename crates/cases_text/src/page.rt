@@ -79,6 +79,11 @@ impl Page {
         Ok(self.text.as_slice())
     }
 
+    /// A part is missing, since memory for it was refused before it was written.
+    pub fn lose(&mut self) {
+        self.is_short = true;
+    }
+
     /// Takes all off the page.
     pub fn clear(&mut self) {
         self.text.clear();
