@@ -283,9 +283,10 @@ def wildcards():
     yield wild("2,000 terminations with 32 properties in each of five lists, each with one of its own in each, one `Modify=*` of 30 others in each", mixed, within, 1,
                2_000, b"Error=533", 2_000)
     # Of more orders than are learnt at a time, mostly by twos.
-    orders = [[b"a%d=1" % ((n + 5 * turn) % 32) for n in range(32)] for turn in range(6)]
-    turns = made([b",".join(b"C=-{MF=T/%d{M{O{%s}}}}" % (n, b",".join(orders[n // 2 % 6])) for n in range(first, first + 50)) for first in range(1, 4_001, 50)])
-    yield wild("4,000 terminations with 32 properties, two of each of six orders in turn, one `Modify=*` of 32", turns, many, 1, 4_000, b"Error=533")
+    for count, told in ((5, "five"), (6, "six")):
+        orders = [[b"a%d=1" % ((n + 5 * turn) % 32) for n in range(32)] for turn in range(count)]
+        turns = made([b",".join(b"C=-{MF=T/%d{M{O{%s}}}}" % (n, b",".join(orders[n // 2 % count])) for n in range(first, first + 50)) for first in range(1, 4_001, 50)])
+        yield wild(f"4,000 terminations with 32 properties, two of each of {told} orders in turn, one `Modify=*` of 32", turns, many, 1, 4_000, b"Error=533")
     ends = [b"a%02d%s=1" % (n, b"z" * 40) for n in range(32)]
     alike = made([b"C=-{MF=*%s}" % listed(b"{M{O{", ends[::-1], b"}}}")] + [b"C=-{MF=T/%d{M{O{%s=%d}}}}" % (n, ends[0][:-2], n + 1) for n in range(1, 2_001)])
     yield wild("2,000 terminations with 32 properties whose names have the same 40 last letters, each with one of its own, one `Modify=*` of 32 in another order",
