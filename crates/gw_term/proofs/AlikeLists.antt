@@ -4,7 +4,6 @@ use Rattle.std.specs.Prelude.{nat_lt}
 use Rattle.std.specs.List.{list_any}
 use Rattle.std.proofs.lemmas.List.Folds.{list_any-append}
 use Rattle.gw_desc.specs.Twice.{folded}
-use Rattle.gw_term.specs.Alike.{IsWhole}
 use Rattle.gw_term.specs.Lookups.{is_of_name, lower_names, new_names}
 use Rattle.gw_term.specs.Merge.{and_then, each, most_properties, put_property}
 use Rattle.gw_term.proofs.PropertyLists.{P, same_name, named_same, same_test, same_any, names_with, is_known, length_lower, neither, put_at, put_new, after_puts}
@@ -68,7 +67,7 @@ record IsNewToBoth (p : P) (sent xs ys : List P) : Type 0 where
   none : list_any (is_of_name p.name) ys ≡ false
   agree : Agree sent xs ys
 
-any_by_names : (name : List ℕ) (xs ys : List P) → lower_names xs ≡ lower_names ys → list_any (is_of_name name) xs ≡ list_any (is_of_name name) ys
+pub any_by_names : (name : List ℕ) (xs ys : List P) → lower_names xs ≡ lower_names ys → list_any (is_of_name name) xs ≡ list_any (is_of_name name) ys
 any_by_names name xs ys h = sym (is_known name xs) ∙ ap (list_any (λ other. bytes_eq other (folded name))) h ∙ is_known name ys
 
 both_here : (p x y : P) (sent xs ys : List P) → Agree (p ∷ sent) (x ∷ xs) (y ∷ ys) → is_of_name p.name y ≡ true → AreBoth p sent (x ∷ xs) (y ∷ ys)
@@ -155,7 +154,7 @@ agreed (x ∷ xs) (y ∷ ys) h = by h.2 (agreed xs ys h.3)
     by (inl e) rest = (λ i. e i ∷ rest i)
     by (inr e) rest = absurd cc
 
-abbrev then_put : List P → Option (List P) → Option (List P)
+abbrev pub then_put : List P → Option (List P) → Option (List P)
 then_put ps o = and_then o (each put_property ps)
 
 pub puts_agree : (sent xs ys : List P) → Agree sent xs ys → each put_property sent xs ≡ each put_property sent ys
@@ -177,9 +176,9 @@ puts_agree (p ∷ ps) xs ys h = by (both p ps xs ys h) (puts_agree ps)
         ∙ full later (agree_last p ps xs ys k.none k.agree) (nat_lt (length ys) most_properties)
         ∙ sym (ap (then_put ps) (put_new p ys k.none))
 
--- ---- a list of which no property is left
+-- ---- what was sent is what was made
 
-sent_known : (y : P) (list : List P) → is_sent y list ≡ list_any (bytes_eq (folded y.name)) (lower_names list)
+pub sent_known : (y : P) (list : List P) → is_sent y list ≡ list_any (bytes_eq (folded y.name)) (lower_names list)
 sent_known y [] = refl
 sent_known y (q ∷ qs) = ap (λ (t : Bool). is_of_name q.name y || t) (sent_known y qs)
 
@@ -202,17 +201,8 @@ any_new test known (n ∷ ns) h = by (list_any (λ other. bytes_eq other n) know
     by false k one two = or_later (test n) (list_any test (new_names (known ++ n ∷ []) ns)) (list_any test ns) two k
 
 -- what is among those that were made was sent
-made_sent : (y : P) (sent made : List P) → each put_property sent [] ≡ Some made → is_sent y made ≡ true → is_sent y sent ≡ true
+pub made_sent : (y : P) (sent made : List P) → each put_property sent [] ≡ Some made → is_sent y made ≡ true → is_sent y sent ≡ true
 made_sent y sent made h k =
     let test : List ℕ → Bool = bytes_eq (folded y.name) in
     let new : list_any test (new_names [] (lower_names sent)) ≡ true = ap (list_any test) (sym (after_puts sent [] made h).names) ∙ sym (sent_known y made) ∙ k in
     sent_known y sent ∙ any_new test [] (lower_names sent) new
-
-pub whole_agree : (sent made xs ys : List P) → each put_property sent [] ≡ Some made → lower_names xs ≡ lower_names ys → IsWhole made ys → Agree sent xs ys
-whole_agree sent made [] [] h names w = tt
-whole_agree sent made [] (y ∷ ys) h names w = absurd cc
-whole_agree sent made (x ∷ xs) [] h names w = absurd cc
-whole_agree sent made (x ∷ xs) (y ∷ ys) h names w =
-    let one : folded x.name ≡ folded y.name = cc in
-    let more : lower_names xs ≡ lower_names ys = cc in
-    (one, w.0, inr (made_sent y sent made h w.1), whole_agree sent made xs ys h more w.2)

@@ -2,6 +2,8 @@ pub mod Made
 pub mod Merges
 pub mod ByField
 pub mod FewProperties
+pub mod GraftLists
+pub mod GraftSettings
 pub mod PropertyLists
 pub mod StreamsFound
 pub mod TooLong

@@ -35,13 +35,13 @@ same_any a b list h = ap (λ (x : List ℕ). list_any (λ (q : P). bytes_eq (fol
 -- ---- where a name stands
 
 pub record Stands (p : P) (list : List P) : Type 0 where
-  front : List P
-  was : P
-  back : List P
-  split : list ≡ front ++ was ∷ back
-  new : slice_set list (property_place p.name list) p ≡ front ++ p ∷ back
-  same : is_of_name p.name was ≡ true
-  first : list_any (is_of_name p.name) front ≡ false
+  pub front : List P
+  pub was : P
+  pub back : List P
+  pub split : list ≡ front ++ was ∷ back
+  pub new : slice_set list (property_place p.name list) p ≡ front ++ p ∷ back
+  pub same : is_of_name p.name was ≡ true
+  pub first : list_any (is_of_name p.name) front ≡ false
 
 stands_here : (p q : P) (qs : List P) → is_of_name p.name q ≡ true → Stands p (q ∷ qs)
 stands_here p q qs e = record { front = []; was = q; back = qs; split = refl; new = rw e refl; same = e; first = refl }
@@ -59,8 +59,8 @@ stands_later p q qs other s = record {
 
 -- it stands nowhere
 pub record StandsNot (p : P) (list : List P) : Type 0 where
-  none : list_any (is_of_name p.name) list ≡ false
-  place : property_place p.name list ≡ length list
+  pub none : list_any (is_of_name p.name) list ≡ false
+  pub place : property_place p.name list ≡ length list
 
 stands_not : (p q : P) (qs : List P) → is_of_name p.name q ≡ false → StandsNot p qs → StandsNot p (q ∷ qs)
 stands_not p q qs other s = record { none = let rest = s.none in rw (other, rest) refl; place = rw (other, one-add) (ap suc s.place) }

@@ -1,17 +1,20 @@
 -- What was learnt of a record that descriptors are merged into (own).
-use Rattle.std.specs.Prelude.{◌≡◌, ◌⊎◌, true, List}
+use Rattle.std.specs.Prelude.{List}
 use Rattle.gw_base.specs.declared.command_words.Rules.{Rules}
 use Rattle.gw_desc.specs.declared.descriptor.Descriptor.{Descriptor}
-use Rattle.gw_term.specs.Alike.{AreAlike}
+use Rattle.gw_term.specs.Grafts.{Tells, after_in}
 use Rattle.gw_term.specs.Plain.{IsMadeOf}
 use Rattle.gw_term.specs.Settings.{Settings}
 use Rattle.gw_term.specs.declared.sending.Learnt.{Learnt}
 
--- they make that of what was set of it; and of all that is alike, where that is said
-pub record IsLearnt (rules : Rules) (descriptors : List Descriptor) (l : Learnt) : Type 0 where
-  pub made : IsMadeOf rules descriptors l.before l.after
-  pub alike : l.is_whole ≡ true → (s : Settings) → AreAlike s l.before → IsMadeOf rules descriptors s l.after
-
--- it is known of these: they are what it was learnt of, or alike where that is enough
+-- it is known of these
 abbrev pub IsToldBy : Learnt → Settings → Type 0
-IsToldBy l s = ((l.is_whole ≡ true) × AreAlike s l.before) ⊎ (s ≡ l.before)
+IsToldBy l s = Tells l.reach l.before s
+
+-- what is known of them then
+abbrev pub told_after : Learnt → Settings → Settings
+told_after l s = after_in l.reach s l.after
+
+-- they make that of all of which it is known
+pub record IsLearnt (rules : Rules) (descriptors : List Descriptor) (l : Learnt) : Type 0 where
+  pub told : (s : Settings) → IsToldBy l s → IsMadeOf rules descriptors s (told_after l s)

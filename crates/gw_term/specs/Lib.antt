@@ -2,6 +2,7 @@ pub mod Places
 pub mod Numbers
 pub mod Prints
 pub mod Settings
+pub mod Grafts
 pub mod HeldTexts
 pub mod Record
 pub mod Merge

@@ -1,46 +1,16 @@
-//! Whether settings are the same but for the values of properties, and whether all of these are sent anew.
+//! Whether settings are the same but for the values of properties.
 
 ghost use Rattle.std.specs.Prelude.{◌≡◌, true, IfSome};
-ghost use Rattle.std.specs.List.{All, list_any};
-ghost use Rattle.gw_term.specs.Alike.{IsWhole, IsAlike, AlikeAt, AreAlike};
-ghost use Rattle.gw_term.specs.Lookups.{is_of_name};
+ghost use Rattle.gw_term.specs.Alike.{IsAlike, AlikeAt, AreAlike};
 ghost use Rattle.gw_term.specs.Settings.{set_by, settings_in};
 
-use crate::held::HeldProperty;
 use crate::record::Stream;
-use crate::room::has_name;
 use crate::same::{are_same_names, is_aligned};
 use crate::settings::{Form, Setting, Settings};
 use gw_desc::same_kept;
 
 /// How many properties a list has at least of which it may be learnt what becomes of those that are alike. Shorter ones are merged as fast.
 const MANY: usize = 8;
-
-/// Whether one of these is of the name of the property, in any case.
-fn is_among(own: &HeldProperty, made: &[HeldProperty]) -> bool
-    ensures { result ≡ list_any (λ m. is_of_name m.name own.now) made.now }
-{
-    for other in made {
-        if own.has_same_name(other) {
-            return true;
-        }
-    }
-    false
-}
-
-/// Whether each name of the list stands there once, and among those that were made. The work is a look at both lists for each property.
-pub(crate) fn is_whole(list: &[HeldProperty], made: &[HeldProperty]) -> bool
-    ensures { result ≡ true → IsWhole made.now list.now }
-{
-    let mut left = list;
-    while let Some((own, behind)) = left.split_first() {
-        if !is_among(own, made) || has_name(behind, own.tag(), own.name()) {
-            return false;
-        }
-        left = behind;
-    }
-    true
-}
 
 /// Whether the streams are the same but for the values of their properties. The names are compared last.
 fn is_alike(stream: &Stream, other: &Stream) -> bool

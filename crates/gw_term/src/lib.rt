@@ -7,6 +7,7 @@ mod audit;
 mod copies;
 mod counted;
 mod fault;
+mod grafts;
 mod held;
 mod laws;
 mod named;

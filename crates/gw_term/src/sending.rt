@@ -1,9 +1,11 @@
 //! Descriptors that are merged into many records, with what is found and made once for all of them.
 
-ghost use Rattle.std.specs.Prelude.{◌≡◌, ◌⊎◌, [], true, IfOk, IfSome};
+ghost use Rattle.std.specs.Prelude.{◌≡◌, List, true, IfOk, IfSome};
 ghost use Rattle.std.specs.List.{All, list_any};
-ghost use Rattle.gw_term.specs.Alike.{AreWhole, IsWholeAt};
-ghost use Rattle.gw_term.specs.Learnt.{IsLearnt, IsToldBy};
+ghost use Rattle.gw_base.specs.declared.command_words.Rules.{Rules as RulesOf};
+ghost use Rattle.gw_desc.specs.declared.descriptor.Descriptor.{Descriptor as DescriptorOf};
+ghost use Rattle.gw_term.specs.Grafts.{Reaches};
+ghost use Rattle.gw_term.specs.Learnt.{IsLearnt, IsToldBy, told_after};
 ghost use Rattle.gw_term.specs.Aligned.{IsAlignedIn, IsRemadeAt, IsRemadeIn, IsStreamIn, TakesAt};
 ghost use Rattle.gw_term.specs.Merge.{merged_service};
 ghost use Rattle.gw_term.specs.Named.{has_states, named_by};
@@ -12,7 +14,8 @@ ghost use Rattle.gw_term.specs.Room.{Takes};
 ghost use Rattle.gw_term.specs.Settings.{Settings as SettingsOf};
 ghost use Rattle.gw_term.specs.ServicesAfter.{AreServicesAfter};
 
-use crate::alike::{are_alike, have_many, is_whole};
+use crate::alike::{are_alike, have_many};
+use crate::grafts::{Reach, kept_of};
 use crate::named::Named;
 use crate::plain::are_plain;
 use crate::properties::merged_service;
@@ -24,17 +27,17 @@ use gw_base::{NoMemory, Rules, Service};
 use gw_desc::Descriptor;
 use std::alloc::{AllocError, Global};
 
-/// Of how many records at most is kept what the descriptors make of them. A record that is met is compared with each of these, and four
-/// comparisons cost less than most merges.
-const MOST_LEARNT: usize = 4;
+/// Of how many records at most is kept what the descriptors make of them. A record that is met is compared with each of these, which mostly
+/// ends at the first bytes of a print.
+const MOST_LEARNT: usize = 16;
 
 /// What it costs to learn what the descriptors make of a record, in records of which it is then known: where there are fewer of these, it
 /// is cheaper to merge each by itself.
 const COST: usize = 64;
 
-/// What there is for that at first, and at most: as many records are learnt in vain as are kept. Each that is known then gives one back. One
-/// that is unlike its neighbours takes a command that made it so; where many are, each is merged by itself.
-const CREDIT: usize = MOST_LEARNT * COST;
+/// What there is for that at first, and at most: so many records are learnt in vain. Each that is known then gives one back. One that is
+/// unlike its neighbours takes a command that made it so; where many are, each is merged by itself.
+const CREDIT: usize = 4 * COST;
 
 /// What the descriptors make of what was set of a termination, in a block that copies share. Where a list would hold too many
 /// properties, memory is wanting.
@@ -80,30 +83,39 @@ fn services_after(is_named: bool, descriptors: &[Descriptor<'_>]) -> ServicesAft
 pub(crate) struct Learnt {
     pub(crate) before: Settings,
     pub(crate) after: Settings,
-    /// Whether no value of its properties is left: then they make the same of what is alike.
-    pub(crate) is_whole: bool,
+    pub(crate) reach: Reach,
 }
 
 impl Learnt {
-    /// Whether it is known of these settings: they are those that it was learnt of, or alike where that is enough.
+    /// Whether it is known of these settings.
     #[inline]
     fn tells(&self, settings: &Settings) -> bool
         ensures { result ≡ true → IsToldBy self.now settings.now }
     {
-        if self.is_whole {
-            are_alike(settings, &self.before)
-        } else {
-            settings.is_same(&self.before)
+        match &self.reach {
+            Reach::These => settings.is_same(&self.before),
+            Reach::Alike | Reach::Kept(_) => are_alike(settings, &self.before),
+        }
+    }
+
+    /// What is known of these settings then, in a block that others share, or with what is kept of these.
+    #[inline]
+    fn after_of(&self, alloc: Global, settings: &Settings) -> Result<Settings, AllocError>
+        ensures { IfOk result (λ after. after ≡ told_after self.now settings.now) }
+    {
+        match &self.reach {
+            Reach::These | Reach::Alike => self.after.copied(alloc),
+            Reach::Kept(keeps) => settings.grafted(alloc, keeps, &self.after),
         }
     }
 }
 
-/// Where no more is kept, what was learnt is let go.
+/// Where no more is kept, what was learnt first is let go.
 fn make_room(learnt: &mut Vec<Learnt>)
-    ensures { (learnt.new.items ≡ []) ⊎ (learnt.new.items ≡ learnt.old.items) }
+    ensures { (rules : RulesOf) (descriptors : List DescriptorOf) → All (IsLearnt rules descriptors) learnt.old.items → All (IsLearnt rules descriptors) learnt.new.items }
 {
     if learnt.len() == MOST_LEARNT {
-        learnt.clear();
+        learnt.remove(0);
     }
 }
 
@@ -186,7 +198,7 @@ impl<'a, 'b> Sending<'a, 'b> {
     /// The work is a comparison with each of the few of which it was.
     #[tactic(auto, using(crate::proofs::LearntLists::told_made))]
     fn find(&self, settings: &Settings) -> Option<&Learnt>
-        ensures { IfSome result (λ learnt. IsMadeOf self.now.rules.now self.now.descriptors.now settings.now learnt.now.after) }
+        ensures { IfSome result (λ learnt. IsMadeOf self.now.rules.now self.now.descriptors.now settings.now (told_after learnt.now settings.now)) }
     {
         for learnt in &self.learnt {
             if learnt.tells(settings) {
@@ -299,7 +311,7 @@ impl<'a, 'b> Sending<'a, 'b> {
             return Ok(Some(made));
         }
         match self.find(settings) {
-            Some(learnt) => Ok(Some(learnt.after.copied(alloc)?)),
+            Some(learnt) => Ok(Some(learnt.after_of(alloc, settings)?)),
             None => Ok(None),
         }
     }
@@ -349,7 +361,7 @@ impl<'a, 'b> Sending<'a, 'b> {
         }
     }
 
-    /// What they make of settings is kept. Where no more is kept, what was kept before is let go.
+    /// What they make of settings is kept. Where no more is kept, what was kept first is let go.
     fn keep(&mut self, learnt: Learnt) -> Result<(), AllocError>
         requires { IsLearnt self.old.rules.now self.old.descriptors.now learnt }
         ensures { SendsTheSame self.old self.new }
@@ -359,16 +371,16 @@ impl<'a, 'b> Sending<'a, 'b> {
         Ok(())
     }
 
-    /// Learns what they make of these settings, which is not known, if they take the descriptors. Answers that, if it was learnt. It may be
-    /// known that no value of their properties is left then. The work is that of merging them into one record, or a comparison of names where
-    /// nothing is left of them.
+    /// Learns what they make of these settings, which is not known, if they take the descriptors. Answers that, if it was learnt. The caller
+    /// knows of which others it is known then. The work is that of merging them into one record, or a comparison of names where nothing is
+    /// left of them.
     fn learn_anew(
         &mut self,
         alloc: Global,
         settings: &Settings,
-        is_whole: bool,
+        reach: Reach,
     ) -> Result<Option<Settings>, NoMemory>
-        requires { is_whole ≡ true → AreWhole self.old.made settings.now }
+        requires { Reaches self.old.rules.now self.old.descriptors.now settings.now reach }
         ensures same { SendsTheSame self.old self.new }
         ensures after { IfOk result (λ learnt. IfSome learnt (IsMadeOf self.old.rules.now self.old.descriptors.now settings.now)) }
     {
@@ -380,7 +392,7 @@ impl<'a, 'b> Sending<'a, 'b> {
         self.keep(Learnt {
             before,
             after,
-            is_whole,
+            reach,
         })?;
         Ok(Some(copy))
     }
@@ -396,7 +408,7 @@ impl<'a, 'b> Sending<'a, 'b> {
         ensures after { IfOk result (λ learnt. IfSome learnt (IsMadeOf self.old.rules.now self.old.descriptors.now settings.now)) }
     {
         self.credit = self.credit.saturating_sub(COST);
-        self.learn_anew(alloc, settings, false)
+        self.learn_anew(alloc, settings, Reach::These)
     }
 
     /// Learns what they make of these settings, which is not known, if others share these, they take the descriptors, and there is credit for
@@ -413,42 +425,23 @@ impl<'a, 'b> Sending<'a, 'b> {
         self.learn_printed(alloc, settings)
     }
 
-    /// Whether no value of the properties of a setting is left after the descriptors, wherever it stands: each name stands there once, and
-    /// among those that they make.
-    fn is_whole_at(&self, setting: &Setting) -> bool
-        ensures { result ≡ true → IsWholeAt self.now.made setting.now }
+    /// What it tells of others what they make of these settings, if in each list of these each name stands once, and at most half of it stays.
+    fn reach_of(&self, alloc: Global, settings: &Settings) -> Result<Option<Reach>, AllocError>
+        ensures { IfOk result (λ reach. IfSome reach (Reaches self.now.rules.now self.now.descriptors.now settings.now)) }
     {
-        match setting {
-            Setting::Properties(list) => is_whole(list.as_slice(), self.made.properties()),
-            Setting::Stream(number, stream) => match self.made_stream(*number) {
-                Some(made) => is_whole(stream.properties.as_slice(), made.properties.as_slice()),
-                None => false,
-            },
-            Setting::Tail(_, _) => true,
+        let Some(keeps) = kept_of(alloc, &self.made, settings)? else {
+            return Ok(None);
+        };
+        if keeps.are_none() {
+            return Ok(Some(Reach::Alike));
         }
-    }
-
-    /// The same of each of these.
-    fn is_whole_each(&self, settings: &[Setting]) -> bool
-        ensures { result ≡ true → All (IsWholeAt self.now.made) settings.now }
-    {
-        for setting in settings {
-            if !self.is_whole_at(setting) {
-                return false;
-            }
+        if !keeps.are_few() {
+            return Ok(None);
         }
-        true
+        Ok(Some(Reach::Kept(keeps)))
     }
 
-    /// Whether no value of the properties of the settings is left after the descriptors.
-    fn are_whole(&self, settings: &Settings) -> bool
-        ensures { result ≡ true → AreWhole self.now.made settings.now }
-    {
-        self.is_whole_each(settings.list())
-    }
-
-    /// Learns what they make of these settings, of which it is not known, if no value of their properties is left then, so that it is known of
-    /// all that are alike, and there is credit for it.
+    /// Learns what they make of these settings, of which it is not known, so that it is known of all that are alike, if there is credit for it.
     #[inline(never)]
     fn learn_alike(
         &mut self,
@@ -462,10 +455,10 @@ impl<'a, 'b> Sending<'a, 'b> {
             return Ok(None);
         }
         self.credit -= COST;
-        if !self.are_whole(settings) {
-            return Ok(None);
+        match self.reach_of(alloc, settings)? {
+            Some(reach) => self.learn_anew(alloc, settings, reach),
+            None => Ok(None),
         }
-        self.learn_anew(alloc, settings, true)
     }
 
     /// What they make of these settings, of which it is not known, if it can be learnt of all that are alike, or nothing is left of them.
@@ -511,7 +504,7 @@ impl<'a, 'b> Sending<'a, 'b> {
             return Ok(Some(made));
         }
         if let Some(learnt) = self.find(settings) {
-            let after = learnt.after.copied(alloc)?;
+            let after = learnt.after_of(alloc, settings)?;
             self.note_found();
             return Ok(Some(after));
         }

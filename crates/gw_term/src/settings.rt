@@ -83,7 +83,11 @@ impl Model for Settings {
 
 /// A copy of a setting. Always inlined, as that of a stream.
 #[inline(always)]
-fn copied_setting(alloc: Global, setting: &Setting, copying: Copying) -> Result<Setting, AllocError>
+pub(crate) fn copied_setting(
+    alloc: Global,
+    setting: &Setting,
+    copying: Copying,
+) -> Result<Setting, AllocError>
     ensures { IfOk result (λ copy. copy ≡ setting.now) }
 {
     match setting {
@@ -253,6 +257,19 @@ impl Settings {
             }
         }
         Ok(())
+    }
+
+    /// These settings, in a block that copies share, without a print. That of their shape is shared with others, if it is the same.
+    pub(crate) fn shared(
+        alloc: Global,
+        list: Vec<Setting>,
+        others: &Settings,
+    ) -> Result<Settings, AllocError>
+        ensures { IfOk result (λ settings. settings ≡ set_by list.items) }
+    {
+        let block = SharedSettings::unprinted(alloc, list, others.shape())?;
+        let form = Form::Shared(Arc::new(alloc, block)?);
+        Ok(Settings { alloc, form })
     }
 
     /// A copy, with no room for more: of settings that are shared the same block, and of others a block as is told.

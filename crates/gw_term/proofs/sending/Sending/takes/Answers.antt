@@ -5,6 +5,7 @@ use Rattle.gw_desc.specs.declared.descriptor.Descriptor.{Descriptor}
 use Rattle.gw_term.specs.Plain.{fill_none}
 use Rattle.gw_term.specs.Room.{Takes}
 use Rattle.gw_term.proofs.AlignedTaken.{aligned_takes}
+use Rattle.gw_term.specs.Learnt.{told_after}
 use Rattle.gw_term.proofs.MadeOnce.{of_some, made_takes}
 use Rattle.gw_term.proofs.RoomTaken.{space_takes}
 use Rattle.gw_term.proofs.sending.Sending.takes.Goals as goal
@@ -18,7 +19,7 @@ pub returns-then-is_some-clause-takes : goal.returns-then-is_some-clause-takes
 returns-then-is_some-clause-takes c = λ _.
     let a = c.args in
     let found : is_some c.find.result ≡ true = cc in
-    of_some _ c.find.result found c.find.ensures (λ learnt made. made_takes a.self.now.rules.now a.self.now.descriptors.now a.termination.now learnt.now.after (sym c.fills_none.ensures ∙ c.if-not-fills_none.false) made)
+    of_some _ c.find.result found c.find.ensures (λ learnt made. made_takes a.self.now.rules.now a.self.now.descriptors.now a.termination.now (told_after learnt.now a.termination.now.settings) (sym c.fills_none.ensures ∙ c.if-not-fills_none.false) made)
 
 pub returns-then-is_some-2-clause-takes : goal.returns-then-is_some-2-clause-takes
 returns-then-is_some-2-clause-takes c = λ _.

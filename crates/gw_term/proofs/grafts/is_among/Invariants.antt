@@ -1,6 +1,6 @@
 use Rattle.std.proofs.Common.{◌≡◌, drop}
 use Rattle.gw_term.proofs.AlikeLists.{is_sent}
-use Rattle.gw_term.proofs.alike.is_among.Given as goal
+use Rattle.gw_term.proofs.grafts.is_among.Given as goal
 
 -- one is among all if it is among those that are left
 abbrev pub invariant-loop-other : goal.invariant-loop-other

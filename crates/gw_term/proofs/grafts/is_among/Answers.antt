@@ -2,7 +2,7 @@ use Rattle.std.proofs.Common.{◌≡◌, ◌∙◌, sym, refl, Bool, true, false
 use Rattle.gw_term.specs.Lookups.{is_of_name}
 use Rattle.gw_term.proofs.Merges.{any_next}
 use Rattle.gw_term.proofs.PropertyLists.{P}
-use Rattle.gw_term.proofs.alike.is_among.Goals as goal
+use Rattle.gw_term.proofs.grafts.is_among.Goals as goal
 
 pub returns-then-has_same_name : goal.returns-then-has_same_name
 returns-then-has_same_name c =
