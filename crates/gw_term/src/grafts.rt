@@ -49,15 +49,6 @@ impl Keeps {
             && is_none(self.fourth.as_slice())
     }
 
-    /// Whether in each list at most half is kept: then it is cheaper to copy what was made, with what is kept, than to merge.
-    pub(crate) fn are_few(&self) -> bool {
-        are_few(self.properties.as_slice())
-            && are_few(self.first.as_slice())
-            && are_few(self.second.as_slice())
-            && are_few(self.third.as_slice())
-            && are_few(self.fourth.as_slice())
-    }
-
     /// Those of the stream of this number.
     fn stream(&self, number: u8) -> &[bool]
         requires first { 1 ≤ number }
@@ -168,20 +159,6 @@ fn is_none(kept: &[bool]) -> bool
             return false;
         }
         left = behind;
-    }
-    true
-}
-
-/// Whether at most half of the places of a list are kept.
-fn are_few(kept: &[bool]) -> bool {
-    let mut room = kept.len() / 2;
-    for is_kept in kept {
-        if *is_kept {
-            let Some(left) = room.checked_sub(1) else {
-                return false;
-            };
-            room = left;
-        }
     }
     true
 }

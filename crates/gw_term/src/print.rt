@@ -1,6 +1,6 @@
 //! A print that is being written: bytes that are the same only for what is the same.
 
-ghost use Rattle.std.specs.Prelude.{◌≡◌, ◌++◌, ◌∷◌, [], if◌then◌else◌, Decides, OnOk, None, Some};
+ghost use Rattle.std.specs.Prelude.{◌≡◌, ◌++◌, ◌∷◌, [], if◌then◌else◌, Decides, IfOk, OnOk, None, Some};
 ghost use Rattle.gw_desc.specs.Twice.{folded};
 ghost use Rattle.gw_term.specs.Numbers.{flag_number, sign_number, mode_number, kind_number};
 ghost use Rattle.gw_term.specs.Prints.{number_print, text_print, option_print};
@@ -34,6 +34,20 @@ impl Print {
         Print {
             bytes: Vec::new(alloc),
         }
+    }
+
+    /// One of which nothing is written, with room for so many bytes.
+    pub(crate) fn with_capacity(alloc: Global, room: usize) -> Result<Print, AllocError>
+        ensures { IfOk result (λ print. print ≡ []) }
+    {
+        Ok(Print {
+            bytes: Vec::with_capacity(alloc, room)?,
+        })
+    }
+
+    /// How long it is, in bytes.
+    pub(crate) fn len(&self) -> usize {
+        self.bytes.len()
     }
 
     /// Whether it is the other print. The work is that of one comparison of bytes.

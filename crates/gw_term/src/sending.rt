@@ -425,7 +425,8 @@ impl<'a, 'b> Sending<'a, 'b> {
         self.learn_printed(alloc, settings)
     }
 
-    /// What it tells of others what they make of these settings, if in each list of these each name stands once, and at most half of it stays.
+    /// What it tells of others what they make of these settings, if in each list of these each name stands once. Where they send few properties
+    /// and something stays, each is as cheap to merge.
     fn reach_of(&self, alloc: Global, settings: &Settings) -> Result<Option<Reach>, AllocError>
         ensures { IfOk result (λ reach. IfSome reach (Reaches self.now.rules.now self.now.descriptors.now settings.now)) }
     {
@@ -435,7 +436,7 @@ impl<'a, 'b> Sending<'a, 'b> {
         if keeps.are_none() {
             return Ok(Some(Reach::Alike));
         }
-        if !keeps.are_few() {
+        if !have_many(self.made.list()) {
             return Ok(None);
         }
         Ok(Some(Reach::Kept(keeps)))

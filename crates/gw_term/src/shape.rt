@@ -58,12 +58,12 @@ fn push_shape(print: &mut Print, setting: &Setting) -> Result<(), AllocError>
     }
 }
 
-/// The print of the shape of settings.
+/// The print of the shape of settings. It may be known how long it will be.
 #[tactic(auto, unfolding(crate::specs::Prints::settings_shape))]
-fn shape_of(alloc: Global, list: &[Setting]) -> Result<Print, AllocError>
+fn shape_of(alloc: Global, list: &[Setting], room: usize) -> Result<Print, AllocError>
     ensures { IfOk result (λ shape. shape ≡ settings_shape list.now) }
 {
-    let mut print = Print::new(alloc);
+    let mut print = Print::with_capacity(alloc, room)?;
     print.push_number(list.len())?;
     for setting in list {
         push_shape(&mut print, setting)?;
@@ -93,7 +93,8 @@ fn shape_if_short(
     if list.iter().any(is_long) {
         return Ok(None);
     }
-    let shape = shape_of(alloc, list)?;
+    let room = known.map_or(0, |known| known.len());
+    let shape = shape_of(alloc, list, room)?;
     if let Some(known) = known {
         if shape.is(known) {
             return Ok(Some(known.clone()?));
