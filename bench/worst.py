@@ -16,6 +16,7 @@ have one of them in their name; `--where` tells the functions that take most of 
 import collections
 import functools
 import pathlib
+import random
 import re
 import subprocess
 import sys
@@ -287,6 +288,16 @@ def wildcards():
         orders = [[b"a%d=1" % ((n + 5 * turn) % 32) for n in range(32)] for turn in range(count)]
         turns = made([b",".join(b"C=-{MF=T/%d{M{O{%s}}}}" % (n, b",".join(orders[n // 2 % count])) for n in range(first, first + 50)) for first in range(1, 4_001, 50)])
         yield wild(f"4,000 terminations with 32 properties, two of each of {told} orders in turn, one `Modify=*` of 32", turns, many, 1, 4_000, b"Error=533")
+    mixed_up, shuffle = [], random.Random(5)
+    for _ in range(4_000):
+        own_order = [b"a%d=1" % n for n in range(32)]
+        shuffle.shuffle(own_order)
+        mixed_up.append(b",".join(own_order))
+    unordered = made([b",".join(b"C=-{MF=T/%d{M{O{%s}}}}" % (n, mixed_up[n - 1]) for n in range(first, first + 50)) for first in range(1, 4_001, 50)])
+    yield wild("4,000 terminations with 32 properties, each in an order of its own, one `Modify=*` of 32", unordered, many, 1, 4_000, b"Error=533")
+    others_there = made([b"C=-{MF=T/%d%s}" % (n, listed(b"{M{O{", [b"b%d=1" % k for k in range(16)], b"}}}")) for n in range(1, 4_001)])
+    sixteen = b"C=-{MF=*%s}" % listed(b"{M{O{", [b"a%d=1" % n for n in range(16)], b"}}}")
+    yield wild("4,000 terminations with 16 properties, one `Modify=*` of 16 others", others_there, sixteen, 1, 4_000, b"Error=533")
     ends = [b"a%02d%s=1" % (n, b"z" * 40) for n in range(32)]
     alike = made([b"C=-{MF=*%s}" % listed(b"{M{O{", ends[::-1], b"}}}")] + [b"C=-{MF=T/%d{M{O{%s=%d}}}}" % (n, ends[0][:-2], n + 1) for n in range(1, 2_001)])
     yield wild("2,000 terminations with 32 properties whose names have the same 40 last letters, each with one of its own, one `Modify=*` of 32 in another order",
