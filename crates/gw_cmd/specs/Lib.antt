@@ -1,3 +1,4 @@
+pub mod AtOnce
 pub mod Clearing
 pub mod Commands
 pub mod Counted

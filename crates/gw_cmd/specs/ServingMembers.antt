@@ -17,18 +17,20 @@ use Rattle.gw_table.specs.Served.{all_serviced}
 use Rattle.gw_refusal.specs.declared.at.At.{At}
 use Rattle.gw_refusal.specs.Asked.{is_wildcard, service_asked}
 use Rattle.gw_refusal.specs.Places.{is_null, is_each}
+use Rattle.gw_cmd.specs.Foretold.{LeavesAudited}
 use Rattle.gw_cmd.specs.declared.prepared.MergeOfMany.{MergeOfMany}
 use Rattle.gw_cmd.specs.declared.serving_members.ForMembers.{ForMembers}
 use Rattle.gw_cmd.specs.declared.serving_members.ForMembers.TheVariants.{Serve, Merge}
 
 -- the descriptors of a command, which fill nothing, as they are merged into many records under the rules: each whose lists have no more
--- properties takes them
+-- properties takes them, and it may be known that what they audit stays as it is
 pub record IsMergeOf (rules : Rules) (c : Command) (merge : MergeOfMany) : Type 0 where
   pub ruled : merge.sending.rules.now ≡ rules
   pub sent : merge.sending.descriptors.now ≡ c.descriptors
   pub plain : are_plain c.descriptors ≡ true
   pub known : AreKnown merge.sending.descriptors.now merge.sending.named
   pub room : IsRoomFor merge.sending.descriptors.now merge.most
+  pub audited : merge.leaves_audited ≡ true → LeavesAudited c.descriptors
 
 -- a wildcard for members of a context; in an action for each context it is known that a member has its entry in the part
 pub record IsForMany (keys : PartKeys) (at : At) (c : Command) : Type 0 where

@@ -24,7 +24,8 @@ ghost use Rattle.gw_refusal.specs.Forms.{refusal_by_form};
 ghost use Rattle.gw_refusal.specs.Targets.{targets};
 
 use crate::alike::{told_alike, told_at_once};
-use crate::clearing::{clear_at_once, cleared_by, on_cleared};
+use crate::at_once::done_at_once;
+use crate::clearing::{cleared_by, on_cleared};
 use crate::effects::{on_name, on_new};
 use crate::idle::{is_idle, on_idle};
 use crate::outcome::{CmdOutcome, CmdTold, Seen};
@@ -394,7 +395,7 @@ pub fn command_told(
     if let Some(for_all) = for_all(alloc, rules, draft, at, command)? {
         return on_all_free(alloc, rules, draft, slot, command, for_all, told);
     }
-    if clear_at_once(alloc, rules, draft, at, slot, command, known, &told)? {
+    if done_at_once(alloc, rules, draft, at, slot, command, known, &told)? {
         return told_at_once(alloc, at, command, told);
     }
     if let Some(number) = cleared_by(draft, at, command) {

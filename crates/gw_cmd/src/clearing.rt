@@ -172,7 +172,8 @@ fn with_each(
 }
 
 /// Carries out a command that its form allows and that clears this context. Its members are named once, and leave at once; what is audited
-/// of each takes one look-up more, where its reply is told.
+/// of each takes one look-up more, where its reply is told. Never inlined, as `on_idle`.
+#[inline(never)]
 pub(crate) fn on_cleared(
     alloc: Global,
     rules: &Rules,

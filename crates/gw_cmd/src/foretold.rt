@@ -10,9 +10,10 @@ ghost use Rattle.gw_table.specs.Maps.{Maps};
 ghost use Rattle.gw_term.specs.Audit.{audit_parts};
 ghost use Rattle.gw_term.specs.Merge.{merged};
 ghost use Rattle.gw_term.specs.Plain.{AreKnown};
+ghost use Rattle.gw_term.specs.Room.{IsRoomFor};
 ghost use Rattle.gw_term.specs.declared.record.Termination.{Termination as Record};
 ghost use Rattle.gw_cmd.specs.Effects.{on_found};
-ghost use Rattle.gw_cmd.specs.Foretold.{LeavesAtLeast, is_in_context, foretold_if};
+ghost use Rattle.gw_cmd.specs.Foretold.{LeavesAtLeast, LeavesAudited, is_in_context, foretold_if};
 ghost use Rattle.gw_cmd.specs.Prepared.{IsPrepared};
 ghost use Rattle.gw_cmd.specs.ServingMembers.{IsMergeOf};
 
@@ -27,8 +28,8 @@ use gw_table::Draft;
 use gw_term::Termination;
 use std::alloc::Global;
 
-/// Behind what is audited of a termination after a Modify: a copy takes the descriptors as the termination will, if it does. All of the
-/// room, where that is not found.
+/// Behind what is audited of a termination after a Modify. Where that stays as it is, it is counted there; else a copy takes the descriptors
+/// as the termination will, if it does. All of the room, where that is not found.
 fn behind_merged(
     alloc: Global,
     room: usize,
@@ -36,10 +37,16 @@ fn behind_merged(
     merge: &MergeOfMany<'_, '_>,
     old: &Termination,
 ) -> Option<usize>
-    requires { AreKnown merge.now.sending.descriptors.now merge.now.sending.named }
+    requires known { AreKnown merge.now.sending.descriptors.now merge.now.sending.named }
+    requires room { IsRoomFor merge.now.sending.descriptors.now merge.now.most }
+    requires audited { merge.now.leaves_audited ≡ true → LeavesAudited merge.now.sending.descriptors.now }
+    requires words { words.now ≡ audited merge.now.sending.descriptors.now }
     ensures some { (new : Record) → merged merge.now.sending.rules.now merge.now.sending.descriptors.now old.now ≡ Some new → LeavesAtLeast result room (length (body_text (Ok (audit_parts words.now new)))) }
     ensures none { merged merge.now.sending.rules.now merge.now.sending.descriptors.now old.now ≡ None → result ≡ Some room }
 {
+    if merge.leaves_audited && old.has_room(merge.most) {
+        return old.room_behind_audit(room, words);
+    }
     let Ok(mut after) = old.copy(alloc) else {
         return Some(room);
     };

@@ -218,7 +218,9 @@ pub(crate) fn keeps_none(command: &Command<'_>, told: &Telling<CommandReply>) ->
     has_one_reply(command) || matches!(told, Telling::TooLong)
 }
 
-/// Carries out a command that its form allows and that leaves every termination as it is.
+/// Carries out a command that its form allows and that leaves every termination as it is. Never inlined, so that other commands do not pay
+/// for its locals.
+#[inline(never)]
 pub(crate) fn on_idle(
     alloc: Global,
     rules: &Rules,

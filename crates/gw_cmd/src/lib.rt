@@ -2,6 +2,7 @@
 #![tactic(auto)]
 
 mod alike;
+mod at_once;
 mod carry;
 mod change;
 mod clearing;

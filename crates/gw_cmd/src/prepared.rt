@@ -1,20 +1,22 @@
 //! What is found once of a command that is carried out in each context.
 
-ghost use Rattle.std.specs.Prelude.{◌≡◌, List, ◌∷◌, IfOk, IfSome};
+ghost use Rattle.std.specs.Prelude.{◌≡◌, true, List, ◌∷◌, IfOk, IfSome};
+ghost use Rattle.std.specs.List.{list_any};
 ghost use Rattle.gw_base.specs.declared.command_words.Rules.{Rules as Kept};
 ghost use Rattle.gw_desc.specs.Checks.{check_code};
 ghost use Rattle.gw_msg.specs.declared.message.Command.{Command as Sent};
 ghost use Rattle.gw_refusal.specs.Asked.{service_asked};
 ghost use Rattle.gw_refusal.specs.Forms.{refusal_by_form};
+ghost use Rattle.gw_cmd.specs.Foretold.{sets_tail, LeavesAudited};
 ghost use Rattle.gw_cmd.specs.Prepared.{IsJudged, IsPrepared, ArePrepared};
 ghost use Rattle.gw_term.specs.Plain.{AreKnown};
 ghost use Rattle.gw_term.specs.Sending.{SendsTheSame};
 ghost use Rattle.gw_cmd.specs.ServingMembers.{IsMergeOf};
 
 use gw_base::{Code, CtxNum, NoMemory, Rules, Service, Verb};
-use gw_desc::check;
+use gw_desc::{Descriptor, check};
 use gw_msg::Command;
-use gw_refusal::{At, refusal_by_form, service_asked};
+use gw_refusal::{At, asks_media, refusal_by_form, service_asked};
 use gw_term::{Sending, Termination, are_plain, room_for};
 use std::alloc::Global;
 
@@ -25,6 +27,8 @@ pub(crate) struct MergeOfMany<'a, 'b> {
     pub(crate) sending: Sending<'a, 'b>,
     /// How many properties each list of a termination may have, so that it surely takes them.
     pub(crate) most: usize,
+    /// Whether what they audit of a termination that takes them stays as it is.
+    pub(crate) leaves_audited: bool,
 }
 
 /// What is found once of a command of an action for each context, whatever the context is.
@@ -99,6 +103,27 @@ pub(crate) fn merge_known<'k, 'a, 'b>(
     }
 }
 
+/// Whether the descriptor sets a tail.
+fn sets_tail(descriptor: &Descriptor<'_>) -> bool
+    ensures { result ≡ sets_tail descriptor.now }
+{
+    matches!(descriptor, Descriptor::Keep(_, _))
+}
+
+/// Whether one of the descriptors does.
+fn set_any_tail(descriptors: &[Descriptor<'_>]) -> bool
+    ensures { result ≡ list_any sets_tail descriptors.now }
+{
+    descriptors.iter().any(sets_tail)
+}
+
+/// Whether descriptors leave what they audit of a termination as it is: they set no tail, and audit no Media.
+fn leave_audited(descriptors: &[Descriptor<'_>]) -> bool
+    ensures { result ≡ true → LeavesAudited descriptors.now }
+{
+    !set_any_tail(descriptors) && !asks_media(descriptors)
+}
+
 /// Learns what the descriptors make of a termination that the commands before them left so, and merges them into it, if it takes them.
 fn learn_behind(
     alloc: Global,
@@ -133,7 +158,11 @@ fn merge_of_many<'a, 'b>(
             if others {
                 learn_behind(alloc, &mut sending, left)?;
             }
-            Ok(Some(MergeOfMany { sending, most }))
+            Ok(Some(MergeOfMany {
+                sending,
+                most,
+                leaves_audited: leave_audited(descriptors),
+            }))
         }
         _ => Ok(None),
     }

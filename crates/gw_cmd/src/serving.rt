@@ -249,7 +249,8 @@ fn are_too_many(draft: &Draft<'_>, command: &Command<'_>, told: &Telling<Command
 
 /// Carries out a command that its form allows and that does this to all terminations of the null context that match. The work is that
 /// of the tables' passes over all names, and of the merges; and where the reply of each is told, and there may be room for all, that of
-/// listing them.
+/// listing them. Never inlined, as `on_idle`.
+#[inline(never)]
 pub(crate) fn on_all_free(
     alloc: Global,
     rules: &Rules,

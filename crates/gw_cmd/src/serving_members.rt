@@ -40,7 +40,8 @@ fn is_for_many(draft: &Draft<'_>, at: At, command: &Command<'_>) -> bool
 }
 
 /// What a command does to all members of a context that a wildcard matches, if it is a ServiceChange, or a Modify whose descriptors are
-/// handed in, since they fill nothing. Of another command none. It looks nothing up.
+/// handed in, since they fill nothing. Of another command none. It looks nothing up. Always inlined, since it is less than a call.
+#[inline(always)]
 pub(crate) fn for_members<'s, 'a, 'b>(
     draft: &Draft<'_>,
     at: At,
@@ -85,7 +86,8 @@ fn merge_each(
 }
 
 /// What a command does to all members is done to those of these names, if each surely takes it. Answers whether that was done; where it was
-/// not, nothing has changed.
+/// not, nothing has changed. Always inlined, since mostly it is done to a single one.
+#[inline(always)]
 pub(crate) fn change_each(
     alloc: Global,
     draft: &mut Draft<'_>,

@@ -68,7 +68,11 @@ fn named_among(alloc: Global, members: &[TermName], term: &TermRef) -> Result<Na
 
 /// The members of the action's context, where the command is for those that a wildcard matches: an Add is not, and in the null context
 /// there are none.
-fn members_for<'d>(draft: &'d Draft<'_>, at: At, command: &Command<'_>) -> Option<&'d [TermName]>
+pub(crate) fn members_for<'d>(
+    draft: &'d Draft<'_>,
+    at: At,
+    command: &Command<'_>,
+) -> Option<&'d [TermName]>
     ensures { IfSome result (λ members. targets at command.now draft.now.maps ≡ filter (matches command.now.term) members.now) }
 {
     if !is_wildcard(&command.term) || is_add(command.verb) {

@@ -155,7 +155,8 @@ fn many(
 }
 
 /// Carries the commands of an action out in a context that is there, as `commands` does. Of many in an action for each context those that
-/// come to nothing are passed by once nothing more is told.
+/// come to nothing are passed by once nothing more is told. Always inlined, as `in_ready` is.
+#[inline(always)]
 pub(crate) fn few_or_many(
     alloc: Global,
     rules: &Rules,
