@@ -295,6 +295,10 @@ def wildcards():
         mixed_up.append(b",".join(own_order))
     unordered = made([b",".join(b"C=-{MF=T/%d{M{O{%s}}}}" % (n, mixed_up[n - 1]) for n in range(first, first + 50)) for first in range(1, 4_001, 50)])
     yield wild("4,000 terminations with 32 properties, each in an order of its own, one `Modify=*` of 32", unordered, many, 1, 4_000, b"Error=533")
+    five_orders = [b",".join([b"TS{%s}" % mixed_up[n]] + [b"ST=%d{O{%s}}" % (stream, mixed_up[n - 400 * stream]) for stream in range(1, 5)]) for n in range(2_000)]
+    unordered = made([b"C=-{MF=T/%d{M{%s}}}" % (n + 1, lists) for n, lists in enumerate(five_orders)])
+    yield wild("2,000 terminations with 32 properties in each of five lists, each list in an order of its own, one `Modify=*` of 32 in each", unordered,
+               everywhere, 1, 2_000, b"Error=533", 2_000)
     others_there = made([b"C=-{MF=T/%d%s}" % (n, listed(b"{M{O{", [b"b%d=1" % k for k in range(16)], b"}}}")) for n in range(1, 4_001)])
     sixteen = b"C=-{MF=*%s}" % listed(b"{M{O{", [b"a%d=1" % n for n in range(16)], b"}}}")
     yield wild("4,000 terminations with 16 properties, one `Modify=*` of 16 others", others_there, sixteen, 1, 4_000, b"Error=533")
