@@ -231,6 +231,16 @@ def in_each(action, count, apart=0):
     return made([action % (number, number + apart, number) for number in range(1, count + 1)])
 
 
+def in_own_orders(properties, count=2_000):
+    """So many terminations, each with these properties in an order of its own."""
+    shuffle, bodies = random.Random(7), []
+    for number in range(1, count + 1):
+        order = list(properties)
+        shuffle.shuffle(order)
+        bodies.append(b"C=-{MF=T/%d%s}" % (number, listed(b"{M{O{", order, b"}}}")))
+    return made([b",".join(bodies[first:first + 20]) for first in range(0, count, 20)])
+
+
 def five_lists(properties, name=b"*"):
     """A Modify of these properties in each list that a termination may have."""
     sent = b",".join(properties)
@@ -306,6 +316,17 @@ def wildcards():
     alike = made([b"C=-{MF=*%s}" % listed(b"{M{O{", ends[::-1], b"}}}")] + [b"C=-{MF=T/%d{M{O{%s=%d}}}}" % (n, ends[0][:-2], n + 1) for n in range(1, 2_001)])
     yield wild("2,000 terminations with 32 properties whose names have the same 40 last letters, each with one of its own, one `Modify=*` of 32 in another order",
                alike, b"C=-{MF=*%s}" % listed(b"{M{O{", ends, b"}}}"), 1, 2_000, b"Error=533", 2_000)
+    loud = [name.upper() for name in ends]
+    yield wild("2,000 terminations with 32 properties whose names have the same 40 last letters, each in an order of its own, one `Modify=*` of 32 in the other case",
+               in_own_orders(loud), b"C=-{MF=*%s}" % listed(b"{M{O{", ends, b"}}}"), 1, 2_000, b"Error=533", 2_000)
+    eight = b"C=-{MF=*%s}" % listed(b"{M{O{", [b"b%d=1" % n for n in range(8)], b"}}}")
+    yield wild("2,000 terminations with 24 properties, each in an order of its own, one `Modify=*` of 8 others", in_own_orders([b"a%d=1" % n for n in range(24)]), eight,
+               1, 2_000, b"Error=533", 2_000)
+    yield wild("2,000 terminations with 31 properties, each in an order of its own, one `Modify=*` of another", in_own_orders([b"a%d=1" % n for n in range(31)]),
+               b"C=-{MF=*{M{O{b=1}}}}", 1, 2_000, b"Error=533", 2_000)
+    fewer = b"C=-{MF=*%s}" % listed(b"{M{O{", [b"a%d=3" % n for n in range(3, 20)], b"}}}")
+    yield Kind("4,000 terminations with 32 properties, each with one of its own, a `Modify=*` of 30 others and one of 17 of these", own_each, asked([inside, fewer]),
+               b"Error=533", 8_000, 4_000)
     own = each_its_own(b"{M{O{a=%d}}}")
     yield wild("4,000 terminations, each with a property of its own, one `Modify=*` of it", own, b"C=-{MF=*{M{O{a=0}}}}", 1, 4_000, b"Error=533")
     own = each_its_own(b"{M{R{v=%d}}}")

@@ -1,6 +1,6 @@
 -- What the first command of an action for each context tells of the members of a context: the answer of each rests on its own record alone, which
 -- nobody changes before, so it can be told from the tables as they are at first (own).
-use Rattle.std.specs.Prelude.{◌≡◌, ℕ, ◌+◌, ◌≤◌, ◌<◌, ◌&&◌, Bool, true, false, if◌then◌else◌, List, [], ◌∷◌, Option, None, Some}
+use Rattle.std.specs.Prelude.{◌≡◌, ℕ, ◌&&◌, Bool, true, false, if◌then◌else◌, List, [], ◌∷◌, Option, None, Some}
 use Rattle.std.specs.List.{list_any}
 use Rattle.gw_base.specs.declared.command_words.Rules.{Rules}
 use Rattle.gw_base.specs.declared.ids.CtxNum.{CtxNum}
@@ -9,17 +9,13 @@ use Rattle.gw_desc.specs.declared.descriptor.Descriptor.{Descriptor}
 use Rattle.gw_desc.specs.declared.descriptor.Descriptor.TheVariants as descriptor
 use Rattle.gw_msg.specs.declared.message.Command.{Command}
 use Rattle.gw_reply.specs.declared.reply.CommandReply.{CommandReply}
+pub use Rattle.gw_term.specs.AtLeast.{LeavesAtLeast}
 use Rattle.gw_term.specs.declared.record.Termination.{Termination}
 use Rattle.gw_table.specs.Maps.{Maps, term, place_of}
 use Rattle.gw_refusal.specs.Asked.{asks_media, matches}
 use Rattle.gw_refusal.specs.Places.{same_place}
 use Rattle.gw_cmd.specs.Commands.{reply}
 use Rattle.gw_cmd.specs.Effects.{on_name}
-
--- what is left of so much room behind no more than so many bytes, or none where there are more bytes than room
-abbrev pub LeavesAtLeast : Option ℕ → ℕ → ℕ → Type 0
-LeavesAtLeast (Some left) room count = room ≤ left + count
-LeavesAtLeast None room count = room < count
 
 -- there is such a termination, and it is in this context
 abbrev pub is_in_context : CtxNum → Option Termination → Bool

@@ -25,11 +25,33 @@ use gw_length::{behind, verb_length};
 use gw_msg::Command;
 use gw_refusal::{first_audit, matches};
 use gw_table::Draft;
-use gw_term::Termination;
+use gw_term::{Sending, Termination};
 use std::alloc::Global;
 
-/// Behind what is audited of a termination after a Modify. Where that stays as it is, it is counted there; else a copy takes the descriptors
-/// as the termination will, if it does. All of the room, where that is not found.
+/// Behind what is audited of a termination after a Modify: a copy takes the descriptors as the termination will, if it does. All of the room,
+/// where that is not found.
+fn behind_copy(
+    alloc: Global,
+    room: usize,
+    words: &AuditItems<'_>,
+    sending: &Sending<'_, '_>,
+    old: &Termination,
+) -> Option<usize>
+    requires { AreKnown sending.now.descriptors.now sending.now.named }
+    ensures some { (new : Record) → merged sending.now.rules.now sending.now.descriptors.now old.now ≡ Some new → LeavesAtLeast result room (length (body_text (Ok (audit_parts words.now new)))) }
+    ensures none { merged sending.now.rules.now sending.now.descriptors.now old.now ≡ None → result ≡ Some room }
+{
+    let Ok(mut after) = old.copy(alloc) else {
+        return Some(room);
+    };
+    match after.merge_sending(alloc, sending) {
+        Ok(()) => after.room_behind_audit(room, words),
+        Err(_) => Some(room),
+    }
+}
+
+/// Behind what is audited of a termination after a Modify. Where it surely takes the descriptors, that is counted from the record as it is,
+/// as far as it is found there; else from a copy of it after them.
 fn behind_merged(
     alloc: Global,
     room: usize,
@@ -44,16 +66,13 @@ fn behind_merged(
     ensures some { (new : Record) → merged merge.now.sending.rules.now merge.now.sending.descriptors.now old.now ≡ Some new → LeavesAtLeast result room (length (body_text (Ok (audit_parts words.now new)))) }
     ensures none { merged merge.now.sending.rules.now merge.now.sending.descriptors.now old.now ≡ None → result ≡ Some room }
 {
-    if merge.leaves_audited && old.has_room(merge.most) {
+    if !old.has_room(merge.most) {
+        return behind_copy(alloc, room, words, &merge.sending, old);
+    }
+    if merge.leaves_audited {
         return old.room_behind_audit(room, words);
     }
-    let Ok(mut after) = old.copy(alloc) else {
-        return Some(room);
-    };
-    match after.merge_sending(alloc, &merge.sending) {
-        Ok(()) => after.room_behind_audit(room, words),
-        Err(_) => Some(room),
-    }
+    old.room_behind_merged(room, words, &merge.sending)
 }
 
 /// Behind what follows the TerminationID in the reply for a termination that is in the context, as far as it is found.

@@ -1,6 +1,6 @@
 //! Descriptors that are merged into many terminations at once.
 
-ghost use Rattle.std.specs.Prelude.{◌≡◌, ℕ, true, List, Some, is_some, IfOk, OnOk};
+ghost use Rattle.std.specs.Prelude.{◌≡◌, ℕ, true, false, List, Some, is_some, IfOk, OnOk, OnErr};
 ghost use Rattle.std.specs.BTreeMap.{is_at};
 ghost use Rattle.std.specs.FinMap as finite;
 ghost use Rattle.std.specs.Map.{lookup};
@@ -11,7 +11,7 @@ ghost use Rattle.gw_term.specs.Plain.{AreKnown};
 ghost use Rattle.gw_term.specs.Sending.{SendsTheSame};
 ghost use Rattle.gw_table.specs.declared.reach.Reach.TheVariants.{Free};
 ghost use Rattle.gw_table.specs.Maps.{term};
-ghost use Rattle.gw_table.specs.Merged.{put_changed, all_changed, is_away_at, is_free_in, last_met, WasMerged, IsPassed, StaysFree, AreAlike, AreChanged, AreAllNoted};
+ghost use Rattle.gw_table.specs.Merged.{put_changed, all_changed, changed_place, is_away_at, is_free_in, last_met, WasMerged, IsPassed, StaysFree, AreAlike, AreChanged, AreAllNoted};
 ghost use Rattle.gw_table.specs.Originals.{IsInPlace};
 ghost use Rattle.gw_table.specs.Parts.{holds};
 ghost use Rattle.gw_table.specs.Served.{reached};
@@ -32,8 +32,8 @@ use gw_term::{Sending, Termination};
 use std::alloc::Global;
 use std::collections::BTreeMap;
 
-/// The termination that stands in a place becomes what the descriptors make of it. One for which memory is refused leaves the null
-/// context. Answers whether memory was refused.
+/// The termination that stands in a place becomes what the descriptors make of it, which is not known. One for which memory is refused leaves
+/// the null context. Answers whether memory was refused.
 pub(crate) fn merge_in_place(
     place: &mut Place<Held<Termination>>,
     alloc: Global,
@@ -43,12 +43,31 @@ pub(crate) fn merge_in_place(
     ensures { WasMerged (merged sending.now.rules.now sending.now.descriptors.now) place.old place.new result }
 {
     if let Place::Here(termination) = place {
-        if termination.get_mut().merge_sending(alloc, sending).is_err() {
+        if termination.get_mut().merge_unknown(alloc, sending).is_err() {
             termination.get_mut().set_place(Some(CtxNum(0)));
             return true;
         }
     }
     false
+}
+
+/// The termination that stands in a place becomes what the descriptors make of it, if that is known. Answers its record as it was then;
+/// where none is answered, nothing has changed, nor has it after want of memory.
+pub(crate) fn swap_in_place(
+    place: &mut Place<Held<Termination>>,
+    alloc: Global,
+    sending: &Sending<'_, '_>,
+) -> Result<Option<Termination>, NoMemory>
+    requires { AreKnown sending.now.descriptors.now sending.now.named }
+    ensures before { IfOk result (λ known. is_some known ≡ true → known ≡ shown (Some place.old)) }
+    ensures after { IfOk result (λ known. is_some known ≡ true → place.new ≡ changed_place (merged sending.now.rules.now sending.now.descriptors.now) place.old) }
+    ensures stays { IfOk result (λ known. is_some known ≡ false → place.new ≡ place.old) }
+    ensures err { OnErr result (place.new ≡ place.old) }
+{
+    match place {
+        Place::Here(termination) => termination.get_mut().swap_known(alloc, sending),
+        Place::Empty | Place::Out => Ok(None),
+    }
 }
 
 /// The same, where what the descriptors make of the termination may be learnt.
@@ -366,7 +385,7 @@ impl Draft<'_> {
     /// The descriptors are merged into the terminations of these names, those of which there is one. The caller knows that each of these
     /// takes them, and that the names are among the draft's keys. In whole tables a name takes one look-up, and what stands there is
     /// changed where it lies; in a part it takes two. Memory is taken for the records of those that were not written before, as copies,
-    /// and for what is new in the records.
+    /// but for those of which it is known what becomes of them, which are moved, and for what is new in the records.
     ///
     /// # Errors
     ///

@@ -24,7 +24,7 @@ ghost use Rattle.gw_table.specs.Settings.{set_at};
 ghost use Rattle.gw_table.specs.Stored.{Stored, shown, served, emptied, put_ctx_place};
 
 use crate::joining::{join_in_place, leave_in_place};
-use crate::merging::{merge_and_learn, merge_in_place, put_away};
+use crate::merging::{merge_and_learn, merge_in_place, put_away, swap_in_place};
 use crate::originals::Write;
 use crate::place::{Place, copied, put_record, renew, serve, set_in_place};
 use crate::setting::{self, Setting, is_set};
@@ -428,8 +428,9 @@ impl Site<Held<Termination>> {
         Ok(())
     }
 
-    /// The descriptors are merged into the termination that stands here, if there is one, in its place. Its record is noted first, unless
-    /// that or its key is noted. The caller knows that it takes the descriptors.
+    /// The descriptors are merged into the termination that stands here, if there is one, in its place. Its record is noted, unless that
+    /// or its key is noted: where it is known what becomes of it, it is moved, and else it is noted first, as a copy. The caller knows that
+    /// it takes the descriptors.
     ///
     /// # Errors
     ///
@@ -449,11 +450,50 @@ impl Site<Held<Termination>> {
         if !self.is_here() {
             return Ok(());
         }
+        if self.move_and_merge(alloc, name, sending, writes)? {
+            return Ok(());
+        }
         let next = writes.len();
         self.note_record(alloc, name, writes)?;
         let refused = merge_in_place(&mut self.place, alloc, sending);
         self.pass_noted(name, writes, next);
         if refused { Err(NoMemory) } else { Ok(()) }
+    }
+
+    /// The descriptors are merged into the termination that stands here, in its place, if it is known what they make of it. Its record is moved
+    /// to the list of writes, and not copied, unless that or its key is noted. Answers whether that was done; where it was not, nothing has
+    /// changed.
+    ///
+    /// # Errors
+    ///
+    /// Want of memory. Nothing has changed then.
+    fn move_and_merge(
+        &mut self,
+        alloc: Global,
+        name: &TermName,
+        sending: &Sending<'_, '_>,
+        writes: &mut Vec<Write>,
+    ) -> Result<bool, NoMemory>
+        requires { AreKnown sending.now.descriptors.now sending.now.named }
+        ensures least { MayNoteRecord name.now self.old writes.old.items writes.new.items }
+        ensures kept { MayChange name.now writes.new.items self.old self.new }
+        ensures after { IfOk result (λ moved. moved ≡ true → self.new ≡ changed_place (merged sending.now.rules.now sending.now.descriptors.now) self.old) }
+        ensures stays { IfOk result (λ moved. moved ≡ false → (self.new ≡ self.old) × (writes.new.items ≡ writes.old.items)) }
+        ensures err { OnErr result (self.new ≡ self.old) }
+    {
+        if is_termination_at(writes, self.noted as usize, name) {
+            return Ok(swap_in_place(&mut self.place, alloc, sending)?.is_some());
+        }
+        let next = next_of(writes);
+        writes.reserve(1)?;
+        let Some(known) = swap_in_place(&mut self.place, alloc, sending)? else {
+            return Ok(false);
+        };
+        self.noted = next;
+        let Ok(()) = writes.push(Write::OfRecord(*name, known)) else {
+            unreachable!()
+        };
+        Ok(true)
     }
 
     /// The termination that stands here, if there is one, leaves the null context.

@@ -14,6 +14,7 @@ use Rattle.gw_desc.specs.declared.values.Mode.TheVariants.{Inactive}
 use Rattle.gw_term.specs.declared.record.Stream.{Stream}
 use Rattle.gw_term.specs.declared.streams.Merging.{Merging}
 use Rattle.gw_term.specs.Aligned.{IsMadeNew, IsAligned, remade}
+use Rattle.gw_term.specs.Laid.{last_mode}
 use Rattle.gw_term.specs.Lookups.{lower_names, new_names, controls_in, controls_sent, locals_in, remotes_in}
 use Rattle.gw_term.specs.Merge.{and_then, each, put_property, put_part, parts_in, local_text, begun, unnamed, stream_in, is_named_in, merged_stream}
 use Rattle.gw_term.specs.Places.{at_number}
@@ -22,7 +23,7 @@ use Rattle.gw_term.specs.Settings.{Settings}
 use Rattle.gw_term.proofs.Made.{first_then, mapped_from}
 use Rattle.gw_term.proofs.MadeOnce.{made_stream}
 use Rattle.gw_term.proofs.PropertyLists.{P, named_same, put_at, some_of, IsReplaced, IsAdded, IsOnePut, one_put, names_with, names_both, length_lower, after_puts}
-use Rattle.gw_term.proofs.StreamsFound.{last_mode, parted, parts_are}
+use Rattle.gw_term.proofs.StreamsFound.{parted, parts_are}
 
 -- ---- a list
 
@@ -91,7 +92,7 @@ mode_kept (p ∷ ps) = by (is_mode p.name) (mode_set_by p) (mode_kept ps)
     by true None h = h
     by true (Some mode) h = inr (λ a b. refl)
 
-mode_again : (ps : List P) (old other : Mode) → last_mode ps other ≡ old → last_mode ps old ≡ old
+pub mode_again : (ps : List P) (old other : Mode) → last_mode ps other ≡ old → last_mode ps old ≡ old
 mode_again ps old other h = elim (mode_kept ps) [ inl k ↦ k old | inr k ↦ k old other ∙ h ]
 
 set_last : {T : Type 0} (t : T) (ts : List T) (old : Option T) → option_or (last_or (Some t) ts) old ≡ last_or (Some t) ts
@@ -99,11 +100,11 @@ set_last t [] old = refl
 set_last t (u ∷ us) old = set_last u us old
 
 -- the last one, or else what was there
-last_there : {T : Type 0} (old : Option T) (ts : List T) → last_or old ts ≡ option_or (last_or None ts) old
+pub last_there : {T : Type 0} (old : Option T) (ts : List T) → last_or old ts ≡ option_or (last_or None ts) old
 last_there old [] = refl
 last_there old (t ∷ ts) = sym (set_last t ts old)
 
-mapped_some : {S T : Type 0} (o : Option S) (f : S → T) (t : T) → option_map f o ≡ Some t → is_some o ≡ true
+pub mapped_some : {S T : Type 0} (o : Option S) (f : S → T) (t : T) → option_map f o ≡ Some t → is_some o ≡ true
 mapped_some None f t h = absurd cc
 mapped_some (Some s) f t h = refl
 

@@ -123,7 +123,7 @@ both p sent (x ∷ xs) (y ∷ ys) h = by (is_of_name p.name y) refl (both p sent
     by false e (inl b) = inl (both_later p x y sent xs ys h e b)
     by false e (inr k) = inr (record { none = let rest = k.none in rw (e, rest) refl; agree = (h.0, h.1, left p x y sent e h.2, k.agree) })
 
-not_of : (a b : P) → is_of_name a.name b ≡ false → is_of_name b.name a ≡ false
+pub not_of : (a b : P) → is_of_name a.name b ≡ false → is_of_name b.name a ≡ false
 not_of a b other = by (is_of_name b.name a) refl
   where
     by : (t : Bool) → is_of_name b.name a ≡ t → t ≡ false

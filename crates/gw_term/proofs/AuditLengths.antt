@@ -30,7 +30,7 @@ stream_length number s h = omega (arith, numbered_length number (control_text s.
 -- ---- the whole answer
 
 -- two braces more, and a comma less
-one_more : (part : ReplyPart) (parts : List ReplyPart) → length (body_text (Ok (part ∷ parts))) ≡ suc (length (later part_text (part ∷ parts)))
+pub one_more : (part : ReplyPart) (parts : List ReplyPart) → length (body_text (Ok (part ∷ parts))) ≡ suc (length (later part_text (part ∷ parts)))
 one_more part parts = omega (arith, length-braces (comma_separated (map part_text (part ∷ parts))), length-joined part_text part parts)
 
 -- where nothing is told, there are no braces

@@ -1,16 +1,20 @@
 -- What is made of two lists of properties of the same names, where each property that is not the same in both is sent anew, or stays.
-use Rattle.std.proofs.Common.{◌≡◌, ◌⊎◌, inl, inr, ℕ, Bool, true, false, not, ◌||◌, cond, if◌then◌else◌, List, [], ◌∷◌, ◌++◌, length, Option, Some, None, bytes_eq, refl, ap, sym, ◌∙◌, subst}
+use Rattle.std.proofs.Common.{◌≡◌, ◌⊎◌, inl, inr, ℕ, suc, Bool, true, false, not, ◌||◌, ◌&&◌, cond, if◌then◌else◌, List, [], ◌∷◌, ◌++◌, length, Option, Some, None, bytes_eq, refl, ap, sym, ◌∙◌, subst}
 use Rattle.std.specs.Prelude.{nat_lt}
 use Rattle.std.specs.List.{list_any}
 use Rattle.std.specs.Option.{option_map}
 use Rattle.std.proofs.lemmas.List.Folds.{list_any-append}
 use Rattle.std.proofs.lemmas.Slice.Eq.{bytes_eq-Decides}
 use Rattle.gw_desc.specs.Twice.{folded}
-use Rattle.gw_term.specs.Grafts.{over, AreOnce, kept_places}
+use Rattle.gw_term.specs.Grafts.{over, AreOnce, fit, kept_places}
 use Rattle.gw_term.specs.Lookups.{is_of_name, lower_names, new_names}
-use Rattle.gw_term.specs.Merge.{and_then, each, most_properties, put_property}
+use Rattle.gw_term.specs.Merge.{each, most_properties, put_property}
 use Rattle.gw_term.proofs.AlikeLists.{is_sent, sent_known, Agree, any_by_names, made_sent, puts_agree, then_put}
 use Rattle.gw_term.proofs.PropertyLists.{P, same_name, same_test, same_any, length_lower, neither, Stands, StandsNot, where_stands, put_at, put_new, after_puts}
+
+both_of : (a b : Bool) → (a && b) ≡ true → (a ≡ true) × (b ≡ true)
+both_of true b h = (refl, h)
+both_of false b h = absurd cc
 
 -- no property that is kept has a name that is sent
 abbrev pub Unsent : (sent : List P) → List Bool → List P → Type 0
@@ -24,6 +28,23 @@ Fits [] xs ys = Unit {0}
 Fits (k ∷ ks) [] ys = ⊥
 Fits (k ∷ ks) (x ∷ xs) [] = ⊥
 Fits (k ∷ ks) (x ∷ xs) (y ∷ ys) = (folded x.name ≡ folded y.name) × Fits ks xs ys
+
+pub fits_by : (ks : List Bool) (xs ys : List P) → fit ks xs ys ≡ true → Fits ks xs ys
+fits_by [] xs ys h = tt
+fits_by (k ∷ ks) [] ys h = absurd cc
+fits_by (k ∷ ks) (x ∷ xs) [] h = absurd cc
+fits_by (k ∷ ks) (x ∷ xs) (y ∷ ys) h =
+    let both = both_of (bytes_eq (folded x.name) (folded y.name)) (fit ks xs ys) h in
+    ((bytes_eq-Decides (folded x.name) (folded y.name)).0 both.0, fits_by ks xs ys both.1)
+
+pub fit_by : (ks : List Bool) (xs ys : List P) → Fits ks xs ys → fit ks xs ys ≡ true
+fit_by [] xs ys h = refl
+fit_by (k ∷ ks) [] ys h = absurd h
+fit_by (k ∷ ks) (x ∷ xs) [] h = absurd h
+fit_by (k ∷ ks) (x ∷ xs) (y ∷ ys) h =
+    let one = (bytes_eq-Decides (folded x.name) (folded y.name)).1 h.0 in
+    let rest = fit_by ks xs ys h.1 in
+    rw (one, rest) refl
 
 one_named : (k : Bool) (x y : P) → folded x.name ≡ folded y.name → folded (if k then x else y).name ≡ folded y.name
 one_named true x y e = e
@@ -49,6 +70,29 @@ none_over (k ∷ ks) (x ∷ xs) (y ∷ ys) h =
     let n = neither k (list_any (λ k. k) ks) h in
     let rest = none_over ks xs ys n.1 in
     (λ i. (if n.0 i then x else y) ∷ rest i)
+
+-- a list stays as long as it is
+pub over_long : (ks : List Bool) (xs ys : List P) → length (over ks xs ys) ≡ length ys
+over_long [] xs ys = refl
+over_long (k ∷ ks) [] ys = refl
+over_long (k ∷ ks) (x ∷ xs) [] = refl
+over_long (k ∷ ks) (x ∷ xs) (y ∷ ys) = ap suc (over_long ks xs ys)
+
+-- no place is told of
+pub over_none : (ks : List Bool) (xs ys : List P) → length ks ≡ 0 → over ks xs ys ≡ ys
+over_none [] xs ys h = refl
+over_none (k ∷ ks) xs ys h = absurd cc
+
+-- behind a list with the same names other names may stand
+pub fits_longer : (ks : List Bool) (xs ys zs : List P) (more : List (List ℕ)) → Fits ks xs ys → lower_names zs ≡ lower_names ys ++ more → Fits ks xs zs
+fits_longer [] xs ys zs more h e = tt
+fits_longer (k ∷ ks) [] ys zs more h e = absurd h
+fits_longer (k ∷ ks) (x ∷ xs) [] zs more h e = absurd h
+fits_longer (k ∷ ks) (x ∷ xs) (y ∷ ys) [] more h e = absurd cc
+fits_longer (k ∷ ks) (x ∷ xs) (y ∷ ys) (z ∷ zs) more h e =
+    let one : folded z.name ≡ folded y.name = cc in
+    let rest : lower_names zs ≡ lower_names ys ++ more = cc in
+    (h.0 ∙ sym one, fits_longer ks xs ys zs more h.1 rest)
 
 over_length : (ks : List Bool) (xs ys : List P) → Fits ks xs ys → length (over ks xs ys) ≡ length ys
 over_length ks xs ys h = sym (length_lower (over ks xs ys)) ∙ ap (λ (l : List (List ℕ)). length l) (over_names ks xs ys h) ∙ length_lower ys
@@ -165,7 +209,7 @@ other_is : (s t : Bool) → t ≡ true → s || t ≡ true
 other_is true t h = refl
 other_is false t h = h
 
-turned : (n : List ℕ) (known : List (List ℕ)) → list_any (λ other. bytes_eq other n) known ≡ true → list_any (bytes_eq n) known ≡ true
+pub turned : (n : List ℕ) (known : List (List ℕ)) → list_any (λ other. bytes_eq other n) known ≡ true → list_any (bytes_eq n) known ≡ true
 turned n [] h = h
 turned n (o ∷ os) h = by (turned n os) (either (bytes_eq o n) (list_any (λ other. bytes_eq other n) os) h)
   where
@@ -201,7 +245,7 @@ known_new a known (n ∷ ns) h =
     by false e (inr more) one two = grown (bytes_eq a n) refl (two more)
 
 -- what was sent is among those that were made
-sent_made : (y : P) (sent made : List P) → each put_property sent [] ≡ Some made → is_sent y sent ≡ true → is_sent y made ≡ true
+pub sent_made : (y : P) (sent made : List P) → each put_property sent [] ≡ Some made → is_sent y sent ≡ true → is_sent y made ≡ true
 sent_made y sent made h k =
     by (known_new (folded y.name) [] (lower_names sent) (sym (sent_known y sent) ∙ k))
   where
@@ -227,7 +271,7 @@ module _ (sent made : List P) (all : each put_property sent [] ≡ Some made) wh
       let more : lower_names xs ≡ lower_names ys = cc in
       (unsent_one (not (is_sent y made)) x y one refl, kept_unsent xs ys more)
 
-  kept_fits : (xs ys : List P) → lower_names xs ≡ lower_names ys → Fits (kept_places made ys) xs ys
+  pub kept_fits : (xs ys : List P) → lower_names xs ≡ lower_names ys → Fits (kept_places made ys) xs ys
   kept_fits xs [] names = tt
   kept_fits [] (y ∷ ys) names = absurd cc
   kept_fits (x ∷ xs) (y ∷ ys) names =

@@ -15,17 +15,18 @@ use Rattle.gw_term.specs.declared.settings.Setting.{Setting}
 use Rattle.gw_term.specs.declared.settings.Setting.TheVariants as setting
 use Rattle.gw_term.specs.declared.streams.Merging.{Merging}
 use Rattle.gw_term.specs.Alike.{IsAlike, AlikeIf, AreAlike}
-use Rattle.gw_term.specs.Grafts.{over, AreOnce, kept_places, kept_at, kept_of, AreOnceIn, IsNone, graft, grafted, grafted_at, Reaches}
-use Rattle.gw_term.specs.Lookups.{controls_sent, states_sent, list_in}
-use Rattle.gw_term.specs.Merge.{and_then, each, put_part, put_property, parts_in, states_in, begun, merged, merged_media, merged_properties, merged_stream, with_media, stream_in, Media}
-use Rattle.gw_term.specs.Places.{at_number, Between}
+use Rattle.gw_term.specs.Grafts.{over, fit, AreOnce, kept_places, kept_at, kept_of, keeps_twice, AreOnceIn, FitsIn, IsNone, graft, grafted, grafted_at, Reaches}
+use Rattle.gw_term.specs.Lookups.{controls_sent, states_sent, list_in, lower_names}
+use Rattle.gw_term.specs.Merge.{and_then, each, put_property, parts_in, states_in, begun, merged, merged_media, merged_properties, merged_stream, with_media, stream_in, Media}
+use Rattle.gw_term.specs.Places.{at_number}
 use Rattle.gw_term.specs.Plain.{IsMadeBy, IsMadeOf}
 use Rattle.gw_term.specs.Record.{provisioned}
 use Rattle.gw_term.specs.Settings.{Settings, nothing_set, with_setting, with_settings, set_by}
 use Rattle.gw_term.proofs.ByField.{by_field, parts_are}
-use Rattle.gw_term.proofs.GraftLists.{over_nothing, none_over, puts_grafted}
+use Rattle.gw_term.proofs.GraftLists.{over_nothing, none_over, puts_grafted, fit_by, fits_longer, kept_fits}
+use Rattle.gw_term.proofs.GraftTwice.{HasMore, fit_twice, stream_fit, grafted_alike, grafted_twice, same_alike}
 use Rattle.gw_term.proofs.Made.{mapped_from}
-use Rattle.gw_term.proofs.StreamsFound.{states_are, stream_made, merged_there, parted}
+use Rattle.gw_term.proofs.StreamsFound.{states_are, stream_made, merged_there, parted, found_after}
 use Rattle.gw_term.proofs.StreamsFound as found
 use Rattle.gw_term.proofs.PropertyLists.{P}
 
@@ -66,7 +67,7 @@ stream_none : (ks : List Bool) (own : List P) (o : Option Stream) → list_any (
 stream_none ks own None h = refl
 stream_none ks own (Some s) h = (λ i. Some (let x : Stream = record s { properties = none_over ks own s.properties h i } in x))
 
-none_grafted : (keeps : Keeps) (own after : Settings) → IsNone keeps → grafted keeps own after ≡ after
+pub none_grafted : (keeps : Keeps) (own after : Settings) → IsNone keeps → grafted keeps own after ≡ after
 none_grafted keeps own after h = (λ i. record {
   properties = none_over keeps.properties own.properties after.properties h.properties i;
   streams = record {
@@ -77,6 +78,12 @@ none_grafted keeps own after h = (λ i. record {
   };
   tails = after.tails;
 })
+
+alike_names : (o u : Option Stream) → AlikeIf o u → lower_names (list_in o) ≡ lower_names (list_in u)
+alike_names None None h = refl
+alike_names None (Some t) h = absurd h
+alike_names (Some s) None h = absurd h
+alike_names (Some s) (Some t) h = h.aligned.names
 
 -- ---- what is made of them
 
@@ -93,28 +100,28 @@ module _ (rules : Rules) (ds : List Descriptor) (all : Settings) (is : IsMadeBy 
   parts_of number = flat_map (parts_in number) ds
 
   -- what is sent for a list puts what they make there
-  properties_made : each put_property (states_sent ds) [] ≡ Some all.properties
+  pub properties_made : each put_property (states_sent ds) [] ≡ Some all.properties
   unfolding merged_properties
   properties_made =
       let f = by_field rules ds (record provisioned { settings = nothing_set }) made_record.0 made_record.1 in
       sym (states_are (flat_map states_in ds) []) ∙ f.properties ∙ ap (λ (s : Settings). Some s.properties) (sym made_record.2)
 
-  first_made : each put_property (controls_sent (parts_of 1)) [] ≡ Some (list_in all.streams.first)
+  pub first_made : each put_property (controls_sent (parts_of 1)) [] ≡ Some (list_in all.streams.first)
   first_made =
       let f = by_field rules ds (record provisioned { settings = nothing_set }) made_record.0 made_record.1 in
       (stream_made rules None 1 ds None made_record.0.settings.streams.first f.streams.first).0.properties ∙ ap (λ (s : Settings). Some (list_in s.streams.first)) (sym made_record.2)
 
-  second_made : each put_property (controls_sent (parts_of 2)) [] ≡ Some (list_in all.streams.second)
+  pub second_made : each put_property (controls_sent (parts_of 2)) [] ≡ Some (list_in all.streams.second)
   second_made =
       let f = by_field rules ds (record provisioned { settings = nothing_set }) made_record.0 made_record.1 in
       (stream_made rules None 2 ds None made_record.0.settings.streams.second f.streams.second).0.properties ∙ ap (λ (s : Settings). Some (list_in s.streams.second)) (sym made_record.2)
 
-  third_made : each put_property (controls_sent (parts_of 3)) [] ≡ Some (list_in all.streams.third)
+  pub third_made : each put_property (controls_sent (parts_of 3)) [] ≡ Some (list_in all.streams.third)
   third_made =
       let f = by_field rules ds (record provisioned { settings = nothing_set }) made_record.0 made_record.1 in
       (stream_made rules None 3 ds None made_record.0.settings.streams.third f.streams.third).0.properties ∙ ap (λ (s : Settings). Some (list_in s.streams.third)) (sym made_record.2)
 
-  fourth_made : each put_property (controls_sent (parts_of 4)) [] ≡ Some (list_in all.streams.fourth)
+  pub fourth_made : each put_property (controls_sent (parts_of 4)) [] ≡ Some (list_in all.streams.fourth)
   fourth_made =
       let f = by_field rules ds (record provisioned { settings = nothing_set }) made_record.0 made_record.1 in
       (stream_made rules None 4 ds None made_record.0.settings.streams.fourth f.streams.fourth).0.properties ∙ ap (λ (s : Settings). Some (list_in s.streams.fourth)) (sym made_record.2)
@@ -204,12 +211,74 @@ module _ (rules : Rules) (ds : List Descriptor) (all : Settings) (is : IsMadeBy 
       } in x))
       ∙ ap (λ (x : Settings). Some (grafted (kept_of all t) s x)) (sym whole)
 
+  fit_after : (sent made : List P) → each put_property sent [] ≡ Some made → (xs ys zs : List P) → HasMore ys zs → lower_names xs ≡ lower_names ys → fit (kept_places made ys) xs zs ≡ true
+  fit_after sent made new xs ys zs more names =
+      fit_by (kept_places made ys) xs zs (fits_longer (kept_places made ys) xs ys zs more.0 (kept_fits sent made new xs ys names) more.1)
+
+  -- in each list of what is made the names that were there stand first
+  record HasMoreIn (t after : Settings) : Type 0 where
+    properties : HasMore t.properties after.properties
+    first : HasMore (list_in t.streams.first) (list_in after.streams.first)
+    second : HasMore (list_in t.streams.second) (list_in after.streams.second)
+    third : HasMore (list_in t.streams.third) (list_in after.streams.third)
+    fourth : HasMore (list_in t.streams.fourth) (list_in after.streams.fourth)
+
+  made_more : (t after : Settings) → IsMadeOf rules ds t after → HasMoreIn t after
+  made_more t after h =
+      let r : Termination = record provisioned { settings = t } in
+      let one = mapped_from (merged rules ds r) (λ r. r.settings) after h in
+      let f = found_after rules ds r one.0 one.1 in
+      let more : HasMoreIn t one.0.settings = record {
+        properties = (_, f.properties.names);
+        first = (_, f.streams.first.properties.names);
+        second = (_, f.streams.second.properties.names);
+        third = (_, f.streams.third.properties.names);
+        fourth = (_, f.streams.fourth.properties.names);
+      } in
+      subst (λ (x : Settings). HasMoreIn t x) (sym one.2) more
+
+  -- what is made has the names of each in the places that stay
+  pub grafted_fits : (s t after : Settings) → AreAlike s t → IsMadeOf rules ds t after → FitsIn (kept_of all t) s after
+  grafted_fits s t after alike h =
+      let more = made_more t after h in
+      record {
+        properties = fit_after (states_sent ds) all.properties properties_made s.properties t.properties after.properties more.properties alike.properties;
+        first = fit_after (controls_sent (parts_of 1)) (list_in all.streams.first) first_made (list_in s.streams.first) (list_in t.streams.first) (list_in after.streams.first) more.first (alike_names s.streams.first t.streams.first alike.streams.first);
+        second = fit_after (controls_sent (parts_of 2)) (list_in all.streams.second) second_made (list_in s.streams.second) (list_in t.streams.second) (list_in after.streams.second) more.second (alike_names s.streams.second t.streams.second alike.streams.second);
+        third = fit_after (controls_sent (parts_of 3)) (list_in all.streams.third) third_made (list_in s.streams.third) (list_in t.streams.third) (list_in after.streams.third) more.third (alike_names s.streams.third t.streams.third alike.streams.third);
+        fourth = fit_after (controls_sent (parts_of 4)) (list_in all.streams.fourth) fourth_made (list_in s.streams.fourth) (list_in t.streams.fourth) (list_in after.streams.fourth) more.fourth (alike_names s.streams.fourth t.streams.fourth alike.streams.fourth);
+      }
+
   -- what is known of all that are alike
   pub kept_reaches : (keeps : Keeps) (t : Settings) → keeps ≡ kept_of all t → AreOnceIn t → Reaches rules ds t (reach.Kept keeps)
-  kept_reaches keeps t e once after s made alike = subst (λ (k : Keeps). IsMadeOf rules ds s (grafted k s after)) (sym e) (grafted_made s t after once alike made)
+  kept_reaches keeps t e once after s made alike = (
+    subst (λ (k : Keeps). IsMadeOf rules ds s (grafted k s after)) (sym e) (grafted_made s t after once alike made),
+    subst (λ (k : Keeps). FitsIn k s after) (sym e) (grafted_fits s t after alike made),
+  )
 
   pub alike_reaches : (keeps : Keeps) (t : Settings) → keeps ≡ kept_of all t → AreOnceIn t → IsNone keeps → Reaches rules ds t reach.Alike
-  alike_reaches keeps t e once none after s made alike = subst (IsMadeOf rules ds s) (none_grafted keeps s after none) (kept_reaches keeps t e once after s made alike)
+  alike_reaches keeps t e once none after s made alike = (subst (IsMadeOf rules ds s) (none_grafted keeps s after none) (kept_reaches keeps t e once after s made alike).0, tt)
+
+  -- what is made of what a graft has in common tells what is made of all over which it lies
+  pub made_again : (keeps : Keeps) (own first second : Settings) → AreOnceIn first → IsMadeOf rules ds first second → FitsIn keeps own first
+      → IsMadeOf rules ds (grafted keeps own first) (grafted (keeps_twice keeps (kept_of all first)) own (grafted (kept_of all first) first second))
+  made_again keeps own first second once made fits =
+      let r : Settings = grafted keeps own first in
+      subst (IsMadeOf rules ds r) (grafted_twice keeps (kept_of all first) own first second fits) (grafted_made r first second once (grafted_alike keeps own first fits) made)
+
+  pub fits_again : (keeps : Keeps) (own first second : Settings) → IsMadeOf rules ds first second → FitsIn keeps own first
+      → FitsIn (keeps_twice keeps (kept_of all first)) own (grafted (kept_of all first) first second)
+  fits_again keeps own first second made fits =
+      let js = kept_of all first in
+      let more = made_more first second made in
+      let two = grafted_fits first first second (same_alike first) made in
+      record {
+        properties = fit_twice keeps.properties js.properties own.properties first.properties second.properties more.properties fits.properties two.properties;
+        first = stream_fit keeps.first js.first (list_in own.streams.first) first.streams.first second.streams.first more.first fits.first two.first;
+        second = stream_fit keeps.second js.second (list_in own.streams.second) first.streams.second second.streams.second more.second fits.second two.second;
+        third = stream_fit keeps.third js.third (list_in own.streams.third) first.streams.third second.streams.third more.third fits.third two.third;
+        fourth = stream_fit keeps.fourth js.fourth (list_in own.streams.fourth) first.streams.fourth second.streams.fourth more.fourth fits.fourth two.fourth;
+      }
 
 pub these_reach : (rules : Rules) (ds : List Descriptor) (t : Settings) → Reaches rules ds t reach.These
-these_reach rules ds t after s made same = subst (λ (x : Settings). IsMadeOf rules ds x after) (sym same) made
+these_reach rules ds t after s made same = (subst (λ (x : Settings). IsMadeOf rules ds x after) (sym same) made, tt)

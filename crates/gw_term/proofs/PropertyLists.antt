@@ -95,7 +95,7 @@ pub record IsAdded (p : P) (list new : List P) : Type 0 where
 abbrev pub IsOnePut : P → List P → List P → Type 0
 IsOnePut p list new = IsReplaced p list new ⊎ IsAdded p list new
 
-place_within : (p : P) (front back : List P) (was : P) → is_of_name p.name was ≡ true → property_place p.name (front ++ was ∷ back) < length (front ++ was ∷ back)
+pub place_within : (p : P) (front back : List P) (was : P) → is_of_name p.name was ≡ true → property_place p.name (front ++ was ∷ back) < length (front ++ was ∷ back)
 place_within p [] back was same = rw same (omega arith)
 place_within p (q ∷ qs) back was same = by (is_of_name p.name q) (place_within p qs back was same)
   where
@@ -182,7 +182,7 @@ is_full p list h = subst (IsPut p list) h (is_put p list)
 
 -- ---- what is found then
 
-find_none : (test : P → Bool) (list : List P) → list_any test list ≡ false → find test list ≡ None
+pub find_none : (test : P → Bool) (list : List P) → list_any test list ≡ false → find test list ≡ None
 find_none test [] h = refl
 find_none test (q ∷ qs) h = by (test q) refl h (find_none test qs)
   where
@@ -210,7 +210,7 @@ found_added p list new name s true e =
     ap (look_up name) s.is ∙ find-append (is_of_name name) list (p ∷ []) ∙ rw (none, e) refl
 found_added p list new name s false e = ap (look_up name) s.is ∙ find-append (is_of_name name) list (p ∷ []) ∙ rw e (or_none (find (is_of_name name) list))
 
-one_found : (p : P) (list new : List P) (name : List ℕ) → IsOnePut p list new → (t : Bool) → is_of_name name p ≡ t → look_up name new ≡ cond t (Some p) (look_up name list)
+pub one_found : (p : P) (list new : List P) (name : List ℕ) → IsOnePut p list new → (t : Bool) → is_of_name name p ≡ t → look_up name new ≡ cond t (Some p) (look_up name list)
 one_found p list new name (inl s) = found_replaced p list new name s
 one_found p list new name (inr s) = found_added p list new name s
 
@@ -249,7 +249,7 @@ pub is_known : (name : List ℕ) (list : List P) → list_any (λ other. bytes_e
 is_known name [] = refl
 is_known name (q ∷ qs) = ap (λ (t : Bool). is_of_name name q || t) (is_known name qs)
 
-any_there : (test : P → Bool) (front back : List P) (was : P) → test was ≡ true → list_any test (front ++ was ∷ back) ≡ true
+pub any_there : (test : P → Bool) (front back : List P) (was : P) → test was ≡ true → list_any test (front ++ was ∷ back) ≡ true
 any_there test [] back was h = rw h refl
 any_there test (x ∷ xs) back was h = by (test x) (any_there test xs back was h)
   where
@@ -288,7 +288,7 @@ any_lower : (name : List ℕ) (names : List (List ℕ)) → list_any (λ other. 
 any_lower name [] = refl
 any_lower name (n ∷ ns) = ap (λ (t : Bool). bytes_eq (folded name) (folded n) || t) (any_lower name ns)
 
-twice_lower : (names : List (List ℕ)) → has_name_twice names ≡ some_same (map folded names)
+pub twice_lower : (names : List (List ℕ)) → has_name_twice names ≡ some_same (map folded names)
 unfolding has_name_twice
 twice_lower [] = refl
 twice_lower (n ∷ ns) = rw (any_lower n ns, twice_lower ns) refl

@@ -1,10 +1,11 @@
 -- What descriptors make of settings that are alike, where some values of properties stay: what they make of one of these, with the values of
 -- each in the places that stay (own).
-use Rattle.std.specs.Prelude.{◌≡◌, ◌==◌, ◌&&◌, if◌then◌else◌, nat_lt, ℕ, Bool, false, not, List, [], ◌∷◌, map, Option}
+use Rattle.std.specs.Prelude.{◌≡◌, ◌==◌, ◌&&◌, if◌then◌else◌, nat_lt, bytes_eq, ℕ, Bool, true, false, not, List, [], ◌∷◌, map}
 use Rattle.std.specs.List.{list_any}
 use Rattle.std.specs.Option.{option_map}
 use Rattle.gw_base.specs.declared.command_words.Rules.{Rules}
 use Rattle.gw_desc.specs.declared.descriptor.Descriptor.{Descriptor}
+use Rattle.gw_desc.specs.Twice.{folded}
 use Rattle.gw_desc.specs.declared.descriptor.Property.{Property}
 use Rattle.gw_term.specs.Alike.{AreAlike}
 use Rattle.gw_term.specs.Lookups.{is_of_name, list_in}
@@ -26,6 +27,19 @@ over [] xs ys = ys
 over (k ∷ ks) [] ys = ys
 over (k ∷ ks) (x ∷ xs) [] = []
 over (k ∷ ks) (x ∷ xs) (y ∷ ys) = (if k then x else y) ∷ over ks xs ys
+
+-- two lists have the same names, in any case, in all places that may be kept
+abbrev pub fit : List Bool → (xs ys : List (Property (List ℕ))) → Bool
+fit [] xs ys = true
+fit (k ∷ ks) [] ys = false
+fit (k ∷ ks) (x ∷ xs) [] = false
+fit (k ∷ ks) (x ∷ xs) (y ∷ ys) = bytes_eq (folded x.name) (folded y.name) && fit ks xs ys
+
+-- the places that are kept twice in turn
+abbrev pub kept_twice : (ks js : List Bool) → List Bool
+kept_twice [] js = []
+kept_twice (k ∷ ks) [] = []
+kept_twice (k ∷ ks) (j ∷ js) = (k && j) ∷ kept_twice ks js
 
 -- each name stands there once
 abbrev pub AreOnce : List (Property (List ℕ)) → Type 0
@@ -54,6 +68,24 @@ kept_of all s = record {
   third = kept_places (list_in all.streams.third) (list_in s.streams.third);
   fourth = kept_places (list_in all.streams.fourth) (list_in s.streams.fourth);
 }
+
+-- the same of each list
+abbrev pub keeps_twice : (first second : Keeps) → Keeps
+keeps_twice first second = record {
+  properties = kept_twice first.properties second.properties;
+  first = kept_twice first.first second.first;
+  second = kept_twice first.second second.second;
+  third = kept_twice first.third second.third;
+  fourth = kept_twice first.fourth second.fourth;
+}
+
+-- settings have the names of others in all places that may be kept
+pub record FitsIn (keeps : Keeps) (own after : Settings) : Type 0 where
+  pub properties : fit keeps.properties own.properties after.properties ≡ true
+  pub first : fit keeps.first (list_in own.streams.first) (list_in after.streams.first) ≡ true
+  pub second : fit keeps.second (list_in own.streams.second) (list_in after.streams.second) ≡ true
+  pub third : fit keeps.third (list_in own.streams.third) (list_in after.streams.third) ≡ true
+  pub fourth : fit keeps.fourth (list_in own.streams.fourth) (list_in after.streams.fourth) ≡ true
 
 -- in each list each name stands once
 pub record AreOnceIn (s : Settings) : Type 0 where
@@ -106,6 +138,13 @@ after_in reach.These s after = after
 after_in reach.Alike s after = after
 after_in (reach.Kept keeps) s after = grafted keeps s after
 
+-- they have the names of what is known of them, where some are kept
+abbrev pub FitsAfter : Reach → (s after : Settings) → Type 0
+FitsAfter reach.These s after = Unit {0}
+FitsAfter reach.Alike s after = Unit {0}
+FitsAfter (reach.Kept keeps) s after = FitsIn keeps s after
+
 -- what the descriptors make of these tells what they make of all so far
 abbrev pub Reaches : Rules → List Descriptor → (before : Settings) → Reach → Type 0
-Reaches rules descriptors before reach = (after s : Settings) → IsMadeOf rules descriptors before after → Tells reach before s → IsMadeOf rules descriptors s (after_in reach s after)
+Reaches rules descriptors before reach =
+    (after s : Settings) → IsMadeOf rules descriptors before after → Tells reach before s → IsMadeOf rules descriptors s (after_in reach s after) × FitsAfter reach s after

@@ -3,7 +3,9 @@ pub mod Numbers
 pub mod Prints
 pub mod Settings
 pub mod Grafts
+pub mod HeldSettings
 pub mod HeldTexts
+pub mod JoinedTexts
 pub mod Record
 pub mod Merge
 pub mod Audit
@@ -17,8 +19,10 @@ pub mod KeptRecords
 pub mod Named
 pub mod Plain
 pub mod Room
+pub mod Laid
 pub mod Aligned
 pub mod Alike
 pub mod ServicesAfter
 pub mod Sending
 pub mod Learnt
+pub mod AtLeast

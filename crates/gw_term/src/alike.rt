@@ -39,7 +39,8 @@ fn is_alike_at(setting: &Setting, other: &Setting) -> bool
     }
 }
 
-/// Whether the settings are, in the same order.
+/// Whether the settings are, in the same order. Not inlined, since prints mostly tell it.
+#[inline(never)]
 fn are_alike_in(settings: &[Setting], others: &[Setting]) -> bool
     ensures { result ≡ true → AreAlike (set_by settings.now) (set_by others.now) }
 {
@@ -71,6 +72,7 @@ impl Form {
     }
 
     /// Whether they are. Of two whose shapes have prints only these are compared.
+    #[inline(always)]
     fn is_alike(&self, other: &Form) -> bool
         ensures { result ≡ true → AreAlike (set_by (settings_in self.now)) (set_by (settings_in other.now)) }
     {
@@ -83,6 +85,7 @@ impl Form {
 
 /// Whether what was set is the same in the same order, but for the values of properties. The work is a comparison of the prints of their
 /// shapes, or else of texts and names.
+#[inline(always)]
 pub(crate) fn are_alike(settings: &Settings, others: &Settings) -> bool
     ensures { result ≡ true → AreAlike settings.now others.now }
 {

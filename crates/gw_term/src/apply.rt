@@ -10,6 +10,7 @@ ghost use Rattle.gw_term.specs.Applies.{IsMergedInto, merging_of};
 
 use crate::fault::ApplyFault;
 use crate::held::HeldProperty;
+use crate::held_settings::HeldSettings;
 use crate::named::Named;
 use crate::properties::{merged_properties, merged_service};
 use crate::record::Termination;
@@ -72,17 +73,17 @@ fn merge_into(
     sent: &Sent<'_, '_, '_>,
     there: &Named,
     old: &Termination,
-    new: &mut Termination,
+    set: &mut Settings,
     filled: &mut Filled,
 ) -> Result<(), ApplyFault>
     requires there { there.now ≡ with_set old.now.settings (named_by sent.now.descriptors.now) }
     requires slot { sent.now.slot ≡ old.now.slot }
-    requires rest { merged_properties sent.now.descriptors.now old.now.settings.properties ≡ Some new.old.settings.properties }
-    requires fresh { new.old ≡ record (unset old.now.place (merged_service sent.now.descriptors.now old.now.service) old.now.slot) { settings = record nothing_set { properties = new.old.settings.properties } } }
+    requires rest { merged_properties sent.now.descriptors.now old.now.settings.properties ≡ Some set.old.properties }
+    requires fresh { set.old ≡ record nothing_set { properties = set.old.properties } }
     requires none { filled.old ≡ [] }
-    ensures { IsMergedInto sent.now.rules.now sent.now.descriptors.now old.now new.new filled.new result }
+    ensures { IsMergedInto sent.now.rules.now sent.now.descriptors.now old.now (record (unset old.now.place (merged_service sent.now.descriptors.now old.now.service) old.now.slot) { settings = set.new }) filled.new result }
 {
-    let (before, set) = (&old.settings, &mut new.settings);
+    let before = &old.settings;
     let streams = &there.streams;
     let first = merge_stream(alloc, sent, 1, streams.first, before, set)?;
     let second = merge_stream(alloc, sent, 2, streams.second, before, set)?;
@@ -96,8 +97,9 @@ fn merge_into(
     Ok(())
 }
 
-/// What is set before streams and tails are: properties, if there are any, with room for so many more.
-fn begun(
+/// What is set before streams and tails are: properties, if there are any, with room for so many more. Always inlined, since each Add begins so.
+#[inline(always)]
+pub(crate) fn begun(
     alloc: Global,
     properties: Items<HeldProperty>,
     count: usize,
@@ -153,13 +155,7 @@ impl Termination {
         let properties = merged_properties(alloc, there.states, descriptors, own)?;
         let service = merged_service(there.states, descriptors, self.service);
         there.note_set(&self.settings);
-        let record = Termination {
-            place: self.place,
-            service,
-            slot: self.slot,
-            settings: begun(alloc, properties, there.count())?,
-        };
-        let mut record = Held::new(alloc, record)?;
+        let mut settings = begun(alloc, properties, there.count())?;
         let mut filled = Items::new(alloc);
         let sent = Sent {
             rules,
@@ -167,11 +163,20 @@ impl Termination {
             descriptors,
             made: None,
         };
-        merge_into(alloc, &sent, &there, self, record.get_mut(), &mut filled)?;
+        merge_into(alloc, &sent, &there, self, &mut settings, &mut filled)?;
         if self.slot.is_none() {
-            record.get_mut().settings.share(&self.settings)?;
+            settings.share(self.settings.common())?;
         }
-        Ok(Applied { record, filled })
+        let record = Termination {
+            place: self.place,
+            service,
+            slot: self.slot,
+            settings: HeldSettings::whole(settings),
+        };
+        Ok(Applied {
+            record: Held::new(alloc, record)?,
+            filled,
+        })
     }
 
     /// The termination becomes its record after the descriptors, as `merged` tells it. Answers the streams whose Local was

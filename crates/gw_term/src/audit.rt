@@ -2,26 +2,35 @@
 
 ghost use Rattle.std.specs.Prelude.{◌≡◌, ◌≤◌, ◌++◌, IfOk, OnOk};
 ghost use Rattle.gw_term.specs.Audit.{stream_told, media_told, tail_told, item_told, word_told};
+ghost use Rattle.gw_term.specs.Grafts.{over};
 ghost use Rattle.gw_term.specs.Places.{at_number, at_kind, rising};
 
+use crate::grafts::next_over;
 use crate::held::HeldProperty;
+use crate::held_settings::HeldSettings;
 use crate::record::Termination;
-use crate::settings::Settings;
 use gw_base::{Items, NoMemory};
 use gw_desc::{AuditItem, AuditItems, KeptKind, item_of};
 use gw_reply::{AuditReply, KeptProperty, MediaReply, ReplyPart, StreamReply};
 use std::alloc::Global;
 
-/// The properties as they are told.
+/// The properties of a list as they are told, with those of another in the places that are kept.
 fn properties_told(
     alloc: Global,
-    properties: &[HeldProperty],
+    kept: &[bool],
+    own: &[HeldProperty],
+    list: &[HeldProperty],
 ) -> Result<Items<KeptProperty>, NoMemory>
-    ensures { IfOk result (λ told. told ≡ properties.now) }
+    ensures { IfOk result (λ told. told ≡ over kept.now own.now list.now) }
 {
     let mut told = Items::new(alloc);
-    for property in properties {
-        told.push(property.told(alloc)?)?;
+    let mut flags = kept;
+    let mut others = own;
+    for property in list {
+        let (from, flags_behind, others_behind) = next_over(flags, others, property);
+        told.push(from.told(alloc)?)?;
+        flags = flags_behind;
+        others = others_behind;
     }
     Ok(told)
 }
@@ -30,20 +39,22 @@ fn properties_told(
 fn push_stream(
     alloc: Global,
     number: u8,
-    settings: &Settings,
+    settings: &HeldSettings,
     streams: &mut Items<StreamReply>,
 ) -> Result<(), NoMemory>
     requires first { 1 ≤ number }
     requires last { number ≤ 4 }
     ensures { OnOk result (streams.new ≡ streams.old ++ stream_told number (at_number number settings.now.streams)) }
 {
-    let Some(stream) = settings.stream(number) else {
+    let Some(seen) = settings.stream(number) else {
         return Ok(());
     };
+    let stream = seen.stream;
+    let list = stream.properties.as_slice();
     streams.push(StreamReply {
         number,
         mode: stream.mode,
-        properties: properties_told(alloc, stream.properties.as_slice())?,
+        properties: properties_told(alloc, seen.kept, seen.own, list)?,
         local: stream.local.told(alloc)?,
         remote: stream.remote.told(alloc)?,
     })?;
@@ -53,7 +64,7 @@ fn push_stream(
 /// The streams that are there go last.
 fn push_streams(
     alloc: Global,
-    settings: &Settings,
+    settings: &HeldSettings,
     streams: &mut Items<StreamReply>,
 ) -> Result<(), NoMemory>
     ensures { OnOk result (streams.new ≡ streams.old ++ rising stream_told settings.now.streams) }
@@ -67,7 +78,8 @@ fn push_streams(
 fn media_told(alloc: Global, termination: &Termination) -> Result<MediaReply, NoMemory>
     ensures { IfOk result (λ media. media ≡ media_told termination.now) }
 {
-    let properties = properties_told(alloc, termination.settings.properties())?;
+    let over = termination.settings.properties();
+    let properties = properties_told(alloc, over.kept, over.own, over.list)?;
     let mut streams = Items::new(alloc);
     push_streams(alloc, &termination.settings, &mut streams)?;
     Ok(MediaReply {
@@ -78,7 +90,7 @@ fn media_told(alloc: Global, termination: &Termination) -> Result<MediaReply, No
 }
 
 /// The tail of this kind, or the bare word where there is none.
-fn tail_told(alloc: Global, kind: KeptKind, settings: &Settings) -> Result<ReplyPart, NoMemory>
+fn tail_told(alloc: Global, kind: KeptKind, settings: &HeldSettings) -> Result<ReplyPart, NoMemory>
     ensures { IfOk result (λ part. part ≡ tail_told kind (at_kind kind settings.now.tails)) }
 {
     match settings.tail(kind) {

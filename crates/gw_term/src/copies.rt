@@ -3,12 +3,23 @@
 ghost use Rattle.std.specs.Prelude.{◌≡◌, IfOk};
 
 use crate::held::HeldProperty;
+use crate::properties::MOST_PROPERTIES;
 use crate::record::{Stream, Termination};
 use crate::text::Copying;
 use gw_base::{Items, NoMemory};
 use std::alloc::{AllocError, Global};
 
-/// A copy of the properties, with no room for more. Where there are none, it takes no memory.
+/// How many properties a copy of a list has room for: one more where it is going to be changed, unless it is full.
+#[inline(always)]
+fn room_of(properties: &[HeldProperty], copying: Copying) -> usize {
+    match copying {
+        Copying::Once | Copying::ForMany => properties.len(),
+        Copying::ToChange => MOST_PROPERTIES.min(properties.len() + 1),
+    }
+}
+
+/// A copy of the properties, with no room for more, or for one more where they are going to be changed. Where there are none, it takes no
+/// memory.
 #[inline(always)]
 pub(crate) fn copied_properties(
     alloc: Global,
@@ -20,7 +31,7 @@ pub(crate) fn copied_properties(
     if properties.is_empty() {
         return Ok(Items::new(alloc));
     }
-    let mut copy = Vec::with_capacity(alloc, properties.len())?;
+    let mut copy = Vec::with_capacity(alloc, room_of(properties, copying))?;
     for property in properties {
         copy.push(property.copied(alloc, copying)?)?;
     }
@@ -56,6 +67,7 @@ pub(crate) fn put<T: Drop>(place: &mut T, value: T)
 }
 
 /// A copy of all that is kept of a termination.
+#[inline(always)]
 fn copied_termination(alloc: Global, old: &Termination) -> Result<Termination, AllocError>
     ensures { IfOk result (λ copy. copy ≡ old.now) }
 {
@@ -82,6 +94,7 @@ impl Termination {
     /// # Errors
     ///
     /// Want of memory.
+    #[inline(always)]
     pub fn copy(&self, alloc: Global) -> Result<Termination, NoMemory>
         ensures { IfOk result (λ copy. copy ≡ self.now) }
     {

@@ -2,54 +2,125 @@
 
 ghost use Rattle.std.specs.Prelude.{◌≤◌, ◌++◌, codes, length, Some};
 ghost use Rattle.std.specs.List.{flat_map};
+ghost use Rattle.std.specs.Option.{option_copied};
 ghost use Rattle.gw_length.specs.Rooms.{Leaves};
 ghost use Rattle.gw_reply.specs.Lists.{later};
-ghost use Rattle.gw_reply.specs.Parts.{control_text, later_octets, media_text, part_text, stream_text};
+ghost use Rattle.gw_reply.specs.Parts.{control_text, later_octets, media_text, part_text, property_text, state_text, stream_text};
 ghost use Rattle.gw_term.specs.Audit.{stream_told, media_told, tail_told, item_told, word_told};
+ghost use Rattle.gw_term.specs.Grafts.{graft, over};
 ghost use Rattle.gw_term.specs.Places.{at_number, at_kind, rising};
 
+use crate::grafts::next_over;
+use crate::held::{HeldProperty, HeldTail};
+use crate::held_settings::HeldSettings;
 use crate::record::{Stream, Termination};
-use crate::settings::{Setting, Settings};
-use gw_base::Span;
-use gw_desc::{AuditItem, AuditItems, KeptKind, item_of};
+use crate::settings::Setting;
+use gw_base::{Service, Span};
+use gw_desc::{AuditItem, AuditItems, KeptKind, Mode, item_of};
 use gw_length::{Length, behind, behind_control, behind_state, item_length, kind_length};
 
-/// Behind what stands between the braces of a stream.
-fn behind_parts(room: usize, stream: &Stream) -> Option<usize>
-    ensures { Leaves result room (length (control_text stream.now.mode stream.now.properties ++ later_octets (codes "Local") stream.now.local ++ later_octets (codes "Remote") stream.now.remote)) }
+/// Behind the properties of a list, each with a comma before it, with those of another in the places that are kept.
+fn behind_over(
+    room: usize,
+    kept: &[bool],
+    own: &[HeldProperty],
+    list: &[HeldProperty],
+) -> Option<usize>
+    ensures { Leaves result room (length (later property_text (over kept.now own.now list.now))) }
 {
-    let left = behind_control(room, stream.mode, stream.properties.as_slice())?;
+    let mut left = room;
+    let mut flags = kept;
+    let mut others = own;
+    let mut rest = list;
+    while let Some((property, rest_behind)) = rest.split_first() {
+        let (from, flags_behind, others_behind) = next_over(flags, others, property);
+        left = from.room_behind(behind(left, 1)?)?;
+        flags = flags_behind;
+        others = others_behind;
+        rest = rest_behind;
+    }
+    Some(left)
+}
+
+/// Behind a LocalControl with these, where some may be kept of others.
+fn behind_control_over(
+    room: usize,
+    mode: Mode,
+    kept: &[bool],
+    own: &[HeldProperty],
+    list: &[HeldProperty],
+) -> Option<usize>
+    ensures { Leaves result room (length (control_text mode (over kept.now own.now list.now))) }
+{
+    if kept.is_empty() {
+        return behind_control(room, mode, list);
+    }
+    let none: &[HeldProperty] = &[];
+    behind_over(behind_control(room, mode, none)?, kept, own, list)
+}
+
+/// Behind a TerminationState with these.
+fn behind_state_over(
+    room: usize,
+    service: Service,
+    kept: &[bool],
+    own: &[HeldProperty],
+    list: &[HeldProperty],
+) -> Option<usize>
+    ensures { Leaves result room (length (state_text service (over kept.now own.now list.now))) }
+{
+    if kept.is_empty() {
+        return behind_state(room, service, list);
+    }
+    let none: &[HeldProperty] = &[];
+    behind_over(behind_state(room, service, none)?, kept, own, list)
+}
+
+/// Behind what stands between the braces of a stream, where properties may be kept of a list.
+fn behind_parts(room: usize, kept: &[bool], own: &[HeldProperty], stream: &Stream) -> Option<usize>
+    ensures { Leaves result room (length (control_text stream.now.mode (over kept.now own.now stream.now.properties) ++ later_octets (codes "Local") stream.now.local ++ later_octets (codes "Remote") stream.now.remote)) }
+{
+    let list = stream.properties.as_slice();
+    let left = behind_control_over(room, stream.mode, kept, own, list)?;
     let left = stream.local.room_behind(left, b"Local")?;
     stream.remote.room_behind(left, b"Remote")
 }
 
-/// Behind a comma and the stream, whose number has one digit.
-fn behind_stream(room: usize, number: u8, stream: &Stream) -> Option<usize>
+/// Behind a comma and the stream, whose number has one digit, where properties may be kept of a list.
+pub(crate) fn behind_stream(
+    room: usize,
+    number: u8,
+    kept: &[bool],
+    own: &[HeldProperty],
+    stream: &Stream,
+) -> Option<usize>
     requires first { 1 ≤ number }
     requires last { number ≤ 4 }
-    ensures { Leaves result room (length (later stream_text (stream_told number (Some stream.now)))) }
+    ensures { Leaves result room (length (later stream_text (stream_told number (Some (graft kept.now own.now stream.now))))) }
 {
-    behind_parts(behind(room, b",Stream=1{}".len())?, stream)
+    behind_parts(behind(room, b",Stream=1{}".len())?, kept, own, stream)
 }
 
 /// Behind a comma and the stream of this number, if it is there.
-fn behind_numbered(room: usize, number: u8, settings: &Settings) -> Option<usize>
+fn behind_numbered(room: usize, number: u8, settings: &HeldSettings) -> Option<usize>
     requires first { 1 ≤ number }
     requires last { number ≤ 4 }
     ensures { Leaves result room (length (later stream_text (stream_told number (at_number number settings.now.streams)))) }
 {
     match settings.stream(number) {
-        Some(stream) => behind_stream(room, number, stream),
+        Some(seen) => behind_stream(room, number, seen.kept, seen.own, seen.stream),
         None => Some(room),
     }
 }
 
 /// Behind the streams that are there, each with a comma before it. Of most terminations nothing but the stream 1 was set.
-fn behind_streams(room: usize, settings: &Settings) -> Option<usize>
+fn behind_streams(room: usize, settings: &HeldSettings) -> Option<usize>
     ensures { Leaves result room (length (later stream_text (rising stream_told settings.now.streams))) }
 {
-    if let [Setting::Stream(1, stream)] = settings.list() {
-        return behind_stream(room, 1, stream);
+    if let Some(whole) = settings.as_whole() {
+        if let [Setting::Stream(1, stream)] = whole.list() {
+            return behind_stream(room, 1, &[], &[], stream);
+        }
     }
     let left = behind_numbered(room, 1, settings)?;
     let left = behind_numbered(left, 2, settings)?;
@@ -62,19 +133,27 @@ fn behind_media(room: usize, termination: &Termination) -> Option<usize>
 {
     let settings = &termination.settings;
     let left = behind(room, b"Media{}".len())?;
-    let left = behind_state(left, termination.service, settings.properties())?;
+    let over = settings.properties();
+    let left = behind_state_over(left, termination.service, over.kept, over.own, over.list)?;
     behind_streams(left, settings)
 }
 
 /// Behind the tail of this kind, or the bare word where there is none.
-fn behind_tail(room: usize, kind: KeptKind, settings: &Settings) -> Option<usize>
-    ensures { Leaves result room (length (part_text (tail_told kind (at_kind kind settings.now.tails)))) }
+pub(crate) fn behind_tail_if(room: usize, kind: KeptKind, tail: Option<&HeldTail>) -> Option<usize>
+    ensures { Leaves result room (length (part_text (tail_told kind (option_copied tail.entry)))) }
 {
     let left = behind(room, kind_length(kind))?;
-    match settings.tail(kind) {
+    match tail {
         Some(tail) => tail.room_behind(left),
         None => Some(left),
     }
+}
+
+/// The same of these settings.
+fn behind_tail(room: usize, kind: KeptKind, settings: &HeldSettings) -> Option<usize>
+    ensures { Leaves result room (length (part_text (tail_told kind (at_kind kind settings.now.tails)))) }
+{
+    behind_tail_if(room, kind, settings.tail(kind))
 }
 
 fn behind_item(room: usize, termination: &Termination, item: AuditItem) -> Option<usize>

@@ -4,7 +4,7 @@
 ghost use Rattle.std.specs.Prelude.{◌≡◌, ◌≤◌, ◌∷◌, ℕ, List, true, false, map, IfOk, IfSome};
 ghost use Rattle.std.specs.List.{list_any};
 ghost use Rattle.gw_desc.specs.declared.descriptor.Property.{Property as PropertyOf};
-ghost use Rattle.gw_term.specs.Grafts.{over, AreOnce, is_kept, kept_places, kept_at, kept_of, AreOnceIn, IsNone, graft, grafted, grafted_at};
+ghost use Rattle.gw_term.specs.Grafts.{over, AreOnce, is_kept, kept_places, kept_at, kept_of, kept_twice, keeps_twice, AreOnceIn, IsNone, graft, grafted, grafted_at};
 ghost use Rattle.gw_term.specs.Lookups.{is_of_name, list_in};
 ghost use Rattle.gw_term.specs.Places.{at_number};
 
@@ -49,8 +49,36 @@ impl Keeps {
             && is_none(self.fourth.as_slice())
     }
 
+    /// Whether they are the same.
+    pub(crate) fn are_same(&self, other: &Keeps) -> bool
+        ensures { result ≡ true → self.now ≡ other.now }
+    {
+        are_same_flags(self.properties.as_slice(), other.properties.as_slice())
+            && are_same_flags(self.first.as_slice(), other.first.as_slice())
+            && are_same_flags(self.second.as_slice(), other.second.as_slice())
+            && are_same_flags(self.third.as_slice(), other.third.as_slice())
+            && are_same_flags(self.fourth.as_slice(), other.fourth.as_slice())
+    }
+
+    /// The places that are kept by these, and then by others.
+    pub(crate) fn twice(&self, alloc: Global, others: &Keeps) -> Result<Keeps, AllocError>
+        ensures { IfOk result (λ keeps. keeps ≡ keeps_twice self.now others.now) }
+    {
+        Ok(Keeps {
+            properties: kept_twice(
+                alloc,
+                self.properties.as_slice(),
+                others.properties.as_slice(),
+            )?,
+            first: kept_twice(alloc, self.first.as_slice(), others.first.as_slice())?,
+            second: kept_twice(alloc, self.second.as_slice(), others.second.as_slice())?,
+            third: kept_twice(alloc, self.third.as_slice(), others.third.as_slice())?,
+            fourth: kept_twice(alloc, self.fourth.as_slice(), others.fourth.as_slice())?,
+        })
+    }
+
     /// Those of the stream of this number.
-    fn stream(&self, number: u8) -> &[bool]
+    pub(crate) fn stream(&self, number: u8) -> &[bool]
         requires first { 1 ≤ number }
         requires last { number ≤ 4 }
         ensures { result.now ≡ kept_at number self.now }
@@ -62,6 +90,31 @@ impl Keeps {
             _ => self.fourth.as_slice(),
         }
     }
+}
+
+/// Whether the same places are kept.
+fn are_same_flags(flags: &[bool], others: &[bool]) -> bool
+    ensures { result ≡ true → flags.now ≡ others.now }
+{
+    flags == others
+}
+
+/// The places of a list that are kept twice in turn.
+fn kept_twice(alloc: Global, kept: &[bool], again: &[bool]) -> Result<Items<bool>, AllocError>
+    ensures { IfOk result (λ both. both ≡ kept_twice kept.now again.now) }
+{
+    let mut both = Vec::with_capacity(alloc, kept.len())?;
+    let mut left = kept;
+    let mut others = again;
+    while let Some((is_kept, left_behind)) = left.split_first() {
+        let Some((is_other, others_behind)) = others.split_first() else {
+            return Ok(Items::from(both));
+        };
+        both.push(*is_kept && *is_other)?;
+        left = left_behind;
+        others = others_behind;
+    }
+    Ok(Items::from(both))
 }
 
 /// Whether each name stands in the list once.
@@ -91,7 +144,7 @@ fn is_among(own: &HeldProperty, made: &[HeldProperty]) -> bool
 }
 
 /// Whether its name is not among those that were made.
-fn is_kept(own: &HeldProperty, made: &[HeldProperty]) -> bool
+pub(crate) fn is_kept(own: &HeldProperty, made: &[HeldProperty]) -> bool
     ensures { result ≡ is_kept made.now own.now }
 {
     !is_among(own, made)
@@ -113,7 +166,7 @@ fn kept_places(
 }
 
 /// The properties of the stream of this number; none where it is not there.
-fn list_of(settings: &Settings, number: u8) -> &[HeldProperty]
+pub(crate) fn list_of(settings: &Settings, number: u8) -> &[HeldProperty]
     requires first { 1 ≤ number }
     requires last { number ≤ 4 }
     ensures { result.now ≡ list_in (at_number number settings.now.streams) }
@@ -188,7 +241,7 @@ pub(crate) fn kept_of(
 /// Of the next place of a list the property that stands there then: that of the other list where it is kept. With it what is left of the
 /// flags and of the other list.
 #[inline(always)]
-fn next_over<'a>(
+pub(crate) fn next_over<'a>(
     flags: &'a [bool],
     others: &'a [HeldProperty],
     property: &'a HeldProperty,
@@ -208,7 +261,7 @@ fn next_over<'a>(
 }
 
 /// The properties of a list, with those of another in the places that are kept.
-fn over(
+pub(crate) fn over(
     alloc: Global,
     kept: &[bool],
     own: &[HeldProperty],
@@ -285,7 +338,7 @@ pub(crate) fn grafted_list(
 }
 
 impl Settings {
-    /// What was made of settings that are alike, with what is kept of these, in a block that copies share.
+    /// What was made of settings that are alike, with what is kept of these: a copy of each list.
     #[inline(never)]
     #[tactic(auto, using(crate::proofs::GraftSettings::grafted_by))]
     pub(crate) fn grafted(
@@ -297,6 +350,6 @@ impl Settings {
         ensures { IfOk result (λ new. new ≡ grafted keeps.now self.now after.now) }
     {
         let list = grafted_list(alloc, keeps, self, after.list())?;
-        Settings::shared(alloc, list, after)
+        Ok(Settings::of(alloc, list))
     }
 }

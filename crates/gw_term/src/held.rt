@@ -1,4 +1,4 @@
-//! What is kept of a property and of a tail, with the texts of each in one block.
+//! What is kept of a property and of a tail, with the texts of each together.
 
 ghost use Rattle.std.specs.Prelude.{◌≡◌, ◌++◌, if◌then◌else◌, true, length, IfOk, OnOk, None, Some};
 ghost use Rattle.gw_length.specs.Rooms.{Leaves};
@@ -10,7 +10,8 @@ ghost use Rattle.gw_term.specs.Prints.{name_print, property_print, tail_print};
 
 use crate::names::{is_same_name, is_same_text};
 use crate::print::Print;
-use crate::text::{Copying, Text};
+use crate::short::Joined;
+use crate::text::Copying;
 use gw_base::{Items, Span};
 use gw_desc::{Property, Sign, Tail};
 use gw_length::{Length, behind};
@@ -18,23 +19,13 @@ use gw_reply::{KeptProperty, KeptTail};
 use std::alloc::{AllocError, Global};
 use std::marker::Model;
 
-/// The two texts, the one behind the other, with no room for more.
-fn joined(alloc: Global, first: &[u8], second: &[u8]) -> Result<Text, AllocError>
-    ensures { IfOk result (λ texts. texts ≡ Some (first.now ++ second.now)) }
-{
-    let mut texts = Vec::with_capacity(alloc, first.len() + second.len())?;
-    texts.extend_from_slice(first)?;
-    texts.extend_from_slice(second)?;
-    Text::from_vec(texts)
-}
-
-/// A property that is kept: its name and its value stand in one block, the name first. Contracts see the property.
+/// A property that is kept: its name and its value stand together, the name first. Contracts see the property.
 #[derive(Drop)]
 pub struct HeldProperty {
     sign: Sign,
     /// That of the name.
-    tag: u32,
-    texts: Text,
+    tag: u64,
+    texts: Joined,
     /// How long the name is: where the value begins.
     split: usize,
 }
@@ -42,14 +33,14 @@ pub struct HeldProperty {
 impl Model for HeldProperty {
     ghost use Rattle.std.specs.Prelude.{◌≡◌, ◌≤◌, ℕ, List, length, take};
     ghost use Rattle.gw_desc.specs.declared.descriptor.Property.{Property as PropertyOf};
-    ghost use Rattle.gw_term.specs.HeldTexts.{split_property, text_of};
+    ghost use Rattle.gw_term.specs.HeldTexts.{split_property};
     ghost use Rattle.gw_term.specs.NameTags.{name_tag};
 
     ghost Value = { PropertyOf (List ℕ) };
 
-    ghost view = { λ p. split_property p.sign p.split (text_of p.texts) };
+    ghost view = { λ p. split_property p.sign p.split p.texts };
 
-    ghost invariant = { λ p. (p.split ≤ length (text_of p.texts)) × (p.tag ≡ name_tag (take p.split (text_of p.texts))) };
+    ghost invariant = { λ p. (p.split ≤ length p.texts) × (p.tag ≡ name_tag (take p.split p.texts)) };
 }
 
 fn is_same_sign(a: Sign, b: Sign) -> bool
@@ -69,7 +60,7 @@ impl HeldProperty {
     pub(crate) fn of(
         alloc: Global,
         name: &[u8],
-        tag: u32,
+        tag: u64,
         sign: Sign,
         value: &[u8],
     ) -> Result<HeldProperty, AllocError>
@@ -79,7 +70,7 @@ impl HeldProperty {
         Ok(HeldProperty {
             sign,
             tag,
-            texts: joined(alloc, name, value)?,
+            texts: Joined::of(alloc, name, value)?,
             split: name.len(),
         })
     }
@@ -113,7 +104,7 @@ impl HeldProperty {
 
     /// The tag of its name.
     #[inline(always)]
-    pub(crate) fn tag(&self) -> u32
+    pub(crate) fn tag(&self) -> u64
         ensures { result ≡ name_tag self.now.name }
     {
         self.tag
@@ -130,7 +121,7 @@ impl HeldProperty {
     /// Whether it is of this name, in any case, which has this tag. Another name mostly has another tag.
     #[inline(always)]
     #[tactic(auto, using(crate::proofs::NameTags::other_names))]
-    pub(crate) fn is_named(&self, tag: u32, name: &[u8]) -> bool
+    pub(crate) fn is_named(&self, tag: u64, name: &[u8]) -> bool
         requires { tag ≡ name_tag name.now }
         ensures { result ≡ is_of_name name.now self.now }
     {
@@ -210,13 +201,13 @@ impl Length for HeldProperty {
     }
 }
 
-/// A tail that is kept: its word and its group stand in one block, the word first. Contracts see the tail.
+/// A tail that is kept: its word and its group stand together, the word first. Contracts see the tail.
 #[derive(Drop)]
 pub struct HeldTail {
     equals: bool,
     has_word: bool,
     has_group: bool,
-    texts: Text,
+    texts: Joined,
     /// How long the word is: where the group begins.
     split: usize,
 }
@@ -224,13 +215,13 @@ pub struct HeldTail {
 impl Model for HeldTail {
     ghost use Rattle.std.specs.Prelude.{◌≤◌, ℕ, List, length};
     ghost use Rattle.gw_desc.specs.declared.descriptor.Tail.{Tail as TailOf};
-    ghost use Rattle.gw_term.specs.HeldTexts.{split_tail, text_of};
+    ghost use Rattle.gw_term.specs.HeldTexts.{split_tail};
 
     ghost Value = { TailOf (List ℕ) };
 
-    ghost view = { λ t. split_tail t.equals t.has_word t.has_group t.split (text_of t.texts) };
+    ghost view = { λ t. split_tail t.equals t.has_word t.has_group t.split t.texts };
 
-    ghost invariant = { λ t. t.split ≤ length (text_of t.texts) };
+    ghost invariant = { λ t. t.split ≤ length t.texts };
 }
 
 /// The text, or none.
@@ -260,7 +251,7 @@ impl HeldTail {
         ensures { IfOk result (λ held. held ≡ tail.now) }
     {
         let word = text_of(&tail.word);
-        let texts = joined(alloc, word, text_of(&tail.group))?;
+        let texts = Joined::of(alloc, word, text_of(&tail.group))?;
         Ok(HeldTail {
             equals: tail.equals,
             has_word: tail.word.is_some(),

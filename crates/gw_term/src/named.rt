@@ -3,6 +3,7 @@
 ghost use Rattle.std.specs.Prelude.{◌≡◌, ◌≤◌, []};
 ghost use Rattle.gw_term.specs.Named.{named_by, has_stream, has_tail, with_descriptor, with_part, with_parts, with_place, with_set};
 
+use crate::held_settings::{HeldForm, HeldSettings};
 use crate::places::{PerKind, PerStream};
 use crate::settings::{Setting, Settings};
 use gw_desc::{Descriptor, MediaPart};
@@ -108,12 +109,22 @@ impl Named {
         }
     }
 
-    /// The streams and tails that were set are named too: these and no others may be there after the descriptors.
-    pub(crate) fn note_set(&mut self, set: &Settings)
+    /// The streams and tails that were set are named too.
+    fn note_settings(&mut self, set: &Settings)
         ensures { self.new ≡ with_set set.now self.old }
     {
         for setting in set.list() {
             self.note_setting(setting);
+        }
+    }
+
+    /// The same: these and no others may be there after the descriptors. Where a graft lies over them, they are those that it has in common.
+    pub(crate) fn note_set(&mut self, set: &HeldSettings)
+        ensures { self.new ≡ with_set set.now self.old }
+    {
+        match &set.form {
+            HeldForm::Whole(settings) => self.note_settings(settings),
+            HeldForm::Grafted(block) => self.note_settings(&block.graft.after),
         }
     }
 

@@ -32,22 +32,24 @@ pub(crate) fn is_same_name(name: &[u8], other: &[u8]) -> bool
     is_same_text(front, other_front)
 }
 
-/// The prime of FNV-1a for 32 bits, and how many tags there are.
-const PRIME: u64 = 16_777_619;
+/// What a tag is multiplied with for each byte: odd, and of 64 bits.
+const FACTOR: u64 = 11_400_714_819_323_198_485;
 
-const TAGS: u64 = 4_294_967_296;
+/// How many bits are carried from its upper half to its lower one.
+const CARRIED: u32 = 29;
 
-/// The tag with a byte behind it.
+/// The tag with a byte behind it. Its upper bits are carried down each time, so that no sum of the bytes tells it.
 #[inline(always)]
-fn with_byte(tag: u32, byte: u8) -> u32
+fn with_byte(tag: u64, byte: u8) -> u64
     ensures { result ≡ with_byte tag byte }
 {
-    ((u64::from(tag) * PRIME + u64::from(byte % 32)) % TAGS) as u32
+    let new = tag.wrapping_mul(FACTOR).wrapping_add(u64::from(byte % 32));
+    new ^ (new >> CARRIED)
 }
 
 /// The tag of a name, which is the same in any case. The work is linear in the name.
 #[tactic(auto, unfolding(crate::specs::NameTags::name_tag))]
-pub(crate) fn name_tag(name: &[u8]) -> u32
+pub(crate) fn name_tag(name: &[u8]) -> u64
     ensures { result ≡ name_tag name.now }
 {
     let mut tag = 0;

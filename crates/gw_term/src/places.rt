@@ -58,4 +58,16 @@ impl<T: Copy + Drop> PerKind<T> {
             KeptKind::EventBuffer => self.event_buffer = value,
         }
     }
+
+    /// What stands in the place of a kind.
+    pub(crate) fn at(&self, kind: KeptKind) -> T
+        ensures { result ≡ at_kind kind self.now }
+    {
+        match kind {
+            KeptKind::Events => self.events,
+            KeptKind::Signals => self.signals,
+            KeptKind::DigitMap => self.digit_map,
+            KeptKind::EventBuffer => self.event_buffer,
+        }
+    }
 }

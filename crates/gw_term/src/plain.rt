@@ -1,6 +1,6 @@
 //! Descriptors that surely fill nothing, and a merge where the record lies.
 
-ghost use Rattle.std.specs.Prelude.{◌≡◌, ◌≤◌, true, false, [], length, map, None, Some, IfSome, OnOk};
+ghost use Rattle.std.specs.Prelude.{◌≡◌, ◌≤◌, true, false, [], length, map, None, Some, IfOk, IfSome, OnOk, OnErr};
 ghost use Rattle.std.specs.List.{flat_map, list_all, list_any};
 ghost use Rattle.std.specs.Option.{is_some, option_map};
 ghost use Rattle.gw_desc.specs.Checks.{is_kept};
@@ -13,6 +13,7 @@ ghost use Rattle.gw_term.specs.Plain.{has_choice, is_plain_stream, is_plain_part
 use crate::copies::{copied_stream, put};
 use crate::fault::ApplyFault;
 use crate::held::{HeldProperty, HeldTail};
+use crate::held_settings::{HeldForm, HeldSettings, Over};
 use crate::properties::merged_properties;
 use crate::record::{Stream, Termination};
 use crate::same::is_aligned;
@@ -23,6 +24,7 @@ use crate::text::Copying;
 use gw_base::{Items, NoMemory};
 use gw_desc::{Descriptor, KeptKind, MediaPart, StreamPart, same_kept};
 use std::alloc::{AllocError, Global};
+use std::mem;
 
 /// What leaves a value to the gateway.
 const CHOICE: &[u8] = b"$";
@@ -388,7 +390,8 @@ impl Settings {
         ensures made { OnOk result (merged_properties descriptors.now self.old.properties ≡ Some self.new.properties) }
         ensures after { OnOk result (self.new ≡ with_properties self.new.properties self.old) }
     {
-        let list = merged_properties(alloc, true, descriptors, self.properties())?;
+        let old = Over::all(self.properties());
+        let list = merged_properties(alloc, true, descriptors, old)?;
         self.put_properties(alloc, list)?;
         Ok(())
     }
@@ -538,6 +541,69 @@ impl Settings {
         Ok(())
     }
 
+    /// The properties, each stream and each tail become what they are after the descriptors, in their place.
+    fn merge_here(
+        &mut self,
+        alloc: Global,
+        sending: &Sending<'_, '_>,
+        slot: Option<u16>,
+    ) -> Result<(), NoMemory>
+        requires named { AreKnown sending.now.descriptors.now sending.now.named }
+        requires plain { fill_none sending.now.descriptors.now slot ≡ true }
+        ensures { OnOk result (AreSet sending.now.rules.now slot sending.now.descriptors.now self.old self.new) }
+    {
+        if self.merge_each(alloc, sending, slot).is_err() {
+            return Err(NoMemory);
+        }
+        Ok(())
+    }
+
+    /// The same. Where nothing is left of them, they are what the descriptors make of nothing, or that is laid over them.
+    fn merge_all(
+        &mut self,
+        alloc: Global,
+        sending: &Sending<'_, '_>,
+        slot: Option<u16>,
+    ) -> Result<(), NoMemory>
+        requires named { AreKnown sending.now.descriptors.now sending.now.named }
+        requires plain { fill_none sending.now.descriptors.now slot ≡ true }
+        ensures { OnOk result (AreSet sending.now.rules.now slot sending.now.descriptors.now self.old self.new) }
+    {
+        if let Some(after) = sending.remade_after(alloc, self)? {
+            put(self, after);
+            return Ok(());
+        }
+        if let Some(after) = sending.laid_if_many(alloc, self)? {
+            put(self, after);
+            return Ok(());
+        }
+        self.merge_here(alloc, sending, slot)
+    }
+}
+
+impl HeldSettings {
+    /// The properties, each stream and each tail become what they are after the descriptors, which is not known. Where a graft lies over them,
+    /// they are made whole.
+    fn merge_unknown(
+        &mut self,
+        alloc: Global,
+        sending: &Sending<'_, '_>,
+        slot: Option<u16>,
+    ) -> Result<(), NoMemory>
+        requires named { AreKnown sending.now.descriptors.now sending.now.named }
+        requires plain { fill_none sending.now.descriptors.now slot ≡ true }
+        ensures { OnOk result (AreSet sending.now.rules.now slot sending.now.descriptors.now self.old self.new) }
+    {
+        if let HeldForm::Whole(settings) = &mut self.form {
+            return settings.merge_here(alloc, sending, slot);
+        }
+        self.form.flatten(alloc)?;
+        match &mut self.form {
+            HeldForm::Whole(settings) => settings.merge_all(alloc, sending, slot),
+            HeldForm::Grafted(_) => unreachable!(),
+        }
+    }
+
     /// The same. Where it is known what they will be, they are that.
     #[inline]
     fn merge_all(
@@ -545,7 +611,7 @@ impl Settings {
         alloc: Global,
         sending: &Sending<'_, '_>,
         slot: Option<u16>,
-        known: Option<Settings>,
+        known: Option<HeldSettings>,
     ) -> Result<(), NoMemory>
         requires named { AreKnown sending.now.descriptors.now sending.now.named }
         requires plain { fill_none sending.now.descriptors.now slot ≡ true }
@@ -556,10 +622,7 @@ impl Settings {
             put(self, after);
             return Ok(());
         }
-        if self.merge_each(alloc, sending, slot).is_err() {
-            return Err(NoMemory);
-        }
-        Ok(())
+        self.merge_unknown(alloc, sending, slot)
     }
 }
 
@@ -572,7 +635,7 @@ impl Termination {
         &mut self,
         alloc: Global,
         sending: &Sending<'_, '_>,
-        known: Option<Settings>,
+        known: Option<HeldSettings>,
     ) -> Result<(), NoMemory>
         requires named { AreKnown sending.now.descriptors.now sending.now.named }
         requires plain { fill_none sending.now.descriptors.now self.old.slot ≡ true }
@@ -622,7 +685,26 @@ impl Termination {
         self.merge_known(alloc, sending, known)
     }
 
-    /// The same, and where others share what was set of the termination, what the descriptors make of that is learnt, once for all of these,
+    /// The same, where it is not known what they make of it: that is not asked again.
+    ///
+    /// # Errors
+    ///
+    /// Want of memory. Nothing is known then of what is kept of the termination.
+    pub fn merge_unknown(
+        &mut self,
+        alloc: Global,
+        sending: &Sending<'_, '_>,
+    ) -> Result<(), NoMemory>
+        requires { AreKnown sending.now.descriptors.now sending.now.named }
+        ensures { OnOk result (merged sending.now.rules.now sending.now.descriptors.now self.old ≡ Some self.new) }
+    {
+        if !sending.fills_none(self.slot) {
+            return self.merge_filling(alloc, sending);
+        }
+        self.merge_known(alloc, sending, None)
+    }
+
+    /// The same as [`Termination::merge_sending`], and where others share what was set of the termination, what the descriptors make of that is learnt, once for all of these,
     /// while few were learnt.
     ///
     /// # Errors
@@ -642,5 +724,38 @@ impl Termination {
         }
         let known = sending.learnt_after(alloc, &self.settings)?;
         self.merge_known(alloc, sending, known)
+    }
+
+    /// The termination becomes its record after the descriptors, as by [`Termination::merge_sending`], if it is known what was set of it
+    /// then: nothing was set of it before, it was learnt, or nothing is left of that. Answers its record as it was, which is moved and not
+    /// copied; where none is answered it is as it was.
+    ///
+    /// # Errors
+    ///
+    /// Want of memory. The termination is as it was.
+    pub fn swap_known(
+        &mut self,
+        alloc: Global,
+        sending: &Sending<'_, '_>,
+    ) -> Result<Option<Termination>, NoMemory>
+        requires { AreKnown sending.now.descriptors.now sending.now.named }
+        ensures before { IfOk result (λ known. IfSome known (λ before. before ≡ self.old)) }
+        ensures merged { IfOk result (λ known. is_some known ≡ true → merged sending.now.rules.now sending.now.descriptors.now self.old ≡ Some self.new) }
+        ensures stays { IfOk result (λ known. is_some known ≡ false → self.new ≡ self.old) }
+        ensures err { OnErr result (self.new ≡ self.old) }
+    {
+        if !sending.fills_none(self.slot) {
+            return Ok(None);
+        }
+        let Some(settings) = sending.known_after(alloc, &self.settings)? else {
+            return Ok(None);
+        };
+        let after = Termination {
+            place: self.place,
+            service: sending.service_after(self.service),
+            slot: self.slot,
+            settings,
+        };
+        Ok(Some(mem::replace(self, after)))
     }
 }

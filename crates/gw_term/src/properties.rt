@@ -6,10 +6,11 @@ ghost use Rattle.gw_term.specs.Named.{has_states};
 ghost use Rattle.gw_term.specs.NameTags.{name_tag};
 ghost use Rattle.gw_term.specs.Merge.{property_place, put_property, put_state, service_after, last_service, merged_service, merged_properties, states_in, states_in_part, media_parts, each};
 ghost use Rattle.gw_term.specs.Applies.{Becomes, Yields};
+ghost use Rattle.gw_term.specs.Grafts.{over};
 
-use crate::copies::copied_properties;
 use crate::fault::ApplyFault;
 use crate::held::HeldProperty;
+use crate::held_settings::Over;
 use crate::names::name_tag;
 use crate::text::Copying;
 use gw_base::{Code, Items, Service, Span};
@@ -20,7 +21,7 @@ use std::alloc::{AllocError, Global};
 pub const MOST_PROPERTIES: usize = 32;
 
 /// The place of the property of this name, which has this tag, in any case, or the length of the list.
-fn property_place(tag: u32, name: &[u8], list: &[HeldProperty]) -> usize
+pub(crate) fn property_place(tag: u64, name: &[u8], list: &[HeldProperty]) -> usize
     requires { tag ≡ name_tag name.now }
     ensures value { result ≡ property_place name.now list.now }
     ensures within { result ≤ length list.now }
@@ -70,7 +71,7 @@ fn made_already<'a>(
 }
 
 /// The tag of the property's name: that of the property as it was made already, if it was.
-fn tag_for(property: &Property<Span<'_>>, own: Option<&HeldProperty>) -> u32
+fn tag_for(property: &Property<Span<'_>>, own: Option<&HeldProperty>) -> u64
     requires { IfSome own (λ own. own.now ≡ property.now) }
     ensures { result ≡ name_tag property.now.name }
 {
@@ -85,7 +86,7 @@ fn tag_for(property: &Property<Span<'_>>, own: Option<&HeldProperty>) -> u32
 fn held(
     alloc: Global,
     property: &Property<Span<'_>>,
-    tag: u32,
+    tag: u64,
     own: Option<&HeldProperty>,
 ) -> Result<HeldProperty, AllocError>
     requires tagged { tag ≡ name_tag property.now.name }
@@ -210,15 +211,15 @@ pub(crate) fn merged_properties(
     alloc: Global,
     is_named: bool,
     descriptors: &[Descriptor<'_>],
-    old: &[HeldProperty],
+    old: Over<'_>,
 ) -> Result<Items<HeldProperty>, ApplyFault>
     requires { is_named ≡ list_any has_states descriptors.now }
-    ensures { Yields result (merged_properties descriptors.now old.now) }
+    ensures { Yields result (merged_properties descriptors.now (over old.entry.kept.now old.entry.own.now old.entry.list.now)) }
 {
-    if !is_named && old.is_empty() {
+    if !is_named && old.list.is_empty() {
         return Ok(Items::new(alloc));
     }
-    let mut list = copied_properties(alloc, old, Copying::Once)?;
+    let mut list = old.copied(alloc)?;
     if is_named {
         put_all_states(alloc, descriptors, &mut list)?;
     }

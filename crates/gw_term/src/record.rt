@@ -3,6 +3,7 @@
 ghost use Rattle.std.specs.Prelude.{◌≡◌};
 
 use crate::held::HeldProperty;
+use crate::held_settings::HeldSettings;
 use crate::settings::Settings;
 use crate::text::Text;
 use gw_base::{CtxNum, Items, Service};
@@ -42,7 +43,7 @@ pub struct Termination {
     /// Its slot, below 4,096, if it is an ephemeral one.
     pub slot: Option<u16>,
     /// What was set of it: properties, streams and tails.
-    pub settings: Settings,
+    pub settings: HeldSettings,
 }
 
 // As for a stream.
@@ -73,7 +74,7 @@ impl Termination {
             place,
             service,
             slot,
-            settings: Settings::new(alloc),
+            settings: HeldSettings::new(alloc),
         }
     }
 
@@ -92,7 +93,7 @@ impl Termination {
             place: None,
             service: Service::InService,
             slot: None,
-            settings,
+            settings: HeldSettings::whole(settings),
         }
     }
 
@@ -104,7 +105,7 @@ impl Termination {
     }
 
     /// What was set of it.
-    pub(crate) fn into_settings(self) -> Settings
+    pub(crate) fn into_settings(self) -> HeldSettings
         ensures { result ≡ self.settings }
     {
         let Termination {

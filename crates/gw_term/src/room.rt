@@ -1,6 +1,6 @@
 //! Whether every list of a record has room for the properties that descriptors send.
 
-ghost use Rattle.std.specs.Prelude.{◌≡◌, ◌≤◌, ◌+◌, [], true, not, length, All, IfSome};
+ghost use Rattle.std.specs.Prelude.{◌≡◌, ◌≤◌, ◌+◌, [], true, not, length, All, IfOk, IfSome};
 ghost use Rattle.std.specs.List.{filter, flat_map, list_any};
 ghost use Rattle.gw_desc.specs.Values.{is_mode, is_service_states};
 ghost use Rattle.gw_term.specs.Lookups.{is_of_name, controls_in, controls_sent, states_sent};
@@ -10,15 +10,17 @@ ghost use Rattle.gw_term.specs.Room.{is_new_to, new_to, stream_sent, IsRoomFor, 
 ghost use Rattle.gw_term.specs.Settings.{nothing_set};
 
 use crate::held::HeldProperty;
+use crate::held_settings::{HeldForm, HeldSettings};
 use crate::names::name_tag;
 use crate::properties::{MOST_PROPERTIES, media_parts};
 use crate::record::Termination;
-use crate::settings::Setting;
+use crate::settings::{Setting, Settings};
 use gw_base::Span;
 use gw_desc::{Descriptor, MediaPart, Property, StreamPart, is_mode, is_service_states};
+use std::alloc::{AllocError, Global};
 
 /// Whether a property of the list has this name, which has this tag, in any case.
-pub(crate) fn has_name(list: &[HeldProperty], tag: u32, name: &[u8]) -> bool
+pub(crate) fn has_name(list: &[HeldProperty], tag: u64, name: &[u8]) -> bool
     requires { tag ≡ name_tag name.now }
     ensures { result ≡ list_any (is_of_name name.now) list.now }
 {
@@ -274,19 +276,56 @@ fn have_room(most: usize, settings: &[Setting]) -> bool
     true
 }
 
+impl Settings {
+    /// Whether no list of these has more than so many properties.
+    fn have_room(&self, most: usize) -> bool
+        ensures { result ≡ true → HasRoom most self.now }
+    {
+        have_room(most, self.list())
+    }
+
+    /// Whether each list of these has room for what the descriptors send for it that is new to it.
+    fn have_space(&self, descriptors: &[Descriptor<'_>]) -> bool
+        ensures { result ≡ true → HasSpace descriptors.now self.now }
+    {
+        have_space(descriptors, self.list())
+    }
+}
+
+impl HeldSettings {
+    /// Whether no list of these has more than so many properties: a graft that lies over a list leaves it as long as it is.
+    fn have_room(&self, most: usize) -> bool
+        ensures { result ≡ true → HasRoom most self.now }
+    {
+        match &self.form {
+            HeldForm::Whole(settings) => settings.have_room(most),
+            HeldForm::Grafted(block) => block.graft.after.have_room(most),
+        }
+    }
+}
+
 impl Termination {
     /// Whether no list of the record has more than so many properties: by [`room_for`], whether it takes descriptors whatever of what they
     /// send is new. The work is one pass over what was set, 9 settings at most.
     pub fn has_room(&self, most: usize) -> bool
         ensures { result ≡ true → HasRoom most self.now.settings }
     {
-        have_room(most, self.settings.list())
+        self.settings.have_room(most)
     }
+
     /// Whether each list of the record has room for what the descriptors send for it that is new to it: then it takes them. The work is that
     /// of looking at each property that they send, in the list that it is sent for.
-    pub(crate) fn has_space(&self, descriptors: &[Descriptor<'_>]) -> bool
-        ensures { result ≡ true → HasSpace descriptors.now self.now.settings }
+    pub(crate) fn has_space(
+        &self,
+        alloc: Global,
+        descriptors: &[Descriptor<'_>],
+    ) -> Result<bool, AllocError>
+        ensures { IfOk result (λ has. has ≡ true → HasSpace descriptors.now self.now.settings) }
     {
-        have_space(descriptors, self.settings.list())
+        if let Some(settings) = self.settings.as_whole() {
+            return Ok(settings.have_space(descriptors));
+        }
+        let settings = self.settings.to_whole(alloc)?;
+        Ok(settings.have_space(descriptors))
     }
 }

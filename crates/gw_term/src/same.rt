@@ -10,7 +10,7 @@ use crate::record::Stream;
 use crate::settings::{Form, Setting, Settings};
 use gw_desc::{Mode, same_kept};
 
-fn is_same_mode(a: Mode, b: Mode) -> bool
+pub(crate) fn is_same_mode(a: Mode, b: Mode) -> bool
     ensures { result ≡ true → a ≡ b }
 {
     matches!(
@@ -107,7 +107,8 @@ fn is_same_setting(setting: &Setting, other: &Setting) -> bool
     }
 }
 
-/// Whether they are the same settings in the same order.
+/// Whether they are the same settings in the same order. Not inlined, since prints mostly tell it.
+#[inline(never)]
 fn are_same_settings(settings: &[Setting], others: &[Setting]) -> bool
     ensures { result ≡ true → settings.now ≡ others.now }
 {
@@ -140,6 +141,7 @@ impl Form {
     }
 
     /// Whether they are the same settings in the same order. Of two that have prints only these are compared.
+    #[inline(always)]
     fn is_same(&self, other: &Form) -> bool
         ensures { result ≡ true → settings_in self.now ≡ settings_in other.now }
     {
@@ -152,7 +154,7 @@ impl Form {
 
 impl Settings {
     /// Whether the same was set in the same order. It may not be found where the same was set in another order.
-    #[inline]
+    #[inline(always)]
     pub(crate) fn is_same(&self, other: &Settings) -> bool
         ensures { result ≡ true → self.now ≡ other.now }
     {

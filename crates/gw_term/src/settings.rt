@@ -131,7 +131,7 @@ fn copied_form(alloc: Global, list: &[Setting], copying: Copying) -> Result<Form
     }
     let copy = copied_list(alloc, list, list.len(), copying)?;
     match copying {
-        Copying::Once => Ok(Form::Own(copy)),
+        Copying::Once | Copying::ToChange => Ok(Form::Own(copy)),
         Copying::ForMany => {
             let shared = SharedSettings::printed(alloc, copy)?;
             Ok(Form::Shared(Arc::new(alloc, shared)?))
@@ -153,7 +153,8 @@ impl Form {
         }
     }
 
-    /// Settings that are shared are copied into a block of their own, with room for one more; their texts stay shared.
+    /// Settings that are shared are copied into a block of their own, with room for one more, and so has each list of properties; their texts
+    /// stay shared.
     #[inline]
     pub(crate) fn own(&mut self, alloc: Global) -> Result<(), AllocError>
         ensures settings { OnOk result (settings_in self.new ≡ settings_in self.old) }
@@ -161,7 +162,7 @@ impl Form {
     {
         if let Form::Shared(block) = self {
             let list = block.as_slice();
-            *self = Form::Own(copied_list(alloc, list, list.len() + 1, Copying::Once)?);
+            *self = Form::Own(copied_list(alloc, list, list.len() + 1, Copying::ToChange)?);
         }
         Ok(())
     }
@@ -244,6 +245,15 @@ impl Settings {
         }
     }
 
+    /// The mark of their shape, or nothing.
+    #[inline(always)]
+    pub(crate) fn mark(&self) -> u32 {
+        match &self.form {
+            Form::Own(_) => 0,
+            Form::Shared(block) => block.mark(),
+        }
+    }
+
     /// They lie in a block that copies share, without a print: so it takes a count to copy them. Where nothing is set, there is no block. The
     /// print of their shape is that of what was set before, if it is the same.
     pub(crate) fn share(&mut self, before: &Settings) -> Result<(), AllocError>
@@ -259,17 +269,14 @@ impl Settings {
         Ok(())
     }
 
-    /// These settings, in a block that copies share, without a print. That of their shape is shared with others, if it is the same.
-    pub(crate) fn shared(
-        alloc: Global,
-        list: Vec<Setting>,
-        others: &Settings,
-    ) -> Result<Settings, AllocError>
-        ensures { IfOk result (λ settings. settings ≡ set_by list.items) }
+    /// These settings, in a block of their own.
+    pub(crate) fn of(alloc: Global, list: Vec<Setting>) -> Settings
+        ensures { result ≡ set_by list.items }
     {
-        let block = SharedSettings::unprinted(alloc, list, others.shape())?;
-        let form = Form::Shared(Arc::new(alloc, block)?);
-        Ok(Settings { alloc, form })
+        Settings {
+            alloc,
+            form: Form::Own(list),
+        }
     }
 
     /// A copy, with no room for more: of settings that are shared the same block, and of others a block as is told.

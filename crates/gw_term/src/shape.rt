@@ -118,3 +118,35 @@ pub(crate) fn shape_if_many(
     }
     shape_if_short(alloc, list, known)
 }
+
+/// How many marks there are.
+const MARKS: u64 = 4_294_967_296;
+
+/// A mark with those of the names of properties behind it.
+fn with_names(mark: u32, properties: &[HeldProperty]) -> u32 {
+    let mut new = mark;
+    for property in properties {
+        new = new.rotate_left(5) ^ (property.tag() % MARKS) as u32;
+    }
+    new
+}
+
+/// A mark with that of a setting behind it.
+fn with_setting(mark: u32, setting: &Setting) -> u32 {
+    match setting {
+        Setting::Properties(list) => with_names(mark, list.as_slice()),
+        Setting::Stream(_, stream) => with_names(mark, stream.properties.as_slice()),
+        Setting::Tail(_, _) => mark,
+    }
+}
+
+/// The mark of a shape, if it has a print: settings of another mark have other names, or have them in another order. Else nothing.
+pub(crate) fn mark_if(is_printed: bool, list: &[Setting]) -> u32 {
+    let mut mark = 0;
+    if is_printed {
+        for setting in list {
+            mark = with_setting(mark, setting);
+        }
+    }
+    mark
+}

@@ -9,7 +9,7 @@ use crate::held::HeldProperty;
 use crate::print::Print;
 use crate::record::Stream;
 use crate::settings::Setting;
-use crate::shape::shape_if_many;
+use crate::shape::{mark_if, shape_if_many};
 use std::alloc::{AllocError, Global};
 use std::marker::Model;
 use std::sync::Arc;
@@ -80,6 +80,7 @@ pub struct SharedSettings {
     list: Vec<Setting>,
     print: Option<Arc<Print>>,
     shape: Option<Arc<Print>>,
+    mark: u32,
 }
 
 // By hand, as that of a setting; it stands where a block is let go, and there alone.
@@ -90,6 +91,7 @@ impl Drop for SharedSettings {
             list: _,
             print: _,
             shape: _,
+            mark: _,
         } = self;
     }
 }
@@ -114,10 +116,12 @@ impl SharedSettings {
     {
         let print = print_of(alloc, list.as_slice())?;
         let shape = shape_if_many(alloc, list.as_slice(), None)?;
+        let mark = mark_if(shape.is_some(), list.as_slice());
         Ok(SharedSettings {
             list,
             print: Some(Arc::new(alloc, print)?),
             shape,
+            mark,
         })
     }
 
@@ -130,16 +134,24 @@ impl SharedSettings {
         ensures { IfOk result (λ shared. shared ≡ list.items) }
     {
         let shape = shape_if_many(alloc, list.as_slice(), known)?;
+        let mark = mark_if(shape.is_some(), list.as_slice());
         Ok(SharedSettings {
             list,
             print: None,
             shape,
+            mark,
         })
     }
 
     /// The print of their shape, if it is there.
     pub(crate) fn shape(&self) -> Option<&Arc<Print>> {
         self.shape.as_ref()
+    }
+
+    /// That of their shape, if its print is there: others of another mark mostly are of another shape.
+    #[inline(always)]
+    pub(crate) fn mark(&self) -> u32 {
+        self.mark
     }
 
     /// Whether their print is there.

@@ -1,17 +1,19 @@
 //! Streams: what the parts of a Media do to each.
 
 ghost use Rattle.std.specs.Prelude.{◌≡◌, ◌≤◌, IfOk, OnOk, None, Some, true};
-ghost use Rattle.std.specs.Option.{is_some, option_copied};
+ghost use Rattle.std.specs.Option.{is_some, option_map};
 ghost use Rattle.gw_term.specs.Named.{noted};
 ghost use Rattle.gw_desc.specs.declared.descriptor.StreamPart.TheVariants.{Local};
 ghost use Rattle.std.specs.List.{flat_map, list_any};
 ghost use Rattle.gw_term.specs.Merge.{put_control, local_text, is_filled, put_part, begun, parts_in, parts_in_part, is_named_in, merged_stream, each};
 ghost use Rattle.gw_term.specs.Applies.{Becomes, IsStreamMerged};
+ghost use Rattle.gw_term.specs.Grafts.{graft};
 ghost use Rattle.gw_term.specs.Places.{at_number, put_number};
 
-use crate::copies::{copied_stream, put};
+use crate::copies::put;
 use crate::fault::ApplyFault;
 use crate::held::HeldProperty;
+use crate::held_settings::{HeldSettings, Seen};
 use crate::properties::{media_parts, put_property};
 use crate::record::Stream;
 use crate::settings::{Setting, Settings};
@@ -244,11 +246,11 @@ pub(crate) fn put_all(
 }
 
 /// A copy of the stream, or a new one where there was none: in mode Inactive, and nothing else.
-pub(crate) fn begun(alloc: Global, old: Option<&Stream>) -> Result<Merging, NoMemory>
-    ensures { IfOk result (λ merging. merging ≡ begun (option_copied old.entry)) }
+fn begun(alloc: Global, old: Option<Seen<'_>>) -> Result<Merging, NoMemory>
+    ensures { IfOk result (λ merging. merging ≡ begun (option_map (λ s. graft s.kept.now s.own.now s.stream.now) old.entry)) }
 {
     let stream = match old {
-        Some(stream) => copied_stream(alloc, stream, Copying::Once)?,
+        Some(seen) => seen.copied(alloc)?,
         None => Stream {
             mode: Mode::Inactive,
             properties: Items::new(alloc),
@@ -270,7 +272,7 @@ fn merge_there(
     alloc: Global,
     sent: &Sent<'_, '_, '_>,
     number: u8,
-    old: &Settings,
+    old: &HeldSettings,
     new: &mut Settings,
 ) -> Result<bool, ApplyFault>
     requires first { 1 ≤ number }
@@ -300,7 +302,7 @@ pub(crate) fn merge_stream(
     sent: &Sent<'_, '_, '_>,
     number: u8,
     is_there: bool,
-    old: &Settings,
+    old: &HeldSettings,
     new: &mut Settings,
 ) -> Result<bool, ApplyFault>
     requires first { 1 ≤ number }

@@ -11,6 +11,7 @@ ghost use Rattle.gw_term.specs.Merge.{has_blank_inside, is_blank_group, kept_tai
 
 use crate::copies::put;
 use crate::held::HeldTail;
+use crate::held_settings::HeldSettings;
 use crate::places::PerKind;
 use crate::settings::{Setting, Settings};
 use crate::text::Copying;
@@ -107,7 +108,7 @@ fn merge_there(
     alloc: Global,
     kind: KeptKind,
     descriptors: &[Descriptor<'_>],
-    old: &Settings,
+    old: &HeldSettings,
     new: &mut Settings,
 ) -> Result<(), AllocError>
     requires { at_kind kind new.old.tails ≡ None }
@@ -132,7 +133,7 @@ fn merge_tail(
     kind: KeptKind,
     is_there: bool,
     descriptors: &[Descriptor<'_>],
-    old: &Settings,
+    old: &HeldSettings,
     new: &mut Settings,
 ) -> Result<(), AllocError>
     requires there { is_there ≡ noted (is_some (at_kind kind old.now.tails)) (list_any (is_kept kind) descriptors.now) }
@@ -150,7 +151,7 @@ pub(crate) fn merge_tails(
     alloc: Global,
     there: &PerKind<bool>,
     descriptors: &[Descriptor<'_>],
-    old: &Settings,
+    old: &HeldSettings,
     new: &mut Settings,
 ) -> Result<(), AllocError>
     requires there { there.now ≡ of_kinds (λ kind. noted (is_some (at_kind kind old.now.tails)) (list_any (is_kept kind) descriptors.now)) }

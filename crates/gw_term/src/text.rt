@@ -23,6 +23,8 @@ const LONG: usize = 512;
 pub(crate) enum Copying {
     /// As in what is copied: a text that is shared is shared again, and another is copied into a block of its own.
     Once,
+    /// So too, with room for one property more in each list that is not empty, since the copy is going to be changed.
+    ToChange,
     /// In blocks that copies of the copy share.
     ForMany,
 }
@@ -132,7 +134,9 @@ impl Text {
         let form = match &self.form {
             Form::Missing => Form::Missing,
             Form::Own(block) => match copying {
-                Copying::Once => Form::Own(Vec::from_slice(alloc, block.as_slice())?),
+                Copying::Once | Copying::ToChange => {
+                    Form::Own(Vec::from_slice(alloc, block.as_slice())?)
+                }
                 Copying::ForMany => { Form::Shared(ArcSlice::from_slice(alloc, block.as_slice())?) }
             },
             Form::Shared(block) => Form::Shared(block.clone()?),
@@ -238,6 +242,16 @@ impl Text {
         Ok(())
     }
 
+    /// A copy of this text, or of the other where there is none.
+    pub(crate) fn copied_or(&self, alloc: Global, other: &Text) -> Result<Text, AllocError>
+        ensures { IfOk result (λ copy. copy ≡ option_or self.now other.now) }
+    {
+        match &self.form {
+            Form::Missing => other.copied(alloc, Copying::Once),
+            Form::Own(_) | Form::Shared(_) => self.copied(alloc, Copying::Once),
+        }
+    }
+
     /// The text as it is told, in a block of its own.
     pub(crate) fn told(&self, alloc: Global) -> Result<Option<Items<u8>>, AllocError>
         ensures { IfOk result (λ told. told ≡ self.now) }
@@ -257,6 +271,16 @@ impl Text {
             Form::Missing => Some(room),
             Form::Own(block) => behind_octets(room, word, block.as_slice()),
             Form::Shared(block) => behind_octets(room, word, block.as_slice()),
+        }
+    }
+
+    /// The same of what is seen where this text is put over an old one: that, if this one is not there.
+    pub(crate) fn room_behind_over(&self, room: usize, word: &[u8], old: &Text) -> Option<usize>
+        ensures { Leaves result room (length (later_octets word.now (option_or self.now old.now))) }
+    {
+        match &self.form {
+            Form::Missing => old.room_behind(room, word),
+            Form::Own(_) | Form::Shared(_) => self.room_behind(room, word),
         }
     }
 }

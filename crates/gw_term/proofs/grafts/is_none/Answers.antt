@@ -1,4 +1,4 @@
-use Rattle.std.proofs.Common.{◌≡◌, ◌∙◌, ◌||◌, ap, sym, Bool, false, List, ◌∷◌}
+use Rattle.std.proofs.Common.{◌∙◌, ◌||◌, ap, Bool}
 use Rattle.std.specs.List.{list_any}
 use Rattle.gw_term.proofs.grafts.is_none.Goals as goal
 

@@ -1,0 +1,12 @@
+use Rattle.std.proofs.Common.{Option, sym, subst}
+use Rattle.std.specs.Prelude.{IfSome}
+use Rattle.gw_term.specs.Plain.{AreSet, IsMadeOf}
+use Rattle.gw_term.specs.Settings.{Settings}
+use Rattle.gw_term.proofs.MadeOnce.{made_from}
+use Rattle.gw_term.proofs.held_settings.HeldSettings.merge_all.Goals as goal
+
+pub returns-in-Some : goal.returns-in-Some
+returns-in-Some c =
+    let a = c.args.sending.now in
+    let made : IsMadeOf a.rules.now a.descriptors.now c.args.self.now c.in-Some.after = subst (λ (o : Option Settings). IfSome o (IsMadeOf a.rules.now a.descriptors.now c.args.self.now)) c.in-Some.is c.requires.known in
+    subst (λ (s : Settings). AreSet a.rules.now c.args.slot a.descriptors.now c.args.self.now s) (sym c.put.ensures) (made_from a.rules.now c.args.slot a.descriptors.now c.requires.plain c.args.self.now c.in-Some.after made)
