@@ -10,7 +10,7 @@ use Rattle.gw_reply.specs.Replies.{action_reply_text, command_reply_text, framed
 use Rattle.gw_reply.specs.declared.context_parts.ContextPart.{ContextPart}
 use Rattle.gw_reply.specs.declared.reply.ActionReply.{ActionReply}
 use Rattle.gw_reply.specs.declared.reply.CommandReply.{CommandReply}
-use Rattle.gw_reply.proofs.Framed.{told_framed}
+use Rattle.gw_reply.proofs.Framed.{inner_framed}
 use Rattle.gw_length.specs.Tellings.{told_within, told_behind}
 use Rattle.gw_length.specs.declared.telling.Telling.{Telling}
 use Rattle.gw_length.specs.declared.telling.Telling.TheVariants.{All, Within, TooLong}
@@ -48,7 +48,7 @@ module _ (front : List ℕ) (room : ℕ) (ctx : CtxRef) (parts : List ContextPar
 
   -- the text of the reply behind a comma
   text_is : later action_reply_text (reply ∷ []) ≡ comma ∷ framed ctx (later context_part_text parts ++ later command_reply_text replies)
-  text_is = append-nil (comma ∷ action_reply_text reply) ∙ ap (λ (t : List ℕ). comma ∷ 67 ∷ 111 ∷ 110 ∷ 116 ∷ 101 ∷ 120 ∷ 116 ∷ 61 ∷ (context_text ctx ++ in_braces t)) (sym (told_framed parts replies))
+  text_is = append-nil (comma ∷ action_reply_text reply) ∙ ap (λ (t : List ℕ). comma ∷ 67 ∷ 111 ∷ 110 ∷ 116 ∷ 101 ∷ 120 ∷ 116 ∷ 61 ∷ (context_text ctx ++ in_braces t)) (sym (inner_framed parts replies))
 
   pub told_is : told_within front (comma ∷ framed ctx (later context_part_text parts ++ later command_reply_text replies)) room ≡ told_behind action_reply_text (Within front room) (reply ∷ [])
   told_is = ap (λ (t : List ℕ). told_within front t room) (sym text_is)

@@ -4,7 +4,7 @@ ghost use Rattle.std.specs.Prelude.{◌≡◌, ◌≤◌, ◌+◌, ◌-◌, ◌=
 ghost use Rattle.gw_length.specs.Rooms.{Leaves};
 ghost use Rattle.gw_reply.specs.ContextParts.{context_part_text};
 ghost use Rattle.gw_reply.specs.Lists.{later};
-ghost use Rattle.gw_reply.specs.Replies.{action_reply_text, body_text, command_reply_text, replies_text, later_replies, told_text};
+ghost use Rattle.gw_reply.specs.Replies.{action_reply_text, body_text, command_reply_text, replies_text, later_replies, inner_text};
 ghost use Rattle.gw_reply.specs.declared.reply.CommandReply.{CommandReply};
 
 use crate::room::{Length, behind, behind_joined, behind_later, behind_number};
@@ -89,7 +89,7 @@ fn behind_told(
     parts: &[ContextPart],
     outcome: &Result<Items<CommandReply>, Code>,
 ) -> Option<usize>
-    ensures { Leaves result room (length (told_text parts.now outcome.now)) }
+    ensures { Leaves result room (length (inner_text parts.now outcome.now)) }
 {
     let Some((first, rest)) = parts.split_first() else {
         return behind_commands(room, outcome);

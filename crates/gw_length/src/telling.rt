@@ -7,10 +7,7 @@ ghost use Rattle.gw_length.specs.Tellings.{told_behind};
 
 use crate::room::{Length, behind};
 use gw_base::{Items, NoMemory};
-use gw_reply::{
-    ActionReply, CommandReply, ContextPart, write_action_reply, write_command_reply,
-    write_context_part,
-};
+use gw_reply::{ActionReply, CommandReply, ContextPart, Written};
 use std::alloc::AllocError;
 
 /// What can be told: its text is counted, and written.
@@ -26,19 +23,19 @@ pub trait Tell: Length + Drop {
 
 impl Tell for CommandReply {
     fn write_to(&self, out: &mut Vec<u8>) -> Result<(), AllocError> {
-        write_command_reply(self, out)
+        Written::write_to(self, out)
     }
 }
 
 impl Tell for ActionReply {
     fn write_to(&self, out: &mut Vec<u8>) -> Result<(), AllocError> {
-        write_action_reply(self, out)
+        Written::write_to(self, out)
     }
 }
 
 impl Tell for ContextPart {
     fn write_to(&self, out: &mut Vec<u8>) -> Result<(), AllocError> {
-        write_context_part(self, out)
+        Written::write_to(self, out)
     }
 }
 
