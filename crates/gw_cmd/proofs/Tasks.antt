@@ -1,0 +1,120 @@
+-- What a task decides is what its command decides.
+use Rattle.std.proofs.Common.{◌≡◌, ℕ, Bool, true, false, List, [], ◌∷◌, Option, None, Some, Result, Ok, Err, refl, sym, ap, subst, ◌∙◌}
+use Rattle.gw_base.specs.declared.code.Code.{Code}
+use Rattle.gw_base.specs.declared.command_words.Rules.{Rules}
+use Rattle.gw_base.specs.declared.command_words.Service.{Service}
+use Rattle.gw_base.specs.declared.command_words.Verb.{Verb}
+use Rattle.gw_base.specs.declared.command_words.Verb.TheVariants as word
+use Rattle.gw_base.specs.declared.ids.CtxNum.{CtxNum}
+use Rattle.gw_base.specs.declared.term_ref.TermRef.{TermRef}
+use Rattle.gw_length.specs.declared.telling.Telling.{Telling}
+use Rattle.gw_length.specs.declared.telling.Telling.TheVariants.{TooLong}
+use Rattle.gw_desc.specs.declared.descriptor.Descriptor.{Descriptor}
+use Rattle.gw_msg.specs.declared.message.Command.{Command}
+use Rattle.gw_reply.specs.declared.parts.ReplyPart.{ReplyPart}
+use Rattle.gw_reply.specs.declared.reply.CommandReply.{CommandReply}
+use Rattle.gw_term.specs.declared.record.Termination.{Termination}
+use Rattle.gw_table.specs.Maps.{Maps, term}
+use Rattle.gw_refusal.specs.declared.at.At.{At}
+use Rattle.gw_refusal.specs.Asked.{service_asked}
+use Rattle.gw_refusal.specs.Places.{place_at}
+use Rattle.gw_cmd.specs.declared.change.Change.{Change}
+use Rattle.gw_cmd.specs.declared.change.Decided.{Decided}
+use Rattle.gw_cmd.specs.declared.refusal.Refusal.TheVariants as refusal
+use Rattle.gw_cmd.specs.declared.task.Act.{Act}
+use Rattle.gw_cmd.specs.declared.task.Act.TheVariants.{Add, Move, Modify, Subtract, Audit}
+use Rattle.gw_cmd.specs.declared.task.Task.{Task}
+use Rattle.gw_cmd.specs.declared.task.Task.TheVariants as task
+use Rattle.gw_cmd.specs.Changes.{changed}
+use Rattle.gw_cmd.specs.Commands.{reply}
+use Rattle.gw_cmd.specs.Effects.{is_full, decided_in, decided_in_null, decided, done, on_record, on_found, on_name}
+use Rattle.gw_cmd.specs.Plans.{parts_if, decided_if, answer_if, answered}
+use Rattle.gw_cmd.specs.Refused.{Gives}
+use Rattle.gw_cmd.specs.Tasks.{act_place, act_verb, task_place, task_verb, task_of, decided_by, IsServedBy, Does, IsAllowed}
+use Rattle.gw_cmd.specs.Written.{seen}
+use Rattle.gw_cmd.proofs.Lawful.{Lawful, decided_lawful}
+
+-- what a command does is in its place, and goes by its word
+pub record IsTask (at : At) (c : Command) (t : Task) : Type 0 where
+  pub place : place_at at ≡ task_place t
+  pub does : Does t c
+
+abbrev Fits : Verb → Option CtxNum → Option Service → Task → Type 0
+Fits v p s t = (v ≡ task_verb t) × (p ≡ task_place t) × ((ds : List Descriptor) → s ≡ service_asked ds → IsServedBy ds t)
+
+fits : (v : Verb) (p : Option CtxNum) (s : Option Service) (t : Task) → task_of v p s ≡ Some t → Fits v p s t
+fits word.Add (Some n) s t e = subst (Fits word.Add (Some n) s) (let same : task.Act (Add n) ≡ t = cc in same) (refl, refl, λ ds h. tt)
+fits word.Add None s t e = absurd cc
+fits word.Move (Some n) s t e = subst (Fits word.Move (Some n) s) (let same : task.Act (Move n) ≡ t = cc in same) (refl, refl, λ ds h. tt)
+fits word.Move None s t e = absurd cc
+fits word.Subtract (Some n) s t e = subst (Fits word.Subtract (Some n) s) (let same : task.Act (Subtract n) ≡ t = cc in same) (refl, refl, λ ds h. tt)
+fits word.Subtract None s t e = absurd cc
+fits word.Modify p s t e = subst (Fits word.Modify p s) (let same : task.Act (Modify p) ≡ t = cc in same) (refl, refl, λ ds h. tt)
+fits word.AuditValue p s t e = subst (Fits word.AuditValue p s) (let same : task.Act (Audit p) ≡ t = cc in same) (refl, refl, λ ds h. tt)
+fits word.ServiceChange p s t e = subst (Fits word.ServiceChange p s) (let same : task.Serve p s ≡ t = cc in same) (refl, refl, λ ds h. h)
+fits word.AuditCapability p s t e = absurd cc
+fits word.Notify p s t e = absurd cc
+
+pub is_task : (at : At) (c : Command) (t : Task) → IsAllowed at c t → IsTask at c t
+is_task at c t h = let f = fits c.verb (place_at at) (service_asked c.descriptors) t h.1 in record { place = f.1; does = record { verb = f.0; served = f.2 c.descriptors refl } }
+
+pub decided_is : (rules : Rules) (a : Act) (c : Command) (m : Maps) (r : Termination) → Does (task.Act a) c → decided rules (act_place a) c m r ≡ decided_by rules c.descriptors a m r
+decided_is rules (Add n) c m r d = ap (λ (v : Verb). decided_in rules v c.descriptors (is_full rules n m) n r) d.verb
+decided_is rules (Move n) c m r d = ap (λ (v : Verb). decided_in rules v c.descriptors (is_full rules n m) n r) d.verb
+decided_is rules (Subtract n) c m r d = ap (λ (v : Verb). decided_in rules v c.descriptors (is_full rules n m) n r) d.verb
+decided_is rules (Modify None) c m r d = ap (λ (v : Verb). decided_in_null rules v c.descriptors r) d.verb
+decided_is rules (Modify (Some n)) c m r d = ap (λ (v : Verb). decided_in rules v c.descriptors (is_full rules n m) n r) d.verb
+decided_is rules (Audit None) c m r d = ap (λ (v : Verb). decided_in_null rules v c.descriptors r) d.verb
+decided_is rules (Audit (Some n)) c m r d = ap (λ (v : Verb). decided_in rules v c.descriptors (is_full rules n m) n r) d.verb
+
+-- the change is the same
+pub made_if : (wanted : Bool) (x : Result Decided Code) (d : Decided) → Ok d ≡ decided_if wanted x → (whole : Decided) × (x ≡ Ok whole) × (d ≡ record { change = whole.change; parts = parts_if wanted whole.parts })
+made_if wanted (Err code) d e = absurd cc
+made_if wanted (Ok whole) d e = (whole, refl, let is : d ≡ record { change = whole.change; parts = parts_if wanted whole.parts } = cc in is)
+
+module _ (rules own : Rules) (ds : List Descriptor) (a : Act) (c : Command) (t : List ℕ) (r : Termination) (m : Maps) (does : Does (task.Act a) c) (ruled : own ≡ rules) (merged : ds ≡ c.descriptors) where
+  decided_so : decided rules (act_place a) c m r ≡ decided_by own ds a m r
+  decided_so =
+      decided_is rules a c m r does ∙ ap (λ (x : Rules). decided_by x c.descriptors a m r) (sym ruled)
+      ∙ ap (λ (l : List Descriptor). decided_by own l a m r) (sym merged)
+
+  pub record_done : on_record rules (act_place a) c t r m ≡ done t m (decided_by own ds a m r)
+  unfolding on_record
+  record_done = ap (λ (x : Result Decided Code). done t m x) decided_so
+
+  pub name_done : term m t ≡ Some r → on_name rules (act_place a) c t m ≡ done t m (decided_by own ds a m r)
+  name_done found = ap (λ (o : Option Termination). on_found rules (act_place a) c t o m) found ∙ record_done
+
+  pub lawful : (wanted : Bool) (d : Decided) → Ok d ≡ decided_if wanted (decided_by own ds a m r) → Lawful rules (act_verb a) (act_place a) r d.change m
+  lawful wanted d e =
+      let w = made_if wanted (decided_by own ds a m r) d e in
+      let law : Lawful rules c.verb (act_place a) r w.0.change m = decided_lawful rules (act_place a) c m r w.0 (decided_so ∙ w.1) in
+      subst (λ (v : Verb). Lawful rules v (act_place a) r d.change m) does.verb
+      (subst (λ (x : Change). Lawful rules c.verb (act_place a) r x m) (sym (ap (λ (y : Decided). y.change) w.2)) law)
+
+-- ---- what is decided, without what its reply has
+
+pub gives_done : (wanted : Bool) (x : Result Decided Code) (d : Decided) (t : List ℕ) (m new : Maps) → Ok d ≡ decided_if wanted x → new ≡ changed t d.change m → Gives (Ok d.parts) new (answered wanted (done t m x))
+gives_done wanted (Err code) d t m new e is = absurd cc
+gives_done wanted (Ok whole) d t m new e is =
+    let same = (made_if wanted (Ok whole) d e).2 in
+    let one : whole ≡ (made_if wanted (Ok whole) d e).0 = let two = (made_if wanted (Ok whole) d e).1 in cc in (
+      is ∙ ap (λ (y : Decided). changed t y.change m) same ∙ ap (λ (y : Decided). changed t y.change m) (sym one),
+      ap (λ (y : Decided). let z : Result (List ReplyPart) Code = Ok y.parts in z) same ∙ ap (λ (y : Decided). let z : Result (List ReplyPart) Code = Ok (parts_if wanted y.parts) in z) (sym one),
+    )
+
+pub gives_refused : (wanted : Bool) (x : Result Decided Code) (code : Code) (t : List ℕ) (m : Maps) → Err code ≡ decided_if wanted x → Gives (Err (refusal.Code code)) m (answered wanted (done t m x))
+gives_refused wanted (Err other) code t m e = (refl, let same : code ≡ other = cc in ap (λ (y : Code). let z : Result (List ReplyPart) Code = Err y in z) same)
+gives_refused wanted (Ok whole) code t m e = absurd cc
+
+pub none_if : (wanted : Bool) → parts_if wanted [] ≡ []
+none_if true = refl
+none_if false = refl
+
+-- ---- where nothing more is written, what a reply has does not matter
+
+pub seen_if : (writer : Telling CommandReply) (wanted : Bool) (c : Command) (r : TermRef) (x : Result (List ReplyPart) Code) → (wanted ≡ false → writer ≡ TooLong) → seen writer (reply c r (answer_if wanted x) ∷ []) ≡ seen writer (reply c r x ∷ [])
+seen_if writer true c r (Ok parts) full = refl
+seen_if writer wanted c r (Err code) full = refl
+seen_if writer false c r (Ok parts) full =
+    ap (λ (w : Telling CommandReply). seen w (reply c r (Ok []) ∷ [])) (full refl) ∙ sym (ap (λ (w : Telling CommandReply). seen w (reply c r (Ok parts) ∷ [])) (full refl))
