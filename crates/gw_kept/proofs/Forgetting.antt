@@ -90,11 +90,6 @@ all_forgotten g next mid ranges i is most all =
 pub few_left_of : (mid : List ℕ) (ranges : List AckRange) (row : List (Option Entry)) → length (present (map (left_of mid ranges) row)) ≤ length (present row)
 few_left_of mid ranges row = omega (arith, ap length (present_left mid ranges row), few_left (λ (e : Entry). not (is_named mid ranges (key_of e))) (present row))
 
-pub keys_set : (row : List (Option Entry)) (p : ℕ) → keys_in (set row p None) ≡ set (keys_in row) p None
-keys_set [] p = refl
-keys_set (o ∷ os) zero = refl
-keys_set (o ∷ os) (suc p) = ap (λ (r : List (Option RequestKey)). option_map key_of o ∷ r) (keys_set os p)
-
 pub keys_get : (row : List (Option Entry)) (p : ℕ) → get_or (keys_in row) p None ≡ option_map key_of (get_or row p None)
 keys_get [] p = refl
 keys_get (o ∷ os) zero = refl

@@ -159,17 +159,6 @@ found_none keys places key i sorted stand none = none (get_or places i 0) (stand
 
 -- ---- no pairs
 
-pub none_sorted : (first : ℕ) → first < 2 ^ 16 → IsOrder [] first []
-none_sorted first h =
-    record {
-      places = [];
-      numbered = refl;
-      sorted = record { within = λ i d l. absurd (omega arith); whole = λ p l. absurd cc; rises = λ i j d l within. absurd (omega arith) };
-      around = h;
-      few = omega arith;
-      many = refl;
-    }
-
 -- ---- one more pair, behind the others
 
 turned : (r s : Ordering) → r ≡ ordering_reverse s → s ≡ Greater → r ≡ Less
@@ -294,9 +283,6 @@ gap_there (k ∷ ks) = refl
 same_gap : (keys : List (Option RequestKey)) → get_or keys 0 None ≡ None → set keys 0 None ≡ keys
 same_gap [] e = refl
 same_gap (k ∷ ks) e = ap (λ (o : Option RequestKey). o ∷ ks) (sym e)
-
-pub front_gap : (keys : List (Option RequestKey)) (first : ℕ) (numbers : List ℕ) → IsOrder keys first numbers → get_or keys 0 None ≡ None → IsOrder (set keys 0 None) first numbers
-front_gap keys first numbers o gap = subst (λ (ks : List (Option RequestKey)). IsOrder ks first numbers) (sym (same_gap keys gap)) o
 
 pub front_left : (keys : List (Option RequestKey)) (first next : ℕ) (numbers : List ℕ) → IsOrder (set keys 0 None) first numbers → next ≡ (first + 1) % 2 ^ 16 → IsOrder (drop 1 keys) next numbers
 front_left keys first next numbers o is = subst (λ (ks : List (Option RequestKey)). IsOrder ks next numbers) (same_behind keys) (order_behind (set keys 0 None) first next numbers o (gap_there keys) is)

@@ -1,7 +1,6 @@
 //! Replies that are kept for repeats, what acknowledgements remove, and which requests of a burst are repeats.
 #![tactic(auto)]
 
-mod asked;
 mod change;
 mod class;
 mod classify;
