@@ -25,30 +25,8 @@ use std::alloc::{AllocError, Global};
 /// The streams whose Local was filled, in rising order.
 pub type Filled = Items<FilledStream>;
 
-/// The Local of the stream of this number goes last. Not inlined, since few Locals are filled.
-#[inline(never)]
-fn push_filled(
-    alloc: Global,
-    number: u8,
-    settings: &SettingList,
-    filled: &mut Filled,
-) -> Result<(), NoMemory>
-    requires first { 1 ≤ number }
-    requires last { number ≤ 4 }
-    ensures { OnOk result (filled.new ≡ filled.old ++ filled_in number (merging_of (at_number number settings.now.streams) true)) }
-{
-    let Some(stream) = settings.stream(number) else {
-        return Ok(());
-    };
-    if let Some(local) = stream.local.to_reply(alloc)? {
-        filled.push(FilledStream { number, local })?;
-    }
-    Ok(())
-}
-
 /// The Local of the stream of this number goes last, if it was filled.
-#[inline]
-fn push_if_filled(
+fn push_filled(
     alloc: Global,
     number: u8,
     is_filled: bool,
@@ -59,8 +37,14 @@ fn push_if_filled(
     requires last { number ≤ 4 }
     ensures { OnOk result (filled.new ≡ filled.old ++ filled_in number (merging_of (at_number number settings.now.streams) is_filled)) }
 {
-    if is_filled {
-        return push_filled(alloc, number, settings, filled);
+    if !is_filled {
+        return Ok(());
+    }
+    let Some(stream) = settings.stream(number) else {
+        return Ok(());
+    };
+    if let Some(local) = stream.local.to_reply(alloc)? {
+        filled.push(FilledStream { number, local })?;
     }
     Ok(())
 }
@@ -89,10 +73,10 @@ fn merge_into(
     let second = merge_stream(alloc, sent, 2, streams.second, before, set)?;
     let third = merge_stream(alloc, sent, 3, streams.third, before, set)?;
     let fourth = merge_stream(alloc, sent, 4, streams.fourth, before, set)?;
-    push_if_filled(alloc, 1, first, set, filled)?;
-    push_if_filled(alloc, 2, second, set, filled)?;
-    push_if_filled(alloc, 3, third, set, filled)?;
-    push_if_filled(alloc, 4, fourth, set, filled)?;
+    push_filled(alloc, 1, first, set, filled)?;
+    push_filled(alloc, 2, second, set, filled)?;
+    push_filled(alloc, 3, third, set, filled)?;
+    push_filled(alloc, 4, fourth, set, filled)?;
     merge_tails(alloc, sent, &there.tails, before, set)?;
     Ok(())
 }
@@ -130,7 +114,7 @@ pub(crate) fn merge(
     rules: &Rules,
     descriptors: &[Descriptor<'_>],
     old: &Termination,
-    made: Option<&Settings>,
+    made: &Settings,
 ) -> Result<Applied, ApplyFault>
     ensures { IsMerged rules.now descriptors.now old.now result }
 {
@@ -141,15 +125,14 @@ pub(crate) fn merge(
         made,
     };
     let mut there = Named::by(descriptors);
-    let properties = merged_properties(alloc, &sent, there.states, old.settings.properties())?;
-    let service = merged_service(there.states, descriptors, old.service);
-    there.note_set(&old.settings);
+    there.add_set(&old.settings);
+    let properties = merged_properties(alloc, &sent, old.settings.properties())?;
     let mut settings = begun(alloc, properties, there.count())?;
     let mut filled = Items::new(alloc);
     merge_into(alloc, &sent, &there, old, &mut settings, &mut filled)?;
     let record = Termination {
         place: old.place,
-        service,
+        service: merged_service(descriptors, old.service),
         slot: old.slot,
         settings: settings.into_settings(alloc)?,
     };
@@ -183,7 +166,7 @@ impl Termination {
     ) -> Result<Applied, ApplyFault>
         ensures { IsMerged rules.now descriptors.now self.now result }
     {
-        merge(alloc, rules, descriptors, self, None)
+        merge(alloc, rules, descriptors, self, &Settings::none())
     }
 
     /// The termination becomes its record after the descriptors, as `merged` gives it. Answers the streams whose Local was

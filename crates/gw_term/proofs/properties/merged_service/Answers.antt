@@ -2,7 +2,7 @@ use Rattle.std.proofs.Common.{arith}
 use Rattle.std.proofs.lemmas.Grind.{common_steps}
 use Rattle.gw_term.specs.Merge.{states_in}
 use Rattle.gw_term.proofs.Merges.{service_next}
-use Rattle.gw_term.proofs.properties.service_by.Goals as goal
+use Rattle.gw_term.proofs.properties.merged_service.Goals as goal
 
 pub loop-descriptor-preserved : goal.loop-descriptor-preserved
 loop-descriptor-preserved c =

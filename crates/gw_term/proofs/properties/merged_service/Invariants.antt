@@ -1,7 +1,7 @@
 use Rattle.std.proofs.Common.{◌≡◌, drop}
 use Rattle.std.specs.List.{flat_map}
 use Rattle.gw_term.specs.Merge.{last_service, states_in}
-use Rattle.gw_term.proofs.properties.service_by.Given as goal
+use Rattle.gw_term.proofs.properties.merged_service.Given as goal
 
 -- what is left does the rest
 abbrev pub invariant-loop-descriptor : goal.invariant-loop-descriptor
