@@ -49,8 +49,8 @@ fn push_filled(
     Ok(())
 }
 
-/// What the descriptors make of what was set, beside its properties, is set where nothing but these is; the streams whose Local was
-/// filled go into a list in rising order.
+/// What the descriptors make of what was set, beside its properties, is set where nothing but these is; the streams
+/// whose Local was filled go into a list in rising order.
 #[tactic(auto, unfolding(crate::specs::Merge::merged, crate::specs::Merge::merged_media, crate::specs::Merge::filled_by))]
 fn merge_into(
     alloc: Global,
@@ -107,7 +107,8 @@ pub struct Applied {
     pub filled: Filled,
 }
 
-/// The record after the descriptors, as `Termination::merged` gives it. Long texts are shared with what was made of them before.
+/// The record after the descriptors, as `Termination::merged` gives it. Long texts are shared with what was made of
+/// them before.
 #[tactic(auto, unfolding(crate::specs::Merge::merged, crate::specs::Merge::merged_media))]
 pub(crate) fn merge(
     alloc: Global,
@@ -148,12 +149,13 @@ impl Termination {
     ghost use Rattle.gw_term.specs.Merge.{merged, filled_by};
     ghost use Rattle.gw_term.specs.Applies.{IsApplied, IsMerged};
 
-    /// The record after the descriptors: what they set, it keeps; what they do not name stays. A stream that is named and
-    /// missing comes with mode Inactive and nothing else; Mode, ServiceStates, Local and Remote take the place of the old ones;
-    /// a property takes the place of the one of its name, in any case, or goes last; a tail takes the place of the old one, and
-    /// one without `=` whose group is missing or blank removes it. The `$` of a Local are filled where the termination has a
-    /// slot. The streams whose Local was filled are answered in rising order. It is meant for descriptors of which no code of
-    /// `check` applies, taken as those of an Add. The work is linear in the descriptors and the record.
+    /// The record after the descriptors: what they set, it keeps; what they do not name stays. A stream that is named
+    /// and missing comes with mode Inactive and nothing else; Mode, ServiceStates, Local and Remote take the place of
+    /// the old ones; a property takes the place of the one of its name, in any case, or goes last; a tail takes the
+    /// place of the old one, and one without `=` whose group is missing or blank removes it. The `$` of a Local are
+    /// filled where the termination has a slot. The streams whose Local was filled are answered in rising order. It
+    /// is meant for descriptors of which no code of `check` applies, taken as those of an Add. The work is linear in
+    /// the descriptors and the record.
     ///
     /// # Errors
     ///
@@ -169,9 +171,9 @@ impl Termination {
         merge(alloc, rules, descriptors, self, &Settings::none())
     }
 
-    /// The termination becomes its record after the descriptors, as `merged` gives it. Answers the streams whose Local was
-    /// filled, in rising order, with their Locals. The caller knows that no code of `check` applies to the descriptors, taken as
-    /// those of an Add.
+    /// The termination becomes its record after the descriptors, as `merged` gives it. Answers the streams whose
+    /// Local was filled, in rising order, with their Locals. The caller knows that no code of `check` applies to the
+    /// descriptors, taken as those of an Add.
     ///
     /// # Errors
     ///

@@ -40,8 +40,8 @@ pub(crate) fn copied_stream(alloc: Global, stream: &Stream) -> Result<Stream, Al
     })
 }
 
-/// The value takes the place of the one there, which is dropped here: where that is done at a type with many fields, each of
-/// them is dropped in turn.
+/// The value takes the place of the one there, which is dropped here: where that is done at a type with many fields,
+/// each of them is dropped in turn.
 pub(crate) fn put<T: Drop>(place: &mut T, value: T)
     ensures { place.new ≡ value }
 {

@@ -16,8 +16,9 @@ use gw_base::{Held, Items, NoMemory, Rules};
 use gw_desc::Descriptor;
 use std::alloc::{AllocError, Global};
 
-/// Descriptors that are merged into one record after another, under the gateway's rules. What they made of the settings met last is kept:
-/// the next record with the same settings shares that block, if they fill nothing of it, and any other the long texts in it.
+/// Descriptors that are merged into one record after another, under the gateway's rules. What they made of the
+/// settings met last is kept: the next record with the same settings shares that block, if they fill nothing of it,
+/// and any other the long texts in it.
 #[derive(Drop)]
 pub struct Merger<'a, 'b> {
     /// The rules.

@@ -29,7 +29,8 @@ fn property_place(property: &HeldProperty, list: &[HeldProperty]) -> usize
     list.len()
 }
 
-/// The property takes the place of the one of its name, or goes last. It shares its block with what was made of it before, if it is long.
+/// The property takes the place of the one of its name, or goes last. It shares its block with what was made of it
+/// before, if it is long.
 pub(crate) fn put_property(
     alloc: Global,
     property: &Property<Span<'_>>,

@@ -81,7 +81,8 @@ fn put_controls(
     Ok(())
 }
 
-/// A Local, filled where the termination has a slot. Inlined it would have each part of a stream clear a larger frame.
+/// A Local, filled where the termination has a slot. Inlined it would have each part of a stream clear a larger
+/// frame.
 #[inline(never)]
 fn put_local(
     alloc: Global,
@@ -224,8 +225,8 @@ fn begun(alloc: Global, old: Option<&Stream>) -> Result<Merging, NoMemory>
     })
 }
 
-/// The stream of this number, which is named or there, after the descriptors is set; whether its Local was filled. Not inlined,
-/// since most streams are neither.
+/// The stream of this number, which is named or there, after the descriptors is set; whether its Local was filled.
+/// Not inlined, since most streams are neither.
 #[inline(never)]
 #[tactic(auto, using(crate::proofs::StreamsFound::merged_there))]
 fn merge_there(

@@ -48,8 +48,8 @@ fn is_blank_group(group: &Option<Span<'_>>) -> bool
     }
 }
 
-/// What is kept of a tail: nothing of one without `=` that has no group, or a blank one. It shares its block with what was made of it before,
-/// if it is long.
+/// What is kept of a tail: nothing of one without `=` that has no group, or a blank one. It shares its block with
+/// what was made of it before, if it is long.
 fn kept_tail(
     alloc: Global,
     tail: &Tail<Span<'_>>,
@@ -97,8 +97,8 @@ fn put_tails(
     Ok(())
 }
 
-/// The tail of this kind after the descriptors is set, if there is one then. Not inlined, since most tails are neither named nor
-/// there.
+/// The tail of this kind after the descriptors is set, if there is one then. Not inlined, since most tails are
+/// neither named nor there.
 #[inline(never)]
 fn merge_there(
     alloc: Global,
