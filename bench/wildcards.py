@@ -7,8 +7,8 @@ Run it at the top of the repository, after `rt run` in crates/h248gw has built t
 transaction, or a burst of acknowledgements, with one worker. Work is instructions by callgrind, less those of the same replay
 without it. A match is a termination or a context that the wildcard meets, a link that a Topology names or that goes with its
 terminations, or a kept reply, whose number an acknowledgement compares. Memory is the most that the process ever had, less the
-most that it had before. Records are alike where one Modify has set them all, and unlike where each has a value or a name of its
-own in each list.
+most that it had before. Records are equal where one Modify has set them all; else each has values or names of its own, one in
+each list.
 
 Of the commands under `-` the one is taken that costs most where it fills a datagram: with 4,000 terminations and with 65,535.
 
@@ -42,9 +42,9 @@ def packed(texts, most=1_000):
     return out
 
 
-def made(bodies):
-    """Transactions that make a state."""
-    return packed([b"T=%d{%s}" % (number, body) for number, body in enumerate(bodies, 1_000_000)])
+def made(bodies, first=1_000_000):
+    """Transactions that make a state, each under a number of its own."""
+    return packed([b"T=%d{%s}" % (number, body) for number, body in enumerate(bodies, first)])
 
 
 def media(properties, five=False):
@@ -60,23 +60,23 @@ def sent(count):
     return lambda turn: b"MF=*" + media([b"a%d=%d" % (n, turn) for n in range(count)], count > 32)
 
 
-def alike(count):
+def equal(count):
     return lambda terms: made([b"C=-{MF=*%s}" % media([b"a%d=x" % n for n in range(count)], count > 32)])
 
 
-def unlike_values(count):
+def own_values(count):
     """All have what is sent, each with a value of its own in each list."""
-    return lambda terms: alike(count)(terms) + each(terms, count, b"a%d=%d")
+    return lambda terms: equal(count)(terms) + each(terms, count, b"a%d=%d")
 
 
-def unlike_names(count):
+def own_names(count):
     """Each has a property with a name of its own in each list."""
     return lambda terms: each(terms, count, b"o%d.%d=x")
 
 
 def each(terms, count, text):
     lists = 5 if count > 32 else 1
-    return made([b"C=-{MF=T/%d%s}" % (n, media([text % (k, n) for k in range(lists)], count > 32)) for n in range(1, terms + 1)])
+    return made([b"C=-{MF=T/%d%s}" % (n, media([text % (k, n) for k in range(lists)], count > 32)) for n in range(1, terms + 1)], 2_000_000)
 
 
 def contexts(count, size=64):
@@ -88,7 +88,7 @@ def links():
 
 
 def linked(terms):
-    return contexts(1)(terms) + made([listed(b"C=1{TP{", links(), b"}}")])
+    return contexts(1)(terms) + made([listed(b"C=1{TP{", links(), b"}}")], 2_000_000)
 
 
 def kept(terms):
@@ -135,13 +135,13 @@ ACKS = functools.partial(Kind, matches=KEPT, error=None, context=None, keep=KEPT
 
 KINDS = [
     Kind("AuditValue of nothing", nothing, always(b"AV=*{AT{}}")),
-    Kind("AuditValue of Media, 160 properties, unlike values", unlike_values(160), always(MEDIA)),
+    Kind("AuditValue of Media, 160 properties, own values", own_values(160), always(MEDIA)),
     Kind("ServiceChange", nothing, always(FORCED)),
     *[Kind(f"Modify of {n}, bare", nothing, sent(n), properties=n) for n in (1, 32, 160)],
-    *[Kind(f"Modify of {n}, alike", alike(n), sent(n), properties=n) for n in (1, 32, 160)],
-    *[Kind(f"Modify of {n}, unlike values", unlike_values(n), sent(n), properties=n) for n in (1, 32, 160)],
-    *[Kind(f"Modify of {n}, unlike names", unlike_names(n), sent(n), properties=n) for n in (1, 31, 155)],
-    Kind("Modify of a value of 8,000 bytes, unlike values", unlike_values(1), lambda turn: b"MF=*{M{O{a0=%d%s}}}" % (turn, LONG), properties=1),
+    *[Kind(f"Modify of {n}, equal records", equal(n), sent(n), properties=n) for n in (1, 32, 160)],
+    *[Kind(f"Modify of {n}, own values", own_values(n), sent(n), properties=n) for n in (1, 32, 160)],
+    *[Kind(f"Modify of {n}, own names", own_names(n), sent(n), properties=n) for n in (1, 31, 155)],
+    Kind("Modify of a value of 8,000 bytes, own values", own_values(1), lambda turn: b"MF=*{M{O{a0=%d%s}}}" % (turn, LONG), properties=1),
     Kind("Modify of a Local of 8,000 bytes to fill", nothing, always(b"MF=*{M{L{c=$ %s}}}" % LONG), properties=1),
     ONE("AuditValue of Media, context of 64", contexts(1), always(MEDIA)),
     ONE("Modify of 32, context of 64", contexts(1), sent(32), properties=32),
