@@ -25,7 +25,7 @@ use crate::outcome::{CmdOutcome, CmdWritten};
 use crate::prepared::Prepared;
 use crate::refusal::Refusal;
 use crate::replies::{has_one_reply, outcome_of, outcome_of_all, refused, writes_none, written};
-use crate::root::{every_serviced, root_parts};
+use crate::root::{root_parts, serve_all};
 use crate::tables::refusal_by_tables;
 use crate::targets::{on_target, on_targets};
 use crate::task::{Execution, Task};
@@ -128,15 +128,12 @@ fn on_slot(
     };
     let name = slot_name(slot);
     let wanted = !writes_none(&writer);
-    let (term, answer) = match on_new(alloc, draft, act, prepared, slot, &name, wanted) {
-        Ok(parts) => (TermRef::Name(name), Ok(parts)),
-        Err(Refusal::Code(code)) => (TermRef::Choose, Err(code)),
+    let seen = match on_new(alloc, draft, act, prepared, slot, &name, wanted) {
+        Ok(parts) => written(writer, prepared.command, TermRef::Name(name), Ok(parts))?,
+        Err(Refusal::Code(code)) => written(writer, prepared.command, TermRef::Choose, Err(code))?,
         Err(Refusal::NoMemory) => return Err(NoMemory),
     };
-    Ok(outcome_of(
-        execution.at,
-        written(writer, prepared.command, term, answer)?,
-    ))
+    Ok(outcome_of(execution.at, seen))
 }
 
 /// Executes a command on the gateway itself.
@@ -153,9 +150,7 @@ fn on_root(
     ensures answer { IfOk result (λ done. done ≡ outcome_behind writer (root_done execution.at command.now draft.old.maps).answer) }
     ensures keys { draft.new.keys ≡ draft.old.keys }
 {
-    if let Task::Serve(_, Some(service)) = execution.task {
-        every_serviced(alloc, draft, service)?;
-    }
+    serve_all(alloc, draft, execution.task)?;
     let parts = root_parts(alloc, command.descriptors.as_slice())?;
     Ok(outcome_of(
         execution.at,
