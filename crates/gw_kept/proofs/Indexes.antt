@@ -19,9 +19,9 @@ use Rattle.gw_kept.specs.Rows.{Gapped, present, kept_in}
 use Rattle.gw_kept.specs.Forgotten.{is_named, forgotten}
 use Rattle.gw_kept.specs.Classes.{Standing, keys_of, or_here, source_at, last_place, has_pair, kept_place, class_of, class_at, behind, behind_request, with_key, without, most_new}
 use Rattle.gw_kept.specs.Index.{is_asked, kept_at, seen, IsAsked, AreLeft, IsIndex}
-use Rattle.gw_kept.specs.Asked.{asked_cmp, asked_key}
+use Rattle.gw_kept.specs.Order.{key_cmp}
 use Rattle.gw_kept.proofs.Filters.{filter_map_is}
-use Rattle.gw_kept.proofs.Places.{within, among_last, one_more, asked_test, same_key, same_itself}
+use Rattle.gw_kept.proofs.Places.{within, among_last, one_more, key_test, same_key, same_itself}
 
 -- ---- what is asked
 
@@ -88,9 +88,6 @@ asked_here (y ∷ ys) (suc i) x h is = asked_behind y x ys (asked_here ys i x (o
 
 -- ---- the kept place
 
-le_true : (d p : ℕ) → d ≤ p → nat_le d p ≡ true
-le_true d p h = grind (arith, nat_tests)
-
 pub some_within : (d p : ℕ) (o : Option ℕ) (b : Bool) → nat_le d p ≡ b → or_here d o None ≡ cond (nat_le d p) (Some p) None → b ≡ is_some o
 some_within d p (Some q) true is e = refl
 some_within d p None false is e = refl
@@ -130,11 +127,11 @@ put_at false asked old pairs key q is known h = h ∙ other_pair asked pairs key
 
 -- one more pair of a key that is asked
 pub put : (asked : List Point) (old new : RequestKey → Option (Option ℕ)) (pairs : List RequestKey) (key : RequestKey) (place : ℕ) → is_asked key asked ≡ true → place ≡ length pairs → Places asked pairs old
-    → ((q : RequestKey) → new q ≡ cond (is_at (asked_cmp (asked_key key)) (asked_key q)) (Some (Some place)) (old q)) → Places asked (pairs ++ key ∷ []) new
+    → ((q : RequestKey) → new q ≡ cond (is_at (key_cmp key) q) (Some (Some place)) (old q)) → Places asked (pairs ++ key ∷ []) new
 put asked old new pairs key place known size h u q =
     u q
-    ∙ ap (λ (n : ℕ). cond (is_at (asked_cmp (asked_key key)) (asked_key q)) (Some (Some n)) (old q)) size
-    ∙ ap (λ (t : Bool). cond t (Some (Some (length pairs))) (old q)) (asked_test key q)
+    ∙ ap (λ (n : ℕ). cond (is_at (key_cmp key) q) (Some (Some n)) (old q)) size
+    ∙ ap (λ (t : Bool). cond t (Some (Some (length pairs))) (old q)) (key_test key q)
     ∙ put_at (is_same key q) asked (old q) pairs key q refl known (h q)
 
 -- ---- the keys that are asked
@@ -148,11 +145,11 @@ put_key true t key q pairs is = ap (λ (k : RequestKey). Some (last_place k pair
 put_key false t key q pairs is = refl
 
 pub key_more : (old new : RequestKey → Option (Option ℕ)) (pairs : List RequestKey) (xs : List Point) (i : ℕ) (x : Point) (key : RequestKey) (place : Option ℕ) → i < length xs → x ≡ get_or xs i x → x ≡ point.Request key → place ≡ last_place key pairs
-    → ((q : RequestKey) → old q ≡ placed q pairs (is_asked q (take i xs))) → ((q : RequestKey) → new q ≡ cond (is_at (asked_cmp (asked_key key)) (asked_key q)) (Some place) (old q)) → (q : RequestKey) → new q ≡ placed q pairs (is_asked q (take (i + 1) xs))
+    → ((q : RequestKey) → old q ≡ placed q pairs (is_asked q (take i xs))) → ((q : RequestKey) → new q ≡ cond (is_at (key_cmp key) q) (Some place) (old q)) → (q : RequestKey) → new q ≡ placed q pairs (is_asked q (take (i + 1) xs))
 key_more old new pairs xs i x key place h is some there f u q =
     let last : take (i + 1) xs ≡ take i xs ++ point.Request key ∷ [] = take_more xs i x h ∙ ap (λ (y : Point). take i xs ++ y ∷ []) (sym is ∙ some) in
     u q
-    ∙ ap (λ (t : Bool). cond t (Some place) (old q)) (asked_test key q)
+    ∙ ap (λ (t : Bool). cond t (Some place) (old q)) (key_test key q)
     ∙ ap (λ (p : Option ℕ). cond (is_same key q) (Some p) (old q)) there
     ∙ ap (cond (is_same key q) (Some (last_place key pairs))) (f q)
     ∙ put_key (is_same key q) (is_asked q (take i xs)) key q pairs refl
@@ -171,7 +168,7 @@ some_is : (o p : Option ℕ) → Some o ≡ Some p → o ≡ p
 some_is o p e = cc
 
 -- the place that is noted for a key
-pub noted_place : (asked : List Point) (index : Index) (s : Standing) (key : RequestKey) (place : Option ℕ) → IsIndex asked index s → is_asked key asked ≡ true → Some place ≡ get asked_cmp index.places (asked_key key) → place ≡ last_place key s.pairs
+pub noted_place : (asked : List Point) (index : Index) (s : Standing) (key : RequestKey) (place : Option ℕ) → IsIndex asked index s → is_asked key asked ≡ true → Some place ≡ get key_cmp index.places key → place ≡ last_place key s.pairs
 noted_place asked index s key place h known at =
     some_is place (last_place key s.pairs) (at ∙ h.places key ∙ ap (λ (t : Bool). cond t (Some (last_place key s.pairs)) None) known)
 
@@ -197,14 +194,14 @@ same_at : (t : Bool) (old : Option (Option ℕ)) (place : Option ℕ) → (t ≡
 same_at true old place f = f refl
 same_at false old place f = refl
 
-pub index_same : (asked : List Point) (index next : Index) (s : Standing) (key : RequestKey) (place : Option ℕ) → IsIndex asked index s → Some place ≡ get asked_cmp index.places (asked_key key)
-    → ((q : RequestKey) → get asked_cmp next.places (asked_key q) ≡ cond (is_at (asked_cmp (asked_key key)) (asked_key q)) (Some place) (get asked_cmp index.places (asked_key q)))
+pub index_same : (asked : List Point) (index next : Index) (s : Standing) (key : RequestKey) (place : Option ℕ) → IsIndex asked index s → Some place ≡ get key_cmp index.places key
+    → ((q : RequestKey) → get key_cmp next.places q ≡ cond (is_at (key_cmp key) q) (Some place) (get key_cmp index.places q))
     → next.most ≡ index.most → next.before ≡ index.before → next.total ≡ index.total → next.left ≡ index.left → IsIndex asked next s
 index_same asked index next s key place h at u most before total left = record {
   places = λ q.
       u q
-      ∙ ap (λ (t : Bool). cond t (Some place) (get asked_cmp index.places (asked_key q))) (asked_test key q)
-      ∙ same_at (is_same key q) (get asked_cmp index.places (asked_key q)) place (λ same. at ∙ ap (λ (k : RequestKey). get asked_cmp index.places (asked_key k)) (same_key key q same))
+      ∙ ap (λ (t : Bool). cond t (Some place) (get key_cmp index.places q)) (key_test key q)
+      ∙ same_at (is_same key q) (get key_cmp index.places q) place (λ same. at ∙ ap (λ (k : RequestKey). get key_cmp index.places k) (same_key key q same))
       ∙ h.places q;
   total = total ∙ h.total;
   before = omega (arith, before, h.before);
@@ -277,12 +274,12 @@ among_more most key q s h none =
     none_last q (length (s.kept ++ key ∷ []) - most) (s.kept ++ key ∷ []) (one_more q key s.kept ∙ with_none (is_same key q) (length s.kept) (last_place q s.kept) parts.0 (h parts.1))
 
 pub noted : (asked : List Point) (index next : Index) (s : Standing) (key : RequestKey) → IsIndex asked index s → is_asked key asked ≡ true
-    → ((q : RequestKey) → get asked_cmp next.places (asked_key q) ≡ cond (is_at (asked_cmp (asked_key key)) (asked_key q)) (Some (Some index.total)) (get asked_cmp index.places (asked_key q)))
+    → ((q : RequestKey) → get key_cmp next.places q ≡ cond (is_at (key_cmp key) q) (Some (Some index.total)) (get key_cmp index.places q))
     → next.before ≡ index.before → next.total ≡ index.total + 1 → length s.pairs - index.before < most_new → AreLeft next.most next.left (with_key index.most key s) → IsIndex asked next (with_key index.most key s)
 noted asked index next s key h known u same more less left =
     let size : length (s.pairs ++ key ∷ []) ≡ length s.pairs + 1 = omega (arith, length-append s.pairs (key ∷ [])) in
     record {
-      places = put asked (λ q. get asked_cmp index.places (asked_key q)) (λ q. get asked_cmp next.places (asked_key q)) s.pairs key index.total known h.total h.places u;
+      places = put asked (λ q. get key_cmp index.places q) (λ q. get key_cmp next.places q) s.pairs key index.total known h.total h.places u;
       total = more ∙ omega (arith, size, h.total);
       before = omega (arith, size, same, h.before);
       few = omega (arith, size, same, h.before, less);

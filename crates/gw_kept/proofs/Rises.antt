@@ -129,13 +129,6 @@ goes_on_new k s key rest total next h less more =
       rise = rise;
     }
 
--- behind what asks nothing
-pub passes_ack : (k : KeptList) (s : Standing) (p : Point) (rest : List Point) (total : ℕ) → ((key : RequestKey) → p ≡ point.Request key → ⊥) → IsTurn k s (p ∷ rest) total
-    → (Nothing ≡ class_at (length k.pairs) (seen false p) s) × IsTurn k (behind k.most (length k.pairs) (seen false p) s) rest total
-passes_ack k s (point.Request key) rest total not h = absurd (not key refl)
-passes_ack k s (point.Ack r) rest total not h = (refl, record { kept = h.kept; size = h.size; before = h.before; few = h.few; bounded = h.bounded; apart = h.apart; number = h.number; rise = h.rise })
-passes_ack k s point.Nothing rest total not h = (refl, record { kept = h.kept; size = h.size; before = h.before; few = h.few; bounded = h.bounded; apart = h.apart; number = h.number; rise = h.rise })
-
 -- a request that is not new changes nothing
 no_change : (most : ℕ) (c : Class) (key : RequestKey) (s : Standing) → (c ≡ New → ⊥) → behind_request most c key s ≡ s
 no_change most New key s not = absurd (not refl)

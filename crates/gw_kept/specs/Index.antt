@@ -9,7 +9,7 @@ use Rattle.gw_kept.specs.declared.index.Index.{Index}
 use Rattle.gw_kept.specs.Pairs.{is_same}
 use Rattle.gw_kept.specs.Rows.{Gapped, kept_in}
 use Rattle.gw_kept.specs.Classes.{Standing, keys_of, last_place, has_pair, most_new}
-use Rattle.gw_kept.specs.Asked.{asked_cmp, asked_key}
+use Rattle.gw_kept.specs.Order.{key_cmp}
 
 -- the key is one of those that are asked
 abbrev pub is_asked : RequestKey → List Point → Bool
@@ -51,7 +51,7 @@ kept_at (Some place) key oldest (Some g) = if has_pair key (keys_of (kept_in g))
 
 -- an index of what is asked, where a burst stands so; at most so many of the pairs are new
 pub record IsIndex (asked : List Point) (index : Index) (s : Standing) : Type 0 where
-  pub places : (q : RequestKey) → get asked_cmp index.places (asked_key q) ≡ (if is_asked q asked then Some (last_place q s.pairs) else None)
+  pub places : (q : RequestKey) → get key_cmp index.places q ≡ (if is_asked q asked then Some (last_place q s.pairs) else None)
   pub total : index.total ≡ length s.pairs
   pub before : index.before ≤ length s.pairs
   pub few : length s.pairs ≤ index.before + most_new

@@ -4,7 +4,6 @@ ghost use Rattle.std.specs.Prelude.{◌≡◌};
 ghost use Rattle.gw_kept.specs.Order.{key_cmp};
 ghost use Rattle.gw_kept.specs.Pairs.{key_by, key_of};
 
-use crate::point::LentKey;
 use gw_base::{Items, Mid, TxId};
 use std::alloc::Global;
 use std::cmp::Ordering;
@@ -20,8 +19,8 @@ pub struct Entry {
     pub bytes: Items<u8>,
 }
 
-/// Who asked, and under which number: what a repeat is told by.
-#[derive(Clone, Copy, PartialEq, Eq)]
+/// Who sent a request, and under which number: by this a repeat is known.
+#[derive(Clone, Copy, PartialEq, Eq, PartialOrd, Ord)]
 pub struct RequestKey {
     /// Who asked, byte for byte as sent.
     pub mid: Mid,
@@ -43,31 +42,12 @@ impl RequestKey {
 }
 
 impl Entry {
-    /// How the key of the pair stands to another. Most senders are the same, which is told at once.
+    /// How the key of the pair stands to another.
     #[inline(always)]
     pub(crate) fn compare_key(&self, mid: &Mid, id: u32) -> Ordering
         ensures { result ≡ key_cmp (key_of self.now) (key_by mid.now id) }
     {
-        if self.mid == *mid {
-            self.id.0.cmp(&id)
-        } else {
-            self.compare_apart(mid, id)
-        }
-    }
-
-    /// The same, of senders that are not.
-    #[inline(never)]
-    fn compare_apart(&self, mid: &Mid, id: u32) -> Ordering
-        ensures { result ≡ key_cmp (key_of self.now) (key_by mid.now id) }
-    {
         self.mid.cmp(mid).then(self.id.0.cmp(&id))
-    }
-
-    /// The key of the pair, lent.
-    pub(crate) fn lent_key(&self) -> LentKey<'_>
-        ensures { result ≡ key_of self.now }
-    {
-        LentKey::by(&self.mid, self.id.0)
     }
 
     /// The key of the pair.

@@ -6,10 +6,10 @@ ghost use Rattle.gw_kept.specs.declared.entry.RequestKey.{RequestKey as Key};
 ghost use Rattle.gw_kept.specs.declared.point.Point.{Point as Item};
 ghost use Rattle.gw_kept.specs.Classes.{Standing, standing_of, keys_of, most_new, source_at, has_pair, last_place, kept_place, class_at, class_of, behind, behind_request, with_key, without};
 ghost use Rattle.gw_kept.specs.Index.{is_asked, kept_at, seen, IsAsked, IsIndex};
-ghost use Rattle.gw_kept.specs.Asked.{asked_cmp, asked_key};
+ghost use Rattle.gw_kept.specs.Order.{key_cmp};
 
-use crate::asked::AskedKey;
 use crate::class::{Class, Source};
+use crate::entry::RequestKey;
 use crate::kept::Kept;
 use crate::point::{LentKey, Point, Removal};
 use crate::row::Row;
@@ -23,7 +23,7 @@ pub(crate) const MOST_NEW: usize = 1024;
 /// before the burst.
 #[derive(Drop)]
 pub struct Index {
-    pub(crate) places: BTreeMap<AskedKey, Option<usize>>,
+    pub(crate) places: BTreeMap<RequestKey, Option<usize>>,
     /// How many pairs are kept at most.
     pub(crate) most: usize,
     /// How many there were before the burst.
@@ -39,13 +39,13 @@ fn asked_places(
     alloc: Global,
     kept: &Kept,
     points: &[Point<'_>],
-) -> Result<BTreeMap<AskedKey, Option<usize>>, AllocError>
-    ensures { IfOk result (λ places. (q : Key) → get asked_cmp places (asked_key q) ≡ (if is_asked q points.now then Some (last_place q (keys_of kept.now)) else None)) }
+) -> Result<BTreeMap<RequestKey, Option<usize>>, AllocError>
+    ensures { IfOk result (λ places. (q : Key) → get key_cmp places q ≡ (if is_asked q points.now then Some (last_place q (keys_of kept.now)) else None)) }
 {
     let mut places = BTreeMap::new(alloc);
     for point in points {
         if let Point::Request(key) = point {
-            places.insert(AskedKey { key: key.get() }, kept.place(key))?;
+            places.insert(key.get(), kept.place(key))?;
         }
     }
     Ok(places)
@@ -119,7 +119,7 @@ impl Index {
         ensures left { is_some self.new.left ≡ is_some self.old.left }
     {
         // Each request of the burst is asked, so that its key has a place here.
-        let Some(noted) = self.places.get_mut(&AskedKey { key: key.get() }) else {
+        let Some(noted) = self.places.get_mut(&key.get()) else {
             return Class::Nothing;
         };
         let oldest = self.total.saturating_sub(self.most);

@@ -1,6 +1,6 @@
 -- Merges, from one element to the next.
-use Rattle.std.proofs.Common.{◌≡◌, ℕ, suc, ◌+◌, ◌<◌, ◌||◌, Bool, true, false, List, [], ◌∷◌, ◌++◌, length, drop, get_or, Option, Some, None, bytes_eq, refl, ap, sym, ◌∙◌, add-one, drop-cons}
-use Rattle.std.specs.List.{flat_map, list_any}
+use Rattle.std.proofs.Common.{◌≡◌, ℕ, suc, ◌+◌, ◌<◌, true, false, List, [], ◌∷◌, ◌++◌, length, drop, get_or, Option, Some, None, bytes_eq, refl, ap, sym, ◌∙◌, add-one, drop-cons}
+use Rattle.std.specs.List.{flat_map}
 use Rattle.std.specs.Bool.{Decides}
 use Rattle.gw_text.specs.Runs.{begins, is_byte}
 use Rattle.gw_text.specs.Tokens.{is_same_word}
@@ -46,11 +46,6 @@ place_here name list i p h is found = ap (property_place name) (at_place list i 
 pub place_later : (name : List ℕ) (list : List (Property (List ℕ))) (i : ℕ) (p : Property (List ℕ)) → i < length list → p ≡ get_or list i p
     → is_same_word p.name name ≡ false → property_place name (drop i list) ≡ 1 + property_place name (drop (i + 1) list)
 place_later name list i p h is other = ap (property_place name) (at_place list i p h is) ∙ rw other refl
-
--- whether one that is left passes
-pub any_next : (passes : Property (List ℕ) → Bool) (list : List (Property (List ℕ))) (i : ℕ) (p : Property (List ℕ)) → i < length list → p ≡ get_or list i p
-    → list_any passes (drop i list) ≡ (passes p || list_any passes (drop (i + 1) list))
-any_next passes list i p h is = ap (list_any passes) (at_place list i p h is)
 
 -- ---- the brace that closes a blank group
 

@@ -22,7 +22,6 @@ use Rattle.gw_term.specs.declared.record.Termination.{Termination}
 use Rattle.gw_term.specs.declared.streams.Merging.{Merging}
 use Rattle.gw_term.specs.Record.{tail_of}
 use Rattle.gw_term.specs.Merge.{and_then, each, put_property, put_state, put_control, put_part, local_text, is_filled, begun, unnamed, stream_in, names_stream, is_named_in, media_parts, parts_in_part, parts_in, states_in, last_service, merged_service, merged_properties, merged_stream, merged_tail, kept_tail, merged}
-use Rattle.gw_term.specs.Laid.{last_mode}
 use Rattle.gw_term.specs.Laws.{IsStreamAfter}
 use Rattle.gw_term.specs.Named.{noted}
 use Rattle.gw_term.specs.Lookups.{states_sent, service_of_property, controls_in, locals_in, remotes_in, controls_sent, mode_by, modes_sent, tails_sent, list_in, mode_in, local_in, remote_in, IsStreamFound, IsFoundAfter}
@@ -61,6 +60,10 @@ states_are (p ∷ ps) list = by (is_service_states p.name) refl (states_are ps)
 
 -- ---- the properties of a LocalControl
 
+abbrev last_mode : List P → Mode → Mode
+last_mode [] old = old
+last_mode (p ∷ ps) old = last_mode ps (if is_mode p.name then unwrap_or (mode_set_by p) old else old)
+
 mode_found : (ps : List P) (old : Mode) → Some (last_mode ps old) ≡ last_or (Some old) (filter_map mode_by ps)
 mode_found [] old = refl
 mode_found (p ∷ ps) old = by (is_mode p.name) (mode_found ps)
@@ -70,7 +73,7 @@ mode_found (p ∷ ps) old = by (is_mode p.name) (mode_found ps)
     by true rest = rest (unwrap_or (mode_set_by p) old) ∙ last_set (mode_set_by p) old (filter_map mode_by ps)
     by false rest = rest old
 
-pub modes_both : (xs ys : List P) (old : Mode) → last_mode (xs ++ ys) old ≡ last_mode ys (last_mode xs old)
+modes_both : (xs ys : List P) (old : Mode) → last_mode (xs ++ ys) old ≡ last_mode ys (last_mode xs old)
 modes_both [] ys old = refl
 modes_both (x ∷ xs) ys old = modes_both xs ys _
 

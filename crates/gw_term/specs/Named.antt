@@ -1,5 +1,5 @@
 -- What descriptors name of a termination (own).
-use Rattle.std.specs.Prelude.{Bool, true, ◌||◌, if◌then◌else◌, List}
+use Rattle.std.specs.Prelude.{Bool, true, if◌then◌else◌, List}
 use Rattle.std.specs.List.{list_any}
 use Rattle.std.specs.Option.{is_some}
 use Rattle.gw_desc.specs.Checks.{is_kept, is_state}
@@ -19,14 +19,6 @@ has_states d = list_any is_state (media_parts d)
 -- named now, or before
 abbrev pub noted : Bool → Bool → Bool
 noted now before = if now then true else before
-
--- a stream is named
-abbrev pub has_stream : Named → Bool
-has_stream n = n.streams.first || n.streams.second || n.streams.third || n.streams.fourth
-
--- a tail is named
-abbrev pub has_tail : Named → Bool
-has_tail n = n.tails.events || n.tails.signals || n.tails.digit_map || n.tails.event_buffer
 
 -- what was named, and what a part of a Media names
 abbrev pub with_part : MediaPart → Named → Named

@@ -2,35 +2,26 @@
 
 ghost use Rattle.std.specs.Prelude.{◌≡◌, ◌≤◌, ◌++◌, IfOk, OnOk};
 ghost use Rattle.gw_term.specs.Audit.{stream_told, media_told, tail_told, item_told, word_told};
-ghost use Rattle.gw_term.specs.Grafts.{over};
 ghost use Rattle.gw_term.specs.Places.{at_number, at_kind, rising};
 
-use crate::grafts::next_over;
 use crate::held::HeldProperty;
-use crate::held_settings::HeldSettings;
 use crate::record::Termination;
+use crate::settings::Settings;
 use gw_base::{Items, NoMemory};
 use gw_desc::{AuditItem, AuditItems, KeptKind, item_of};
 use gw_reply::{AuditReply, KeptProperty, MediaReply, ReplyPart, StreamReply};
 use std::alloc::Global;
 
-/// The properties of a list as they are told, with those of another in the places that are kept.
+/// The properties as they are told.
 fn properties_told(
     alloc: Global,
-    kept: &[bool],
-    own: &[HeldProperty],
-    list: &[HeldProperty],
+    properties: &[HeldProperty],
 ) -> Result<Items<KeptProperty>, NoMemory>
-    ensures { IfOk result (λ told. told ≡ over kept.now own.now list.now) }
+    ensures { IfOk result (λ told. told ≡ properties.now) }
 {
     let mut told = Items::new(alloc);
-    let mut flags = kept;
-    let mut others = own;
-    for property in list {
-        let (from, flags_behind, others_behind) = next_over(flags, others, property);
-        told.push(from.told(alloc)?)?;
-        flags = flags_behind;
-        others = others_behind;
+    for property in properties {
+        told.push(property.to_reply(alloc)?)?;
     }
     Ok(told)
 }
@@ -39,24 +30,22 @@ fn properties_told(
 fn push_stream(
     alloc: Global,
     number: u8,
-    settings: &HeldSettings,
+    settings: &Settings,
     streams: &mut Items<StreamReply>,
 ) -> Result<(), NoMemory>
     requires first { 1 ≤ number }
     requires last { number ≤ 4 }
     ensures { OnOk result (streams.new ≡ streams.old ++ stream_told number (at_number number settings.now.streams)) }
 {
-    let Some(seen) = settings.stream(number) else {
+    let Some(stream) = settings.stream(number) else {
         return Ok(());
     };
-    let stream = seen.stream;
-    let list = stream.properties.as_slice();
     streams.push(StreamReply {
         number,
         mode: stream.mode,
-        properties: properties_told(alloc, seen.kept, seen.own, list)?,
-        local: stream.local.told(alloc)?,
-        remote: stream.remote.told(alloc)?,
+        properties: properties_told(alloc, stream.properties.as_slice())?,
+        local: stream.local.to_reply(alloc)?,
+        remote: stream.remote.to_reply(alloc)?,
     })?;
     Ok(())
 }
@@ -64,7 +53,7 @@ fn push_stream(
 /// The streams that are there go last.
 fn push_streams(
     alloc: Global,
-    settings: &HeldSettings,
+    settings: &Settings,
     streams: &mut Items<StreamReply>,
 ) -> Result<(), NoMemory>
     ensures { OnOk result (streams.new ≡ streams.old ++ rising stream_told settings.now.streams) }
@@ -78,8 +67,7 @@ fn push_streams(
 fn media_told(alloc: Global, termination: &Termination) -> Result<MediaReply, NoMemory>
     ensures { IfOk result (λ media. media ≡ media_told termination.now) }
 {
-    let over = termination.settings.properties();
-    let properties = properties_told(alloc, over.kept, over.own, over.list)?;
+    let properties = properties_told(alloc, termination.settings.properties())?;
     let mut streams = Items::new(alloc);
     push_streams(alloc, &termination.settings, &mut streams)?;
     Ok(MediaReply {
@@ -90,11 +78,11 @@ fn media_told(alloc: Global, termination: &Termination) -> Result<MediaReply, No
 }
 
 /// The tail of this kind, or the bare word where there is none.
-fn tail_told(alloc: Global, kind: KeptKind, settings: &HeldSettings) -> Result<ReplyPart, NoMemory>
+fn tail_told(alloc: Global, kind: KeptKind, settings: &Settings) -> Result<ReplyPart, NoMemory>
     ensures { IfOk result (λ part. part ≡ tail_told kind (at_kind kind settings.now.tails)) }
 {
     match settings.tail(kind) {
-        Some(tail) => Ok(ReplyPart::Kept(kind, tail.told(alloc)?)),
+        Some(tail) => Ok(ReplyPart::Kept(kind, tail.to_reply(alloc)?)),
         None => Ok(ReplyPart::Bare(AuditItem::Kept(kind))),
     }
 }
@@ -139,7 +127,7 @@ impl Termination {
     ///
     /// # Errors
     ///
-    /// Want of memory.
+    /// Out of memory.
     #[tactic(auto, unfolding(crate::specs::Audit::audit_parts))]
     pub fn audit(&self, alloc: Global, words: &AuditItems<'_>) -> Result<AuditReply, NoMemory>
         ensures { IfOk result (λ parts. parts ≡ audit_parts words.now self.now) }

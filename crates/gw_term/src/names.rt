@@ -4,32 +4,11 @@ ghost use Rattle.std.specs.Prelude.{◌≡◌};
 ghost use Rattle.gw_text.specs.Tokens.{is_same_word};
 ghost use Rattle.gw_term.specs.NameTags.{name_tag, with_byte};
 
-/// Whether two texts are the same in any case. Most that are of one length are alike in each letter.
-pub(crate) fn is_same_text(text: &[u8], other: &[u8]) -> bool
-    ensures { result ≡ is_same_word text.now other.now }
-{
-    text == other || text.eq_ignore_ascii_case(other)
-}
-
-/// Whether two names are the same in any case. They mostly differ in their lengths, or else in their last bytes, if they are of one package:
-/// so these are looked at first.
-#[inline]
+/// Whether two names are the same in any case. Most that are the same are so in each letter.
 pub(crate) fn is_same_name(name: &[u8], other: &[u8]) -> bool
     ensures { result ≡ is_same_word name.now other.now }
 {
-    if name.len() != other.len() {
-        return false;
-    }
-    let (Some((last, front)), Some((other_last, other_front))) = (
-        name.split_last(),
-        other.split_last(),
-    ) else {
-        return true;
-    };
-    if !last.eq_ignore_ascii_case(other_last) {
-        return false;
-    }
-    is_same_text(front, other_front)
+    name == other || name.eq_ignore_ascii_case(other)
 }
 
 /// What a tag is multiplied with for each byte: odd, and of 64 bits.

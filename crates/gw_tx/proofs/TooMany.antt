@@ -8,7 +8,7 @@ use Rattle.gw_length.proofs.Tellings.{length-later, not_within}
 use Rattle.gw_reply.specs.Contexts.{context_text}
 use Rattle.gw_reply.specs.Lists.{in_braces, later}
 use Rattle.gw_reply.specs.declared.reply.ActionReply.{ActionReply}
-use Rattle.gw_reply.specs.Replies.{told_text, action_reply_text}
+use Rattle.gw_reply.specs.Replies.{inner_text, action_reply_text}
 use Rattle.gw_reserve.specs.Owned.{OwnedAction}
 use Rattle.gw_table.specs.declared.attempts.Attempts.{Attempts}
 use Rattle.gw_table.specs.Folds.{in_order}
@@ -21,7 +21,7 @@ use Rattle.gw_length.proofs.Lengths.{length-braces}
 
 framed : (reply : ActionReply) → 11 ≤ length (later action_reply_text (reply ∷ []))
 framed reply =
-    let inner : List ℕ = told_text reply.parts reply.result in
+    let inner : List ℕ = inner_text reply.parts reply.result in
     omega (arith, length-append (action_reply_text reply) [], length-append (context_text reply.ctx) (in_braces inner), length-braces inner)
 
 each_framed : (rules : Rules) (a : OwnedAction) (stopped : Bool) (ns : List CtxNum) (m : Maps) → length ns * 11 ≤ length (later action_reply_text (in_order (in_each rules a) stopped ns m).answer.answers)

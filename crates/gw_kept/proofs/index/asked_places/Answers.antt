@@ -1,6 +1,6 @@
 use Rattle.std.proofs.Common.{sym, ap, ◌∙◌}
 use Rattle.std.specs.BTreeMap.{get}
-use Rattle.gw_kept.specs.Asked.{asked_cmp, asked_key}
+use Rattle.gw_kept.specs.Order.{key_cmp}
 use Rattle.gw_kept.specs.Classes.{keys_of, last_place}
 use Rattle.gw_kept.specs.declared.point.Point.TheVariants as point
 use Rattle.gw_kept.proofs.Indexes.{asks_not, key_more, no_key_more}
@@ -14,9 +14,9 @@ loop-point-preserved c =
     let pairs = keys_of c.args.kept.now in
     elim c.match-point.branch [
       | in-Request+in_ok-insert w ↦ λ q.
-          ap (λ m. get asked_cmp m (asked_key q)) w.places-is
-          ∙ key_more (λ k. get asked_cmp c.loop-point.places (asked_key k)) (λ k. get asked_cmp w.insert.new.self (asked_key k)) pairs c.args.points.now c.loop-point.point-index x w.get.result w.place.result c.loop-point-test.true c.point-item.is (w.in-Request.is ∙ ap (λ k. point.Request k) (sym w.get.ensures)) (w.place.ensures.place ∙ ap (λ q. last_place q pairs) (sym w.get.ensures)) inv (λ k. w.in_ok-insert.ensures.updates.0 (asked_key k)) q
+          ap (λ m. get key_cmp m q) w.places-is
+          ∙ key_more (λ k. get key_cmp c.loop-point.places k) (λ k. get key_cmp w.insert.new.self k) pairs c.args.points.now c.loop-point.point-index x w.get.result w.place.result c.loop-point-test.true c.point-item.is (w.in-Request.is ∙ ap (λ k. point.Request k) (sym w.get.ensures)) (w.place.ensures.place ∙ ap (λ q. last_place q pairs) (sym w.get.ensures)) inv (λ k. w.in_ok-insert.ensures.updates.0 k) q
       | in_default w ↦ λ q.
-          ap (λ m. get asked_cmp m (asked_key q)) w.places-is
-          ∙ no_key_more (λ k. get asked_cmp c.loop-point.places (asked_key k)) pairs c.args.points.now c.loop-point.point-index x c.loop-point-test.true c.point-item.is (asks_not x w.in_default.not-Request) inv q
+          ap (λ m. get key_cmp m q) w.places-is
+          ∙ no_key_more (λ k. get key_cmp c.loop-point.places k) pairs c.args.points.now c.loop-point.point-index x c.loop-point-test.true c.point-item.is (asks_not x w.in_default.not-Request) inv q
     ]

@@ -3,9 +3,9 @@ use Rattle.std.specs.BTreeMap.{get}
 use Rattle.gw_kept.specs.declared.entry.RequestKey.{RequestKey}
 use Rattle.gw_kept.specs.Classes.{keys_of}
 use Rattle.gw_kept.specs.Index.{is_asked}
-use Rattle.gw_kept.specs.Asked.{asked_cmp, asked_key}
+use Rattle.gw_kept.specs.Order.{key_cmp}
 use Rattle.gw_kept.proofs.Indexes.{placed}
 use Rattle.gw_kept.proofs.index.asked_places.Given as goal
 
 abbrev pub invariant-loop-point : goal.invariant-loop-point
-invariant-loop-point l = (q : RequestKey) → get asked_cmp l.places (asked_key q) ≡ placed q (keys_of l.kept) (is_asked q (take l.point-index l.points))
+invariant-loop-point l = (q : RequestKey) → get key_cmp l.places q ≡ placed q (keys_of l.kept) (is_asked q (take l.point-index l.points))

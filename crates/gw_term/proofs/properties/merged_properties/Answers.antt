@@ -1,8 +1,6 @@
 use Rattle.std.proofs.Common.{◌≡◌, ◌∙◌, ◌==◌, ℕ, List, [], ◌∷◌, length, true, Some, refl, sym, ap, arith}
 use Rattle.std.proofs.lemmas.Bool.Decides.{nat_tests}
-use Rattle.gw_term.specs.Grafts.{over}
 use Rattle.gw_term.specs.Merge.{merged_properties}
-use Rattle.gw_term.proofs.GraftLists.{over_nothing}
 use Rattle.gw_term.proofs.Naming.{no_states}
 use Rattle.gw_term.proofs.properties.merged_properties.Goals as goal
 
@@ -16,7 +14,5 @@ empty_is (x ∷ xs) h = absurd (omega (arith, is_zero (length (x ∷ xs)) h))
 pub returns-then-is_empty : goal.returns-then-is_empty
 unfolding merged_properties
 returns-then-is_empty c =
-    let none = no_states c.args.descriptors.now (sym c.requires ∙ c.if-not-is_named.true) in
-    let old = c.args.old in
-    let nothing : over old.kept.now old.own.now old.list.now ≡ [] = ap (over old.kept.now old.own.now) (empty_is old.list.now c.if-is_empty.ensures) ∙ over_nothing old.kept.now old.own.now in
-    rw none (ap Some (nothing ∙ sym c.new.ensures))
+    let none = no_states c.args.sent.now.descriptors.now (sym c.requires ∙ c.if-not-is_named.true) in
+    rw none (ap Some (empty_is c.args.old.now c.if-is_empty.ensures ∙ sym c.new.ensures))
