@@ -7,8 +7,8 @@ use Rattle.gw_base.specs.declared.command_words.Verb.{Verb}
 use Rattle.gw_base.specs.declared.command_words.Verb.TheVariants as word
 use Rattle.gw_base.specs.declared.ids.CtxNum.{CtxNum}
 use Rattle.gw_base.specs.declared.term_ref.TermRef.{TermRef}
-use Rattle.gw_length.specs.declared.telling.Telling.{Telling}
-use Rattle.gw_length.specs.declared.telling.Telling.TheVariants.{TooLong}
+use Rattle.gw_reply.specs.declared.writer.ReplyWriter.{ReplyWriter}
+use Rattle.gw_reply.specs.declared.writer.ReplyWriter.TheVariants.{TooLong}
 use Rattle.gw_desc.specs.declared.descriptor.Descriptor.{Descriptor}
 use Rattle.gw_msg.specs.declared.message.Command.{Command}
 use Rattle.gw_reply.specs.declared.parts.ReplyPart.{ReplyPart}
@@ -125,8 +125,8 @@ none_if false = refl
 
 -- ---- where nothing more is written, what a reply has does not matter
 
-pub seen_if : (writer : Telling CommandReply) (wanted : Bool) (c : Command) (r : TermRef) (x : Result (List ReplyPart) Code) → (wanted ≡ false → writer ≡ TooLong) → seen writer (reply c r (answer_if wanted x) ∷ []) ≡ seen writer (reply c r x ∷ [])
+pub seen_if : (writer : ReplyWriter CommandReply) (wanted : Bool) (c : Command) (r : TermRef) (x : Result (List ReplyPart) Code) → (wanted ≡ false → writer ≡ TooLong) → seen writer (reply c r (answer_if wanted x) ∷ []) ≡ seen writer (reply c r x ∷ [])
 seen_if writer true c r (Ok parts) full = refl
 seen_if writer wanted c r (Err code) full = refl
 seen_if writer false c r (Ok parts) full =
-    ap (λ (w : Telling CommandReply). seen w (reply c r (Ok []) ∷ [])) (full refl) ∙ sym (ap (λ (w : Telling CommandReply). seen w (reply c r (Ok parts) ∷ [])) (full refl))
+    ap (λ (w : ReplyWriter CommandReply). seen w (reply c r (Ok []) ∷ [])) (full refl) ∙ sym (ap (λ (w : ReplyWriter CommandReply). seen w (reply c r (Ok parts) ∷ [])) (full refl))

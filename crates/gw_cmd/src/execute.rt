@@ -30,10 +30,9 @@ use crate::tables::refusal_by_tables;
 use crate::targets::{on_target, on_targets};
 use crate::task::{Execution, Task};
 use gw_base::{Code, Items, NoMemory, Rules, TermName, TermRef};
-use gw_length::Telling;
 use gw_msg::Command;
 use gw_refusal::{At, targets};
-use gw_reply::CommandReply;
+use gw_reply::{CommandReply, ReplyWriter};
 use gw_table::{Draft, slot_name};
 use std::alloc::Global;
 use std::slice;
@@ -45,7 +44,7 @@ fn on_names(
     execution: Execution,
     prepared: &mut Prepared<'_, '_>,
     named: &[TermName],
-    writer: Telling<CommandReply>,
+    writer: ReplyWriter<CommandReply>,
 ) -> Result<CmdWritten, NoMemory>
     requires sound { IsSound draft.old.keys draft.old.maps }
     requires ready { IsReady draft.old.keys execution.at prepared.old.command.now draft.old.maps }
@@ -64,7 +63,7 @@ fn on_names(
             execution.task,
             prepared,
             named,
-            Telling::TooLong,
+            ReplyWriter::TooLong,
         )?;
         return outcome_of_all(alloc, writer, execution.at, prepared.command, seen);
     }
@@ -79,7 +78,7 @@ fn on_one(
     execution: Execution,
     prepared: &mut Prepared<'_, '_>,
     name: &TermName,
-    writer: Telling<CommandReply>,
+    writer: ReplyWriter<CommandReply>,
 ) -> Result<CmdWritten, NoMemory>
     requires sound { IsSound draft.old.keys draft.old.maps }
     requires ready { IsReady draft.old.keys execution.at prepared.old.command.now draft.old.maps }
@@ -102,7 +101,7 @@ fn on_slot(
     draft: &mut Draft<'_>,
     execution: Execution,
     prepared: &mut Prepared<'_, '_>,
-    writer: Telling<CommandReply>,
+    writer: ReplyWriter<CommandReply>,
 ) -> Result<CmdWritten, NoMemory>
     requires sound { IsSound draft.old.keys draft.old.maps }
     requires ctx_key { HoldsPlace draft.old.keys (place_at execution.at) }
@@ -142,7 +141,7 @@ fn on_root(
     draft: &mut Draft<'_>,
     execution: Execution,
     command: &Command<'_>,
-    writer: Telling<CommandReply>,
+    writer: ReplyWriter<CommandReply>,
 ) -> Result<CmdWritten, NoMemory>
     requires term_keys { command.now.verb ≡ ServiceChange → (t : List ℕ) → is_in t (names draft.old.maps) ≡ true → holds draft.old.keys (Term t) ≡ true }
     requires allowed { IsAllowed execution.at command.now execution.task }
@@ -165,7 +164,7 @@ fn executed(
     execution: Execution,
     prepared: &mut Prepared<'_, '_>,
     named: &[TermName],
-    writer: Telling<CommandReply>,
+    writer: ReplyWriter<CommandReply>,
 ) -> Result<CmdWritten, NoMemory>
     requires sound { IsSound draft.old.keys draft.old.maps }
     requires ready { IsReady draft.old.keys execution.at prepared.old.command.now draft.old.maps }
@@ -194,7 +193,7 @@ fn on_allowed(
     execution: Execution,
     prepared: &mut Prepared<'_, '_>,
     named: &[TermName],
-    writer: Telling<CommandReply>,
+    writer: ReplyWriter<CommandReply>,
 ) -> Result<CmdWritten, NoMemory>
     requires sound { IsSound draft.old.keys draft.old.maps }
     requires covered { Holds draft.old.keys (command_keys execution.at execution.slot prepared.old.command.now draft.old.maps) }
@@ -232,7 +231,7 @@ pub fn command_written(
     at: At,
     slot: Option<u16>,
     prepared: &mut Prepared<'_, '_>,
-    writer: Telling<CommandReply>,
+    writer: ReplyWriter<CommandReply>,
 ) -> Result<CmdWritten, NoMemory>
     requires sound { IsSound draft.old.keys draft.old.maps }
     requires covered { Holds draft.old.keys (command_keys at slot prepared.old.command.now draft.old.maps) }
@@ -286,13 +285,13 @@ pub fn command(
     ensures keys { draft.new.keys ≡ draft.old.keys }
 {
     let mut prepared = Prepared::new(rules, command);
-    let writer = Telling::All(Items::new(alloc));
+    let writer = ReplyWriter::All(Items::new(alloc));
     let CmdWritten {
         written,
         failed,
         made,
     } = command_written(alloc, draft, at, slot, &mut prepared, writer)?;
-    let Telling::All(replies) = written else {
+    let ReplyWriter::All(replies) = written else {
         unreachable!()
     };
     Ok(CmdOutcome {

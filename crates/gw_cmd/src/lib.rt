@@ -8,7 +8,6 @@ mod execute;
 mod idle;
 mod laws;
 mod members;
-mod merger;
 mod outcome;
 mod parts;
 mod prepared;

@@ -7,12 +7,12 @@ ghost use Rattle.gw_refusal.specs.declared.at.At.TheVariants.{Each};
 ghost use Rattle.gw_refusal.specs.Asked.{service_asked};
 ghost use Rattle.gw_refusal.specs.Forms.{refusal_by_form};
 
-use crate::merger::Merger;
 use crate::task::{Task, task_of};
 use gw_base::{Code, CtxNum, Rules, Service};
 use gw_desc::check;
 use gw_msg::Command;
 use gw_refusal::{At, refusal_by_form, service_asked};
+use gw_term::Merger;
 
 /// A command under the gateway's rules, with what is found of it once for all contexts and terminations.
 #[derive(Drop)]
