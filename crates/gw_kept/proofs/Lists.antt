@@ -1,4 +1,4 @@
--- Lists of which each pair, or each item, is as asked: with one more item, and with other items in place of these.
+-- Lists of which each pair, or each item, has a property: with one more item, and with other items in place of these.
 use Rattle.std.proofs.Common.{◌≡◌, ℕ, zero, suc, ◌+◌, ◌-◌, ◌<◌, ◌≤◌, List, [], ◌∷◌, ◌++◌, map, length, take, drop, get_or, true, is_some, is_ok, Option, Some, None, Result, Ok, Err, refl, ap, sym, subst, ◌∙◌, add-one, arith, inl, inr}
 use Rattle.std.specs.Option.{OnSome}
 use Rattle.std.specs.Result.{OnErr, OnOk}

@@ -66,7 +66,7 @@ one_more key k (p ∷ ps) =
     let here : Option ℕ = cond (is_same p key) (Some 0) None in
     ap (λ (o : Option ℕ). or_here 1 o here) (one_more key k ps) ∙ step (is_same k key) true (length ps) (last_place key ps) here
 
--- ---- the order of keys tells the same keys
+-- ---- keys that tie in the order are the same
 
 then_test : (r s : Ordering) → is_eq (ordering_then r s) ≡ (is_eq r && is_eq s)
 then_test Less s = refl

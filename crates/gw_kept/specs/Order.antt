@@ -1,5 +1,5 @@
--- The kept pairs in the order of their keys (own): by which a key's pair is found without passing over the others. Each place of the
--- row has a number. They are numbered as pairs come, one after another, around a circle.
+-- The kept pairs in the order of their keys (own): by which a key's pair is found without passing over the others.
+-- Each place of the row has a number. They are numbered as pairs come, one after another, around a circle.
 use Rattle.std.specs.Prelude.{◌≡◌, ◌≤◌, ◌<◌, ◌+◌, ◌-◌, ◌%◌, ◌^◌, ◌&&◌, nat_le, nat_lt, true, ℕ, List, [], ◌∷◌, map, length, slice_index, slice_index_or, Option, None, is_some, Result, Ok, Err}
 use Rattle.std.specs.List.{All, AllPairs, Contains}
 use Rattle.std.specs.List.Sorted.{IsPartitionPoint}
@@ -13,7 +13,7 @@ use Rattle.gw_kept.specs.declared.entry.RequestKey.{RequestKey}
 use Rattle.gw_kept.specs.Forgotten.{is_named}
 use Rattle.gw_kept.specs.Rows.{present, key_in, most_places}
 
--- by the bytes of the sender, and then by the number: what one sender asked stands together
+-- by the bytes of the sender, and then by the number: the requests of one sender stand together
 abbrev pub key_cmp : RequestKey → RequestKey → Ordering
 key_cmp a b = ordering_then (slice_cmp nat_cmp a.mid b.mid) (nat_cmp a.id b.id)
 

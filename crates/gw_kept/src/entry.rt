@@ -8,10 +8,10 @@ use gw_base::{Items, Mid, TxId};
 use std::alloc::Global;
 use std::cmp::Ordering;
 
-/// A reply that is kept for repeats (own to this profile; RFC 3525, Annex D.1, asks that a repeat is not carried out again).
+/// A reply that is kept for repeats (own to this profile; by RFC 3525, Annex D.1, a repeat is not executed again).
 #[derive(Drop)]
 pub struct Entry {
-    /// Who asked, as sent.
+    /// The sender of the request, as sent.
     pub mid: Mid,
     /// The number of the transaction.
     pub id: TxId,
@@ -19,10 +19,10 @@ pub struct Entry {
     pub bytes: Items<u8>,
 }
 
-/// Who sent a request, and under which number: by this a repeat is known.
+/// Who sent a request, and under which number: a repeat has the same.
 #[derive(Clone, Copy, PartialEq, Eq, PartialOrd, Ord)]
 pub struct RequestKey {
-    /// Who asked, byte for byte as sent.
+    /// The sender, byte for byte as sent.
     pub mid: Mid,
     /// The number of the transaction.
     pub id: u32,

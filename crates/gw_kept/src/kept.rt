@@ -14,7 +14,8 @@ use gw_msg::AckRange;
 use std::alloc::{AllocError, Global};
 use std::marker::Model;
 
-/// The last replies, for requests that are sent again. Contracts see the pairs, oldest first, and how many are kept at most.
+/// The last replies, for requests that are sent again. Contracts see the pairs, oldest first, and how many are kept
+/// at most.
 #[derive(Drop)]
 pub struct Kept {
     pub(crate) row: Row,
@@ -57,9 +58,9 @@ impl Kept {
         self.row.len()
     }
 
-    /// Keeps a pair, whose key no kept pair has: the caller knows that. A full list hands back its oldest pair. It takes no
-    /// memory. For k kept pairs it costs log k steps, or one where the key comes behind all others, and two moves of at most k bytes,
-    /// or none where keys come in their order and leave in it.
+    /// Keeps a pair, whose key no kept pair has: the caller knows that. A full list hands back its oldest pair. It
+    /// takes no memory. For k kept pairs it costs log k steps, or one where the key comes behind all others, and two
+    /// moves of at most k bytes, or none where keys come in their order and leave in it.
     pub fn push(&mut self, entry: Entry) -> Option<Entry>
         requires { bytes_for (key_of entry) self.old.pairs ≡ None }
         ensures pairs { self.new ≡ with_pair self.old entry }
@@ -70,9 +71,10 @@ impl Kept {
         dropped
     }
 
-    /// Removes each pair of this sender whose number is in one of the ranges, both ends included; the others keep their order.
-    /// A range whose first number is above its last has none. It takes no memory. For n ranges and k pairs it costs n log k steps,
-    /// two moves of at most k bytes for each range that names some, and one pass over the pairs where any goes.
+    /// Removes each pair of this sender whose number is in one of the ranges, both ends included; the others keep
+    /// their order. A range whose first number is above its last has none. It takes no memory. For n ranges and k
+    /// pairs it costs n log k steps, two moves of at most k bytes for each range that names some, and one pass over
+    /// the pairs where any goes.
     pub fn forget(&mut self, mid: &Mid, ranges: &[AckRange])
         ensures { self.new ≡ forgotten self.old mid.now ranges.now }
     {

@@ -15,9 +15,9 @@ use std::alloc::{AllocError, Global};
 use std::cmp::Ordering;
 use std::collections::VecDeque;
 
-/// The numbers of the kept pairs, in the order of their keys: in a queue, so that what goes in or out near either end moves few. The
-/// places of the ring are numbered as they come, gaps among them, and behind 65,535 comes 0: so what leaves the front changes no
-/// other number. Where gaps are closed, all are numbered anew.
+/// The numbers of the kept pairs, in the order of their keys: in a queue, so that what goes in or out near either end
+/// moves few. The places of the ring are numbered as they come, gaps among them, and behind 65,535 comes 0: so what
+/// leaves the front changes no other number. Where gaps are closed, all are numbered anew.
 #[derive(Drop)]
 pub struct Order {
     pub(crate) numbers: VecDeque<u16>,
@@ -90,8 +90,8 @@ impl Order {
         }
     }
 
-    /// Where a key stands in the order, or where it would stand: one step where it comes behind all others, as the next number of
-    /// a sender mostly does, and else as many more as the count of pairs has binary digits.
+    /// Where a key stands in the order, or where it would stand: one step where it comes behind all others, as the
+    /// next number of a sender mostly does, and else as many more as the count of pairs has binary digits.
     pub fn search(&self, ring: &Ring, mid: &Mid, id: u32) -> Result<usize, usize>
         ensures range { IsSearchInRange result (deque_len self.now.numbers) }
         ensures stand { (order : IsOrder (keys_in ring.now.items) self.now.first self.now.numbers.items) → IsStand (keys_in ring.now.items) order.places (key_by mid.now id) result }
@@ -114,8 +114,8 @@ impl Order {
         }
     }
 
-    /// Inserts the number of a pair that is to go last, and whose key no pair has. It takes no memory: the caller knows that there is
-    /// room.
+    /// Inserts the number of a pair that is to go last, and whose key no pair has. It takes no memory: the caller
+    /// knows that there is room.
     pub fn insert(&mut self, ring: &Ring, entry: &Entry)
         requires order { IsOrder (keys_in ring.now.items) self.old.first self.old.numbers.items }
         requires new { IsFound (keys_in ring.now.items) (key_of entry.now) None }

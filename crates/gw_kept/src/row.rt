@@ -19,7 +19,8 @@ use gw_msg::AckRange;
 use std::alloc::{AllocError, Global};
 use std::marker::Model;
 
-/// How many places there are at most beyond those of the pairs: so many pairs are removed in a burst before gaps have to be closed.
+/// How many places there are at most beyond those of the pairs: so many pairs are removed in a burst before gaps have
+/// to be closed.
 const MOST_BEYOND: usize = 1024;
 
 /// The kept pairs, with gaps where pairs were removed.
@@ -106,10 +107,10 @@ impl Row {
         self.find(key).is_some()
     }
 
-    /// Keeps a pair, whose key no kept pair has: the caller knows that. Where as many are there as are kept at most, the oldest is
-    /// handed back. It takes no memory. For k kept pairs it costs log k steps, or one where the key comes behind all others, and two
-    /// moves of at most k bytes, or none where keys come in their order and leave in it. Where no place is free, the gaps are closed
-    /// first.
+    /// Keeps a pair, whose key no kept pair has: the caller knows that. Where as many are there as are kept at most,
+    /// the oldest is handed back. It takes no memory. For k kept pairs it costs log k steps, or one where the key
+    /// comes behind all others, and two moves of at most k bytes, or none where keys come in their order and leave in
+    /// it. Where no place is free, the gaps are closed first.
     pub fn push(&mut self, entry: Entry) -> Option<Entry>
         requires { bytes_for (key_of entry) (present self.old.row) ≡ None }
         ensures pairs { kept_in self.new ≡ with_pair (kept_in self.old) entry }
@@ -152,8 +153,9 @@ impl Row {
         None
     }
 
-    /// Removes what an acknowledgement names, and leaves gaps. It takes no memory. For n ranges and k pairs it costs n log k steps, two
-    /// moves of at most k bytes for each range that names some, and a constant for each pair that goes.
+    /// Removes what an acknowledgement names, and leaves gaps. It takes no memory. For n ranges and k pairs it costs
+    /// n log k steps, two moves of at most k bytes for each range that names some, and a constant for each pair that
+    /// goes.
     pub fn forget(&mut self, mid: &Mid, ranges: &[AckRange])
         ensures { kept_in self.new ≡ forgotten (kept_in self.old) mid.now ranges.now }
     {

@@ -20,6 +20,5 @@ pub use parts::{
     AuditReply, FilledStream, KeptProperty, KeptTail, MediaReply, ReplyPart, StreamReply,
 };
 pub use reply::{ActionReply, CommandReply, TxReply};
-pub use tree_text::framed_action;
-pub use wire::{Written, write_number};
+pub use wire::Written;
 pub use writer::ReplyWriter;

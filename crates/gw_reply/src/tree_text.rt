@@ -87,7 +87,7 @@ fn fill_head(place: &mut [u8], word: &[u8])
 
 /// The reply to an action in this context, behind a comma: from what stands between its braces, where each part of that has a comma before
 /// it. It is made in the buffer that it is given.
-pub fn framed_action(ctx: &CtxRef, inner: Vec<u8>) -> Result<Vec<u8>, AllocError>
+pub(crate) fn framed_action(ctx: &CtxRef, inner: Vec<u8>) -> Result<Vec<u8>, AllocError>
     ensures { IfOk result (λ out. out.items ≡ comma ∷ framed ctx.now inner.items) }
 {
     let mut digits = Buffer::new();

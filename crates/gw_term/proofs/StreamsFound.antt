@@ -23,7 +23,7 @@ use Rattle.gw_term.specs.declared.streams.Merging.{Merging}
 use Rattle.gw_term.specs.Record.{tail_of}
 use Rattle.gw_term.specs.Merge.{and_then, each, put_property, put_state, put_control, put_part, local_text, is_filled, begun, unnamed, stream_in, names_stream, is_named_in, media_parts, parts_in_part, parts_in, states_in, last_service, merged_service, merged_properties, merged_stream, merged_tail, kept_tail, merged}
 use Rattle.gw_term.specs.Laws.{IsStreamAfter}
-use Rattle.gw_term.specs.Named.{noted}
+use Rattle.gw_term.specs.Named.{or_named}
 use Rattle.gw_term.specs.Lookups.{states_sent, service_of_property, controls_in, locals_in, remotes_in, controls_sent, mode_by, modes_sent, tails_sent, list_in, mode_in, local_in, remote_in, IsStreamFound, IsFoundAfter}
 use Rattle.gw_term.proofs.ByField.{by_field, same_unnamed}
 use Rattle.gw_term.proofs.Made.{mapped_from, between}
@@ -163,12 +163,12 @@ no_parts : (number : ℕ) (descriptors : List Descriptor) → list_any (is_named
 no_parts number = none_in (is_named_in number) (parts_in number) (λ d. none_in (names_stream number) (parts_in_part number) (no_part number) (media_parts d))
 
 -- a stream that is named or there is what its parts make of it
-pub merged_there : (rules : Rules) (slot : Option ℕ) (number : ℕ) (descriptors : List Descriptor) (old : Option Stream) → noted (is_some old) (list_any (is_named_in number) descriptors) ≡ true
+pub merged_there : (rules : Rules) (slot : Option ℕ) (number : ℕ) (descriptors : List Descriptor) (old : Option Stream) → or_named (is_some old) (list_any (is_named_in number) descriptors) ≡ true
     → merged_stream rules slot number descriptors old ≡ option_map (λ m. Some m) (each (put_part rules slot number) (flat_map (parts_in number) descriptors) (begun old))
 unfolding merged_stream
 merged_there rules slot number descriptors old there = by (list_any (is_named_in number) descriptors) refl old there
   where
-    by : (t : Bool) → list_any (is_named_in number) descriptors ≡ t → (o : Option Stream) → noted (is_some o) t ≡ true
+    by : (t : Bool) → list_any (is_named_in number) descriptors ≡ t → (o : Option Stream) → or_named (is_some o) t ≡ true
         → (if t then option_map (λ m. Some m) (each (put_part rules slot number) (flat_map (parts_in number) descriptors) (begun o)) else Some (unnamed o))
         ≡ option_map (λ m. Some m) (each (put_part rules slot number) (flat_map (parts_in number) descriptors) (begun o))
     by true named o h = refl

@@ -25,30 +25,8 @@ use std::alloc::{AllocError, Global};
 /// The streams whose Local was filled, in rising order.
 pub type Filled = Items<FilledStream>;
 
-/// The Local of the stream of this number goes last. Not inlined, since few Locals are filled.
-#[inline(never)]
-fn push_filled(
-    alloc: Global,
-    number: u8,
-    settings: &SettingList,
-    filled: &mut Filled,
-) -> Result<(), NoMemory>
-    requires first { 1 ≤ number }
-    requires last { number ≤ 4 }
-    ensures { OnOk result (filled.new ≡ filled.old ++ filled_in number (merging_of (at_number number settings.now.streams) true)) }
-{
-    let Some(stream) = settings.stream(number) else {
-        return Ok(());
-    };
-    if let Some(local) = stream.local.to_reply(alloc)? {
-        filled.push(FilledStream { number, local })?;
-    }
-    Ok(())
-}
-
 /// The Local of the stream of this number goes last, if it was filled.
-#[inline]
-fn push_if_filled(
+fn push_filled(
     alloc: Global,
     number: u8,
     is_filled: bool,
@@ -59,14 +37,20 @@ fn push_if_filled(
     requires last { number ≤ 4 }
     ensures { OnOk result (filled.new ≡ filled.old ++ filled_in number (merging_of (at_number number settings.now.streams) is_filled)) }
 {
-    if is_filled {
-        return push_filled(alloc, number, settings, filled);
+    if !is_filled {
+        return Ok(());
+    }
+    let Some(stream) = settings.stream(number) else {
+        return Ok(());
+    };
+    if let Some(local) = stream.local.to_reply(alloc)? {
+        filled.push(FilledStream { number, local })?;
     }
     Ok(())
 }
 
-/// What the descriptors make of what was set, beside its properties, is set where nothing but these is; the streams whose Local was
-/// filled go into a list in rising order.
+/// What the descriptors make of what was set, beside its properties, is set where nothing but these is; the streams
+/// whose Local was filled go into a list in rising order.
 #[tactic(auto, unfolding(crate::specs::Merge::merged, crate::specs::Merge::merged_media, crate::specs::Merge::filled_by))]
 fn merge_into(
     alloc: Global,
@@ -89,10 +73,10 @@ fn merge_into(
     let second = merge_stream(alloc, sent, 2, streams.second, before, set)?;
     let third = merge_stream(alloc, sent, 3, streams.third, before, set)?;
     let fourth = merge_stream(alloc, sent, 4, streams.fourth, before, set)?;
-    push_if_filled(alloc, 1, first, set, filled)?;
-    push_if_filled(alloc, 2, second, set, filled)?;
-    push_if_filled(alloc, 3, third, set, filled)?;
-    push_if_filled(alloc, 4, fourth, set, filled)?;
+    push_filled(alloc, 1, first, set, filled)?;
+    push_filled(alloc, 2, second, set, filled)?;
+    push_filled(alloc, 3, third, set, filled)?;
+    push_filled(alloc, 4, fourth, set, filled)?;
     merge_tails(alloc, sent, &there.tails, before, set)?;
     Ok(())
 }
@@ -123,14 +107,15 @@ pub struct Applied {
     pub filled: Filled,
 }
 
-/// The record after the descriptors, as `Termination::merged` gives it. Long texts are shared with what was made of them before.
+/// The record after the descriptors, as `Termination::merged` gives it. Long texts are shared with what was made of
+/// them before.
 #[tactic(auto, unfolding(crate::specs::Merge::merged, crate::specs::Merge::merged_media))]
 pub(crate) fn merge(
     alloc: Global,
     rules: &Rules,
     descriptors: &[Descriptor<'_>],
     old: &Termination,
-    made: Option<&Settings>,
+    made: &Settings,
 ) -> Result<Applied, ApplyFault>
     ensures { IsMerged rules.now descriptors.now old.now result }
 {
@@ -141,15 +126,14 @@ pub(crate) fn merge(
         made,
     };
     let mut there = Named::by(descriptors);
-    let properties = merged_properties(alloc, &sent, there.states, old.settings.properties())?;
-    let service = merged_service(there.states, descriptors, old.service);
-    there.note_set(&old.settings);
+    there.add_set(&old.settings);
+    let properties = merged_properties(alloc, &sent, old.settings.properties())?;
     let mut settings = begun(alloc, properties, there.count())?;
     let mut filled = Items::new(alloc);
     merge_into(alloc, &sent, &there, old, &mut settings, &mut filled)?;
     let record = Termination {
         place: old.place,
-        service,
+        service: merged_service(descriptors, old.service),
         slot: old.slot,
         settings: settings.into_settings(alloc)?,
     };
@@ -165,12 +149,13 @@ impl Termination {
     ghost use Rattle.gw_term.specs.Merge.{merged, filled_by};
     ghost use Rattle.gw_term.specs.Applies.{IsApplied, IsMerged};
 
-    /// The record after the descriptors: what they set, it keeps; what they do not name stays. A stream that is named and
-    /// missing comes with mode Inactive and nothing else; Mode, ServiceStates, Local and Remote take the place of the old ones;
-    /// a property takes the place of the one of its name, in any case, or goes last; a tail takes the place of the old one, and
-    /// one without `=` whose group is missing or blank removes it. The `$` of a Local are filled where the termination has a
-    /// slot. The streams whose Local was filled are answered in rising order. It is meant for descriptors of which no code of
-    /// `check` applies, taken as those of an Add. The work is linear in the descriptors and the record.
+    /// The record after the descriptors: what they set, it keeps; what they do not name stays. A stream that is named
+    /// and missing comes with mode Inactive and nothing else; Mode, ServiceStates, Local and Remote take the place of
+    /// the old ones; a property takes the place of the one of its name, in any case, or goes last; a tail takes the
+    /// place of the old one, and one without `=` whose group is missing or blank removes it. The `$` of a Local are
+    /// filled where the termination has a slot. The streams whose Local was filled are answered in rising order. It
+    /// is meant for descriptors of which no code of `check` applies, taken as those of an Add. The work is linear in
+    /// the descriptors and the record.
     ///
     /// # Errors
     ///
@@ -183,12 +168,12 @@ impl Termination {
     ) -> Result<Applied, ApplyFault>
         ensures { IsMerged rules.now descriptors.now self.now result }
     {
-        merge(alloc, rules, descriptors, self, None)
+        merge(alloc, rules, descriptors, self, &Settings::none())
     }
 
-    /// The termination becomes its record after the descriptors, as `merged` gives it. Answers the streams whose Local was
-    /// filled, in rising order, with their Locals. The caller knows that no code of `check` applies to the descriptors, taken as
-    /// those of an Add.
+    /// The termination becomes its record after the descriptors, as `merged` gives it. Answers the streams whose
+    /// Local was filled, in rising order, with their Locals. The caller knows that no code of `check` applies to the
+    /// descriptors, taken as those of an Add.
     ///
     /// # Errors
     ///

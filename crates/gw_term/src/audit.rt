@@ -12,18 +12,18 @@ use gw_desc::{AuditItem, AuditItems, KeptKind, item_of};
 use gw_reply::{AuditReply, KeptProperty, MediaReply, ReplyPart, StreamReply};
 use std::alloc::Global;
 
-/// The properties as they are told.
-fn properties_told(
+/// The properties as a reply has them.
+fn reply_properties(
     alloc: Global,
     properties: &[HeldProperty],
 ) -> Result<Items<KeptProperty>, NoMemory>
-    ensures { IfOk result (λ told. told ≡ properties.now) }
+    ensures { IfOk result (λ reply. reply ≡ properties.now) }
 {
-    let mut told = Items::new(alloc);
+    let mut reply = Items::new(alloc);
     for property in properties {
-        told.push(property.to_reply(alloc)?)?;
+        reply.push(property.to_reply(alloc)?)?;
     }
-    Ok(told)
+    Ok(reply)
 }
 
 /// The stream of this number goes last, if it is there.
@@ -43,7 +43,7 @@ fn push_stream(
     streams.push(StreamReply {
         number,
         mode: stream.mode,
-        properties: properties_told(alloc, stream.properties.as_slice())?,
+        properties: reply_properties(alloc, stream.properties.as_slice())?,
         local: stream.local.to_reply(alloc)?,
         remote: stream.remote.to_reply(alloc)?,
     })?;
@@ -64,10 +64,10 @@ fn push_streams(
     push_stream(alloc, 4, settings, streams)
 }
 
-fn media_told(alloc: Global, termination: &Termination) -> Result<MediaReply, NoMemory>
+fn reply_media(alloc: Global, termination: &Termination) -> Result<MediaReply, NoMemory>
     ensures { IfOk result (λ media. media ≡ media_told termination.now) }
 {
-    let properties = properties_told(alloc, termination.settings.properties())?;
+    let properties = reply_properties(alloc, termination.settings.properties())?;
     let mut streams = Items::new(alloc);
     push_streams(alloc, &termination.settings, &mut streams)?;
     Ok(MediaReply {
@@ -78,7 +78,7 @@ fn media_told(alloc: Global, termination: &Termination) -> Result<MediaReply, No
 }
 
 /// The tail of this kind, or the bare word where there is none.
-fn tail_told(alloc: Global, kind: KeptKind, settings: &Settings) -> Result<ReplyPart, NoMemory>
+fn reply_tail(alloc: Global, kind: KeptKind, settings: &Settings) -> Result<ReplyPart, NoMemory>
     ensures { IfOk result (λ part. part ≡ tail_told kind (at_kind kind settings.now.tails)) }
 {
     match settings.tail(kind) {
@@ -87,7 +87,7 @@ fn tail_told(alloc: Global, kind: KeptKind, settings: &Settings) -> Result<Reply
     }
 }
 
-fn item_told(
+fn reply_part(
     alloc: Global,
     termination: &Termination,
     item: AuditItem,
@@ -95,8 +95,8 @@ fn item_told(
     ensures { IfOk result (λ part. part ≡ item_told termination.now item) }
 {
     match item {
-        AuditItem::Media => Ok(ReplyPart::Media(media_told(alloc, termination)?)),
-        AuditItem::Kept(kind) => tail_told(alloc, kind, &termination.settings),
+        AuditItem::Media => Ok(ReplyPart::Media(reply_media(alloc, termination)?)),
+        AuditItem::Kept(kind) => reply_tail(alloc, kind, &termination.settings),
         AuditItem::Statistics | AuditItem::ObservedEvents | AuditItem::Packages => {
             Ok(ReplyPart::Bare(item))
         }
@@ -104,7 +104,7 @@ fn item_told(
 }
 
 /// What the word asks for goes last.
-fn push_told(
+fn push_part(
     alloc: Global,
     termination: &Termination,
     word: &[u8],
@@ -113,7 +113,7 @@ fn push_told(
     ensures { OnOk result (parts.new ≡ parts.old ++ word_told termination.now word.now) }
 {
     if let Some(item) = item_of(word) {
-        parts.push(item_told(alloc, termination, item)?)?;
+        parts.push(reply_part(alloc, termination, item)?)?;
     }
     Ok(())
 }
@@ -121,9 +121,9 @@ fn push_told(
 impl Termination {
     ghost use Rattle.gw_term.specs.Audit.{audit_parts};
 
-    /// The items that an Audit asks for, in the order asked, as the termination is now: of Media its service state, its
-    /// properties and its streams; of a descriptor that is kept as sent its tail, or the bare word; of what the gateway
-    /// does not gather the bare word. The caller knows that each word is an item, as `check` finds it.
+    /// The items that an Audit asks for, in the order asked, as the termination is now: of Media its service state,
+    /// its properties and its streams; of a descriptor that is kept as sent its tail, or the bare word; of what the
+    /// gateway does not gather the bare word. The caller knows that each word is an item, as `check` finds it.
     ///
     /// # Errors
     ///
@@ -134,7 +134,7 @@ impl Termination {
     {
         let mut parts = Items::new(alloc);
         for word in words.as_slice() {
-            push_told(alloc, self, word.as_bytes(), &mut parts)?;
+            push_part(alloc, self, word.as_bytes(), &mut parts)?;
         }
         Ok(parts)
     }

@@ -40,32 +40,25 @@ pub(crate) fn copied_stream(alloc: Global, stream: &Stream) -> Result<Stream, Al
     })
 }
 
-/// The value takes the place of the one there, which is dropped here: where that is done at a type with many fields, each of
-/// them is dropped in turn.
+/// The value takes the place of the one there, which is dropped here: where that is done at a type with many fields,
+/// each of them is dropped in turn.
 pub(crate) fn put<T: Drop>(place: &mut T, value: T)
     ensures { place.new ≡ value }
 {
     *place = value;
 }
 
-/// A copy of all that is kept of a termination, which shares what was set of it.
-#[inline(always)]
-fn copied_termination(old: &Termination) -> Result<Termination, AllocError>
-    ensures { IfOk result (λ copy. copy ≡ old.now) }
-{
-    Ok(Termination {
-        place: old.place,
-        service: old.service,
-        slot: old.slot,
-        settings: old.settings.copied()?,
-    })
-}
-
+// The copy shares what was set of it.
 impl Clone for Termination {
     ghost is_clone = { λ a b. b ≡ a };
 
     fn clone(&self) -> Result<Self, AllocError> {
-        copied_termination(self)
+        Ok(Termination {
+            place: self.place,
+            service: self.service,
+            slot: self.slot,
+            settings: self.settings.copied()?,
+        })
     }
 }
 
@@ -75,10 +68,9 @@ impl Termination {
     /// # Errors
     ///
     /// Out of memory.
-    #[inline(always)]
     pub fn copy(&self) -> Result<Termination, NoMemory>
         ensures { IfOk result (λ copy. copy ≡ self.now) }
     {
-        Ok(copied_termination(self)?)
+        Ok(self.clone()?)
     }
 }

@@ -9,24 +9,16 @@ ghost use Rattle.gw_term.specs.Plain.{are_plain, fill_none, IsMadeOf};
 use crate::apply::{Applied, merge};
 use crate::fault::ApplyFault;
 use crate::plain::are_plain;
-use crate::properties::service_by;
+use crate::properties::merged_service;
 use crate::record::Termination;
 use crate::settings::Settings;
 use gw_base::{Held, Items, NoMemory, Rules};
 use gw_desc::Descriptor;
 use std::alloc::{AllocError, Global};
 
-/// What descriptors made of the settings that were met last.
-#[derive(Drop)]
-struct Made {
-    /// These settings, if nothing of them was filled: then it is made of all that are the same.
-    before: Option<Settings>,
-    /// What was made of them.
-    after: Settings,
-}
-
-/// Descriptors that are merged into one record after another, under the gateway's rules. What they made of the settings met last is kept:
-/// the next record with the same settings shares that block, if they fill nothing of it, and any other the long texts in it.
+/// Descriptors that are merged into one record after another, under the gateway's rules. What they made of the
+/// settings met last is kept: the next record with the same settings shares that block, if they fill nothing of it,
+/// and any other the long texts in it.
 #[derive(Drop)]
 pub struct Merger<'a, 'b> {
     /// The rules.
@@ -34,9 +26,12 @@ pub struct Merger<'a, 'b> {
     /// The descriptors, of which no code of `check` applies, taken as those of an Add.
     pub descriptors: &'a [Descriptor<'b>],
     is_plain: bool,
-    last: Option<Made>,
+    /// The settings met last, if nothing of them was filled.
+    before: Option<Settings>,
+    /// What was made of the settings met last.
+    after: Settings,
     ghost plain: { is_plain ≡ are_plain descriptors.now },
-    ghost made: { ForSome last (λ last. ForSome last.before (λ before. IsMadeOf rules.now descriptors.now before last.after)) },
+    ghost made: { ForSome before (λ before. IsMadeOf rules.now descriptors.now before after) },
 }
 
 impl<'a, 'b> Merger<'a, 'b> {
@@ -49,7 +44,8 @@ impl<'a, 'b> Merger<'a, 'b> {
             rules,
             descriptors,
             is_plain: are_plain(descriptors),
-            last: None,
+            before: None,
+            after: Settings::none(),
         }
     }
 
@@ -64,17 +60,10 @@ impl<'a, 'b> Merger<'a, 'b> {
     fn known(&self, settings: &Settings) -> Result<Option<Settings>, AllocError>
         ensures { IfOk result (λ known. IfSome known (IsMadeOf self.now.rules.now self.now.descriptors.now settings.now)) }
     {
-        let Some(Made {
-            before: Some(before),
-            after,
-        }) = &self.last
-        else {
-            return Ok(None);
-        };
-        if !settings.is_same(before) {
-            return Ok(None);
+        match &self.before {
+            Some(before) if settings.is_same(before) => Ok(Some(self.after.copied()?)),
+            _ => Ok(None),
         }
-        Ok(Some(after.copied()?))
     }
 
     /// The record after the descriptors, where nothing is filled and it is known what was set of it then.
@@ -91,7 +80,7 @@ impl<'a, 'b> Merger<'a, 'b> {
     {
         let record = Termination {
             place: old.place,
-            service: service_by(self.descriptors, old.service),
+            service: merged_service(self.descriptors, old.service),
             slot: old.slot,
             settings,
         };
@@ -113,8 +102,8 @@ impl<'a, 'b> Merger<'a, 'b> {
         } else {
             None
         };
-        let after = new.settings.copied()?;
-        self.last = Some(Made { before, after });
+        self.after = new.settings.copied()?;
+        self.before = before;
         Ok(())
     }
 
@@ -133,8 +122,7 @@ impl<'a, 'b> Merger<'a, 'b> {
                 return self.applied(alloc, old, settings);
             }
         }
-        let made = self.last.as_ref().map(|last| &last.after);
-        let applied = merge(alloc, self.rules, self.descriptors, old, made)?;
+        let applied = merge(alloc, self.rules, self.descriptors, old, &self.after)?;
         self.keep(old, applied.record.get())?;
         Ok(applied)
     }

@@ -14,10 +14,10 @@ pub(crate) fn is_same_name(name: &[u8], other: &[u8]) -> bool
 /// What a tag is multiplied with for each byte: odd, and of 64 bits.
 const FACTOR: u64 = 11_400_714_819_323_198_485;
 
-/// How many bits are carried from its upper half to its lower one.
+/// How many bits its upper half is shifted down.
 const CARRIED: u32 = 29;
 
-/// The tag with a byte behind it. Its upper bits are carried down each time, so that no sum of the bytes tells it.
+/// The tag with a byte behind it. Its upper bits are shifted down each time, so that it is no sum of the bytes.
 #[inline(always)]
 fn with_byte(tag: u64, byte: u8) -> u64
     ensures { result ≡ with_byte tag byte }

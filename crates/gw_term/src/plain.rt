@@ -56,7 +56,8 @@ fn is_plain_one(descriptor: &Descriptor<'_>) -> bool
     }
 }
 
-/// Whether the descriptors surely fill nothing, whatever the termination is: they send no Local with a `$`. The work is one pass over them.
+/// Whether the descriptors surely fill nothing, whatever the termination is: they send no Local with a `$`. The work
+/// is one pass over them.
 pub(crate) fn are_plain(descriptors: &[Descriptor<'_>]) -> bool
     ensures { result ≡ are_plain descriptors.now }
 {

@@ -1,8 +1,7 @@
 //! Properties: how one takes its place in a list, and what the TerminationStates of descriptors set.
 
 ghost use Rattle.std.specs.Prelude.{◌≡◌, ◌≤◌, length};
-ghost use Rattle.std.specs.List.{flat_map, list_any};
-ghost use Rattle.gw_term.specs.Named.{has_states};
+ghost use Rattle.std.specs.List.{flat_map};
 ghost use Rattle.gw_term.specs.Merge.{property_place, put_property, put_state, service_after, last_service, merged_service, merged_properties, states_in, states_in_part, media_parts, each};
 ghost use Rattle.gw_term.specs.Applies.{Becomes, Yields};
 
@@ -30,7 +29,8 @@ fn property_place(property: &HeldProperty, list: &[HeldProperty]) -> usize
     list.len()
 }
 
-/// The property takes the place of the one of its name, or goes last. It shares its block with what was made of it before, if it is long.
+/// The property takes the place of the one of its name, or goes last. It shares its block with what was made of it
+/// before, if it is long.
 pub(crate) fn put_property(
     alloc: Global,
     property: &Property<Span<'_>>,
@@ -123,31 +123,24 @@ fn put_all_states(
 ) -> Result<(), ApplyFault>
     ensures { Becomes result list.new (each put_state (flat_map states_in sent.now.descriptors.now) list.old) }
 {
-    let made = sent.made_properties();
+    let made = sent.made.properties();
     for descriptor in sent.descriptors {
         put_states_of(alloc, media_parts(descriptor), made, list)?;
     }
     Ok(())
 }
 
-/// The properties after the descriptors; whether a TerminationState is among these is known.
-#[tactic(auto, using(crate::proofs::Naming::no_states), unfolding(crate::specs::Merge::merged_properties))]
+/// The properties after the descriptors.
+#[tactic(auto, unfolding(crate::specs::Merge::merged_properties))]
 pub(crate) fn merged_properties(
     alloc: Global,
     sent: &Sent<'_, '_, '_>,
-    is_named: bool,
     old: &[HeldProperty],
 ) -> Result<Items<HeldProperty>, ApplyFault>
-    requires { is_named ≡ list_any has_states sent.now.descriptors.now }
     ensures { Yields result (merged_properties sent.now.descriptors.now old.now) }
 {
-    if !is_named && old.is_empty() {
-        return Ok(Items::new(alloc));
-    }
     let mut list = copied_properties(alloc, old)?;
-    if is_named {
-        put_all_states(alloc, sent, &mut list)?;
-    }
+    put_all_states(alloc, sent, &mut list)?;
     Ok(list)
 }
 
@@ -184,7 +177,7 @@ fn last_service_of(parts: &[MediaPart<'_>], old: Service) -> Service
 
 /// The service state after the descriptors.
 #[tactic(auto, unfolding(crate::specs::Merge::merged_service))]
-pub(crate) fn service_by(descriptors: &[Descriptor<'_>], old: Service) -> Service
+pub(crate) fn merged_service(descriptors: &[Descriptor<'_>], old: Service) -> Service
     ensures { result ≡ merged_service descriptors.now old }
 {
     let mut service = old;
@@ -192,21 +185,4 @@ pub(crate) fn service_by(descriptors: &[Descriptor<'_>], old: Service) -> Servic
         service = last_service_of(media_parts(descriptor), service);
     }
     service
-}
-
-/// The service state after the descriptors; whether a TerminationState is among these is known.
-#[tactic(auto, using(crate::proofs::Naming::no_states), unfolding(crate::specs::Merge::merged_service))]
-pub(crate) fn merged_service(
-    is_named: bool,
-    descriptors: &[Descriptor<'_>],
-    old: Service,
-) -> Service
-    requires { is_named ≡ list_any has_states descriptors.now }
-    ensures { result ≡ merged_service descriptors.now old }
-{
-    if is_named {
-        service_by(descriptors, old)
-    } else {
-        old
-    }
 }

@@ -20,7 +20,8 @@ pub struct Stream {
     pub remote: Text,
 }
 
-// By hand, so that a function that drops a stream does so by one call. A derived one would stand in it field by field.
+// By hand, so that a function that drops a stream does so by one call. A derived one would stand in it field by
+// field.
 impl Drop for Stream {
     fn drop(self) {
         let Stream {

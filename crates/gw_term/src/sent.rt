@@ -2,12 +2,11 @@
 
 ghost use Rattle.std.specs.Prelude.{◌≤◌};
 
-use crate::held::{HeldProperty, HeldTail};
-use crate::record::Stream;
+use crate::held::HeldProperty;
 use crate::settings::Settings;
 use crate::text::Text;
 use gw_base::Rules;
-use gw_desc::{Descriptor, KeptKind};
+use gw_desc::Descriptor;
 
 /// What is merged into a record: descriptors, under the gateway's rules, where the termination has this slot.
 #[derive(Clone, Copy)]
@@ -15,56 +14,35 @@ pub(crate) struct Sent<'a, 'b, 'c> {
     pub rules: &'a Rules,
     pub slot: Option<u16>,
     pub descriptors: &'a [Descriptor<'b>],
-    /// What was made of them for another record, if something was: long texts are shared with it.
-    pub made: Option<&'c Settings>,
+    /// What they made of another record, if they did: long texts are shared with it.
+    pub made: &'c Settings,
 }
 
 impl<'c> Sent<'_, '_, 'c> {
-    /// The termination's properties that were made.
-    pub fn made_properties(&self) -> &'c [HeldProperty] {
-        match self.made {
-            Some(made) => made.properties(),
-            None => &[],
-        }
-    }
-
-    /// The stream of this number that was made.
-    fn made_stream(&self, number: u8) -> Option<&'c Stream>
-        requires first { 1 ≤ number }
-        requires last { number ≤ 4 }
-    {
-        self.made?.stream(number)
-    }
-
-    /// The properties of that stream.
+    /// The properties that were made of the stream of this number.
     pub fn made_controls(&self, number: u8) -> &'c [HeldProperty]
         requires first { 1 ≤ number }
         requires last { number ≤ 4 }
     {
-        match self.made_stream(number) {
+        match self.made.stream(number) {
             Some(stream) => stream.properties.as_slice(),
             None => &[],
         }
     }
 
-    /// The Local of that stream.
+    /// The Local that was made of it.
     pub fn made_local(&self, number: u8) -> Option<&'c Text>
         requires first { 1 ≤ number }
         requires last { number ≤ 4 }
     {
-        Some(&self.made_stream(number)?.local)
+        Some(&self.made.stream(number)?.local)
     }
 
-    /// The Remote of that stream.
+    /// The Remote that was made of it.
     pub fn made_remote(&self, number: u8) -> Option<&'c Text>
         requires first { 1 ≤ number }
         requires last { number ≤ 4 }
     {
-        Some(&self.made_stream(number)?.remote)
-    }
-
-    /// The tail of this kind that was made.
-    pub fn made_tail(&self, kind: KeptKind) -> Option<&'c HeldTail> {
-        self.made?.tail(kind)
+        Some(&self.made.stream(number)?.remote)
     }
 }

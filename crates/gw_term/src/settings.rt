@@ -48,8 +48,8 @@ impl Model for SettingList {
     ghost view = { λ s. set_by s.list.items };
 }
 
-/// What was set of a termination (RFC 3525, section 6.2), in one block that copies share and that never changes. Where nothing is set, as of
-/// most terminations, there is no block. Contracts see what the list sets.
+/// What was set of a termination (RFC 3525, section 6.2), in one block that copies share and that never changes.
+/// Where nothing is set, as of most terminations, there is no block. Contracts see what the list sets.
 pub struct Settings {
     block: Option<Arc<SettingList>>,
 }

@@ -2,7 +2,7 @@
 
 ghost use Rattle.std.specs.Prelude.{◌≡◌, ◌≤◌, IfOk, OnOk, None, true};
 ghost use Rattle.std.specs.Option.{is_some, option_copied};
-ghost use Rattle.gw_term.specs.Named.{noted};
+ghost use Rattle.gw_term.specs.Named.{or_named};
 ghost use Rattle.gw_desc.specs.declared.descriptor.StreamPart.TheVariants.{Local};
 ghost use Rattle.std.specs.List.{flat_map, list_any};
 ghost use Rattle.gw_term.specs.Merge.{put_control, local_text, is_filled, put_part, begun, parts_in, parts_in_part, is_named_in, merged_stream, each};
@@ -81,7 +81,8 @@ fn put_controls(
     Ok(())
 }
 
-/// A Local, filled where the termination has a slot. Inlined it would have each part of a stream clear a larger frame.
+/// A Local, filled where the termination has a slot. Inlined it would have each part of a stream clear a larger
+/// frame.
 #[inline(never)]
 fn put_local(
     alloc: Global,
@@ -224,8 +225,8 @@ fn begun(alloc: Global, old: Option<&Stream>) -> Result<Merging, NoMemory>
     })
 }
 
-/// The stream of this number, which is named or there, after the descriptors is set; whether its Local was filled. Not inlined,
-/// since most streams are neither.
+/// The stream of this number, which is named or there, after the descriptors is set; whether its Local was filled.
+/// Not inlined, since most streams are neither.
 #[inline(never)]
 #[tactic(auto, using(crate::proofs::StreamsFound::merged_there))]
 fn merge_there(
@@ -237,7 +238,7 @@ fn merge_there(
 ) -> Result<bool, ApplyFault>
     requires first { 1 ≤ number }
     requires last { number ≤ 4 }
-    requires there { noted (is_some (at_number number old.now.streams)) (list_any (is_named_in number) sent.now.descriptors.now) ≡ true }
+    requires there { or_named (is_some (at_number number old.now.streams)) (list_any (is_named_in number) sent.now.descriptors.now) ≡ true }
     ensures merged { IsStreamMerged result (at_number number new.new.streams) (merged_stream sent.now.rules.now sent.now.slot number sent.now.descriptors.now (at_number number old.now.streams)) }
     ensures rest { OnOk result (new.new ≡ record new.old { streams = put_number number (at_number number new.new.streams) new.old.streams }) }
 {
@@ -261,7 +262,7 @@ pub(crate) fn merge_stream(
 ) -> Result<bool, ApplyFault>
     requires first { 1 ≤ number }
     requires last { number ≤ 4 }
-    requires there { is_there ≡ noted (is_some (at_number number old.now.streams)) (list_any (is_named_in number) sent.now.descriptors.now) }
+    requires there { is_there ≡ or_named (is_some (at_number number old.now.streams)) (list_any (is_named_in number) sent.now.descriptors.now) }
     requires empty { at_number number new.old.streams ≡ None }
     ensures merged { IsStreamMerged result (at_number number new.new.streams) (merged_stream sent.now.rules.now sent.now.slot number sent.now.descriptors.now (at_number number old.now.streams)) }
     ensures rest { OnOk result (new.new ≡ record new.old { streams = put_number number (at_number number new.new.streams) new.old.streams }) }

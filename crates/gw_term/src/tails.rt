@@ -4,7 +4,7 @@ ghost use Rattle.std.specs.Prelude.{◌≡◌, bytes_eq, codes, IfOk, OnOk, None
 ghost use Rattle.gw_text.specs.SpaceScan.{skip};
 ghost use Rattle.std.specs.List.{list_any};
 ghost use Rattle.std.specs.Option.{is_some};
-ghost use Rattle.gw_term.specs.Named.{noted};
+ghost use Rattle.gw_term.specs.Named.{or_named};
 ghost use Rattle.gw_desc.specs.Checks.{is_kept};
 ghost use Rattle.gw_term.specs.Places.{at_kind, put_kind, of_kinds};
 ghost use Rattle.gw_term.specs.Merge.{has_blank_inside, is_blank_group, kept_tail, merged_tail, tail_after};
@@ -48,8 +48,8 @@ fn is_blank_group(group: &Option<Span<'_>>) -> bool
     }
 }
 
-/// What is kept of a tail: nothing of one without `=` that has no group, or a blank one. It shares its block with what was made of it before,
-/// if it is long.
+/// What is kept of a tail: nothing of one without `=` that has no group, or a blank one. It shares its block with
+/// what was made of it before, if it is long.
 fn kept_tail(
     alloc: Global,
     tail: &Tail<Span<'_>>,
@@ -90,15 +90,15 @@ fn put_tails(
 ) -> Result<(), AllocError>
     ensures { OnOk result (tail.new ≡ merged_tail kind sent.now.descriptors.now tail.old) }
 {
-    let made = sent.made_tail(kind);
+    let made = sent.made.tail(kind);
     for descriptor in sent.descriptors {
         put_tail(alloc, kind, descriptor, made, tail)?;
     }
     Ok(())
 }
 
-/// The tail of this kind after the descriptors is set, if there is one then. Not inlined, since most tails are neither named nor
-/// there.
+/// The tail of this kind after the descriptors is set, if there is one then. Not inlined, since most tails are
+/// neither named nor there.
 #[inline(never)]
 fn merge_there(
     alloc: Global,
@@ -132,7 +132,7 @@ fn merge_tail(
     old: &Settings,
     new: &mut SettingList,
 ) -> Result<(), AllocError>
-    requires there { is_there ≡ noted (is_some (at_kind kind old.now.tails)) (list_any (is_kept kind) sent.now.descriptors.now) }
+    requires there { is_there ≡ or_named (is_some (at_kind kind old.now.tails)) (list_any (is_kept kind) sent.now.descriptors.now) }
     requires empty { at_kind kind new.old.tails ≡ None }
     ensures { OnOk result (new.new ≡ record new.old { tails = put_kind kind (merged_tail kind sent.now.descriptors.now (at_kind kind old.now.tails)) new.old.tails }) }
 {
@@ -150,7 +150,7 @@ pub(crate) fn merge_tails(
     old: &Settings,
     new: &mut SettingList,
 ) -> Result<(), AllocError>
-    requires there { there.now ≡ of_kinds (λ kind. noted (is_some (at_kind kind old.now.tails)) (list_any (is_kept kind) sent.now.descriptors.now)) }
+    requires there { there.now ≡ of_kinds (λ kind. or_named (is_some (at_kind kind old.now.tails)) (list_any (is_kept kind) sent.now.descriptors.now)) }
     requires empty { new.old.tails ≡ of_kinds (λ _. None) }
     ensures { OnOk result (new.new ≡ record new.old { tails = of_kinds (λ kind. merged_tail kind sent.now.descriptors.now (at_kind kind old.now.tails)) }) }
 {

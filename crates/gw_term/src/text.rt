@@ -8,7 +8,7 @@ use std::alloc::{AllocError, Global};
 use std::marker::Model;
 use std::sync::ArcSlice;
 
-/// How long a text is at least, in bytes, whose copies share its block: so many cost more to copy than a second block does.
+/// The length, in bytes, from which on copies of a text share its block: such a copy costs more than a second block.
 const LONG: usize = 512;
 
 /// Where the bytes of a text lie.
@@ -39,7 +39,8 @@ impl Drop for Form {
     }
 }
 
-/// A text that is kept, or none. A long one is shared among the records that have it. Contracts see the text, or none.
+/// A text that is kept, or none. A long one is shared among the records that have it. Contracts see the text, or
+/// none.
 #[derive(Drop)]
 pub struct Text {
     form: Form,

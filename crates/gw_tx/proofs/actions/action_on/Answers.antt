@@ -1,10 +1,10 @@
-use Rattle.std.proofs.Common.{refl, sym, ap, subst}
-use Rattle.gw_msg.specs.declared.message.Action.{Action}
+use Rattle.std.proofs.Common.{sym, ap, subst}
 use Rattle.gw_refusal.specs.declared.at.At.TheVariants.{Null, Live, Unmade, Each}
 use Rattle.gw_table.specs.Parts.{Parted}
-use Rattle.gw_reserve.specs.Owned.{OwnedAction, paired_action}
+use Rattle.gw_reserve.specs.Owned.{OwnedAction}
 use Rattle.gw_tx.specs.Properties.{is_chosen_or_each, ArePlain}
-use Rattle.gw_tx.proofs.HeldKeys.{without_links, in_null, in_live, in_unmade, in_each}
+use Rattle.gw_tx.specs.Told.{owned_action}
+use Rattle.gw_tx.proofs.HeldKeys.{in_null, in_live, in_unmade, in_each}
 use Rattle.gw_tx.proofs.Parts.{covers_in}
 use Rattle.gw_tx.proofs.SetProperties.{allowed, are_plain}
 use Rattle.gw_tx.proofs.actions.action_on.Goals as goal
@@ -12,40 +12,32 @@ use Rattle.gw_tx.proofs.actions.action_on.Goals as goal
 pub commands_in-requires-clause-covered : goal.commands_in-requires-clause-covered
 commands_in-requires-clause-covered c =
     let draft : Parted = c.args.draft.now in
-    let sent : Action = c.args.sent.now in
-    let pair : OwnedAction = paired_action c.args.number c.args.slots.now sent in
-    covers_in draft c.args.number c.args.slots.now sent c.as_slice-asked.result.now c.as_slice-asked.ensures c.requires.covered Null
-    (λ h. in_null draft.keys draft.maps pair.commands sent.ctx c.args.number c.in-Null.is (without_links draft.keys pair draft.maps h))
+    let a : OwnedAction = owned_action c.args.task.now in
+    covers_in draft a c.requires.covered Null (in_null draft.keys draft.maps a.commands a.sent.ctx a.number c.in-Null.is)
 
 pub action_in-requires-clause-covered : goal.action_in-requires-clause-covered
 action_in-requires-clause-covered c =
     let draft : Parted = c.args.draft.now in
-    let sent : Action = c.args.sent.now in
-    let pair : OwnedAction = paired_action c.args.number c.args.slots.now sent in
-    covers_in draft c.args.number c.args.slots.now sent sent.commands refl c.requires.covered (Live c.in-Num.number)
-    (λ h. in_live draft.keys draft.maps pair.commands sent.ctx c.args.number c.in-Num.number c.in-Num.is (without_links draft.keys pair draft.maps h))
+    let a : OwnedAction = owned_action c.args.task.now in
+    covers_in draft a c.requires.covered (Live c.in-Num.number) (in_live draft.keys draft.maps a.commands a.sent.ctx a.number c.in-Num.number c.in-Num.is)
 
 pub action_in-requires-clause-low : goal.action_in-requires-clause-low
-action_in-requires-clause-low c = (allowed c.args.sent.now c.requires.allowed).low
+action_in-requires-clause-low c = (allowed c.args.task.now.sent.now c.requires.allowed).low
 
 pub commands_in-requires-in-Some-clause-covered : goal.commands_in-requires-in-Some-clause-covered
 commands_in-requires-in-Some-clause-covered c =
     let draft : Parted = c.args.draft.now in
-    let sent : Action = c.args.sent.now in
-    let pair : OwnedAction = paired_action c.args.number c.args.slots.now sent in
-    covers_in draft c.args.number c.args.slots.now sent c.as_slice-asked.result.now c.as_slice-asked.ensures c.requires.covered (Unmade c.in-Some.number)
-    (λ h. in_unmade draft.keys draft.maps pair.commands sent.ctx c.args.number c.in-Some.number c.in-Choose.is c.in-Some.is (without_links draft.keys pair draft.maps h))
+    let a : OwnedAction = owned_action c.args.task.now in
+    covers_in draft a c.requires.covered (Unmade c.in-Some.number) (in_unmade draft.keys draft.maps a.commands a.sent.ctx a.number c.in-Some.number c.in-Choose.is c.in-Some.is)
 
 pub commands_in-requires-in-Some-clause-plain : goal.commands_in-requires-in-Some-clause-plain
-commands_in-requires-in-Some-clause-plain c = subst ArePlain (sym c.as_slice-late.ensures) (are_plain c.args.sent.now (allowed c.args.sent.now c.requires.allowed) (ap (λ x. is_chosen_or_each x) c.in-Choose.is))
+commands_in-requires-in-Some-clause-plain c = subst ArePlain (sym c.as_slice-late.ensures) (are_plain c.args.task.now.sent.now (allowed c.args.task.now.sent.now c.requires.allowed) (ap (λ x. is_chosen_or_each x) c.in-Choose.is))
 
 pub action_for_each-requires-clause-covered : goal.action_for_each-requires-clause-covered
 action_for_each-requires-clause-covered c = λ n.
     let draft : Parted = c.args.draft.now in
-    let sent : Action = c.args.sent.now in
-    let pair : OwnedAction = paired_action c.args.number c.args.slots.now sent in
-    covers_in draft c.args.number c.args.slots.now sent sent.commands refl c.requires.covered (Each n)
-    (λ h. in_each draft.keys draft.maps pair.commands sent.ctx c.args.number n c.in-All.is (without_links draft.keys pair draft.maps h))
+    let a : OwnedAction = owned_action c.args.task.now in
+    covers_in draft a c.requires.covered (Each n) (in_each draft.keys draft.maps a.commands a.sent.ctx a.number n c.in-All.is)
 
 pub action_for_each-requires-clause-plain : goal.action_for_each-requires-clause-plain
-action_for_each-requires-clause-plain c = are_plain c.args.sent.now (allowed c.args.sent.now c.requires.allowed) (ap (λ x. is_chosen_or_each x) c.in-All.is)
+action_for_each-requires-clause-plain c = are_plain c.args.task.now.sent.now (allowed c.args.task.now.sent.now c.requires.allowed) (ap (λ x. is_chosen_or_each x) c.in-All.is)

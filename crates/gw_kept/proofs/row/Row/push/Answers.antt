@@ -11,7 +11,7 @@ use Rattle.gw_kept.proofs.Last.{few_last, last_kept, last_dropped}
 use Rattle.gw_kept.proofs.Rows.{absent_drop, none_nowhere, keys_count, few_present, present_append}
 use Rattle.gw_kept.proofs.row.Row.push.Goals as goal
 
--- the row when room was made, as its fields tell it
+-- the row when room was made, by its fields
 record IsRoomy (now : Gapped) (row : List (Option Entry)) (most cap : ℕ) : Type 0 where
   pub pairs : present row ≡ keep_last (now.most - 1) (present now.row)
   pub same : most ≡ now.most
