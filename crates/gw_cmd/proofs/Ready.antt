@@ -182,6 +182,10 @@ module _ (at : At) (c : Command) (p : PassesForm at c) where
       (not_false (brings c.verb) (and_false (is_choose c.term) (not (brings c.verb)) behind.1 (ap (λ (r : TermRef). is_choose r) e)))
       (either_false (is_move c.verb) (is_wildcard c.term || is_choose c.term) front.1 (ap (λ (r : TermRef). is_wildcard r || is_choose r) e))
 
+-- a termination is made by an Add
+pub adds_new : (at : At) (c : Command) → refusal_by_form at c ≡ None → c.term ≡ Choose → is_add c.verb ≡ true
+adds_new at c form = adds at c (form_none at c form)
+
 -- there is something that the command does
 pub has_task : (at : At) (c : Command) (service : Option Service) → refusal_by_form at c ≡ None → is_some (task_of c.verb (place_at at) service) ≡ true
 has_task at c service form = by c.verb refl

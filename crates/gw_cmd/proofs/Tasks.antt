@@ -7,8 +7,8 @@ use Rattle.gw_base.specs.declared.command_words.Verb.{Verb}
 use Rattle.gw_base.specs.declared.command_words.Verb.TheVariants as word
 use Rattle.gw_base.specs.declared.ids.CtxNum.{CtxNum}
 use Rattle.gw_base.specs.declared.term_ref.TermRef.{TermRef}
-use Rattle.gw_length.specs.declared.telling.Telling.{Telling}
-use Rattle.gw_length.specs.declared.telling.Telling.TheVariants.{TooLong}
+use Rattle.gw_reply.specs.declared.writer.ReplyWriter.{ReplyWriter}
+use Rattle.gw_reply.specs.declared.writer.ReplyWriter.TheVariants.{TooLong}
 use Rattle.gw_desc.specs.declared.descriptor.Descriptor.{Descriptor}
 use Rattle.gw_msg.specs.declared.message.Command.{Command}
 use Rattle.gw_reply.specs.declared.parts.ReplyPart.{ReplyPart}
@@ -26,11 +26,11 @@ use Rattle.gw_cmd.specs.declared.task.Act.TheVariants.{Add, Move, Modify, Subtra
 use Rattle.gw_cmd.specs.declared.task.Task.{Task}
 use Rattle.gw_cmd.specs.declared.task.Task.TheVariants as task
 use Rattle.gw_cmd.specs.Changes.{changed}
-use Rattle.gw_cmd.specs.Commands.{reply}
+use Rattle.gw_cmd.specs.Commands.{reply, serviced_if, root_maps}
 use Rattle.gw_cmd.specs.Effects.{is_full, decided_in, decided_in_null, decided, done, on_record, on_found, on_name}
 use Rattle.gw_cmd.specs.Plans.{parts_if, decided_if, answer_if, answered}
 use Rattle.gw_cmd.specs.Refused.{Gives}
-use Rattle.gw_cmd.specs.Tasks.{act_place, act_verb, task_place, task_verb, task_of, decided_by, IsServedBy, Does, IsAllowed}
+use Rattle.gw_cmd.specs.Tasks.{act_place, act_verb, task_place, task_verb, task_service, task_of, decided_by, IsServedBy, Does, IsAllowed}
 use Rattle.gw_cmd.specs.Written.{seen}
 use Rattle.gw_cmd.proofs.Lawful.{Lawful, decided_lawful}
 
@@ -92,6 +92,18 @@ module _ (rules own : Rules) (ds : List Descriptor) (a : Act) (c : Command) (t :
       subst (λ (v : Verb). Lawful rules v (act_place a) r d.change m) does.verb
       (subst (λ (x : Change). Lawful rules c.verb (act_place a) r x m) (sym (ap (λ (y : Decided). y.change) w.2)) law)
 
+-- what it does to the gateway itself
+pub root_served : (t : Task) (c : Command) (m : Maps) → Does t c → root_maps c.verb c.descriptors m ≡ serviced_if (task_service t) m
+root_served t c m d = ap (λ (v : Verb). root_maps v c.descriptors m) d.verb ∙ by t d.served
+  where
+    by : (t : Task) → IsServedBy c.descriptors t → root_maps (task_verb t) c.descriptors m ≡ serviced_if (task_service t) m
+    by (task.Act (Add n)) h = refl
+    by (task.Act (Move n)) h = refl
+    by (task.Act (Modify p)) h = refl
+    by (task.Act (Subtract n)) h = refl
+    by (task.Act (Audit p)) h = refl
+    by (task.Serve p s) h = ap (λ (o : Option Service). serviced_if o m) (sym h)
+
 -- ---- what is decided, without what its reply has
 
 pub gives_done : (wanted : Bool) (x : Result Decided Code) (d : Decided) (t : List ℕ) (m new : Maps) → Ok d ≡ decided_if wanted x → new ≡ changed t d.change m → Gives (Ok d.parts) new (answered wanted (done t m x))
@@ -113,8 +125,8 @@ none_if false = refl
 
 -- ---- where nothing more is written, what a reply has does not matter
 
-pub seen_if : (writer : Telling CommandReply) (wanted : Bool) (c : Command) (r : TermRef) (x : Result (List ReplyPart) Code) → (wanted ≡ false → writer ≡ TooLong) → seen writer (reply c r (answer_if wanted x) ∷ []) ≡ seen writer (reply c r x ∷ [])
+pub seen_if : (writer : ReplyWriter CommandReply) (wanted : Bool) (c : Command) (r : TermRef) (x : Result (List ReplyPart) Code) → (wanted ≡ false → writer ≡ TooLong) → seen writer (reply c r (answer_if wanted x) ∷ []) ≡ seen writer (reply c r x ∷ [])
 seen_if writer true c r (Ok parts) full = refl
 seen_if writer wanted c r (Err code) full = refl
 seen_if writer false c r (Ok parts) full =
-    ap (λ (w : Telling CommandReply). seen w (reply c r (Ok []) ∷ [])) (full refl) ∙ sym (ap (λ (w : Telling CommandReply). seen w (reply c r (Ok parts) ∷ [])) (full refl))
+    ap (λ (w : ReplyWriter CommandReply). seen w (reply c r (Ok []) ∷ [])) (full refl) ∙ sym (ap (λ (w : ReplyWriter CommandReply). seen w (reply c r (Ok parts) ∷ [])) (full refl))

@@ -8,7 +8,7 @@ use Rattle.gw_base.specs.declared.command_words.Verb.{Verb}
 use Rattle.gw_base.specs.declared.command_words.Verb.TheVariants.{Add, Modify, AuditValue}
 use Rattle.gw_base.specs.declared.ids.CtxNum.{CtxNum}
 use Rattle.gw_base.specs.declared.key.Key.{Key}
-use Rattle.gw_length.specs.declared.telling.Telling.TheVariants.{TooLong}
+use Rattle.gw_reply.specs.declared.writer.ReplyWriter.TheVariants.{TooLong}
 use Rattle.gw_msg.specs.declared.message.Command.{Command}
 use Rattle.gw_table.specs.Maps.{Maps}
 use Rattle.gw_table.specs.Parts.{PartKeys, holds}

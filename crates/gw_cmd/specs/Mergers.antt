@@ -1,6 +1,6 @@
 -- Descriptors that are merged into one record after another (own).
 use Rattle.std.specs.Prelude.{◌≡◌}
-use Rattle.gw_cmd.specs.declared.merger.Merger.{Merger}
+use Rattle.gw_term.specs.declared.merger.Merger.{Merger}
 
 -- the same descriptors under the same rules
 pub record IsSameMerger (old new : Merger) : Type 0 where

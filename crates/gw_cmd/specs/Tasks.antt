@@ -50,6 +50,11 @@ abbrev pub task_verb : Task → Verb
 task_verb (does.Act act) = act_verb act
 task_verb (does.Serve place service) = word.ServiceChange
 
+-- the service state that it has for terminations
+abbrev pub task_service : Task → Option Service
+task_service (does.Act act) = None
+task_service (does.Serve place service) = service
+
 -- the service state is that of its descriptors
 abbrev pub IsServedBy : List Descriptor → Task → Type 0
 IsServedBy descriptors (does.Act act) = Unit {0}

@@ -2,8 +2,8 @@
 use Rattle.std.specs.Prelude.{List, Option, None, Some, Result, Ok, Err}
 use Rattle.std.specs.List.{list_any}
 use Rattle.gw_base.specs.declared.code.Code.{Code}
-use Rattle.gw_length.specs.declared.telling.Telling.{Telling}
-use Rattle.gw_length.specs.Tellings.{told_behind}
+use Rattle.gw_reply.specs.declared.writer.ReplyWriter.{ReplyWriter}
+use Rattle.gw_reply.specs.Writers.{written_behind}
 use Rattle.gw_reply.specs.declared.parts.ReplyPart.{ReplyPart}
 use Rattle.gw_reply.specs.declared.reply.CommandReply.{CommandReply}
 use Rattle.gw_reply.specs.Replies.{command_reply_text}
@@ -13,13 +13,13 @@ use Rattle.gw_cmd.specs.declared.outcome.Seen.{Seen}
 use Rattle.gw_cmd.specs.Commands.{is_done, first_error}
 
 -- the outcome of a command, written behind what was written before it
-abbrev pub outcome_behind : Telling CommandReply → CmdOutcome → CmdWritten
-outcome_behind writer done = record { written = told_behind command_reply_text writer done.replies; failed = done.failed; made = done.made }
+abbrev pub outcome_behind : ReplyWriter CommandReply → CmdOutcome → CmdWritten
+outcome_behind writer done = record { written = written_behind command_reply_text writer done.replies; failed = done.failed; made = done.made }
 
 abbrev pub code_of : Result (List ReplyPart) Code → Option Code
 code_of (Ok parts) = None
 code_of (Err code) = Some code
 
 -- the replies of the targets, written behind what was written before them
-abbrev pub seen : Telling CommandReply → List CommandReply → Seen
-seen writer replies = record { written = told_behind command_reply_text writer replies; first_error = code_of (first_error replies); any_done = list_any is_done replies }
+abbrev pub seen : ReplyWriter CommandReply → List CommandReply → Seen
+seen writer replies = record { written = written_behind command_reply_text writer replies; first_error = code_of (first_error replies); any_done = list_any is_done replies }

@@ -12,13 +12,12 @@ ghost use Rattle.gw_cmd.specs.Tasks.{decided_by};
 
 use crate::change::{Change, Decided, Plan};
 use crate::members::is_full;
-use crate::merger::Merger;
 use crate::parts::parts_if;
 use crate::refusal::Refusal;
 use crate::task::Act;
 use gw_base::{Code, CtxNum, Items};
 use gw_table::{Draft, what_remains};
-use gw_term::{Applied, Termination};
+use gw_term::{Applied, Merger, Termination};
 use std::alloc::Global;
 
 /// Whether both are the null context or one context.

@@ -164,7 +164,7 @@ pub(crate) fn on_new(
     ensures keys { draft.new.keys ≡ draft.old.keys }
     ensures same { IsSameCommand prepared.old prepared.new }
 {
-    let new = Termination::ephemeral(alloc, slot);
+    let new = Termination::ephemeral(slot);
     let decided = decided(alloc, draft, act, &mut prepared.merger, &new, wanted)?;
     changed(alloc, prepared.rules, draft, name, decided.change)?;
     Ok(decided.parts)

@@ -25,15 +25,14 @@ use crate::outcome::{CmdOutcome, CmdWritten};
 use crate::prepared::Prepared;
 use crate::refusal::Refusal;
 use crate::replies::{has_one_reply, outcome_of, outcome_of_all, refused, writes_none, written};
-use crate::root::{every_serviced, root_parts};
+use crate::root::{root_parts, serve_all};
 use crate::tables::refusal_by_tables;
 use crate::targets::{on_target, on_targets};
 use crate::task::{Execution, Task};
 use gw_base::{Code, Items, NoMemory, Rules, TermName, TermRef};
-use gw_length::Telling;
 use gw_msg::Command;
 use gw_refusal::{At, targets};
-use gw_reply::CommandReply;
+use gw_reply::{CommandReply, ReplyWriter};
 use gw_table::{Draft, slot_name};
 use std::alloc::Global;
 use std::slice;
@@ -45,7 +44,7 @@ fn on_names(
     execution: Execution,
     prepared: &mut Prepared<'_, '_>,
     named: &[TermName],
-    writer: Telling<CommandReply>,
+    writer: ReplyWriter<CommandReply>,
 ) -> Result<CmdWritten, NoMemory>
     requires sound { IsSound draft.old.keys draft.old.maps }
     requires ready { IsReady draft.old.keys execution.at prepared.old.command.now draft.old.maps }
@@ -64,7 +63,7 @@ fn on_names(
             execution.task,
             prepared,
             named,
-            Telling::TooLong,
+            ReplyWriter::TooLong,
         )?;
         return outcome_of_all(alloc, writer, execution.at, prepared.command, seen);
     }
@@ -79,7 +78,7 @@ fn on_one(
     execution: Execution,
     prepared: &mut Prepared<'_, '_>,
     name: &TermName,
-    writer: Telling<CommandReply>,
+    writer: ReplyWriter<CommandReply>,
 ) -> Result<CmdWritten, NoMemory>
     requires sound { IsSound draft.old.keys draft.old.maps }
     requires ready { IsReady draft.old.keys execution.at prepared.old.command.now draft.old.maps }
@@ -102,7 +101,7 @@ fn on_slot(
     draft: &mut Draft<'_>,
     execution: Execution,
     prepared: &mut Prepared<'_, '_>,
-    writer: Telling<CommandReply>,
+    writer: ReplyWriter<CommandReply>,
 ) -> Result<CmdWritten, NoMemory>
     requires sound { IsSound draft.old.keys draft.old.maps }
     requires ctx_key { HoldsPlace draft.old.keys (place_at execution.at) }
@@ -128,15 +127,12 @@ fn on_slot(
     };
     let name = slot_name(slot);
     let wanted = !writes_none(&writer);
-    let (term, answer) = match on_new(alloc, draft, act, prepared, slot, &name, wanted) {
-        Ok(parts) => (TermRef::Name(name), Ok(parts)),
-        Err(Refusal::Code(code)) => (TermRef::Choose, Err(code)),
+    let seen = match on_new(alloc, draft, act, prepared, slot, &name, wanted) {
+        Ok(parts) => written(writer, prepared.command, TermRef::Name(name), Ok(parts))?,
+        Err(Refusal::Code(code)) => written(writer, prepared.command, TermRef::Choose, Err(code))?,
         Err(Refusal::NoMemory) => return Err(NoMemory),
     };
-    Ok(outcome_of(
-        execution.at,
-        written(writer, prepared.command, term, answer)?,
-    ))
+    Ok(outcome_of(execution.at, seen))
 }
 
 /// Executes a command on the gateway itself.
@@ -145,7 +141,7 @@ fn on_root(
     draft: &mut Draft<'_>,
     execution: Execution,
     command: &Command<'_>,
-    writer: Telling<CommandReply>,
+    writer: ReplyWriter<CommandReply>,
 ) -> Result<CmdWritten, NoMemory>
     requires term_keys { command.now.verb ≡ ServiceChange → (t : List ℕ) → is_in t (names draft.old.maps) ≡ true → holds draft.old.keys (Term t) ≡ true }
     requires allowed { IsAllowed execution.at command.now execution.task }
@@ -153,9 +149,7 @@ fn on_root(
     ensures answer { IfOk result (λ done. done ≡ outcome_behind writer (root_done execution.at command.now draft.old.maps).answer) }
     ensures keys { draft.new.keys ≡ draft.old.keys }
 {
-    if let Task::Serve(_, Some(service)) = execution.task {
-        every_serviced(alloc, draft, service)?;
-    }
+    serve_all(alloc, draft, execution.task)?;
     let parts = root_parts(alloc, command.descriptors.as_slice())?;
     Ok(outcome_of(
         execution.at,
@@ -170,7 +164,7 @@ fn executed(
     execution: Execution,
     prepared: &mut Prepared<'_, '_>,
     named: &[TermName],
-    writer: Telling<CommandReply>,
+    writer: ReplyWriter<CommandReply>,
 ) -> Result<CmdWritten, NoMemory>
     requires sound { IsSound draft.old.keys draft.old.maps }
     requires ready { IsReady draft.old.keys execution.at prepared.old.command.now draft.old.maps }
@@ -199,7 +193,7 @@ fn on_allowed(
     execution: Execution,
     prepared: &mut Prepared<'_, '_>,
     named: &[TermName],
-    writer: Telling<CommandReply>,
+    writer: ReplyWriter<CommandReply>,
 ) -> Result<CmdWritten, NoMemory>
     requires sound { IsSound draft.old.keys draft.old.maps }
     requires covered { Holds draft.old.keys (command_keys execution.at execution.slot prepared.old.command.now draft.old.maps) }
@@ -237,7 +231,7 @@ pub fn command_written(
     at: At,
     slot: Option<u16>,
     prepared: &mut Prepared<'_, '_>,
-    writer: Telling<CommandReply>,
+    writer: ReplyWriter<CommandReply>,
 ) -> Result<CmdWritten, NoMemory>
     requires sound { IsSound draft.old.keys draft.old.maps }
     requires covered { Holds draft.old.keys (command_keys at slot prepared.old.command.now draft.old.maps) }
@@ -291,13 +285,13 @@ pub fn command(
     ensures keys { draft.new.keys ≡ draft.old.keys }
 {
     let mut prepared = Prepared::new(rules, command);
-    let writer = Telling::All(Items::new(alloc));
+    let writer = ReplyWriter::All(Items::new(alloc));
     let CmdWritten {
         written,
         failed,
         made,
     } = command_written(alloc, draft, at, slot, &mut prepared, writer)?;
-    let Telling::All(replies) = written else {
+    let ReplyWriter::All(replies) = written else {
         unreachable!()
     };
     Ok(CmdOutcome {

@@ -1,7 +1,7 @@
 //! Commands for all that match which change nothing, and of whose targets no single reply is kept.
 
 ghost use Rattle.std.specs.Prelude.{◌≡◌, ◌&&◌, true, false, OnOk, IfOk};
-ghost use Rattle.gw_length.specs.declared.telling.Telling.TheVariants.{TooLong};
+ghost use Rattle.gw_reply.specs.declared.writer.ReplyWriter.TheVariants.{TooLong};
 ghost use Rattle.gw_table.specs.Parts.{Holds};
 ghost use Rattle.gw_table.specs.WellFormed.{IsSound};
 ghost use Rattle.gw_refusal.specs.Asked.{is_some_list, is_wildcard};
@@ -18,9 +18,8 @@ use crate::replies::{has_one_reply, outcome_of, outcome_of_all, refused, writes_
 use crate::tables::refusal_by_tables;
 use crate::task::{Act, Execution, Task};
 use gw_base::{Code, NoMemory};
-use gw_length::Telling;
 use gw_refusal::{has_targets, is_wildcard};
-use gw_reply::CommandReply;
+use gw_reply::{CommandReply, ReplyWriter};
 use gw_table::Draft;
 use std::alloc::Global;
 
@@ -43,7 +42,7 @@ pub(crate) fn is_idle(
     draft: &Draft<'_>,
     execution: Execution,
     prepared: &Prepared<'_, '_>,
-    writer: &Telling<CommandReply>,
+    writer: &ReplyWriter<CommandReply>,
 ) -> bool
     requires { IsAllowed execution.at prepared.now.command.now execution.task }
     ensures idle { result ≡ true → IsIdle draft.now.keys prepared.now.rules.now execution.at prepared.now.command.now draft.now.maps }
@@ -65,7 +64,7 @@ fn seen_idle(task: Task) -> Seen
         _ => None,
     };
     Seen {
-        written: Telling::TooLong,
+        written: ReplyWriter::TooLong,
         first_error,
         any_done: first_error.is_none(),
     }
@@ -77,7 +76,7 @@ pub(crate) fn on_idle(
     draft: &Draft<'_>,
     execution: Execution,
     prepared: &Prepared<'_, '_>,
-    writer: Telling<CommandReply>,
+    writer: ReplyWriter<CommandReply>,
 ) -> Result<CmdWritten, NoMemory>
     requires sound { IsSound draft.now.keys draft.now.maps }
     requires covered { Holds draft.now.keys (command_keys execution.at execution.slot prepared.now.command.now draft.now.maps) }

@@ -8,10 +8,10 @@ mod execute;
 mod idle;
 mod laws;
 mod members;
-mod merger;
 mod outcome;
 mod parts;
 mod prepared;
+mod prepared_list;
 mod refusal;
 mod replies;
 mod root;
@@ -26,4 +26,5 @@ pub use laws::{
     commands_on_other_keys_change_places, keys_are_needed, the_whole_is_a_key_of_commands_for_all,
 };
 pub use outcome::{CmdOutcome, CmdWritten};
-pub use prepared::{Prepared, all_prepared};
+pub use prepared::Prepared;
+pub use prepared_list::all_prepared;

@@ -1,8 +1,7 @@
 //! What a command gives, beside the changed tables.
 
 use gw_base::{Code, Items};
-use gw_length::Telling;
-use gw_reply::CommandReply;
+use gw_reply::{CommandReply, ReplyWriter};
 
 /// What a command gave.
 #[derive(Drop)]
@@ -19,7 +18,7 @@ pub struct CmdOutcome {
 #[derive(Drop)]
 pub struct CmdWritten {
     /// What is written by now.
-    pub written: Telling<CommandReply>,
+    pub written: ReplyWriter<CommandReply>,
     /// Whether one of its replies is an error.
     pub failed: bool,
     /// Whether it made its action's context.
@@ -30,7 +29,7 @@ pub struct CmdWritten {
 #[derive(Drop)]
 pub(crate) struct Seen {
     /// What is written by now.
-    pub written: Telling<CommandReply>,
+    pub written: ReplyWriter<CommandReply>,
     /// The first error, if there is one.
     pub first_error: Option<Code>,
     /// Whether the command was done to one of them.

@@ -1,19 +1,18 @@
 //! A command with what is found of it once, for all contexts and terminations.
 
-ghost use Rattle.std.specs.Prelude.{◌≡◌, IfOk};
+ghost use Rattle.std.specs.Prelude.{◌≡◌};
 ghost use Rattle.gw_base.specs.declared.ids.CtxNum.{CtxNum};
 ghost use Rattle.gw_desc.specs.Checks.{check_code};
 ghost use Rattle.gw_refusal.specs.declared.at.At.TheVariants.{Each};
 ghost use Rattle.gw_refusal.specs.Asked.{service_asked};
 ghost use Rattle.gw_refusal.specs.Forms.{refusal_by_form};
 
-use crate::merger::Merger;
 use crate::task::{Task, task_of};
-use gw_base::{Code, CtxNum, NoMemory, Rules, Service};
+use gw_base::{Code, CtxNum, Rules, Service};
 use gw_desc::check;
 use gw_msg::Command;
 use gw_refusal::{At, refusal_by_form, service_asked};
-use std::alloc::Global;
+use gw_term::Merger;
 
 /// A command under the gateway's rules, with what is found of it once for all contexts and terminations.
 #[derive(Drop)]
@@ -95,23 +94,4 @@ impl<'a, 'b> Prepared<'a, 'b> {
             None => unreachable!(),
         }
     }
-}
-
-/// Each of these commands under the rules.
-///
-/// # Errors
-///
-/// Out of memory.
-pub fn all_prepared<'a, 'b>(
-    alloc: Global,
-    rules: &'a Rules,
-    commands: &'a [Command<'b>],
-) -> Result<Vec<Prepared<'a, 'b>>, NoMemory>
-    ensures { IfOk result (λ list. ArePrepared rules.now list.items commands.now) }
-{
-    let mut list = Vec::with_capacity(alloc, commands.len())?;
-    for command in commands {
-        list.push(Prepared::new(rules, command))?;
-    }
-    Ok(list)
 }

@@ -1,8 +1,8 @@
 //! The replies to a command.
 
 ghost use Rattle.std.specs.Prelude.{◌≡◌, ◌∷◌, [], ◌&&◌, true, false, List, Err, IfOk};
-ghost use Rattle.gw_length.specs.declared.telling.Telling.{Telling};
-ghost use Rattle.gw_length.specs.declared.telling.Telling.TheVariants.{TooLong};
+ghost use Rattle.gw_reply.specs.declared.writer.ReplyWriter.{ReplyWriter};
+ghost use Rattle.gw_reply.specs.declared.writer.ReplyWriter.TheVariants.{TooLong};
 ghost use Rattle.gw_reply.specs.declared.reply.CommandReply.{CommandReply};
 ghost use Rattle.gw_refusal.specs.Asked.{is_wildcard};
 ghost use Rattle.gw_cmd.specs.Commands.{reply, outcome_of, outcome_written};
@@ -10,10 +10,9 @@ ghost use Rattle.gw_cmd.specs.Written.{outcome_behind, seen};
 
 use crate::outcome::{CmdWritten, Seen};
 use gw_base::{Code, Items, NoMemory, TermRef};
-use gw_length::Telling;
 use gw_msg::Command;
 use gw_refusal::{At, is_wildcard};
-use gw_reply::{AuditReply, CommandReply};
+use gw_reply::{AuditReply, CommandReply, ReplyWriter};
 use std::alloc::Global;
 
 /// The reply to the command on a termination.
@@ -28,16 +27,16 @@ fn reply(command: &Command<'_>, term: TermRef, answer: Result<AuditReply, Code>)
 }
 
 /// Whether the writer is full, so that nothing more is written.
-pub(crate) fn writes_none(writer: &Telling<CommandReply>) -> bool
+pub(crate) fn writes_none(writer: &ReplyWriter<CommandReply>) -> bool
     ensures { result ≡ true → writer.now ≡ TooLong }
 {
-    matches!(writer, Telling::TooLong)
+    matches!(writer, ReplyWriter::TooLong)
 }
 
 /// The reply to the command on one termination is written behind those before it.
 #[inline(always)]
 pub(crate) fn written(
-    writer: Telling<CommandReply>,
+    writer: ReplyWriter<CommandReply>,
     command: &Command<'_>,
     term: TermRef,
     answer: Result<AuditReply, Code>,
@@ -50,7 +49,7 @@ pub(crate) fn written(
     };
     let any_done = first_error.is_none();
     Ok(Seen {
-        written: writer.tell(reply(command, term, answer))?,
+        written: writer.write(reply(command, term, answer))?,
         first_error,
         any_done,
     })
@@ -58,7 +57,7 @@ pub(crate) fn written(
 
 /// What a command gave whose targets' replies are written.
 pub(crate) fn outcome_of(at: At, done: Seen) -> CmdWritten
-    ensures { (writer : Telling CommandReply) (replies : List CommandReply) → done ≡ seen writer replies → result ≡ outcome_behind writer (outcome_of at replies) }
+    ensures { (writer : ReplyWriter CommandReply) (replies : List CommandReply) → done ≡ seen writer replies → result ≡ outcome_behind writer (outcome_of at replies) }
 {
     CmdWritten {
         written: done.written,
@@ -70,7 +69,7 @@ pub(crate) fn outcome_of(at: At, done: Seen) -> CmdWritten
 /// One reply to the TerminationID as sent.
 #[inline(always)]
 pub(crate) fn refused(
-    writer: Telling<CommandReply>,
+    writer: ReplyWriter<CommandReply>,
     at: At,
     command: &Command<'_>,
     code: Code,
@@ -90,20 +89,20 @@ pub(crate) fn has_one_reply(command: &Command<'_>) -> bool
 /// What a command gave whose targets have one reply together, to the wildcard as sent: with the first error, if there is one.
 pub(crate) fn outcome_of_all(
     alloc: Global,
-    writer: Telling<CommandReply>,
+    writer: ReplyWriter<CommandReply>,
     at: At,
     command: &Command<'_>,
     done: Seen,
 ) -> Result<CmdWritten, NoMemory>
     requires { (command.now.wild && is_wildcard command.now.term) ≡ true }
-    ensures { (before : Telling CommandReply) (replies : List CommandReply) → done ≡ seen before replies → IfOk result (λ outcome. outcome ≡ outcome_behind writer (outcome_written at command.now replies)) }
+    ensures { (before : ReplyWriter CommandReply) (replies : List CommandReply) → done ≡ seen before replies → IfOk result (λ outcome. outcome ≡ outcome_behind writer (outcome_written at command.now replies)) }
 {
     let result = match done.first_error {
         Some(code) => Err(code),
         None => Ok(Items::new(alloc)),
     };
     Ok(CmdWritten {
-        written: writer.tell(reply(command, command.term, result))?,
+        written: writer.write(reply(command, command.term, result))?,
         failed: done.first_error.is_some(),
         made: at.is_unmade() && done.any_done,
     })

@@ -2,13 +2,16 @@
 
 ghost use Rattle.std.specs.Prelude.{◌≡◌, true, List, ℕ, IfOk, OnOk};
 ghost use Rattle.std.specs.List.{flat_map};
+ghost use Rattle.gw_base.specs.declared.command_words.Verb.TheVariants.{ServiceChange};
 ghost use Rattle.gw_base.specs.declared.key.Key.TheVariants.{Term};
 ghost use Rattle.gw_base.specs.NameLists.{is_in};
 ghost use Rattle.gw_table.specs.Maps.{names};
 ghost use Rattle.gw_table.specs.Parts.{holds};
 ghost use Rattle.gw_refusal.specs.Asked.{audited};
-ghost use Rattle.gw_cmd.specs.Commands.{all_serviced, bare_answer};
+ghost use Rattle.gw_cmd.specs.Commands.{all_serviced, serviced_if, bare_answer};
+ghost use Rattle.gw_cmd.specs.Tasks.{task_verb, task_service};
 
+use crate::task::Task;
 use gw_base::{Items, NoMemory, Service, Span, TermName};
 use gw_desc::{Descriptor, item_of};
 use gw_refusal::first_audit;
@@ -33,18 +36,19 @@ fn all_serviced(
     Ok(())
 }
 
-/// Every termination has this service state.
-pub(crate) fn every_serviced(
-    alloc: Global,
-    draft: &mut Draft<'_>,
-    service: Service,
-) -> Result<(), NoMemory>
-    requires { (t : List ℕ) → is_in t (names draft.old.maps) ≡ true → holds draft.old.keys (Term t) ≡ true }
-    ensures maps { OnOk result (draft.new.maps ≡ all_serviced service (names draft.old.maps) draft.old.maps) }
+/// Every termination has the service state that the task has for them, if there is one.
+pub(crate) fn serve_all(alloc: Global, draft: &mut Draft<'_>, task: Task) -> Result<(), NoMemory>
+    requires { task_verb task ≡ ServiceChange → (t : List ℕ) → is_in t (names draft.old.maps) ≡ true → holds draft.old.keys (Term t) ≡ true }
+    ensures maps { OnOk result (draft.new.maps ≡ serviced_if (task_service task) draft.old.maps) }
     ensures keys { draft.new.keys ≡ draft.old.keys }
 {
-    let named = draft.names(alloc)?;
-    all_serviced(alloc, draft, service, &named)
+    match task {
+        Task::Serve(_, Some(service)) => {
+            let named = draft.names(alloc)?;
+            all_serviced(alloc, draft, service, &named)
+        }
+        Task::Serve(_, None) | Task::Act(_) => Ok(()),
+    }
 }
 
 /// The items of these words, each bare.

@@ -21,8 +21,7 @@ use crate::refusal::Refusal;
 use crate::replies::{writes_none, written};
 use crate::task::Task;
 use gw_base::{NoMemory, TermName, TermRef};
-use gw_length::Telling;
-use gw_reply::CommandReply;
+use gw_reply::{CommandReply, ReplyWriter};
 use gw_table::Draft;
 use std::alloc::Global;
 
@@ -33,7 +32,7 @@ pub(crate) fn on_target(
     task: Task,
     prepared: &mut Prepared<'_, '_>,
     name: &TermName,
-    writer: Telling<CommandReply>,
+    writer: ReplyWriter<CommandReply>,
 ) -> Result<Seen, NoMemory>
     requires sound { IsSound draft.old.keys draft.old.maps }
     requires term_key { HoldsFound draft.old.keys name.now draft.old.maps }
@@ -61,7 +60,7 @@ pub(crate) fn on_targets(
     task: Task,
     prepared: &mut Prepared<'_, '_>,
     named: &[TermName],
-    writer: Telling<CommandReply>,
+    writer: ReplyWriter<CommandReply>,
 ) -> Result<Seen, NoMemory>
     requires sound { IsSound draft.old.keys draft.old.maps }
     requires term_keys { (t : List ℕ) → is_in t named.now ≡ true → HoldsFound draft.old.keys t draft.old.maps }

@@ -3,8 +3,8 @@ use Rattle.std.specs.Result.{OnOk, IfOk}
 use Rattle.gw_base.specs.declared.command_words.Verb.{Verb}
 use Rattle.gw_base.specs.declared.ids.CtxNum.{CtxNum}
 use Rattle.gw_base.specs.NameLists.{is_in}
-use Rattle.gw_length.specs.declared.telling.Telling.{Telling}
-use Rattle.gw_length.specs.declared.telling.Telling.TheVariants.{TooLong}
+use Rattle.gw_reply.specs.declared.writer.ReplyWriter.{ReplyWriter}
+use Rattle.gw_reply.specs.declared.writer.ReplyWriter.TheVariants.{TooLong}
 use Rattle.gw_reply.specs.declared.reply.CommandReply.{CommandReply}
 use Rattle.gw_table.specs.declared.attempts.Attempts.{Attempts}
 use Rattle.gw_table.specs.Maps.{Maps, Outcome}

@@ -8,9 +8,9 @@ use Rattle.gw_base.specs.declared.command_words.Rules.{Rules}
 use Rattle.gw_base.specs.declared.ids.CtxNum.{CtxNum}
 use Rattle.gw_base.specs.declared.key.Key.TheVariants.{Term}
 use Rattle.gw_base.specs.declared.term_ref.TermRef.TheVariants.{Name}
-use Rattle.gw_length.specs.declared.telling.Telling.{Telling}
-use Rattle.gw_length.specs.Tellings.{told_behind}
-use Rattle.gw_length.proofs.Tellings.{told_none, told_more}
+use Rattle.gw_reply.specs.declared.writer.ReplyWriter.{ReplyWriter}
+use Rattle.gw_reply.specs.Writers.{written_behind}
+use Rattle.gw_reply.proofs.Writers.{written_none, written_more}
 use Rattle.gw_msg.specs.declared.message.Command.{Command}
 use Rattle.gw_reply.specs.Replies.{command_reply_text}
 use Rattle.gw_reply.specs.declared.reply.CommandReply.{CommandReply}
@@ -57,7 +57,7 @@ loop-name-preserved c =
     let sent : Command = p.command.now in
     let place : Option CtxNum = task_place c.args.task in
     let m : Maps = c.loop-name.draft.maps in
-    let before : Telling CommandReply = c.loop-name.written in
+    let before : ReplyWriter CommandReply = c.loop-name.written in
     let rest : List (List ℕ) = drop (i + 1) c.args.named.now in
     let split : drop i c.args.named.now ≡ t ∷ rest = rest_of c.args.named.now i t t c.loop-name-test.true c.name-item.is in
     let r : CommandReply = reply sent (Name t) (on_name rules place sent t m).answer in
@@ -68,9 +68,9 @@ loop-name-preserved c =
     let now : Outcome (Attempts Unit CommandReply) = ended c.on_target.new.draft.maps tt (r ∷ []) false in
     let did : now ≡ target_in rules place sent tt t m = ap (λ (x : Maps). ended x tt (r ∷ []) false) maps in
     let front : List CommandReply = c.loop-name.invariant.replies.0 in
-    let written : c.in_ok-one.one.written ≡ told_behind command_reply_text c.args.writer (front ++ r ∷ []) =
-    ap (λ (s : Seen). s.written) one ∙ ap (λ (x : Telling CommandReply). told_behind command_reply_text x (r ∷ [])) c.loop-name.invariant.replies.1
-    ∙ told_more command_reply_text c.args.writer front (r ∷ []) in
+    let written : c.in_ok-one.one.written ≡ written_behind command_reply_text c.args.writer (front ++ r ∷ []) =
+    ap (λ (s : Seen). s.written) one ∙ ap (λ (x : ReplyWriter CommandReply). written_behind command_reply_text x (r ∷ [])) c.loop-name.invariant.replies.1
+    ∙ written_more command_reply_text c.args.writer front (r ∷ []) in
     let first : c.or-first_error.result ≡ code_of (first_error (front ++ r ∷ [])) =
     c.or-first_error.ensures ∙ ap (λ (o : Option Code). option_or o c.in_ok-one.one.first_error) c.loop-name.invariant.replies.2
     ∙ ap (λ (o : Option Code). option_or (code_of (first_error front)) o) (ap (λ (s : Seen). s.first_error) one ∙ first_more [] r) ∙ sym (first_more front r) in
@@ -107,12 +107,12 @@ returns c =
     let front : List CommandReply = c.loop-name.invariant.replies.0 in
     let left : drop c.loop-name.name-index c.args.named.now ≡ [] = drop_of_length-le c.args.named.now c.loop-name-test.false in
     let all = ends (target_in rules place sent) tt (drop c.loop-name.name-index c.args.named.now) c.loop-name.draft.maps front (targets_in rules place sent c.args.named.now c.args.draft.now.maps) left c.loop-name.invariant.replies.4 in
-    let made : Telling CommandReply → Option Code → Bool → Seen = λ t e d. record { written = t; first_error = e; any_done = d } in
+    let made : ReplyWriter CommandReply → Option Code → Bool → Seen = λ t e d. record { written = t; first_error = e; any_done = d } in
     record {
       maps = ap (λ (o : Outcome (Attempts Unit CommandReply)). o.maps) all;
-      answer = ap (λ (t : Telling CommandReply). made t c.loop-name.first_error c.loop-name.any_done) c.loop-name.invariant.replies.1
-          ∙ ap (λ (e : Option Code). made (told_behind command_reply_text c.args.writer front) e c.loop-name.any_done) c.loop-name.invariant.replies.2
-          ∙ ap (λ (d : Bool). made (told_behind command_reply_text c.args.writer front) (code_of (first_error front)) d) c.loop-name.invariant.replies.3
+      answer = ap (λ (t : ReplyWriter CommandReply). made t c.loop-name.first_error c.loop-name.any_done) c.loop-name.invariant.replies.1
+          ∙ ap (λ (e : Option Code). made (written_behind command_reply_text c.args.writer front) e c.loop-name.any_done) c.loop-name.invariant.replies.2
+          ∙ ap (λ (d : Bool). made (written_behind command_reply_text c.args.writer front) (code_of (first_error front)) d) c.loop-name.invariant.replies.3
           ∙ ap (λ (o : Outcome (Attempts Unit CommandReply)). seen c.args.writer o.answer.answers) all;
       keys = c.loop-name.invariant.keys;
       same = c.loop-name.invariant.same;
@@ -120,7 +120,7 @@ returns c =
 
 pub loop-name-init : goal.loop-name-init
 loop-name-init c = record {
-  replies = ([], sym (told_none command_reply_text c.args.writer), refl, refl, refl);
+  replies = ([], sym (written_none command_reply_text c.args.writer), refl, refl, refl);
   sound = c.requires.sound;
   absent = λ q none. none;
   keys = refl;
