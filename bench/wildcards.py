@@ -5,8 +5,8 @@
 
 Run it at the top of the repository, after `rt run` in crates/h248gw has built the program; it needs valgrind. Each line is one
 transaction, or a burst of acknowledgements, with one worker. Work is instructions by callgrind, less those of the same replay
-without it. A match is a termination or a context that the wildcard meets, a link that a Topology names or that goes with its
-terminations, or a kept reply, whose number an acknowledgement compares. Memory is the most that the process ever had, less the
+without it. A match is a termination or a context that the wildcard meets, a link that goes with its terminations, or a kept reply,
+whose number an acknowledgement compares. Memory is the most that the process ever had, less the
 most that it had before. Records are equal where one Modify has set them all; else each has values or names of its own, one in
 each list.
 
@@ -148,7 +148,6 @@ KINDS = [
     ONE("ServiceChange, context of 64", contexts(1), always(FORCED)),
     ONE("Subtract, context of 64", contexts(1), always(b"S=*")),
     ONE("Subtract, context of 64 with 2,016 links", linked, always(b"S=*"), matches=64 + 2_016),
-    ONE("Topology of 2,016 links", contexts(1), always(listed(b"TP{", links())), matches=2_016, error=b"533"),
     ONE("Add, 64 into a new context", nothing, always(b"A=*"), context=b"$"),
     EACH("AuditValue of Media, 62 contexts of 64", contexts(62), always(MEDIA)),
     EACH("Modify of 32, 62 contexts of 64", contexts(62), sent(32), properties=32),
