@@ -3,11 +3,12 @@
 ghost use Rattle.std.specs.Prelude.{◌≡◌, IfOk};
 
 use crate::held::HeldProperty;
+use crate::properties::MOST_PROPERTIES;
 use crate::record::{Stream, Termination};
 use gw_base::{Items, NoMemory};
 use std::alloc::{AllocError, Global};
 
-/// A copy of the properties, with no room for more. Where there are none, it takes no memory.
+/// A copy of the properties, with room for one more, unless they are as many as a list may hold. Where there are none, it takes no memory.
 pub(crate) fn copied_properties(
     alloc: Global,
     properties: &[HeldProperty],
@@ -17,7 +18,8 @@ pub(crate) fn copied_properties(
     if properties.is_empty() {
         return Ok(Items::new(alloc));
     }
-    let mut copy = Vec::with_capacity(alloc, properties.len())?;
+    let room = MOST_PROPERTIES.min(properties.len() + 1);
+    let mut copy = Vec::with_capacity(alloc, room)?;
     for property in properties {
         copy.push(property.copied(alloc)?)?;
     }

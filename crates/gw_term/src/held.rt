@@ -6,6 +6,7 @@ ghost use Rattle.gw_term.specs.Lookups.{is_of_name};
 
 use crate::names::{is_same_name, name_tag};
 use crate::short::Joined;
+use crate::text::LONG;
 use gw_base::{Items, Span};
 use gw_desc::{Property, Sign, Tail};
 use gw_reply::{KeptProperty, KeptTail};
@@ -107,20 +108,30 @@ impl HeldProperty {
         })
     }
 
-    /// The property, which shares its block with the same one among these, if it is long and one is.
-    pub(crate) fn shared_with(
-        self,
+    /// Whether it is the property that is sent.
+    fn is(&self, property: &Property<Span<'_>>) -> bool
+        ensures { result ≡ true → self.now ≡ property.now }
+    {
+        let (name, value) = self.texts.as_slice().split_at(self.split);
+        is_same_sign(self.sign, property.sign)
+            && name == property.name.as_bytes()
+            && value == property.value.as_bytes()
+    }
+
+    /// The property: where it is long and the same one is among these, a copy of that, which shares its block.
+    pub(crate) fn of_or(
         alloc: Global,
+        property: &Property<Span<'_>>,
         made: &[HeldProperty],
     ) -> Result<HeldProperty, AllocError>
-        ensures { IfOk result (λ shared. shared ≡ self) }
+        ensures { IfOk result (λ held. held ≡ property.now) }
     {
-        if !self.texts.is_long() {
-            return Ok(self);
+        if property.value.as_bytes().len() < LONG {
+            return HeldProperty::of(alloc, property);
         }
-        match made.iter().find(|other| other.is_same(&self)) {
-            Some(other) => other.copied(alloc),
-            None => Ok(self),
+        match made.iter().find(|own| own.is(property)) {
+            Some(own) => own.copied(alloc),
+            None => HeldProperty::of(alloc, property),
         }
     }
 

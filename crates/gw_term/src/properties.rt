@@ -14,7 +14,7 @@ use gw_desc::{Descriptor, MediaPart, Property, is_service_states, service_set_by
 use std::alloc::Global;
 
 /// How many properties a list may hold (own to this profile).
-const MOST_PROPERTIES: usize = 32;
+pub(crate) const MOST_PROPERTIES: usize = 32;
 
 /// The place of the one of the property's name, in any case, or the length of the list.
 fn property_place(property: &HeldProperty, list: &[HeldProperty]) -> usize
@@ -39,7 +39,7 @@ pub(crate) fn put_property(
 ) -> Result<(), ApplyFault>
     ensures { Becomes result list.new (put_property property.now list.old) }
 {
-    let kept = HeldProperty::of(alloc, property)?.shared_with(alloc, made)?;
+    let kept = HeldProperty::of_or(alloc, property, made)?;
     let place = property_place(&kept, list.as_slice());
     let is_there = place < list.len();
     if !is_there && list.len() >= MOST_PROPERTIES {

@@ -95,14 +95,14 @@ fn put_local(
     requires last { number ≤ 4 }
     ensures { Becomes result merging.new (put_part sent.now.rules.now sent.now.slot number (Local text.now) merging.old) }
 {
+    let made = sent.made_local(number);
     let (local, filled) = match sent.slot {
         Some(slot) => {
             let (local, filled) = fill_local(alloc, text, &sent.rules.media, slot, number)?;
-            (Text::from_vec(local)?, filled)
+            (Text::from_vec(local)?.shared_with(alloc, made)?, filled)
         }
-        None => (Text::of(alloc, text)?, false),
+        None => (Text::of_or(alloc, text, made)?, false),
     };
-    let local = local.shared_with(alloc, sent.made_local(number))?;
     put(&mut merging.stream.local, local);
     merging.filled = filled;
     Ok(())
@@ -123,8 +123,7 @@ fn put_part(
     match part {
         StreamPart::Local(text) => put_local(alloc, sent, number, text.as_bytes(), merging),
         StreamPart::Remote(text) => {
-            let remote = Text::of(alloc, text.as_bytes())?;
-            let remote = remote.shared_with(alloc, sent.made_remote(number))?;
+            let remote = Text::of_or(alloc, text.as_bytes(), sent.made_remote(number))?;
             put(&mut merging.stream.remote, remote);
             Ok(())
         }

@@ -9,7 +9,7 @@ use std::marker::Model;
 use std::sync::ArcSlice;
 
 /// The length, in bytes, from which on copies of a text share its block: such a copy costs more than a second block.
-const LONG: usize = 512;
+pub(crate) const LONG: usize = 512;
 
 /// Where the bytes of a text lie.
 pub enum Form {
@@ -143,6 +143,16 @@ impl Text {
         match made {
             Some(made) if self.is_long() && self.is_same(made) => made.copied(alloc),
             _ => Ok(self),
+        }
+    }
+
+    /// This text in a block: where it is long and that of the other, in its block.
+    pub(crate) fn of_or(alloc: Global, text: &[u8], made: Option<&Text>) -> Result<Text, AllocError>
+        ensures { IfOk result (λ kept. kept ≡ Some text.now) }
+    {
+        match made {
+            Some(made) if text.len() >= LONG && made.is(text) => made.copied(alloc),
+            _ => Text::of(alloc, text),
         }
     }
 
