@@ -92,7 +92,7 @@ impl Asks for Record {
 
 impl Record {
     /// A provisioned termination of the gateway `[10.0.0.1]:2944` with media 10.0.0.1.
-    pub fn new(alloc: Global) -> Option<Record> {
+    pub fn new() -> Option<Record> {
         let mid = Mid::read(b"[10.0.0.1]:2944").ok()?;
         let media = MediaAddr::read(b"10.0.0.1").ok()?;
         Some(Record {

@@ -20,5 +20,5 @@ pub use parts::{
     AuditReply, FilledStream, KeptProperty, KeptTail, MediaReply, ReplyPart, StreamReply,
 };
 pub use reply::{ActionReply, CommandReply, TxReply};
-pub use wire::Written;
+pub use wire::{Written, write_number};
 pub use writer::ReplyWriter;

@@ -29,7 +29,7 @@ pub trait Written {
 /// # Errors
 ///
 /// `AllocError` where memory was refused; the buffer may then hold some of the digits.
-pub(crate) fn write_number(number: u32, out: &mut Vec<u8>) -> Result<(), AllocError>
+pub fn write_number(number: u32, out: &mut Vec<u8>) -> Result<(), AllocError>
     ensures { OnOk result (out.new.items ≡ out.old.items ++ decimal number) }
 {
     out.extend_from_slice(Buffer::new().format(number).as_bytes())

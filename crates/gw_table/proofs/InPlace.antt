@@ -25,12 +25,12 @@ use Rattle.gw_table.specs.Members.{put_service}
 use Rattle.gw_table.specs.Originals.{keys_written, without_write, undone, begun_by, before_all, has_properties, IsInPlace}
 use Rattle.gw_table.specs.Settings.{with_setting, put_setting, set_at, set_place}
 use Rattle.gw_table.specs.Stored.{Stored, shown, placed, has_left, maps_of, is_ready, put_term_place, put_ctx_place, with_service, without_ctx, NoneIsOut, AreReady, KeepReady}
-use Rattle.gw_table.proofs.Leaving.{put_term-same, put_ctx-same}
+use Rattle.gw_table.proofs.Leaving.{put_ctx-same}
 use Rattle.gw_table.proofs.Moved.{has-pushed}
-use Rattle.gw_base.proofs.NameTests.{same_name, same_number}
+use Rattle.gw_base.proofs.NameTests.{same_number}
 use Rattle.gw_base.proofs.NamesInLists.{or_left, or_right}
 use Rattle.gw_table.proofs.Lookups.{ctx-put_ctx, term-put_ctx}
-use Rattle.gw_table.proofs.Places.{got_term, got_ctx, term-maps_of, ctx-maps_of, maps-put_term_place, maps-put_ctx_place, shown_placed, in-put_term, in-put_ctx}
+use Rattle.gw_table.proofs.Places.{got_term, got_ctx, ctx-maps_of, maps-put_term_place, maps-put_ctx_place, shown_placed, in-put_term, in-put_ctx}
 use Rattle.gw_table.proofs.SettingLookups.{with_it}
 use Rattle.gw_table.proofs.Settings.{maps-set_place}
 use Rattle.gw_table.proofs.Undone.{undone_more, keys_more, undone_term, undone_ctx, undone_term_again, undone_ctx_again, settled, settled_so, undone_beside}

@@ -1,6 +1,5 @@
 pub mod Celled
 pub mod Drafted
-pub mod Ending
 pub mod Exchanged
 pub mod Folding
 pub mod Frames

@@ -142,6 +142,20 @@ pub one_of_them : (ws : List Write) (i : ℕ) (w : Write) (k : Key) (b : Bool) �
 one_of_them ws i w k true h is e = sym (any_mapped (same_key k) ws) ∙ list_any_at (λ x. same_key k (key_written x)) ws i w h (ap (λ (x : Write). same_key k (key_written x)) (sym is) ∙ sym e)
 one_of_them ws i w k false h is e = tt
 
+-- ---- the last write
+
+either_way : (a b c : Bool) → (a || b) ≡ true → (b ≡ true → c ≡ true) → (a || c) ≡ true
+either_way true b c h f = refl
+either_way false b c h f = f h
+
+pub last_written : (ws : List Write) (w : Write) → has (keys_written (ws ++ w ∷ [])) (key_written w) ≡ true
+last_written [] w = or_left (same_key (key_written w) (key_written w)) false (same-itself (key_written w))
+last_written (v ∷ ws) w = or_right (same_key (key_written w) (key_written v)) (has (keys_written (ws ++ w ∷ [])) (key_written w)) (last_written ws w)
+
+pub written_before : (ws : List Write) (w : Write) (k : Key) → has (keys_written ws) k ≡ true → has (keys_written (ws ++ w ∷ [])) k ≡ true
+written_before [] w k h = absurd cc
+written_before (v ∷ ws) w k h = either_way (same_key k (key_written v)) (has (keys_written ws) k) (has (keys_written (ws ++ w ∷ [])) k) h (written_before ws w k)
+
 pub properties_at : (ws : List Write) (i : ℕ) (w : Write) (q : CtxNum) (b : Bool) → i < length ws → w ≡ get_or ws i w → b ≡ logs_properties q w → OnTrue b (has_properties q ws ≡ true)
 properties_at ws i w q true h is e = list_any_at (logs_properties q) ws i w h (ap (logs_properties q) (sym is) ∙ sym e)
 properties_at ws i w q false h is e = tt

@@ -1,5 +1,5 @@
 -- What is logged where a property of a context is set (own).
-use Rattle.std.specs.Prelude.{◌≡◌, ℕ, ◌⊎◌, true, List, [], ◌∷◌, ◌++◌, Some}
+use Rattle.std.specs.Prelude.{◌≡◌, ℕ, ◌⊎◌, true, List, [], ◌∷◌, ◌++◌}
 use Rattle.gw_base.specs.declared.key.Key.TheVariants.{Ctx}
 use Rattle.gw_base.specs.Keys.{has}
 use Rattle.gw_ctx.specs.Contexts.{ContextRecord}

@@ -6,7 +6,7 @@ use Rattle.gw_table.specs.declared.place.Place.{Place}
 use Rattle.gw_table.specs.declared.place.Place.TheVariants.{Empty, Here, Out}
 use Rattle.gw_table.specs.declared.setting.Setting.{Setting}
 use Rattle.gw_table.specs.declared.setting.Setting.TheVariants.{Priority, Emergency, Both}
-use Rattle.gw_table.specs.Maps.{Maps, ctx, put_ctx}
+use Rattle.gw_table.specs.Maps.{Maps, put_ctx}
 use Rattle.gw_table.specs.Stored.{Stored, put_ctx_place}
 
 abbrev pub with_setting : Setting → ContextRecord → ContextRecord

@@ -37,7 +37,6 @@ pub use keys::Keys;
 pub use laws::{part_put_back, slots_have_names_of_their_own, sound_part};
 pub use originals::Originals;
 pub use part::Part;
-pub use place::Place;
 pub use reserved::{is_reserved, slot_name};
 pub use setting::Setting;
 pub use subtracting::what_remains;

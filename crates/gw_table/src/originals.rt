@@ -41,17 +41,6 @@ pub enum Write {
 }
 
 impl Write {
-    /// The key that was written.
-    pub(crate) fn key(&self) -> Key
-        ensures { result ≡ key_written self.now }
-    {
-        match self {
-            Write::OfTerm(name, _) => Key::Term(*name),
-            Write::OfCtx(number, _) => Key::Ctx(*number),
-            Write::OfProperties(_, _, _) => Key::Whole,
-        }
-    }
-
     /// Whether it is a write of this key.
     pub(crate) fn is_of(&self, key: &Key) -> bool
         ensures { result ≡ same_key key.now (key_written self.now) }

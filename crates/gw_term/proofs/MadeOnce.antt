@@ -1,5 +1,5 @@
 -- Where descriptors fill nothing of a record, what they make of its settings is the same whatever its slot.
-use Rattle.std.proofs.Common.{◌≡◌, ℕ, Bool, true, false, not, List, [], ◌∷◌, ◌++◌, Option, Some, None, is_some, refl, ap, sym, ◌∙◌, subst}
+use Rattle.std.proofs.Common.{◌≡◌, ℕ, Bool, true, false, not, List, [], ◌∷◌, ◌++◌, Option, Some, None, refl, ap, sym, ◌∙◌}
 use Rattle.std.specs.Prelude.{◌&&◌, ◌||◌, if◌then◌else◌, decimal}
 use Rattle.std.specs.List.{list_all, list_any, flat_map}
 use Rattle.std.specs.Option.{option_map}
@@ -16,7 +16,7 @@ use Rattle.gw_term.specs.declared.places.PerStream.{PerStream}
 use Rattle.gw_term.specs.declared.record.Stream.{Stream}
 use Rattle.gw_term.specs.declared.streams.Merging.{Merging}
 use Rattle.gw_term.specs.declared.record.Termination.{Termination}
-use Rattle.gw_term.specs.Merge.{Media, and_then, each, each_place, put_control, put_part, begun, unnamed, is_named_in, names_stream, parts_in, parts_in_part, merged_properties, merged_service, merged_stream, merged_media, with_media, merged, filled_in, filled_of, filled_by}
+use Rattle.gw_term.specs.Merge.{Media, and_then, each, put_control, put_part, begun, unnamed, is_named_in, names_stream, parts_in, parts_in_part, merged_properties, merged_service, merged_stream, merged_media, with_media, merged, filled_in, filled_of, filled_by}
 use Rattle.gw_term.specs.Plain.{has_choice, is_plain_stream, is_plain_part, is_plain_one, are_plain, fill_none, IsMadeOf}
 use Rattle.gw_term.specs.Record.{provisioned}
 use Rattle.gw_term.specs.Settings.{Settings}

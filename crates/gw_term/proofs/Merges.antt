@@ -20,11 +20,6 @@ each-append {S} step (x ∷ xs) ys s = by (step x s) (λ t. each-append step xs 
     by None later = refl
     by (Some t) later = later t
 
--- the next element, and those behind it
-pub each_next : {S X : Type 0} (step : X → S → Option S) (list : List X) (i : ℕ) (x : X) (s : S) → i < length list → x ≡ get_or list i x
-    → each step (drop i list) s ≡ and_then (step x s) (each step (drop (i + 1) list))
-each_next step list i x s h is = ap (λ l. each step l s) (at_place list i x h is)
-
 -- the elements that the next one stands for, and those behind it
 pub flat_next : {S X Y : Type 0} (step : Y → S → Option S) (of : X → List Y) (list : List X) (i : ℕ) (x : X) (s : S) → i < length list → x ≡ get_or list i x
     → each step (flat_map of (drop i list)) s ≡ and_then (each step (of x) s) (each step (flat_map of (drop (i + 1) list)))

@@ -2,13 +2,12 @@
 use Rattle.std.proofs.Common.{◌≡◌, ℕ, ◌+◌, ◌<◌, ◌==◌, ◌||◌, if◌then◌else◌, Bool, true, false, List, [], ◌∷◌, length, get_or, take, Option, Some, is_some, refl, ap, sym, ◌∙◌}
 use Rattle.std.proofs.lemmas.Bool.{or_parts}
 use Rattle.std.proofs.lemmas.List.Folds.{list_any_more}
-use Rattle.std.specs.List.{flat_map, list_any}
+use Rattle.std.specs.List.{list_any}
 use Rattle.gw_desc.specs.Checks.{is_kept, same_kept}
 use Rattle.gw_desc.specs.declared.descriptor.Descriptor.{Descriptor}
 use Rattle.gw_desc.specs.declared.descriptor.Descriptor.TheVariants as descriptor
 use Rattle.gw_desc.specs.declared.descriptor.KeptKind.{KeptKind}
 use Rattle.gw_desc.specs.declared.descriptor.MediaPart.{MediaPart}
-use Rattle.gw_desc.specs.declared.descriptor.MediaPart.TheVariants as media
 use Rattle.gw_desc.specs.declared.descriptor.Tail.{Tail}
 use Rattle.gw_term.specs.Merge.{is_named_in, merged_tail, names_stream}
 use Rattle.gw_term.specs.Named.{named_by, or_named, with_descriptor, with_part, with_parts, with_place, with_set}

@@ -1,4 +1,4 @@
-use Rattle.std.proofs.Common.{◌+◌, ℕ, List, ap, ◌∙◌}
+use Rattle.std.proofs.Common.{◌+◌, ℕ, List, refl, ap, ◌∙◌}
 use Rattle.gw_reply.specs.Lists.{later}
 use Rattle.gw_reply.specs.Replies.{action_reply_text}
 use Rattle.gw_reply.specs.Writers.{written_within}
@@ -12,4 +12,4 @@ returns-in-Some-clause-written c = λ replies.
     ∙ framed c.args.id replies c.in-Some.left c.args.limit c.in-Some.ensures.room
 
 pub returns-in-None-clause-written : goal.returns-in-None-clause-written
-returns-in-None-clause-written c = λ replies. no_frame c.args.id replies c.args.limit c.in-None.ensures.none
+returns-in-None-clause-written c = λ replies. no_frame c.args.id replies c.args.limit (c.in-None.ensures.none refl)

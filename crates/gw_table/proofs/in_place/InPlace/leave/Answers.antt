@@ -52,6 +52,6 @@ returns-clause-maps c =
       | in-Some+in-Ok w ↦ ap (λ (x : Inside). x.tables) w.self-inside-is
       | in_default w ↦ ap (λ (x : Inside). x.tables) w.self-inside-is
     ] in
-    at_ok c.note_vacated.result
+    at_ok c.log_vacated.result
     (ap (λ s. maps_of s) (tables ∙ c.in_ok-found.ensures.after) ∙ maps-leave_place c.args.name.now c.args.number old (ctx (maps_of old) c.args.number) refl
     ∙ ap (λ (p : Parted). without_member c.args.number c.args.name.now p.maps) c.self.view_is)

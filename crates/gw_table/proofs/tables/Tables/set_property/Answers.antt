@@ -1,4 +1,4 @@
-use Rattle.std.proofs.Common.{◌≡◌, ℕ, List, cond, Option, None, Some, is_some, refl, sym, ap, subst, ◌∙◌, nat_cmp}
+use Rattle.std.proofs.Common.{◌≡◌, ℕ, List, cond, Option, None, Some, is_some, sym, ap, subst, ◌∙◌, nat_cmp}
 use Rattle.std.specs.BTreeMap.{BTreeMap, is_at}
 use Rattle.std.specs.FinMap as finite
 use Rattle.std.specs.Map.{lookup}
@@ -27,11 +27,14 @@ returns-in_default-clause-after c =
 -- ---- out of memory nothing is set
 
 module _ (c : goal.After-from_residual) where
-  still : stored c.self.inside.terms.entries (c.get_mut.follows.lender c.in-Some.row.now).entries ≡ c.args.self.now
+  abbrev new : Place ContextRecord
+  new = c.log_properties.new.self
+
+  still : stored c.self.inside.terms.entries (c.get_mut.follows.lender new).entries ≡ c.args.self.now
   still =
-      place_same c.self.inside.terms.entries c.self.inside.contexts.entries (c.get_mut.follows.lender c.in-Some.row.now).entries c.args.self.now c.args.number c.in-Some.row.now c.in-Some.row.now
+      place_same c.self.inside.terms.entries c.self.inside.contexts.entries (c.get_mut.follows.lender new).entries c.args.self.now c.args.number c.in-Some.row.now new
       c.self.view_is (ap (λ o. option_copied_mut o) (sym c.in-Some.is) ∙ c.get_mut.ensures.value)
-      ((c.get_mut.follows.holds c.in-Some.row.now).3 (ap (λ o. is_some o) (sym c.get_mut.ensures.value) ∙ ap (λ o. is_some (option_copied_mut o)) c.in-Some.is)).0 refl
+      ((c.get_mut.follows.holds new).3 (ap (λ o. is_some o) (sym c.get_mut.ensures.value) ∙ ap (λ o. is_some (option_copied_mut o)) c.in-Some.is)).0 c.in_err-log_properties.ensures.same
 
   stood_there : finite.get c.args.self.now.contexts c.args.number.0 ≡ Some c.in-Some.row.now
   stood_there = sym (ap (λ o. option_copied_mut o) (sym c.in-Some.is) ∙ c.get_mut.ensures.value ∙ ctx_seen c.self.inside.terms.entries c.self.inside.contexts.entries c.args.self.now c.args.number c.self.view_is)
@@ -57,24 +60,27 @@ module _ (c : goal.After-self-2-1) where
   others : (q : ℕ) → lookup (is_at (nat_cmp q)) fs ≡ cond (is_at (nat_cmp c.args.number.0) q) (Some c.set.new.self) (lookup (is_at (nat_cmp q)) c.self.inside.contexts.entries)
   others = ((c.get_mut.follows.holds c.set.new.self).3 (ap (λ o. is_some o) (sym c.get_mut.ensures.value) ∙ ap (λ o. is_some (option_copied_mut o)) c.in-Some.is)).0
 
+  set_there : c.set.new.self ≡ set_at c.args.setting c.in-Some.row.now
+  set_there = c.set.ensures ∙ ap (λ (p : Place ContextRecord). set_at c.args.setting p) c.in_ok-log_properties.ensures.same
+
   there : finite.get c.args.self.now.contexts c.args.number.0 ≡ Some c.in-Some.row.now
   there = stood c.self.inside.terms.entries c.self.inside.contexts.entries fs c.args.self.now c.args.number c.in-Some.row.now c.set.new.self c.self.view_is was others
 
 pub invariant_of-self-2 : goal.invariant_of-self-2
 invariant_of-self-2 c =
     marks_set c.self.inside.terms.entries c.self.inside.contexts.entries (fs c) c.args.self.now c.args.number c.in-Some.row.now c.set.new.self c.self.view_is (was c) (others c)
-    c.args.setting c.set.ensures c.self.inside.numbers c.self.inside.slots c.self.invariant
+    c.args.setting (set_there c) c.self.inside.numbers c.self.inside.slots c.self.invariant
 
 pub returns-clause-after : goal.returns-clause-after
 returns-clause-after c =
     place_set c.self.inside.terms.entries c.self.inside.contexts.entries (fs c) c.args.self.now c.args.number c.in-Some.row.now c.set.new.self c.self.view_is (was c) (others c)
-    c.args.setting c.set.ensures
+    c.args.setting (set_there c)
 
 pub returns-clause-back : goal.returns-clause-back
 returns-clause-back c = λ start i.
     let written : stored c.self.inside.terms.entries (fs c) ≡ put_ctx_place c.args.self.now c.args.number (set_at c.args.setting c.in-Some.row.now) =
     place_written c.self.inside.terms.entries c.self.inside.contexts.entries (fs c) c.args.self.now c.args.number c.in-Some.row.now c.set.new.self c.self.view_is (was c) (others c)
-    ∙ ap (put_ctx_place c.args.self.now c.args.number) c.set.ensures in
+    ∙ ap (put_ctx_place c.args.self.now c.args.number) (set_there c) in
     subst (λ (s : Stored). IsInPlace start s c.log_properties.new.writes.items) (sym written)
     (set_one start c.args.self.now c.log_properties.new.writes.items
     (may_keep start c.args.self.now c.args.writes.now.items c.log_properties.new.writes.items c.args.number.0 c.in-Some.row.now (there c) c.in_ok-log_properties.ensures.least i)
