@@ -11,6 +11,6 @@ pub record IsSameCommand (old new : Prepared) : Type 0 where
   pub command : new.command.now ≡ old.command.now
 
 -- these commands, in order, each under these rules
-pub record ArePrepared (rules : Rules) (list : List Prepared) (commands : List Command) : Type 0 where
-  pub rules : All (λ p. p.rules.now ≡ rules) list
-  pub commands : map (λ p. p.command.now) list ≡ commands
+pub record ArePrepared (under : Rules) (list : List Prepared) (sent : List Command) : Type 0 where
+  pub rules : All (λ p. p.rules.now ≡ under) list
+  pub commands : map (λ p. p.command.now) list ≡ sent

@@ -14,7 +14,7 @@ ghost use Rattle.gw_cmd.specs.Plans.{answered};
 ghost use Rattle.gw_cmd.specs.Prepared.{IsSameCommand};
 ghost use Rattle.gw_cmd.specs.Refused.{Gives};
 ghost use Rattle.gw_cmd.specs.Suits.{Suits, HoldsMoved, HoldsFound};
-ghost use Rattle.gw_cmd.specs.declared.task.Task.TheVariants.{Act, Serve};
+ghost use Rattle.gw_cmd.specs.declared.task.Task.TheVariants as does;
 ghost use Rattle.gw_cmd.specs.Tasks.{act_place, act_verb, task_place, task_verb, Does};
 
 use crate::change::Change;
@@ -85,7 +85,7 @@ fn act_on(
     requires term_key { HoldsFound draft.old.keys name.now draft.old.maps }
     requires ctx_key { HoldsPlace draft.old.keys (act_place act) }
     requires moved_key { HoldsMoved draft.old.keys (act_verb act) (place_of (term draft.old.maps name.now)) }
-    requires does { Does (Act act) prepared.old.command.now }
+    requires does { Does (does.Act act) prepared.old.command.now }
     ensures gives { Gives result draft.new.maps (answered wanted (on_name prepared.old.rules.now (act_place act) prepared.old.command.now name.now draft.old.maps)) }
     ensures keys { draft.new.keys ≡ draft.old.keys }
     ensures same { IsSameCommand prepared.old prepared.new }
@@ -107,7 +107,7 @@ fn serve(
     name: &TermName,
 ) -> Result<Items<ReplyPart>, Refusal>
     requires { HoldsFound draft.old.keys name.now draft.old.maps }
-    ensures gives { (rules : TheRules) (c : Command) (wanted : Bool) → Does (Serve place service) c → Gives result draft.new.maps (answered wanted (on_name rules place c name.now draft.old.maps)) }
+    ensures gives { (rules : TheRules) (c : Command) (wanted : Bool) → Does (does.Serve place service) c → Gives result draft.new.maps (answered wanted (on_name rules place c name.now draft.old.maps)) }
     ensures keys { draft.new.keys ≡ draft.old.keys }
 {
     let Some(old) = draft.term(name) else {
@@ -159,7 +159,7 @@ pub(crate) fn on_new(
     requires unused { term draft.old.maps name.now ≡ None }
     requires term_key { holds draft.old.keys (Term name.now) ≡ true }
     requires ctx_key { HoldsPlace draft.old.keys (act_place act) }
-    requires does { Does (Act act) prepared.old.command.now }
+    requires does { Does (does.Act act) prepared.old.command.now }
     ensures gives { Gives result draft.new.maps (answered wanted (on_record prepared.old.rules.now (act_place act) prepared.old.command.now name.now (ephemeral slot) draft.old.maps)) }
     ensures keys { draft.new.keys ≡ draft.old.keys }
     ensures same { IsSameCommand prepared.old prepared.new }
