@@ -86,9 +86,9 @@ both_of true b h = (refl, h)
 both_of false b h = absurd cc
 
 -- it leaves the maps as they are, and its answer has this code, or none
-record IsLeft (m : Maps) (code : Option Code) (o : Outcome (Result (List ReplyPart) Code)) : Type 0 where
+record IsLeft (m : Maps) (k : Option Code) (o : Outcome (Result (List ReplyPart) Code)) : Type 0 where
   maps : o.maps ≡ m
-  code : code_of o.answer ≡ code
+  code : code_of o.answer ≡ k
 
 left : (m : Maps) (answer : Result (List ReplyPart) Code) (code : Option Code) (o : Outcome (Result (List ReplyPart) Code)) → o ≡ record { maps = m; answer = answer } → code_of answer ≡ code → IsLeft m code o
 left m answer code o e h = record { maps = ap (λ (x : Outcome (Result (List ReplyPart) Code)). x.maps) e; code = ap (λ (x : Outcome (Result (List ReplyPart) Code)). code_of x.answer) e ∙ h }

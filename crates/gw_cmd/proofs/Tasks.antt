@@ -1,5 +1,6 @@
 -- What a task decides is what its command decides.
 use Rattle.std.proofs.Common.{◌≡◌, ℕ, Bool, true, false, List, [], ◌∷◌, Option, None, Some, Result, Ok, Err, refl, sym, ap, subst, ◌∙◌}
+use Rattle.std.specs.Option.{unwrap_or}
 use Rattle.gw_base.specs.declared.code.Code.{Code}
 use Rattle.gw_base.specs.declared.command_words.Rules.{Rules}
 use Rattle.gw_base.specs.declared.command_words.Service.{Service}
@@ -7,6 +8,7 @@ use Rattle.gw_base.specs.declared.command_words.Verb.{Verb}
 use Rattle.gw_base.specs.declared.command_words.Verb.TheVariants as word
 use Rattle.gw_base.specs.declared.ids.CtxNum.{CtxNum}
 use Rattle.gw_base.specs.declared.term_ref.TermRef.{TermRef}
+use Rattle.gw_base.specs.declared.term_ref.TermRef.TheVariants.{Name}
 use Rattle.gw_reply.specs.declared.writer.ReplyWriter.{ReplyWriter}
 use Rattle.gw_reply.specs.declared.writer.ReplyWriter.TheVariants.{TooLong}
 use Rattle.gw_desc.specs.declared.descriptor.Descriptor.{Descriptor}
@@ -14,24 +16,28 @@ use Rattle.gw_msg.specs.declared.message.Command.{Command}
 use Rattle.gw_reply.specs.declared.parts.ReplyPart.{ReplyPart}
 use Rattle.gw_reply.specs.declared.reply.CommandReply.{CommandReply}
 use Rattle.gw_term.specs.declared.record.Termination.{Termination}
-use Rattle.gw_table.specs.Maps.{Maps, term}
+use Rattle.gw_table.specs.Maps.{Maps, Outcome, term}
+use Rattle.gw_table.specs.Members.{put_service}
+use Rattle.gw_table.specs.Reserved.{slot_name}
 use Rattle.gw_refusal.specs.declared.at.At.{At}
 use Rattle.gw_refusal.specs.Asked.{service_asked}
 use Rattle.gw_refusal.specs.Places.{place_at}
 use Rattle.gw_cmd.specs.declared.change.Change.{Change}
 use Rattle.gw_cmd.specs.declared.change.Decided.{Decided}
+use Rattle.gw_cmd.specs.declared.refusal.Refusal.{Refusal}
 use Rattle.gw_cmd.specs.declared.refusal.Refusal.TheVariants as refusal
 use Rattle.gw_cmd.specs.declared.task.Act.{Act}
 use Rattle.gw_cmd.specs.declared.task.Act.TheVariants.{Add, Move, Modify, Subtract, Audit}
 use Rattle.gw_cmd.specs.declared.task.Task.{Task}
 use Rattle.gw_cmd.specs.declared.task.Task.TheVariants as task
 use Rattle.gw_cmd.specs.Changes.{changed}
-use Rattle.gw_cmd.specs.Commands.{reply, serviced_if, root_maps}
-use Rattle.gw_cmd.specs.Effects.{is_full, decided_in, decided_in_null, decided, done, on_record, on_found, on_name}
+use Rattle.gw_cmd.specs.Commands.{reply, new_reply, serviced_if, root_maps}
+use Rattle.gw_cmd.specs.Effects.{refusal_elsewhere, after_service, is_full, decided_in, decided_in_null, decided, done, on_record, on_found, on_name}
 use Rattle.gw_cmd.specs.Plans.{parts_if, decided_if, answer_if, answered}
-use Rattle.gw_cmd.specs.Refused.{Gives}
+use Rattle.gw_cmd.specs.Refused.{Answers, Gives}
 use Rattle.gw_cmd.specs.Tasks.{act_place, act_verb, task_place, task_verb, task_service, task_of, decided_by, IsServedBy, Does, IsAllowed}
-use Rattle.gw_cmd.specs.Written.{seen}
+use Rattle.gw_cmd.specs.Written.{new_term, seen}
+use Rattle.gw_cmd.proofs.AsItIs.{service_done}
 use Rattle.gw_cmd.proofs.Lawful.{Lawful, decided_lawful}
 
 -- what a command does is in its place, and goes by its word
@@ -115,13 +121,36 @@ gives_done wanted (Ok whole) d t m new e is =
       ap (λ (y : Decided). let z : Result (List ReplyPart) Code = Ok y.parts in z) same ∙ ap (λ (y : Decided). let z : Result (List ReplyPart) Code = Ok (parts_if wanted y.parts) in z) (sym one),
     )
 
-pub gives_refused : (wanted : Bool) (x : Result Decided Code) (code : Code) (t : List ℕ) (m : Maps) → Err code ≡ decided_if wanted x → Gives (Err (refusal.Code code)) m (answered wanted (done t m x))
+gives_refused : (wanted : Bool) (x : Result Decided Code) (code : Code) (t : List ℕ) (m : Maps) → Err code ≡ decided_if wanted x → Gives (Err (refusal.Code code)) m (answered wanted (done t m x))
 gives_refused wanted (Err other) code t m e = (refl, let same : code ≡ other = cc in ap (λ (y : Code). let z : Result (List ReplyPart) Code = Err y in z) same)
 gives_refused wanted (Ok whole) code t m e = absurd cc
 
-pub none_if : (wanted : Bool) → parts_if wanted [] ≡ []
+pub gives_err : (wanted : Bool) (x : Result Decided Code) (e : Refusal) (t : List ℕ) (m : Maps) → Answers {A = Decided} (Err e) (decided_if wanted x) → Gives {A = List ReplyPart} (Err e) m (answered wanted (done t m x))
+gives_err wanted x (refusal.Code code) t m h = gives_refused wanted x code t m h
+gives_err wanted x refusal.NoMemory t m h = tt
+
+none_if : (wanted : Bool) → parts_if wanted [] ≡ []
 none_if true = refl
 none_if false = refl
+
+-- a termination that is given a service state
+module _ (rules : Rules) (place : Option CtxNum) (service : Option Service) (c : Command) (t : List ℕ) (r : Termination) (m : Maps) (wanted : Bool) (does : Does (task.Serve place service) c) (found : term m t ≡ Some r) where
+  served : on_name rules place c t m ≡ after_service (refusal_elsewhere place r.place) (unwrap_or service r.service) t m
+  served =
+      ap (λ (o : Option Termination). on_found rules place c t o m) found ∙ service_done rules place c t r m does.verb found
+      ∙ ap (λ (s : Option Service). after_service (refusal_elsewhere place r.place) (unwrap_or s r.service) t m) (sym does.served)
+
+  pub serves_not : (code : Code) → refusal_elsewhere place r.place ≡ Some code → Gives {A = List ReplyPart} (Err (refusal.Code code)) m (answered wanted (on_name rules place c t m))
+  serves_not code e =
+      let whole = served ∙ ap (λ (o : Option Code). after_service o (unwrap_or service r.service) t m) e in
+      (sym (ap (λ (o : Outcome (Result (List ReplyPart) Code)). o.maps) whole), sym (ap (λ (o : Outcome (Result (List ReplyPart) Code)). answer_if wanted o.answer) whole))
+
+  pub serves : (new : Maps) (given : Service) (parts : List ReplyPart) → refusal_elsewhere place r.place ≡ None → given ≡ unwrap_or service r.service → new ≡ put_service given t m (term m t) → parts ≡ [] → Gives {A = List ReplyPart} (Ok parts) new (answered wanted (on_name rules place c t m))
+  serves new given parts e is put none =
+      let whole = served ∙ ap (λ (o : Option Code). after_service o (unwrap_or service r.service) t m) e in (
+        put ∙ ap (λ (s : Service). put_service s t m (term m t)) is ∙ sym (ap (λ (o : Outcome (Result (List ReplyPart) Code)). o.maps) whole),
+        ap (λ (l : List ReplyPart). let x : Result (List ReplyPart) Code = Ok l in x) (none ∙ sym (none_if wanted)) ∙ sym (ap (λ (o : Outcome (Result (List ReplyPart) Code)). answer_if wanted o.answer) whole),
+      )
 
 -- ---- where nothing more is written, what a reply has does not matter
 
@@ -130,3 +159,9 @@ seen_if writer true c r (Ok parts) full = refl
 seen_if writer wanted c r (Err code) full = refl
 seen_if writer false c r (Ok parts) full =
     ap (λ (w : ReplyWriter CommandReply). seen w (reply c r (Ok []) ∷ [])) (full refl) ∙ sym (ap (λ (w : ReplyWriter CommandReply). seen w (reply c r (Ok parts) ∷ [])) (full refl))
+
+-- the same of a termination that is made
+pub seen_new : (writer : ReplyWriter CommandReply) (wanted : Bool) (c : Command) (slot : ℕ) (x : Result (List ReplyPart) Code) → (wanted ≡ false → writer ≡ TooLong)
+    → seen writer (reply c (new_term (slot_name slot) (answer_if wanted x)) (answer_if wanted x) ∷ []) ≡ seen writer (new_reply c slot x ∷ [])
+seen_new writer wanted c slot (Err code) full = refl
+seen_new writer wanted c slot (Ok parts) full = seen_if writer wanted c (Name (slot_name slot)) (Ok parts) full

@@ -24,7 +24,9 @@ use crate::idle::{is_idle, on_idle};
 use crate::outcome::{CmdOutcome, CmdWritten};
 use crate::prepared::Prepared;
 use crate::refusal::Refusal;
-use crate::replies::{has_one_reply, outcome_of, outcome_of_all, refused, writes_none, written};
+use crate::replies::{
+    has_one_reply, new_term, outcome_of, outcome_of_all, refused, writes_none, written,
+};
 use crate::root::{root_parts, serve_all};
 use crate::tables::refusal_by_tables;
 use crate::targets::{on_target, on_targets};
@@ -56,7 +58,8 @@ fn on_names(
     ensures keys { draft.new.keys ≡ draft.old.keys }
     ensures same { IsSameCommand prepared.old prepared.new }
 {
-    if has_one_reply(prepared.command) {
+    let command = prepared.command;
+    if has_one_reply(command) {
         let seen = on_targets(
             alloc,
             draft,
@@ -65,7 +68,7 @@ fn on_names(
             named,
             ReplyWriter::TooLong,
         )?;
-        return outcome_of_all(alloc, writer, execution.at, prepared.command, seen);
+        return outcome_of_all(alloc, writer, execution.at, command, seen);
     }
     let seen = on_targets(alloc, draft, execution.task, prepared, named, writer)?;
     Ok(outcome_of(execution.at, seen))
@@ -114,25 +117,22 @@ fn on_slot(
     ensures keys { draft.new.keys ≡ draft.old.keys }
     ensures same { IsSameCommand prepared.old prepared.new }
 {
+    let command = prepared.command;
     let Some(slot) = execution.slot else {
-        return refused(
-            writer,
-            execution.at,
-            prepared.command,
-            Code::NoTerminationLeft,
-        );
+        return refused(writer, execution.at, command, Code::NoTerminationLeft);
     };
     let Task::Act(act) = execution.task else {
         unreachable!()
     };
     let name = slot_name(slot);
     let wanted = !writes_none(&writer);
-    let seen = match on_new(alloc, draft, act, prepared, slot, &name, wanted) {
-        Ok(parts) => written(writer, prepared.command, TermRef::Name(name), Ok(parts))?,
-        Err(Refusal::Code(code)) => written(writer, prepared.command, TermRef::Choose, Err(code))?,
+    let answer = match on_new(alloc, draft, act, prepared, slot, &name, wanted) {
+        Ok(parts) => Ok(parts),
+        Err(Refusal::Code(code)) => Err(code),
         Err(Refusal::NoMemory) => return Err(NoMemory),
     };
-    Ok(outcome_of(execution.at, seen))
+    let term = new_term(&answer, name);
+    Ok(outcome_of(execution.at, written(writer, command, term, answer)?))
 }
 
 /// Executes a command on the gateway itself.

@@ -6,10 +6,10 @@ ghost use Rattle.gw_reply.specs.declared.writer.ReplyWriter.TheVariants.{TooLong
 ghost use Rattle.gw_reply.specs.declared.reply.CommandReply.{CommandReply};
 ghost use Rattle.gw_refusal.specs.Asked.{is_wildcard};
 ghost use Rattle.gw_cmd.specs.Commands.{reply, outcome_of, outcome_written};
-ghost use Rattle.gw_cmd.specs.Written.{outcome_behind, seen};
+ghost use Rattle.gw_cmd.specs.Written.{new_term, outcome_behind, seen};
 
 use crate::outcome::{CmdWritten, Seen};
-use gw_base::{Code, Items, NoMemory, TermRef};
+use gw_base::{Code, Items, NoMemory, TermName, TermRef};
 use gw_msg::Command;
 use gw_refusal::{At, is_wildcard};
 use gw_reply::{AuditReply, CommandReply, ReplyWriter};
@@ -23,6 +23,16 @@ fn reply(command: &Command<'_>, term: TermRef, answer: Result<AuditReply, Code>)
         verb: command.verb,
         term,
         result: answer,
+    }
+}
+
+/// The TerminationID of a termination that an Add was to make: its name where it came into being, else as sent.
+pub(crate) fn new_term(answer: &Result<AuditReply, Code>, name: TermName) -> TermRef
+    ensures { result ≡ new_term name answer.now }
+{
+    match answer {
+        Ok(_) => TermRef::Name(name),
+        Err(_) => TermRef::Choose,
     }
 }
 
