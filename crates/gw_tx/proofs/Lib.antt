@@ -1,5 +1,5 @@
 pub mod Asked
-pub mod Commands
+pub mod CommandsSoFar
 pub mod EachContext
 pub mod Entries
 pub mod Facts

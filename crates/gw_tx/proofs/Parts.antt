@@ -4,7 +4,6 @@ use Rattle.gw_base.specs.declared.ids.CtxNum.{CtxNum}
 use Rattle.gw_base.specs.declared.command_words.CtxRef.{CtxRef}
 use Rattle.gw_base.specs.declared.command_words.CtxRef.TheVariants as ref
 use Rattle.gw_base.specs.declared.key.Key.{Key}
-use Rattle.gw_msg.specs.declared.message.Action.{Action}
 use Rattle.gw_msg.specs.declared.message.Command.{Command}
 use Rattle.gw_table.specs.Maps.{Maps}
 use Rattle.gw_table.specs.Parts.{Parted, PartKeys, IsPart, Holds}
@@ -14,7 +13,7 @@ use Rattle.gw_refusal.specs.declared.at.At.{At}
 use Rattle.gw_refusal.specs.declared.at.At.TheVariants.{Null, Live, Unmade, Each}
 use Rattle.gw_cmd.specs.Keys.{command_keys}
 use Rattle.gw_cmd.proofs.Parted.{StaysPart}
-use Rattle.gw_reserve.specs.Owned.{OwnedAction, AreFreeSlots, paired_commands, paired_action}
+use Rattle.gw_reserve.specs.Owned.{OwnedAction, AreFreeSlots, paired_commands}
 use Rattle.gw_tx.specs.Footprints.{action_footprint, list_keys, Covers}
 use Rattle.gw_tx.proofs.Facts.{IsHeld}
 use Rattle.gw_tx.proofs.FreeSlots.{AnySlot, free_on}

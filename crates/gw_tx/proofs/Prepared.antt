@@ -15,22 +15,22 @@ module _ (rules : Rules) (list : List Prepared) (cs : List Command) (i : ℕ) (h
   pub none_prepared : length list ≤ i → drop i cs ≡ []
   none_prepared le =
       let f : Prepared → Command = λ p. p.command.now in
-      ap (λ (l : List Command). drop i l) (sym h.named) ∙ drop-map f i list ∙ ap (λ (l : List Prepared). map f l) (drop_of_length-le list le)
+      ap (λ (l : List Command). drop i l) (sym h.commands) ∙ drop-map f i list ∙ ap (λ (l : List Prepared). map f l) (drop_of_length-le list le)
 
   module _ (d : Prepared) (within : i < length list) where
     -- the next, and those behind it
     pub next_prepared : drop i cs ≡ (get_or list i d).command.now ∷ drop (i + 1) cs
     next_prepared =
         let f : Prepared → Command = λ p. p.command.now in
-        ap (λ (l : List Command). drop i l) (sym h.named) ∙ drop-map f i list ∙ ap (λ (l : List Prepared). map f l) (rest_of list i d (get_or list i d) within refl)
-        ∙ ap (λ (l : List Command). f (get_or list i d) ∷ l) (sym (drop-map f (i + 1) list) ∙ ap (λ (l : List Command). drop (i + 1) l) h.named)
+        ap (λ (l : List Command). drop i l) (sym h.commands) ∙ drop-map f i list ∙ ap (λ (l : List Prepared). map f l) (rest_of list i d (get_or list i d) within refl)
+        ∙ ap (λ (l : List Command). f (get_or list i d) ∷ l) (sym (drop-map f (i + 1) list) ∙ ap (λ (l : List Command). drop (i + 1) l) h.commands)
 
     pub next_under : (get_or list i d).rules.now ≡ rules
-    next_under = h.ruled i d within
+    next_under = h.rules i d within
 
     -- the same command in its place
     pub still_prepared : (p : Prepared) → IsSameCommand (get_or list i d) p → ArePrepared rules (set list i p) cs
     still_prepared p same = record {
-      ruled = All-set (λ x. x.rules.now ≡ rules) list i p (same.rules ∙ next_under) h.ruled;
-      named = map-set_same (λ x. x.command.now) list i p d same.command ∙ h.named;
+      rules = All-set (λ x. x.rules.now ≡ rules) list i p (same.rules ∙ next_under) h.rules;
+      commands = map-set_same (λ x. x.command.now) list i p d same.command ∙ h.commands;
     }

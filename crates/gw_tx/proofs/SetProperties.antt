@@ -13,7 +13,7 @@ use Rattle.gw_base.specs.declared.term_ref.TermRef.{TermRef}
 use Rattle.gw_base.specs.declared.term_ref.TermRef.TheVariants as term_ref
 use Rattle.gw_base.specs.NameLists.{is_in, NoDoubles}
 use Rattle.gw_base.proofs.Booleans.{neither}
-use Rattle.gw_base.proofs.NameTests.{same_number, number_itself}
+use Rattle.gw_base.proofs.NameTests.{same_number}
 use Rattle.gw_ctx.specs.Contexts.{ContextRecord}
 use Rattle.gw_ctx.specs.Fitting.{priority_max, IsFit}
 use Rattle.gw_ctx.proofs.Fits.{fit_new, fit_prioritized, fit_marked, fit_linked}

@@ -19,17 +19,22 @@ live_in : (rules : Rules) (n : CtxNum) (a : OwnedAction) (m : Maps) (o : Option 
 live_in rules n a m None e r = absurd cc
 live_in rules n a m (Some c) e r = sym (ap (λ x. unless_refused x (ref.Num n) m (in_context rules a (Live n) n m)) r)
 
-done_in : (c : goal.Returns) → in_context c.args.task.now.rules.now (owned_action c.args.task.now) (Live c.args.number) c.args.number c.args.draft.now.maps ≡ action_in c.args.task.now.rules.now c.args.number (owned_action c.args.task.now) c.args.draft.now.maps (ctx c.args.draft.now.maps c.args.number)
-done_in c =
+pub returns-clause-maps : goal.returns-clause-maps
+returns-clause-maps c =
     let a = c.args in
+    let action : OwnedAction = owned_action a.task.now in
     let m : Maps = a.draft.now.maps in
     let there : is_none (ctx m a.number) ≡ false = search rules in
-    let names : c.deref.result.now ≡ linked_names a.task.now.sent.now.props = c.deref.ensures.value ∙ c.in_ok-names.ensures ∙ ap (λ l. linked_names l) c.as_slice.ensures in
-    let fine : refusal_of_links a.number (linked_names a.task.now.sent.now.props) m ≡ None = ap (λ (l : List (List ℕ)). refusal_of_links a.number l m) (sym names) ∙ sym c.refusal_of_links.ensures ∙ c.in-None.is in
-    live_in a.task.now.rules.now a.number (owned_action a.task.now) m (ctx m a.number) there fine
-
-pub returns-clause-maps : goal.returns-clause-maps
-returns-clause-maps c = subst (λ (o : Outcome (Attempts Unit ActionReply)). OnOk c.in_context.result (c.in_context.new.draft.maps ≡ o.maps)) (done_in c) c.in_context.ensures.maps
+    let names : c.deref.result.now ≡ linked_names action.sent.props = c.deref.ensures.value ∙ c.in_ok-names.ensures ∙ ap (λ l. linked_names l) c.as_slice.ensures in
+    let fine : refusal_of_links a.number (linked_names action.sent.props) m ≡ None = ap (λ (l : List (List ℕ)). refusal_of_links a.number l m) (sym names) ∙ sym c.refusal_of_links.ensures ∙ c.in-None.is in
+    subst (λ (o : Outcome (Attempts Unit ActionReply)). OnOk c.in_context.result (c.in_context.new.draft.maps ≡ o.maps)) (live_in a.task.now.rules.now a.number action m (ctx m a.number) there fine) c.in_context.ensures.maps
 
 pub returns-clause-answer : goal.returns-clause-answer
-returns-clause-answer c = subst (λ (o : Outcome (Attempts Unit ActionReply)). IfOk c.in_context.result (λ done. done ≡ progress action_reply_text c.args.writer o.answer)) (done_in c) c.in_context.ensures.answer
+returns-clause-answer c =
+    let a = c.args in
+    let action : OwnedAction = owned_action a.task.now in
+    let m : Maps = a.draft.now.maps in
+    let there : is_none (ctx m a.number) ≡ false = search rules in
+    let names : c.deref.result.now ≡ linked_names action.sent.props = c.deref.ensures.value ∙ c.in_ok-names.ensures ∙ ap (λ l. linked_names l) c.as_slice.ensures in
+    let fine : refusal_of_links a.number (linked_names action.sent.props) m ≡ None = ap (λ (l : List (List ℕ)). refusal_of_links a.number l m) (sym names) ∙ sym c.refusal_of_links.ensures ∙ c.in-None.is in
+    subst (λ (o : Outcome (Attempts Unit ActionReply)). IfOk c.in_context.result (λ done. done ≡ progress action_reply_text a.writer o.answer)) (live_in a.task.now.rules.now a.number action m (ctx m a.number) there fine) c.in_context.ensures.answer

@@ -1,4 +1,4 @@
-use Rattle.std.proofs.Common.{◌≡◌, ℕ, List, [], ◌∷◌, ◌+◌, drop, length, Option, refl, sym, ap, subst, ◌∙◌}
+use Rattle.std.proofs.Common.{◌≡◌, ℕ, List, ◌∷◌, ◌+◌, drop, length, Option, refl, sym, ap, subst, ◌∙◌}
 use Rattle.std.proofs.Math.ListN.{drop_of_length-le}
 use Rattle.gw_base.specs.declared.ids.CtxNum.{CtxNum}
 use Rattle.gw_msg.specs.declared.message.Action.{Action}
@@ -12,7 +12,7 @@ use Rattle.gw_cmd.proofs.Parted.{StaysPart}
 use Rattle.gw_reserve.specs.Owned.{OwnedAction, first_owned, later_owned, paired_action, paired_actions}
 use Rattle.gw_tx.specs.Footprints.{action_footprint, footprint_of, Covers}
 use Rattle.gw_tx.specs.Told.{progress}
-use Rattle.gw_tx.specs.Transactions.{action}
+use Rattle.gw_tx.specs.Transactions.{action, actions}
 use Rattle.gw_tx.proofs.Facts.{commands_keep_part}
 use Rattle.gw_tx.proofs.FreeSlots.{AnySlot}
 use Rattle.gw_tx.proofs.HeldKeys.{left_held, right_held}
@@ -67,6 +67,7 @@ loop-one-preserved c =
     let i : ℕ = c.loop-one.one-index in
     let m : Maps = c.loop-one.draft.maps in
     let start : Parted = c.args.draft.now in
+    let all : Outcome (Attempts Unit ActionReply) = actions c.args.rules.now (paired_actions c.args.numbers.now c.args.slots.now c.args.sent.now) start.maps in
     let numbers : List (Option CtxNum) = c.loop-one.numbers_left.now in
     let slots : List (Option ℕ) = c.loop-one.slots_left.now in
     let behind : List (Option ℕ) = drop (length one.commands) slots in
@@ -81,7 +82,7 @@ loop-one-preserved c =
     let left : later ≡ paired_actions c.next_entry-number.result.1.now c.entries_behind-slots_left.result.now rest =
     ap (λ (o : List (Option CtxNum)). paired_actions o behind rest) (sym c.next_entry-number.ensures.later) ∙ ap (λ (o : List (Option ℕ)). paired_actions c.next_entry-number.result.1.now o rest) (sym slots_are) in
     record {
-      replies = subst (λ (l : List OwnedAction). IsSoFar (action c.args.rules.now) action_reply_text c.args.writer _ c.in_ok-done.done.writer tt l c.action.new.draft.maps) left
+      replies = subst (λ (l : List OwnedAction). IsSoFar (action c.args.rules.now) action_reply_text c.args.writer all c.in_ok-done.done.writer tt l c.action.new.draft.maps) left
           (one_more c.loop-one.invariant.replies pair later c.action.new.draft.maps c.in_ok-done.done split maps (c.in_ok-done.ensures.answer ∙ ap (λ (n : Option CtxNum). progress action_reply_text c.loop-one.writer (did n).answer) c.next_entry-number.ensures.own) c.if-done.false);
       held = subst (λ (l : List OwnedAction). Holds start.keys (footprint_of l start.maps)) left (right_held start.keys (action_footprint pair start.maps) (footprint_of later start.maps) held);
       kept = subst (λ (o : List (Option ℕ)). With AnySlot (StaysPart start.keys start.maps) o c.action.new.draft.maps) (sym slots_are)

@@ -1,8 +1,7 @@
-use Rattle.std.proofs.Common.{◌≡◌, ℕ, true, false, List, ◌∷◌, ◌+◌, drop, sym, subst, ◌∙◌}
+use Rattle.std.proofs.Common.{ℕ, true, false, List, ◌+◌, drop, sym, subst, ◌∙◌}
 use Rattle.std.proofs.Math.ListN.{drop_of_length-le}
 use Rattle.gw_msg.specs.declared.message.Command.{Command}
 use Rattle.gw_reply.specs.Replies.{command_reply_text}
-use Rattle.gw_table.specs.Maps.{Maps}
 use Rattle.gw_table.proofs.Folding.{rest_of}
 use Rattle.gw_refusal.specs.declared.at.At.{At}
 use Rattle.gw_reserve.specs.Owned.{paired_commands}
@@ -10,7 +9,7 @@ use Rattle.gw_tx.specs.declared.told.Progress.{Progress}
 use Rattle.gw_tx.specs.Footprints.{list_keys, Covers}
 use Rattle.gw_tx.specs.Transactions.{commands}
 use Rattle.gw_reply.specs.declared.reply.CommandReply.{CommandReply}
-use Rattle.gw_tx.proofs.Commands.{no_command_yet, no_command_left, next_unused, next_covered, last_command, one_command_more}
+use Rattle.gw_tx.proofs.CommandsSoFar.{no_command_yet, no_command_left, next_unused, next_covered, last_command, one_command_more}
 use Rattle.gw_tx.proofs.Steps.{IsAll}
 use Rattle.gw_tx.proofs.commands.commands.Goals as goal
 

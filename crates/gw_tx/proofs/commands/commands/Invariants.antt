@@ -1,7 +1,7 @@
 use Rattle.std.proofs.Common.{drop}
 use Rattle.gw_reserve.specs.Owned.{paired_commands}
 use Rattle.gw_tx.specs.Transactions.{commands}
-use Rattle.gw_tx.proofs.Commands.{AreSoFar}
+use Rattle.gw_tx.proofs.CommandsSoFar.{AreSoFar}
 use Rattle.gw_tx.proofs.commands.commands.Given as goal
 
 abbrev pub invariant-loop-command : goal.invariant-loop-command

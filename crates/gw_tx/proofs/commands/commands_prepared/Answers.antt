@@ -2,7 +2,7 @@ use Rattle.std.proofs.Common.{◌≡◌, ℕ, ◌<◌, List, [], ◌+◌, length
 use Rattle.gw_msg.specs.declared.message.Command.{Command}
 use Rattle.gw_cmd.specs.declared.prepared.Prepared.{Prepared}
 use Rattle.gw_tx.specs.Properties.{ArePlain}
-use Rattle.gw_tx.proofs.Commands.{no_command_yet, no_command_left, next_unused, next_covered, last_command, one_command_more}
+use Rattle.gw_tx.proofs.CommandsSoFar.{no_command_yet, no_command_left, next_unused, next_covered, last_command, one_command_more}
 use Rattle.gw_tx.proofs.Prepared.{none_prepared, next_prepared, next_under, still_prepared}
 use Rattle.gw_tx.proofs.commands.commands_prepared.Goals as goal
 

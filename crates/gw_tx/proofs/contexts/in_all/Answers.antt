@@ -1,4 +1,4 @@
-use Rattle.std.proofs.Common.{◌≡◌, ℕ, Bool, true, false, List, ◌∷◌, ◌+◌, get_or, drop, Option, refl, sym, ap, subst, ◌∙◌}
+use Rattle.std.proofs.Common.{◌≡◌, ℕ, Bool, false, List, ◌∷◌, ◌+◌, get_or, drop, Option, refl, sym, ap, subst, ◌∙◌}
 use Rattle.std.specs.Prelude.{◌||◌}
 use Rattle.std.proofs.Math.ListN.{drop_of_length-le}
 use Rattle.gw_base.specs.declared.ids.CtxNum.{CtxNum}
@@ -6,6 +6,7 @@ use Rattle.gw_base.specs.declared.key.Key.TheVariants.{Ctx}
 use Rattle.gw_msg.specs.declared.message.Command.{Command}
 use Rattle.gw_refusal.specs.declared.at.At.TheVariants.{Each}
 use Rattle.gw_reply.specs.declared.reply.ActionReply.{ActionReply}
+use Rattle.gw_reply.specs.declared.writer.ReplyWriter.{ReplyWriter}
 use Rattle.gw_reply.specs.Replies.{action_reply_text}
 use Rattle.gw_reserve.specs.Owned.{paired_commands}
 use Rattle.gw_table.specs.Maps.{Maps, number}
@@ -15,7 +16,7 @@ use Rattle.gw_cmd.proofs.Parted.{StaysPart}
 use Rattle.gw_tx.specs.declared.told.Progress.{Progress}
 use Rattle.gw_tx.specs.Footprints.{list_keys}
 use Rattle.gw_tx.specs.Told.{owned_action, progress}
-use Rattle.gw_tx.specs.Transactions.{in_context, in_each}
+use Rattle.gw_tx.specs.Transactions.{in_each}
 use Rattle.gw_tx.proofs.Facts.{commands_keep_part}
 use Rattle.gw_tx.proofs.FreeSlots.{AnySlot}
 use Rattle.gw_tx.proofs.Kept.{With, kept_in_each}
@@ -61,9 +62,11 @@ loop-number-preserved c =
       | then-stopped w ↦ w.stopped-is ∙ w.if-stopped.true ∙ ap (λ (b : Bool). b || c.in_ok-done.done.stopped) (sym w.if-stopped.true)
       | else-stopped w ↦ w.stopped-is ∙ ap (λ (b : Bool). b || c.in_ok-done.done.stopped) (sym w.if-stopped.false)
     ] in
-    let one : Progress Bool ActionReply = record { next = c.if-stopped.stopped; writer = c.in_ok-done.done.writer; stopped = false } in
+    let writer : c.if-stopped.writer ≡ c.in_ok-done.done.writer = elim c.if-stopped.branch [ then-stopped w ↦ w.writer-is | else-stopped w ↦ w.writer-is ] in
+    let one : Progress Bool ActionReply = record { next = c.if-stopped.stopped; writer = c.if-stopped.writer; stopped = false } in
     let answer : one ≡ progress action_reply_text c.loop-number.writer (in_each a.task.now.rules.now (owned_action a.task.now) c.loop-number.stopped n now).answer =
-    ap (λ (b : Bool). let d : Progress Bool ActionReply = record { next = b; writer = c.in_ok-done.done.writer; stopped = false } in d) stopped
+    ap (λ (v : ReplyWriter ActionReply). let d : Progress Bool ActionReply = record { next = c.if-stopped.stopped; writer = v; stopped = false } in d) writer
+    ∙ ap (λ (b : Bool). let d : Progress Bool ActionReply = record { next = b; writer = c.in_ok-done.done.writer; stopped = false } in d) stopped
     ∙ ap (λ (p : Progress Unit ActionReply). let d : Progress Bool ActionReply = record { next = c.loop-number.stopped || p.stopped; writer = p.writer; stopped = false } in d) c.in_ok-done.ensures.answer in
     record {
       replies = one_more c.loop-number.invariant.replies n rest c.in_each.new.draft.maps one split c.in_ok-done.ensures.maps answer refl;
