@@ -17,7 +17,6 @@ use Rattle.gw_base.specs.NameLists.{is_in}
 use Rattle.gw_base.proofs.NameTests.{same_name, number_itself}
 use Rattle.gw_base.proofs.NamesInLists.{or_left, or_right, or_cases, either, itself}
 use Rattle.gw_desc.specs.Checks.{check_code}
-use Rattle.gw_desc.specs.declared.descriptor.Descriptor.{Descriptor}
 use Rattle.gw_reply.specs.declared.writer.ReplyWriter.TheVariants.{TooLong}
 use Rattle.gw_msg.specs.declared.message.Command.{Command}
 use Rattle.gw_reply.specs.declared.parts.ReplyPart.{ReplyPart}

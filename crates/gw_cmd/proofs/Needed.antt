@@ -1,4 +1,4 @@
--- Keys that cannot be left out: what a command tells or leaves where one is missing.
+-- Keys that cannot be left out: what a command answers or leaves where one is missing.
 use Rattle.std.proofs.Common.{nat_eq, ◌≡◌, ℕ, Bool, true, false, cond, List, [], ◌∷◌, Option, None, Some, is_none, is_some, Result, Ok, Err, is_err, refl, sym, ap, ◌∙◌}
 use Rattle.std.specs.Prelude.{◌||◌}
 use Rattle.gw_base.specs.declared.code.Code.{Code}

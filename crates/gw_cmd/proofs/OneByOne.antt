@@ -1,5 +1,5 @@
 -- Commands on terminations one after another.
-use Rattle.std.proofs.Common.{◌≡◌, ℕ, zero, suc, ◌<◌, true, false, List, [], ◌∷◌, length, get_or, bytes_eq, Option, sym, ap, ◌∙◌, arith}
+use Rattle.std.proofs.Common.{◌≡◌, ℕ, zero, suc, ◌<◌, true, List, [], ◌∷◌, length, get_or, bytes_eq, Option, sym, ap, ◌∙◌, arith}
 use Rattle.gw_base.specs.NameLists.{is_in}
 use Rattle.gw_base.proofs.NamesInLists.{or_left, or_right, itself}
 use Rattle.gw_base.specs.declared.command_words.Rules.{Rules}

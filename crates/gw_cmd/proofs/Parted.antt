@@ -1,4 +1,5 @@
--- A command that a part covers leaves it sound, with no entry but at its keys; who is new in a place or a list is one of them.
+-- A command that a part covers leaves it sound, with no entry but at its keys; who is new in a place or a list is one
+-- of them.
 use Rattle.std.proofs.Common.{nat_eq, ◌≡◌, ℕ, Bool, true, false, cond, ◌⊎◌, inl, inr, List, bytes_eq, Option, None, Some, is_some, refl, sym, ap, subst, ◌∙◌}
 use Rattle.gw_base.specs.declared.code.Code.{Code}
 use Rattle.gw_base.specs.declared.ids.CtxNum.{CtxNum}

@@ -1,5 +1,5 @@
--- What a command does to one termination, and what its reply has (RFC 3525, section 7.2; which case gets which code, and in
--- which order, is own). It is decided by the termination's record, and by whether the action's context is full.
+-- What a command does to one termination, and what its reply has (RFC 3525, section 7.2; which case gets which code,
+-- and in which order, is own). It is decided by the termination's record, and by whether the action's context is full.
 use Rattle.std.specs.Prelude.{ℕ, nat_eq, nat_le, Bool, not, ◌||◌, if◌then◌else◌, List, [], ◌∷◌, ◌++◌, length, Option, None, Some, Result, Ok, Err}
 use Rattle.std.specs.Option.{unwrap_or}
 use Rattle.gw_base.specs.declared.code.Code.{Code}

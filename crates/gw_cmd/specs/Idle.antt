@@ -1,4 +1,5 @@
--- Commands for all that match which leave every termination as it is (own): none needs to be looked at but for its reply.
+-- Commands for all that match which leave every termination as it is (own): none needs to be looked at but for its
+-- reply.
 use Rattle.std.specs.Prelude.{◌≡◌, Bool, true, false, not, ◌&&◌, Option, None, Some}
 use Rattle.std.specs.Option.{is_none}
 use Rattle.gw_base.specs.declared.code.Code.{Code}

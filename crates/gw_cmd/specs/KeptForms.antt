@@ -11,7 +11,8 @@ use Rattle.gw_term.specs.declared.record.Termination.{Termination}
 use Rattle.gw_table.specs.Maps.{Maps, Outcome, term, ctx, context_of, members_of}
 use Rattle.gw_cmd.specs.declared.outcome.CmdOutcome.{CmdOutcome}
 
--- each termination has a name, and what it keeps has its form; each member of a context is a name, and each link names TerminationIDs
+-- each termination has a name, and what it keeps has its form; each member of a context is a name, and each link names
+-- TerminationIDs
 pub record AreKept (m : Maps) : Type 0 where
   pub records : (t : List ℕ) (r : Termination) → term m t ≡ Some r → IsKeptRecord r
   pub names : (t : List ℕ) (r : Termination) → term m t ≡ Some r → IsName t

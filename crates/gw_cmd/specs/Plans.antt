@@ -1,4 +1,5 @@
--- What is decided of a termination in steps: a merge, what becomes of it, and what its reply has, where that is wanted (own).
+-- What is decided of a termination in steps: a merge, what becomes of it, and what its reply has, where that is wanted
+-- (own).
 use Rattle.std.specs.Prelude.{◌≡◌, Bool, true, false, List, [], Result, Ok, Err}
 use Rattle.gw_base.specs.declared.code.Code.{Code}
 use Rattle.gw_desc.specs.declared.descriptor.Descriptor.{Descriptor}

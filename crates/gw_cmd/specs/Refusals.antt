@@ -1,4 +1,5 @@
--- Why a command is refused as a whole: the first that applies (codes of H.248.8; which case gets which, and in which order: own).
+-- Why a command is refused as a whole: the first that applies (codes of H.248.8; which case gets which, and in which
+-- order: own).
 use Rattle.std.specs.Prelude.{ℕ, Bool, true, false, not, Option, None, Some}
 use Rattle.std.specs.Option.{is_none}
 use Rattle.gw_base.specs.declared.code.Code.{Code}

@@ -65,7 +65,8 @@ pub record Does (t : Task) (c : Command) : Type 0 where
   pub verb : c.verb ≡ task_verb t
   pub served : IsServedBy c.descriptors t
 
--- what a command with this word does in this place, with the service state of its Method; some go with no task in some places
+-- what a command with this word does in this place, with the service state of its Method; some go with no task in some
+-- places
 abbrev pub task_of : Verb → Option CtxNum → Option Service → Option Task
 task_of word.Add (Some n) service = Some (does.Act (Add n))
 task_of word.Add None service = None

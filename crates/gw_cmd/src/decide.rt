@@ -65,8 +65,8 @@ pub(crate) fn refusal_elsewhere(place: Option<CtxNum>, there: Option<CtxNum>) ->
     }
 }
 
-/// The record after the descriptors, in this place, unless that is refused. A list that would hold too many properties is
-/// refused first.
+/// The record after the descriptors, in this place, unless that is refused. A list that would hold too many properties
+/// is refused first.
 #[tactic(auto, unfolding(crate::specs::Effects::merging))]
 fn merged(
     alloc: Global,

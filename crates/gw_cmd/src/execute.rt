@@ -39,7 +39,8 @@ use gw_table::{Draft, slot_name};
 use std::alloc::Global;
 use std::slice;
 
-/// Executes a command on the terminations that a wildcard matched. Where they have one reply together, no other is written.
+/// Executes a command on the terminations that a wildcard matched. Where they have one reply together, no other is
+/// written.
 fn on_names(
     alloc: Global,
     draft: &mut Draft<'_>,
@@ -217,9 +218,10 @@ fn on_allowed(
     executed(alloc, draft, execution, prepared, named, writer)
 }
 
-/// Executes a command as [`command`] does, and writes its replies behind those before it. Once the writer is full, no reply is written and
-/// nothing is audited, and the command is executed all the same. A match of a wildcard costs what the same command costs by name. A command
-/// that changes nothing, and of whose targets no single reply is kept, names none of them.
+/// Executes a command as [`command`] does, and writes its replies behind those before it. Once the writer is full, no
+/// reply is written and nothing is audited, and the command is executed all the same. A match of a wildcard costs what
+/// the same command costs by name. A command that changes nothing, and of whose targets no single reply is kept, names
+/// none of them.
 ///
 /// # Errors
 ///
@@ -258,13 +260,13 @@ pub fn command_written(
     on_allowed(alloc, draft, execution, prepared, &named, writer)
 }
 
-/// Executes one command (RFC 3525, section 7.2): its refusals in their order, and then what it does to each termination that it is
-/// for. `slot` is what an Add of `$` owns. A command by name costs look-ups in the tables and the size of its context, of its descriptors
-/// and of the termination's record; a wildcard one pass of the members, or, in the null context and of an Add, of all names, and its
-/// matches.
+/// Executes one command (RFC 3525, section 7.2): its refusals in their order, and then what it does to each termination
+/// that it is for. `slot` is what an Add of `$` owns. A command by name costs look-ups in the tables and the size of
+/// its context, of its descriptors and of the termination's record; a wildcard one pass of the members, or, in the null
+/// context and of an Add, of all names, and its matches.
 ///
-/// The caller knows that the tables are sound, that the draft has the command's keys, and that no termination has the name of
-/// the slot.
+/// The caller knows that the tables are sound, that the draft has the command's keys, and that no termination has the
+/// name of the slot.
 ///
 /// # Errors
 ///

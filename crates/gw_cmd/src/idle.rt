@@ -23,7 +23,8 @@ use gw_reply::{CommandReply, ReplyWriter};
 use gw_table::Draft;
 use std::alloc::Global;
 
-/// Whether a command leaves each termination as it is: an AuditValue, and without descriptors a Modify and an Add into a full context.
+/// Whether a command leaves each termination as it is: an AuditValue, and without descriptors a Modify and an Add into
+/// a full context.
 fn leaves_all(draft: &Draft<'_>, task: Task, prepared: &Prepared<'_, '_>) -> bool
     ensures { result ≡ leaves_all (task_verb task) (is_some_list prepared.now.command.now.descriptors) (is_full_at prepared.now.rules.now (task_place task) draft.now.maps) }
 {
@@ -36,8 +37,9 @@ fn leaves_all(draft: &Draft<'_>, task: Task, prepared: &Prepared<'_, '_>) -> boo
     }
 }
 
-/// Whether a command is for all that match, leaves each as it is, and has no single reply of one that is kept. Of one in an action for each
-/// context that is said where the draft is of whole tables. An Add costs a look-up of the context, the others nothing.
+/// Whether a command is for all that match, leaves each as it is, and has no single reply of one that is kept. Of one
+/// in an action for each context that is said where the draft is of whole tables. An Add costs a look-up of the
+/// context, the others nothing.
 pub(crate) fn is_idle(
     draft: &Draft<'_>,
     execution: Execution,

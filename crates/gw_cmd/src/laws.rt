@@ -30,14 +30,14 @@ pub fn commands_keep_tables_well_formed()
     ensures { (rules : Rules) (at : At) (slot : Option ℕ) (c : Command) (m : Maps) → IsUnused slot m → AreWellFormed rules.members m → AreWellFormed rules.members (command rules at slot c m).maps }
 {}
 
-/// A command whose TerminationID and descriptors have their forms leaves tables whose names are names and whose kept texts have
-/// their forms, and its replies have such names and texts.
+/// A command whose TerminationID and descriptors have their forms leaves tables whose names are names and whose kept
+/// texts have their forms, and its replies have such names and texts.
 pub fn commands_keep_forms()
     ensures { (rules : Rules) (at : At) (slot : Option ℕ) (c : Command) (m : Maps) → IsAddress rules.media → IsSlot slot → IsAsked c → AreKept m → KeepsForms (command rules at slot c m) }
 {}
 
-/// A command in well-formed tables keeps to its keys: on their entries alone it gives the same replies, its new entries laid over the
-/// maps are the new maps, and each entry at another key stays.
+/// A command in well-formed tables keeps to its keys: on their entries alone it gives the same replies, its new entries
+/// laid over the maps are the new maps, and each entry at another key stays.
 pub fn commands_keep_to_their_keys()
     ensures { (rules : Rules) (at : At) (slot : Option ℕ) (c : Command) (m : Maps) → AreWellFormed rules.members m → KeepsTo (command_keys at slot c m) (command rules at slot c) m }
 {}
@@ -52,9 +52,9 @@ pub fn the_whole_is_a_key_of_commands_for_all()
     ensures { (at : At) (slot : Option ℕ) (c : Command) (m : Maps) → has (command_keys at slot c m) Whole ≡ is_for_all at c }
 {}
 
-/// Keys that cannot be left out. Without the key of its context an Add is answered that there is no such context, and without
-/// that of its termination that there is no such termination. After a Move without the key of the context that the termination
-/// was in, the termination still stands in that context, where in truth it has left it.
+/// Keys that cannot be left out. Without the key of its context an Add is answered that there is no such context, and
+/// without that of its termination that there is no such termination. After a Move without the key of the context that
+/// the termination was in, the termination still stands in that context, where in truth it has left it.
 pub fn keys_are_needed()
     ensures context { (rules : Rules) (n : CtxNum) (t : List ℕ) (ds : List Descriptor) (m : Maps) (keys : List Key) (slot : Option ℕ) (optional wild : Bool) → has keys (Ctx n) ≡ false
         → (command rules (Live n) slot (named_with optional wild Add t ds) (restricted keys m)).answer ≡ outcome_of (Live n) (reply (named_with optional wild Add t ds) (Name t) (Err UnknownContext) ∷ []) }

@@ -96,7 +96,8 @@ pub(crate) fn has_one_reply(command: &Command<'_>) -> bool
     command.wild && is_wildcard(&command.term)
 }
 
-/// What a command gave whose targets have one reply together, to the wildcard as sent: with the first error, if there is one.
+/// What a command gave whose targets have one reply together, to the wildcard as sent: with the first error, if there
+/// is one.
 pub(crate) fn outcome_of_all(
     alloc: Global,
     writer: ReplyWriter<CommandReply>,

@@ -30,7 +30,8 @@ pub(crate) enum Task {
     Serve(Option<CtxNum>, Option<Service>),
 }
 
-/// What a command with this word does in this place, with the service state of its Method. Some go with no task in some places.
+/// What a command with this word does in this place, with the service state of its Method. Some go with no task in some
+/// places.
 pub(crate) fn task_of(verb: Verb, place: Option<CtxNum>, service: Option<Service>) -> Option<Task>
     ensures { result ≡ task_of verb place service }
 {

@@ -1,4 +1,4 @@
-use Rattle.std.proofs.Common.{◌≡◌, Bool, List, [], ◌∷◌, ℕ, Option, ap, sym, subst, ◌∙◌}
+use Rattle.std.proofs.Common.{Bool, List, [], ◌∷◌, ℕ, Option, ap, sym, subst, ◌∙◌}
 use Rattle.std.specs.Prelude.{if◌then◌else◌}
 use Rattle.gw_base.specs.declared.command_words.Verb.{Verb}
 use Rattle.gw_base.specs.declared.ids.CtxNum.{CtxNum}

@@ -1,4 +1,4 @@
-use Rattle.std.proofs.Common.{◌≡◌, List, [], ◌∷◌, Option, sym, ap, ◌∙◌}
+use Rattle.std.proofs.Common.{List, [], ◌∷◌, Option, sym, ap, ◌∙◌}
 use Rattle.gw_base.specs.declared.ids.CtxNum.{CtxNum}
 use Rattle.gw_base.specs.declared.term_ref.TermRef.TheVariants.{Name}
 use Rattle.gw_reply.specs.declared.reply.CommandReply.{CommandReply}
@@ -7,7 +7,6 @@ use Rattle.gw_refusal.specs.Places.{place_at}
 use Rattle.gw_cmd.specs.declared.outcome.CmdOutcome.{CmdOutcome}
 use Rattle.gw_cmd.specs.Commands.{reply}
 use Rattle.gw_cmd.specs.Effects.{on_name}
-use Rattle.gw_cmd.specs.Tasks.{task_place}
 use Rattle.gw_cmd.specs.Written.{outcome_behind, seen}
 use Rattle.gw_cmd.proofs.ByName.{by_name}
 use Rattle.gw_cmd.proofs.Tasks.{is_task}

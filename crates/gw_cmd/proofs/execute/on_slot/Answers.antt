@@ -6,13 +6,13 @@ use Rattle.gw_base.specs.declared.term_ref.TermRef.{TermRef}
 use Rattle.gw_msg.specs.declared.message.Command.{Command}
 use Rattle.gw_reply.specs.declared.parts.ReplyPart.{ReplyPart}
 use Rattle.gw_term.specs.Record.{ephemeral}
-use Rattle.gw_table.specs.Maps.{Maps, Outcome}
+use Rattle.gw_table.specs.Maps.{Maps}
 use Rattle.gw_table.specs.Reserved.{slot_name}
 use Rattle.gw_refusal.specs.Places.{place_at}
 use Rattle.gw_cmd.specs.declared.task.Task.{Task}
 use Rattle.gw_cmd.specs.Commands.{reply, new_reply, on_new}
 use Rattle.gw_cmd.specs.Effects.{on_record}
-use Rattle.gw_cmd.specs.Plans.{answer_if, answered}
+use Rattle.gw_cmd.specs.Plans.{answer_if}
 use Rattle.gw_cmd.specs.Tasks.{act_place, task_place}
 use Rattle.gw_cmd.specs.Written.{new_term, outcome_behind, seen}
 use Rattle.gw_cmd.proofs.Tasks.{is_task, seen_new}

@@ -1,4 +1,4 @@
-use Rattle.std.proofs.Common.{◌≡◌, List, None, sym, ap, ◌∙◌}
+use Rattle.std.proofs.Common.{◌≡◌, sym, ap, ◌∙◌}
 use Rattle.std.proofs.lemmas.Result.{IfOk-weaker}
 use Rattle.gw_base.specs.declared.command_words.Verb.{Verb}
 use Rattle.gw_reply.specs.declared.writer.ReplyWriter.{ReplyWriter}

@@ -1,6 +1,5 @@
-use Rattle.std.proofs.Common.{◌≡◌, Bool, true, false, Option, is_some, sym, ap, ◌∙◌}
+use Rattle.std.proofs.Common.{◌≡◌, true, false, Option, is_some, sym, ap, ◌∙◌}
 use Rattle.gw_base.specs.declared.ids.CtxNum.{CtxNum}
-use Rattle.gw_refusal.specs.Places.{place_at}
 use Rattle.gw_cmd.specs.declared.task.Task.{Task}
 use Rattle.gw_cmd.specs.Tasks.{task_of}
 use Rattle.gw_cmd.proofs.Ready.{has_task}
