@@ -1,5 +1,5 @@
--- The properties of a context in an action reply (RFC 3525, Annex B.2, priority, emergency, topologyDescriptor; without white space:
--- own).
+-- The properties of a context in an action reply (RFC 3525, Annex B.2, priority, emergency, topologyDescriptor;
+-- without white space: own).
 use Rattle.std.specs.Prelude.{ℕ, List, ◌++◌, map, codes, decimal}
 use Rattle.gw_base.specs.declared.context_words.Flow.{Flow}
 use Rattle.gw_base.specs.declared.context_words.Flow.TheVariants.{Bothway, Isolate, Oneway}

@@ -1,5 +1,5 @@
--- The text of the parts of command replies (RFC 3525, Annex B.2, auditReturnParameter, mediaDescriptor and what is in it; long
--- tokens, and no white space but what was kept as sent: own).
+-- The text of the parts of command replies (RFC 3525, Annex B.2, auditReturnParameter, mediaDescriptor and what is in
+-- it; long tokens, and no white space but what was kept as sent: own).
 use Rattle.std.specs.Prelude.{ℕ, Bool, true, false, List, [], ◌∷◌, ◌++◌, map, codes, decimal, Option, Some, None}
 use Rattle.gw_base.specs.declared.command_words.Service.{Service}
 use Rattle.gw_base.specs.declared.command_words.Service.TheVariants as service

@@ -1,4 +1,5 @@
--- Replies (RFC 3525, section 8.2.2 and Annex B.2, transactionReply, actionReply, commandReply; without white space: own).
+-- Replies (RFC 3525, section 8.2.2 and Annex B.2, transactionReply, actionReply, commandReply; without white space:
+-- own).
 use Rattle.std.specs.Prelude.{ℕ, Bool, true, false, List, [], ◌∷◌, ◌++◌, drop, map, codes, decimal, Result, Ok, Err}
 use Rattle.gw_base.specs.declared.code.Code.{Code}
 use Rattle.gw_base.specs.declared.ids.TxId.{TxId}
@@ -36,7 +37,8 @@ abbrev pub replies_texts : {T : Type 0} → (T → List ℕ) → Result (List T)
 replies_texts text (Ok replies) = map text replies
 replies_texts text (Err code) = error_text code ∷ []
 
--- what stands between the braces of an action reply: properties of its context, and behind them command replies, joined by commas
+-- what stands between the braces of an action reply: properties of its context, and behind them command replies,
+-- joined by commas
 abbrev pub inner_text : List ContextPart → Result (List CommandReply) Code → List ℕ
 inner_text parts result = comma_separated (map context_part_text parts ++ replies_texts command_reply_text result)
 

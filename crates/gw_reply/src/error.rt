@@ -7,8 +7,9 @@ use crate::wire::Written;
 use gw_base::Code;
 use std::alloc::AllocError;
 
-/// The error descriptor of a code, whole, as a reply has it: `Error=421{"Illegal combination of actions"}` (RFC 3525, section 7.1.19
-/// and Annex B.2, errorDescriptor). The number is `Code::number`, and the text `Code::text`. It is a look-up: nothing is formatted.
+/// The error descriptor of a code, whole, as a reply has it: `Error=421{"Illegal combination of actions"}` (RFC 3525,
+/// section 7.1.19 and Annex B.2, errorDescriptor). The number is `Code::number`, and the text `Code::text`. It is a
+/// look-up: nothing is formatted.
 #[tactic(auto, using(crate::proofs::Digits::three_digits))]
 pub fn error_descriptor(code: Code) -> &'static str
     ensures { result.now ≡ error_text code }

@@ -39,8 +39,8 @@ fn too_long(id: TxId) -> TxReply
     }
 }
 
-/// The message with the reply, from the gateway of this mId. One that would be longer than 16,384 bytes is replaced by the
-/// message with error 533 in the reply. The work is linear in the text of the whole reply.
+/// The message with the reply, from the gateway of this mId. One that would be longer than 16,384 bytes is replaced
+/// by the message with error 533 in the reply. The work is linear in the text of the whole reply.
 ///
 /// # Errors
 ///
@@ -57,10 +57,12 @@ pub fn write_reply(alloc: Global, reply: &TxReply, mid: &Mid) -> Result<Vec<u8>,
     write_message(alloc, &too_long(reply.id), mid)
 }
 
-/// So many bytes stand round the mId and the action replies in a message with a reply at most, where the first of these has a comma before it.
+/// So many bytes stand round the mId and the action replies in a message with a reply at most, where the first of
+/// these has a comma before it.
 const AROUND: usize = b"MEGACO/1 \nReply=4294967295{}".len();
 
-/// The message with the reply to the transaction of this number, from the texts of its action replies, each behind a comma.
+/// The message with the reply to the transaction of this number, from the texts of its action replies, each behind a
+/// comma.
 ///
 /// # Errors
 ///

@@ -46,7 +46,8 @@ impl Written for CommandReply {
     }
 }
 
-/// What stands between the braces of an action reply: the properties of its context, and behind them the command replies.
+/// What stands between the braces of an action reply: the properties of its context, and behind them the command
+/// replies.
 fn write_inner(
     parts: &[ContextPart],
     outcome: &Result<Items<CommandReply>, Code>,
@@ -85,8 +86,8 @@ fn fill_head(place: &mut [u8], word: &[u8])
     last.copy_from_slice(word);
 }
 
-/// The reply to an action in this context, behind a comma: from what stands between its braces, where each part of that has a comma before
-/// it. It is made in the buffer that it is given.
+/// The reply to an action in this context, behind a comma: from what stands between its braces, where each part of
+/// that has a comma before it. It is made in the buffer that it is given.
 pub(crate) fn framed_action(ctx: &CtxRef, inner: Vec<u8>) -> Result<Vec<u8>, AllocError>
     ensures { IfOk result (λ out. out.items ≡ comma ∷ framed ctx.now inner.items) }
 {

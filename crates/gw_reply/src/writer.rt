@@ -146,8 +146,8 @@ fn with_written(
 }
 
 impl ReplyWriter<ActionReply> {
-    /// The reply to an action in this context, behind those that are written, from what is written of the context itself and of the
-    /// commands, each of both within the room that there was for the action.
+    /// The reply to an action in this context, behind those that are written, from what is written of the context
+    /// itself and of the commands, each of both within the room that there was for the action.
     ///
     /// # Errors
     ///

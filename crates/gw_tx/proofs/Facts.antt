@@ -1,4 +1,5 @@
--- What commands keep: the parts that cover them, well-formed tables, and that slots and numbers that are not their own stay free.
+-- What commands keep: the parts that cover them, well-formed tables, and that slots and numbers that are not their
+-- own stay free.
 use Rattle.std.proofs.Common.{nat_eq, ◌≡◌, ℕ, Bool, true, false, Option, None, Some, is_some, is_none, refl, sym, ap, ◌∙◌}
 use Rattle.std.specs.Prelude.{◌≢◌}
 use Rattle.gw_base.specs.declared.code.Code.{Code}

@@ -29,8 +29,8 @@ use Rattle.gw_tx.proofs.FreeSlots.{IsOfKind, makes_none, free_slot, free_later, 
 use Rattle.gw_tx.proofs.EachContext.{each_takes_none, stays_each}
 use Rattle.gw_tx.proofs.SetProperties.{CanSet, AllCanSet, CanAlwaysSet, IsAllowed, term-set, set_all, allowed, never_late, can_set_in, can_set_always}
 
--- What commands of some kind keep that find their slot free and of a kind, and what setting a property keeps. A command is of its kind
--- when its action's context is made too, and without its slot.
+-- What commands of some kind keep that find their slot free and of a kind, and what setting a property keeps. A
+-- command is of its kind when its action's context is made too, and without its slot.
 pub record CommandsKeep (rules : Rules) (Ok : At → Option ℕ → Command → Type 0) (S : ℕ → Type 0) (Q : Maps → Type 0) : Type 0 where
   pub keeps : (at : At) (slot : Option ℕ) (c : Command) (m : Maps) → Ok at slot c → IsUnused slot m → IsOfKind S slot → Q m → Q (command rules at slot c m).maps
   pub lives : (at : At) (slot : Option ℕ) (c : Command) → Ok at slot c → Ok (made at) slot c

@@ -1,5 +1,5 @@
--- What it means that properties were not refused, and what setting them keeps: terminations, members, which contexts there are, and
--- well-formed tables.
+-- What it means that properties were not refused, and what setting them keeps: terminations, members, which contexts
+-- there are, and well-formed tables.
 use Rattle.std.proofs.Common.{nat_eq, inl, ◌≡◌, ℕ, ◌≤◌, Bool, true, false, cond, List, [], ◌∷◌, ◌++◌, Option, None, Some, is_some, bytes_eq, refl, sym, ap, subst, ◌∙◌}
 use Rattle.std.specs.Prelude.{◌≢◌, ◌&&◌, ◌||◌, not, if◌then◌else◌, length, flat_map}
 use Rattle.std.specs.List.{list_any}

@@ -1,5 +1,5 @@
--- The entries of the maps that a request may read or write: its keys, in the maps as they are, over all its actions and commands,
--- reached or not (own).
+-- The entries of the maps that a request may read or write: its keys, in the maps as they are, over all its actions
+-- and commands, reached or not (own).
 use Rattle.std.specs.Prelude.{ℕ, Bool, true, false, ◌&&◌, ◌||◌, List, [], ◌∷◌, ◌++◌, map, flat_map, Option, None, Some}
 use Rattle.std.specs.List.{list_any}
 use Rattle.gw_base.specs.declared.ids.CtxNum.{CtxNum}
@@ -54,7 +54,8 @@ abbrev pub keys_of_members : Option CtxNum → Maps → List Key
 keys_of_members None m = []
 keys_of_members (Some n) m = map Term (members_of (ctx m n))
 
--- the termination of a name, and the context that it is in; the one that is to be made; the members that a wildcard may match
+-- the termination of a name, and the context that it is in; the one that is to be made; the members that a wildcard
+-- may match
 abbrev pub named_keys : Option CtxNum → Option ℕ → Command → Maps → TermRef → List Key
 named_keys one slot c m (term.Name t) = name_keys t m
 named_keys one slot c m term.Choose = keys_if (is_add c.verb) (slot_key slot)

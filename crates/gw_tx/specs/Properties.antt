@@ -1,5 +1,6 @@
--- The properties of its context in an action: what is refused, what becomes of the context, and what the reply has of it (RFC 3525,
--- sections 6.1.1, 7.1.18 and 8.1.2; the order of errors, and what the reply has where nothing is audited, are own).
+-- The properties of its context in an action: what is refused, what becomes of the context, and what the reply has of
+-- it (RFC 3525, sections 6.1.1, 7.1.18 and 8.1.2; the order of errors, and what the reply has where nothing is
+-- audited, are own).
 use Rattle.std.specs.Prelude.{◌≡◌, ℕ, nat_lt, Bool, true, false, ◌&&◌, ◌||◌, ◌==◌, not, if◌then◌else◌, List, [], ◌∷◌, ◌++◌, length, bytes_eq, count_by, flat_map, Option, None, Some, is_none}
 use Rattle.std.specs.List.{list_any}
 use Rattle.gw_base.specs.declared.code.Code.{Code}

@@ -1,5 +1,5 @@
--- What an action and a transaction do: left folds with the stop rule (RFC 3525, sections 8.1 and 8.2; the order of errors, and
--- what a stop under * ends, are own).
+-- What an action and a transaction do: left folds with the stop rule (RFC 3525, sections 8.1 and 8.2; the order of
+-- errors, and what a stop under * ends, are own).
 use Rattle.std.specs.Prelude.{ℕ, Bool, true, false, ◌&&◌, ◌||◌, not, if◌then◌else◌, List, [], ◌∷◌, Option, None, Some, Ok, Err}
 use Rattle.gw_base.specs.declared.code.Code.{Code}
 use Rattle.gw_base.specs.declared.code.Code.TheVariants.{UnknownContext, NoContextLeft, NoWildcardMatch}

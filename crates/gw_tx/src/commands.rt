@@ -25,8 +25,8 @@ use gw_reply::{ActionReply, CommandReply, ContextPart, ReplyWriter};
 use gw_table::Draft;
 use std::alloc::Global;
 
-/// Executes one command with the slot that it owns, and writes its replies behind those of the commands before it. A context that it makes
-/// gets the properties that are late. It stops where it fails and is not marked `O-`.
+/// Executes one command with the slot that it owns, and writes its replies behind those of the commands before it. A
+/// context that it makes gets the properties that are late. It stops where it fails and is not marked `O-`.
 #[inline(always)]
 fn attempt(
     alloc: Global,
@@ -54,8 +54,8 @@ fn attempt(
     })
 }
 
-/// Executes the commands of an action in order, with the slots that they own, up to the first that stops. Where there is no room for more
-/// replies, they are executed all the same.
+/// Executes the commands of an action in order, with the slots that they own, up to the first that stops. Where there
+/// is no room for more replies, they are executed all the same.
 #[inline(always)]
 fn commands(
     alloc: Global,
@@ -139,8 +139,8 @@ pub(crate) fn commands_prepared(
     })
 }
 
-/// Executes the commands of an action in one context, and writes its reply, with what is written of the context, behind those of the actions
-/// before it.
+/// Executes the commands of an action in one context, and writes its reply, with what is written of the context,
+/// behind those of the actions before it.
 #[inline(always)]
 pub(crate) fn commands_in(
     alloc: Global,

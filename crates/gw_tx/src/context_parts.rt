@@ -170,8 +170,8 @@ fn has_no_part(sent: &Action<'_>) -> bool
     !sent.commands.is_empty() && !has_audit(sent.props.as_slice())
 }
 
-/// Writes the context with this number, where it is there, into the room that there is for the action. Where that is used up, or the reply
-/// has nothing of the context, nothing is looked up.
+/// Writes the context with this number, where it is there, into the room that there is for the action. Where that is
+/// used up, or the reply has nothing of the context, nothing is looked up.
 ///
 /// # Errors
 ///

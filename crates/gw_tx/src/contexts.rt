@@ -27,7 +27,8 @@ use gw_reply::{ActionReply, ReplyWriter};
 use gw_table::Draft;
 use std::alloc::Global;
 
-/// Executes an action in a context that is there: sets its properties, writes what it then is, and executes the commands.
+/// Executes an action in a context that is there: sets its properties, writes what it then is, and executes the
+/// commands.
 pub(crate) fn in_context(
     alloc: Global,
     draft: &mut Draft<'_>,
@@ -75,8 +76,8 @@ fn in_each(
     replied(writer, parts, done)
 }
 
-/// Executes an action in each of these contexts. A stop ends the commands of its context alone; that there was one is what the next would go
-/// on from.
+/// Executes an action in each of these contexts. A stop ends the commands of its context alone; that there was one is
+/// what the next would go on from.
 fn in_all(
     alloc: Global,
     draft: &mut Draft<'_>,
@@ -108,8 +109,8 @@ fn in_all(
     })
 }
 
-/// Executes an action with `*`: in each context that exists when it begins, in rising number. The work is that of its properties and
-/// commands in each of them, and of the replies that there is room for.
+/// Executes an action with `*`: in each context that exists when it begins, in rising number. The work is that of its
+/// properties and commands in each of them, and of the replies that there is room for.
 pub(crate) fn action_for_each(
     alloc: Global,
     draft: &mut Draft<'_>,

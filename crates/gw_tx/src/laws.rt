@@ -38,23 +38,24 @@ pub fn later_slots_stay_free()
     ensures { (rules : Rules) (r : Request) (ids : Ids) (m : Maps) (later : List ℕ) → AreUnused m [] (owned ids.slots ++ later) → AreUnused (transaction rules r ids m).maps [] later }
 {}
 
-/// What others own stays free, whichever transaction comes first. A slot that is not the transaction's own has no termination after
-/// it where it had none before, and a number that is not its own no context.
+/// What others own stays free, whichever transaction comes first. A slot that is not the transaction's own has no
+/// termination after it where it had none before, and a number that is not its own no context.
 pub fn what_others_own_stays_free()
     ensures slots { (rules : Rules) (r : Request) (ids : Ids) (m : Maps) (s : ℕ) → AreFreeSlots m ids.slots → s < 4096 → All (λ t. t ≢ s) (owned ids.slots) → term m (slot_name s) ≡ None → term (transaction rules r ids m).maps (slot_name s) ≡ None }
     ensures numbers { (n : CtxNum) (rules : Rules) (r : Request) (ids : Ids) (m : Maps) → AreFreeSlots m ids.slots → All (λ k. k ≢ n) (owned ids.contexts) → ctx m n ≡ None → ctx (transaction rules r ids m).maps n ≡ None }
 {}
 
-/// The keys of a command are those of a request of its own; and a request has every key exactly where one of its actions is for each
-/// context, or one of its commands for all terminations or for those of the null context.
+/// The keys of a command are those of a request of its own; and a request has every key exactly where one of its
+/// actions is for each context, or one of its commands for all terminations or for those of the null context.
 pub fn keys_of_requests()
     ensures command { (at : At) (slot : Option ℕ) (c : Command) (m : Maps) (k : Key) → has (footprint_of (alone at slot c ∷ []) m) k ≡ has (command_keys at slot c m) k }
     ensures whole { (m : Maps) (actions : List OwnedAction) → has (footprint_of actions m) Whole ≡ list_any is_meant_for_all actions }
 {}
 
-/// What this gateway sends can be read. A request of the grammar has TerminationIDs and descriptors of their forms; such a request
-/// leaves tables whose names are names and whose kept texts have their forms; and the text of its reply is a message from this mId whose one item is the
-/// reply of that number, and is read as a message with one item.
+/// What this gateway sends can be read. A request of the grammar has TerminationIDs and descriptors of their forms;
+/// such a request leaves tables whose names are names and whose kept texts have their forms; and the text of its
+/// reply is a message from this mId whose one item is the reply of that number, and is read as a message with one
+/// item.
 pub fn answers_can_be_read()
     ensures asked { (r : Request) (text : List ℕ) → SpellsRequest r text → IsAskedRequest r }
     ensures kept { (rules : Rules) (r : Request) (ids : Ids) (m : Maps) → IsAddress rules.media → AreSlots ids → IsAskedRequest r → AreKept m → AreKept (transaction rules r ids m).maps }

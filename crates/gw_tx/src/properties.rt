@@ -138,7 +138,8 @@ fn is_left_out(sent: &Action<'_>) -> bool
     is_any_unnamed(props) || (has_topology(props) && is_chosen_or_each(sent.ctx))
 }
 
-/// Whether properties stand for the null context, or for one that is to be made with a ContextAudit, or with no command that makes it.
+/// Whether properties stand for the null context, or for one that is to be made with a ContextAudit, or with no
+/// command that makes it.
 fn is_for_wrong_context(sent: &Action<'_>) -> bool
     ensures { result ≡ is_for_wrong_context sent.now.ctx sent.now }
 {
@@ -252,8 +253,8 @@ fn is_any_too_high(props: &[ContextProp]) -> bool
     props.iter().any(is_too_high)
 }
 
-/// The first code that applies to the properties, whatever the tables hold. Where there are none, none does. The work is one pass of them
-/// for each kind.
+/// The first code that applies to the properties, whatever the tables hold. Where there are none, none does. The work
+/// is one pass of them for each kind.
 #[tactic(auto, unfolding(crate::specs::Properties::refusal_of_properties))]
 pub(crate) fn refusal_of_properties(sent: &Action<'_>) -> Option<Code>
     ensures { result ≡ refusal_of_properties sent.now }

@@ -15,9 +15,9 @@ use gw_reserve::Owned;
 use gw_table::Draft;
 use std::alloc::Global;
 
-/// Executes a request, with what it owns: its actions in order, and the commands of each in order, up to the first that
-/// stops. The caller knows that the draft covers the request, and that the slots that are owned are unused there. The work is that
-/// of the commands, in each context for an action with `*`.
+/// Executes a request, with what it owns: its actions in order, and the commands of each in order, up to the first
+/// that stops. The caller knows that the draft covers the request, and that the slots that are owned are unused
+/// there. The work is that of the commands, in each context for an action with `*`.
 ///
 /// # Errors
 ///
@@ -53,9 +53,10 @@ pub fn transaction(
     })
 }
 
-/// Executes a request as [`transaction`] does, and answers with the text of its reply only where that has at most `limit` bytes: those from
-/// `Reply=` to the last brace, as they stand in a message. Replies are written as they come, into the block, of which nothing else is
-/// kept. Once they are too long none is kept or written, and what is left to do is done all the same.
+/// Executes a request as [`transaction`] does, and answers with the text of its reply only where that has at most
+/// `limit` bytes: those from `Reply=` to the last brace, as they stand in a message. Replies are written as they
+/// come, into the block, of which nothing else is kept. Once they are too long none is kept or written, and what is
+/// left to do is done all the same.
 ///
 /// # Errors
 ///

@@ -81,9 +81,9 @@ fn set_property(
     }
 }
 
-/// Sets the properties of a context, in the order written, where it is there. The caller knows that its number is one of the draft's
-/// keys, and that each priority is one that there is. The work is a look-up for each that is set, and for a Topology one pass of
-/// the links for each triple.
+/// Sets the properties of a context, in the order written, where it is there. The caller knows that its number is one
+/// of the draft's keys, and that each priority is one that there is. The work is a look-up for each that is set, and
+/// for a Topology one pass of the links for each triple.
 ///
 /// # Errors
 ///

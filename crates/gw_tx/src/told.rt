@@ -59,8 +59,8 @@ pub(crate) fn inside<T: Drop>(alloc: Global, writer: &ReplyWriter<ActionReply>) 
     }
 }
 
-/// The writer of the commands of an action, before the first of them, as [`inside`] says. Where nothing is written before the action, it
-/// takes over the block.
+/// The writer of the commands of an action, before the first of them, as [`inside`] says. Where nothing is written
+/// before the action, it takes over the block.
 pub(crate) fn begun<T: Drop>(alloc: Global, writer: &mut ReplyWriter<ActionReply>) -> ReplyWriter<T>
     ensures begun { result ≡ inside writer.old }
     ensures same { writer.new ≡ writer.old }
@@ -74,7 +74,8 @@ pub(crate) fn begun<T: Drop>(alloc: Global, writer: &mut ReplyWriter<ActionReply
     inside(alloc, writer)
 }
 
-/// The room between the braces of a reply of this number, whose text has so many bytes at most: `Reply=<number>{}` stands around it.
+/// The room between the braces of a reply of this number, whose text has so many bytes at most: `Reply=<number>{}`
+/// stands around it.
 fn room_in_braces(id: TxId, limit: usize) -> Option<usize>
     ensures room { IfSome result (λ left. left + (length (decimal id.0) + 8) ≡ limit) }
     ensures none { IsNone result → limit < length (decimal id.0) + 8 }
@@ -83,8 +84,8 @@ fn room_in_braces(id: TxId, limit: usize) -> Option<usize>
     behind_frame.checked_sub(Buffer::new().format(id.0).len())
 }
 
-/// The writer of a transaction whose text has so many bytes at most, before its first action. It writes into the block, of which nothing
-/// else is kept. The first action has no comma before it, so there is room for one more.
+/// The writer of a transaction whose text has so many bytes at most, before its first action. It writes into the
+/// block, of which nothing else is kept. The first action has no comma before it, so there is room for one more.
 pub(crate) fn writer_within(block: Items<u8>, id: TxId, limit: usize) -> ReplyWriter<ActionReply>
     ensures written { (replies : List ActionReply) → told_of (written_behind action_reply_text result replies) ≡ within limit (record { id = id; result = Replies replies }) }
     ensures limited { IsLimited result }
