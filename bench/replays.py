@@ -11,12 +11,11 @@ fill, and a Subtract of both.
 `--bursts` measures new transactions and repeats in bursts of 64 and of 1,024, with 4,096 kept replies.
 `--samples` measures transactions of every kind of a call (two Adds, a Modify and a Subtract, each with what it is sent with) among 1,000
 terminations and 4,096 kept replies, in bursts of 1, 4, 16 and 256, and with 4 kept replies in bursts of 16; it fails where one costs more
-than 17,800 in bursts of 16, more than half as much again in bursts of its own, or more than a twentieth more in one of the others than in
+than 15,000 in bursts of 16, more than half as much again in bursts of its own, or more than a twentieth more in one of the others than in
 another, or with 4,096 kept replies than with 4.
 `--waves` measures bursts of 1,024 transactions that stand in one another's way, or do not, with one worker and with three; it fails
-where the dearest costs more than ten times the mean.
-`--records` measures what carrying out costs where the copy of the tables is left out, and the memory of bare terminations; it
-fails where one is above its limit.
+where the costliest costs more than ten times the mean.
+`--records` measures what executing costs beside the burst, and the memory of bare terminations; it fails where one is above its limit.
 """
 import pathlib
 import re
@@ -86,7 +85,7 @@ def inclusive(out, word):
 
 
 # Functions that stay whole in the built program. The rest of `run` is reading, telling repeats, keeping replies and copying answers.
-PARTS = {"carrying requests out, and writing their replies": "gw_board::job::carry_on", "all of `run`": "gw_engine::gateway::Gateway::run"}
+PARTS = {"executing requests, and writing their replies": "gw_board::job::carry_on", "all of `run`": "gw_engine::gateway::Gateway::run"}
 
 
 def rates(folder):
@@ -166,7 +165,7 @@ def samples(folder):
         print(f"| {size} | {found:,.0f} |")
     print(f"| 16, 4 replies kept | {few:,.0f} |")
     alone = work.pop(1)
-    return work[16] > 17_800 or alone > 1.5 * work[16] or max(work.values()) > 1.05 * min(work.values()) or work[16] > 1.05 * few
+    return work[16] > 15_000 or alone > 1.5 * work[16] or max(work.values()) > 1.05 * min(work.values()) or work[16] > 1.05 * few
 
 
 # Bursts of 1,024 transactions: what each asks, by its number from 0, over contexts of two that were made before.
@@ -246,7 +245,7 @@ SHORT = b"Transaction=%d{Context=-{Subtract=T/1}}"
 
 
 def short(folder):
-    """A short transaction, each of a number of its own and so carried out, of many in a datagram."""
+    """A short transaction, each of a number of its own and so executed, of many in a datagram."""
     conf = config(folder, 4)
     few, many = (instructions(conf, record(b" ".join(SHORT % number for number in range(1, count + 1))) + b".\n") for count in (512, 1_024))
     return (many - few) / 512
@@ -257,11 +256,10 @@ def records(folder):
     typical_work = (instructions(conf, bursts(typical(2_048, 4), 16)) - instructions(conf, bursts(typical(1_024, 4), 16))) / 1_024
     lines = [
         ("a typical transaction, 4 terminations, bursts of 16", typical_work, 15_000),
-        ("a short transaction that is carried out, 1,024 in a datagram", short(folder), 4_000),
-        ("two Adds with Media and a Local to fill, beyond reading", two_adds(folder), 16_000),
-        ("AuditValue=* under - with Media, 200 whose replies are too long, a termination", of_all(folder, 200, MEDIA, AUDIT_ALL), 500),
-        ("the same, 100 whose replies are told, a termination", of_all(folder, 100, MEDIA, AUDIT_ALL), 4_000),
-        ("ServiceChange of ROOT, a termination", of_all(folder, 200, None, RESTART), 500),
+        ("a short transaction that is executed, 1,024 in a datagram", short(folder), 4_200),
+        ("two Adds with Media and a Local to fill, beyond reading", two_adds(folder), 16_500),
+        ("AuditValue=* under - with Media, 100 whose replies are written, a termination", of_all(folder, 100, MEDIA, AUDIT_ALL), 3_500),
+        ("ServiceChange of ROOT, a termination", of_all(folder, 200, None, RESTART), 1_000),
         ("bytes for 65,535 bare terminations", memory(folder, 65_535) - memory(folder, 1), 20_000_000),
         ("bytes for these, 8,000 contexts of two with Media, Local and Remote among them",
          memory(folder, 65_535, bursts(pairs(8_000), 256)) - memory(folder, 1), 45_000_000),

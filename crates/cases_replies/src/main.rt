@@ -27,7 +27,7 @@ impl Desk for Record {
 }
 
 fn main(rt: HostRuntime) -> io::Result<()> {
-    match Record::new(rt.alloc()) {
+    match Record::new() {
         Some(mut record) => transcript(&rt, &mut record),
         None => Err(io::Error::from(ErrorKind::InvalidData)),
     }

@@ -92,13 +92,13 @@ impl Asks for Record {
 
 impl Record {
     /// A provisioned termination of the gateway `[10.0.0.1]:2944` with media 10.0.0.1.
-    pub fn new(alloc: Global) -> Option<Record> {
+    pub fn new() -> Option<Record> {
         let mid = Mid::read(b"[10.0.0.1]:2944").ok()?;
         let media = MediaAddr::read(b"10.0.0.1").ok()?;
         Some(Record {
             mid,
             rules: Rules { media, members: 3 },
-            termination: Termination::provisioned(alloc),
+            termination: Termination::provisioned(),
             is_audit: false,
         })
     }
@@ -126,23 +126,23 @@ impl Record {
         Err(CaseFault::Form)
     }
 
-    /// Another termination takes the place of this one. A function of its own, since this one is let go here.
+    /// Another termination takes the place of this one. A function of its own, since this one is dropped here.
     fn put(&mut self, termination: Termination) {
         self.termination = termination;
     }
 
     /// A termination of a slot takes its place.
-    fn put_ephemeral(&mut self, alloc: Global, slot: &[u8]) -> Result<(), CaseFault> {
+    fn put_ephemeral(&mut self, slot: &[u8]) -> Result<(), CaseFault> {
         match number_of(slot) {
-            Some(slot) if slot < 4_096 => self.put(Termination::ephemeral(alloc, slot as u16)),
+            Some(slot) if slot < 4_096 => self.put(Termination::ephemeral(slot as u16)),
             _ => return Err(CaseFault::Form),
         }
         Ok(())
     }
 
     /// A copy takes its place.
-    fn put_copy(&mut self, alloc: Global) -> Result<(), CaseFault> {
-        match self.termination.copy(alloc) {
+    fn put_copy(&mut self) -> Result<(), CaseFault> {
+        match self.termination.copy() {
             Ok(copy) => self.put(copy),
             Err(_) => return Err(CaseFault::NoMemory),
         }
@@ -161,12 +161,12 @@ impl Record {
     /// The answer to a step.
     pub fn step(&mut self, call: &str, asked: &[u8], out: &mut Page) -> Result<(), CaseFault> {
         match call {
-            "provisioned" => self.put(Termination::provisioned(out.alloc())),
-            "ephemeral" => return self.put_ephemeral(out.alloc(), asked),
+            "provisioned" => self.put(Termination::provisioned()),
+            "ephemeral" => return self.put_ephemeral(asked),
             "reset" => self.termination.reset(),
             "place" => self.termination.set_place(number_of(asked).map(CtxNum)),
             "service" => self.set_service(asked),
-            "copy" => return self.put_copy(out.alloc()),
+            "copy" => return self.put_copy(),
             "state" => {
                 out.put(b"in ");
                 out.state(self.termination.place(), self.termination.service());

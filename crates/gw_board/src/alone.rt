@@ -1,12 +1,16 @@
 //! Carrying places out one after another, on the tables where they lie.
 
-ghost use Rattle.std.specs.Prelude.{◌≡◌, ◌+◌, ◌<◌, true, length, map, take, vec_len, IfErr, IfOk, IfSome, OnErr, OnOk, slice_get};
+ghost use Rattle.std.specs.Prelude.{◌≡◌, ◌+◌, ◌<◌, Some, true, length, map, take, drop, vec_len, Decides, IfErr, IfOk, IfSome, OnErr, OnOk, slice_get};
+ghost use Rattle.gw_base.specs.declared.key.Key.TheVariants.{Whole};
+ghost use Rattle.gw_base.specs.Keys.{has};
 ghost use Rattle.gw_reserve.specs.Owned.{AreFreeSlots};
 ghost use Rattle.gw_table.specs.Maps.{Maps};
 ghost use Rattle.gw_table.specs.Originals.{keys_written};
 ghost use Rattle.gw_table.specs.Parts.{Over, start_of};
 ghost use Rattle.gw_table.specs.Stored.{maps_of, AreReady, NoneIsOut};
 ghost use Rattle.gw_table.specs.WellFormed.{AreWellFormed};
+ghost use Rattle.gw_board.specs.declared.asked.Asked.{Asked as AnAsked};
+ghost use Rattle.gw_board.specs.Carried.{keys_of};
 ghost use Rattle.gw_board.specs.Alone.{FindsFirst, WasCarried, AreAsBegun};
 ghost use Rattle.gw_board.specs.GoingOn.{MayGoOn};
 ghost use Rattle.gw_board.specs.Boards.{asked_of, begun_board, core_of, is_closed, is_pending_at, AllClosed, GivesTheFold, unclosed};
@@ -183,7 +187,9 @@ impl Board<'_, '_, '_> {
     /// Whether the request of a place is meant for all: it has an action for each context, or a command that stands for all. Its keys
     /// are then all that there are, so that it is in a wave only as the first place that is pending, and alone. Of one whose tree is not
     /// kept it is not looked for.
-    pub fn is_for_all(&self, place: usize) -> bool {
+    pub fn is_for_all(&self, place: usize) -> bool
+        ensures { result ≡ true → (asked : AnAsked) → slice_get (asked_of self.now.places) place ≡ Some asked → (m : Maps) → has (keys_of asked m) Whole ≡ true }
+    {
         match self.seats.get(place) {
             Some(seat) => is_seen_for_all(seat.task.task().get()),
             None => false,
@@ -191,7 +197,9 @@ impl Board<'_, '_, '_> {
     }
 
     /// Whether all places behind this one are closed: there is nothing that it could be carried out beside.
-    pub fn is_last(&self, place: usize) -> bool {
+    pub fn is_last(&self, place: usize) -> bool
+        ensures { Decides result (AllClosed (drop (place + 1) self.now.places)) }
+    {
         self.seats
             .iter()
             .skip(place.saturating_add(1))

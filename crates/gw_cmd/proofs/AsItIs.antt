@@ -1,5 +1,5 @@
 -- Commands that need no new record: a merge of nothing, and another service state.
-use Rattle.std.proofs.Common.{◌≡◌, ◌==◌, ℕ, true, length, eqb-true, arith, List, [], ◌∷◌, Option, None, Some, Result, Ok, Err, refl, sym, ap, ◌∙◌}
+use Rattle.std.proofs.Common.{◌≡◌, ℕ, List, [], ◌∷◌, Option, None, Some, Result, Ok, Err, refl, sym, ap, ◌∙◌}
 use Rattle.std.specs.Option.{unwrap_or}
 use Rattle.gw_base.specs.declared.code.Code.{Code}
 use Rattle.gw_base.specs.declared.command_words.Rules.{Rules}
@@ -20,16 +20,9 @@ use Rattle.gw_term.specs.Record.{placed}
 use Rattle.gw_term.specs.declared.record.Stream.{Stream}
 use Rattle.gw_term.specs.declared.record.Termination.{Termination}
 use Rattle.gw_refusal.specs.Asked.{service_asked}
-use Rattle.gw_cmd.specs.declared.refusal.Refusal.{Refusal}
-use Rattle.gw_cmd.specs.declared.refusal.Refusal.TheVariants as refusal
 use Rattle.gw_cmd.specs.declared.change.Change.TheVariants.{Becomes}
-use Rattle.gw_cmd.specs.Effects.{becomes, decided_in_null, decided_in, is_full, unless, after_change, refusal_elsewhere, merging, merging_to, merged_in, modified, done, on_record, nothing_told, after_service}
-use Rattle.gw_cmd.specs.Refused.{Answers, Tells}
+use Rattle.gw_cmd.specs.Effects.{becomes, decided_in_null, decided_in, is_full, unless, after_change, refusal_elsewhere, merging, merging_to, merged_in, modified, done, on_record, empty_unless, after_service}
 use Rattle.gw_cmd.proofs.Lawful.{elsewhere_none}
-
-pub no_items : {X : Type 0} (l : List X) → true ≡ (length l == 0) → l ≡ []
-no_items [] e = refl
-no_items (x ∷ xs) e = let none = eqb-true (length (x ∷ xs)) 0 (sym e) in absurd (omega (arith, none))
 
 same_stream : (o : Option Stream) → stream_in (unnamed o) ≡ o
 same_stream None = refl
@@ -66,7 +59,7 @@ refused_at_once rules descriptors r place refused code none is =
 
 -- what comes of it
 abbrev pub left_alone : Option Code → Maps → Outcome (Result (List ReplyPart) Code)
-left_alone refused m = record { maps = m; answer = nothing_told refused }
+left_alone refused m = record { maps = m; answer = empty_unless refused }
 
 by_refusal : (t : List ℕ) (m : Maps) (place : Option CtxNum) (r : Termination) (refused : Option Code) → (refused ≡ None → r.place ≡ place) → term m t ≡ Some r
     → done t m (becomes (merged_in [] [] refused (placed r place))) ≡ left_alone refused m
@@ -103,11 +96,3 @@ service_done rules None c t r m verb found =
     ap (λ (v : Verb). done t m (decided_in_null rules v c.descriptors r)) verb ∙ service_by t m r c.descriptors (refusal_elsewhere None r.place) found
 service_done rules (Some n) c t r m verb found =
     ap (λ (v : Verb). done t m (decided_in rules v c.descriptors (is_full rules n m) n r)) verb ∙ service_by t m r c.descriptors (refusal_elsewhere (Some n) r.place) found
-
--- ---- what is told
-
--- an answer, and maps that stay
-pub tells_alone : (o : Result (List ReplyPart) Refusal) (code : Option Code) (m : Maps) → Answers o (nothing_told code) → Tells o m (left_alone code m)
-tells_alone (Ok parts) code m e = (refl, e)
-tells_alone (Err (refusal.Code c)) code m e = (refl, e)
-tells_alone (Err refusal.NoMemory) code m e = tt

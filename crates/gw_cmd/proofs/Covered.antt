@@ -29,7 +29,7 @@ use Rattle.gw_refusal.specs.Targets.{targets}
 use Rattle.gw_cmd.specs.declared.change.Change.{Change}
 use Rattle.gw_cmd.specs.declared.change.Change.TheVariants.{Stays, Becomes, Joins, Crosses, Leaves}
 use Rattle.gw_cmd.specs.declared.change.Decided.{Decided}
-use Rattle.gw_cmd.specs.Commands.{on_target, on_new, all_serviced, serviced_if, root_maps, carried, unless_refused, command}
+use Rattle.gw_cmd.specs.Commands.{on_target, on_new, all_serviced, serviced_if, root_maps, executed, unless_refused, command}
 use Rattle.gw_cmd.specs.Effects.{decided, done, on_record, on_found, on_name}
 use Rattle.gw_cmd.specs.Keys.{command_keys}
 use Rattle.gw_cmd.specs.Changes.{changed}
@@ -118,21 +118,21 @@ module _ {P : Maps → Type 0} (rules : Rules) (keys : PartKeys) (N : CtxNum →
   on_slot at c (Some s) m e h u a p = on_its_record (place_at at) c (slot_name s) (ephemeral s) m e h (Made s refl refl u a) p
 
   module _ (at : At) (slot : Option ℕ) (c : Command) (m : Maps) (covered : Holds keys (command_keys at slot c m)) where
-    on_carried : (e : (n : CtxNum) → place_at at ≡ Some n → N n) → IsUnused slot m → MayMake makes slot → refusal_by_form at c ≡ None → IsReady keys at c m → (r : TermRef) → c.term ≡ r → P m → P (carried rules at slot c m r).maps
-    on_carried e u a f is Root g p = on_gateway c.verb c.descriptors m (λ v. is.root g v) p
-    on_carried e u a f is Choose g p = on_slot at c slot m e (ready_new keys at slot c m covered f g) u a p
-    on_carried e u a f is (Name t) g p = on_them at c (targets at c m) m e is.targets p
-    on_carried e u a f is All g p = on_them at c (targets at c m) m e is.targets p
-    on_carried e u a f is (Under prefix) g p = on_them at c (targets at c m) m e is.targets p
-    on_carried e u a f is (Other text) g p = on_them at c (targets at c m) m e is.targets p
+    on_executed : (e : (n : CtxNum) → place_at at ≡ Some n → N n) → IsUnused slot m → MayMake makes slot → refusal_by_form at c ≡ None → IsReady keys at c m → (r : TermRef) → c.term ≡ r → P m → P (executed rules at slot c m r).maps
+    on_executed e u a f is Root g p = on_gateway c.verb c.descriptors m (λ v. is.root g v) p
+    on_executed e u a f is Choose g p = on_slot at c slot m e (ready_new keys at slot c m covered f g) u a p
+    on_executed e u a f is (Name t) g p = on_them at c (targets at c m) m e is.targets p
+    on_executed e u a f is All g p = on_them at c (targets at c m) m e is.targets p
+    on_executed e u a f is (Under prefix) g p = on_them at c (targets at c m) m e is.targets p
+    on_executed e u a f is (Other text) g p = on_them at c (targets at c m) m e is.targets p
 
     pub on_command : (refusal at slot c m ≡ None → (n : CtxNum) → place_at at ≡ Some n → N n) → IsUnused slot m → MayMake makes slot → P m → P (command rules at slot c m).maps
     unfolding command
     on_command e u a p = by (refusal_by_form at c) (refusal_by_tables at slot c m) refl refl
       where
-        by : (x y : Option Code) → refusal_by_form at c ≡ x → refusal_by_tables at slot c m ≡ y → P (unless_refused (first_code x y) at c m (carried rules at slot c m c.term)).maps
+        by : (x y : Option Code) → refusal_by_form at c ≡ x → refusal_by_tables at slot c m ≡ y → P (unless_refused (first_code x y) at c m (executed rules at slot c m c.term)).maps
         by (Some code) y f g = p
         by None (Some code) f g = p
         by None None f g =
             let none : refusal at slot c m ≡ None = ap (λ (x : Option Code). first_code x (refusal_by_tables at slot c m)) f ∙ g in
-            on_carried (e none) u a f (ready keys at slot c m covered f g) c.term refl p
+            on_executed (e none) u a f (ready keys at slot c m covered f g) c.term refl p

@@ -49,12 +49,11 @@ use Rattle.gw_refusal.specs.declared.at.At.{At}
 use Rattle.gw_cmd.specs.declared.change.Change.{Change}
 use Rattle.gw_cmd.specs.declared.change.Change.TheVariants.{Stays, Becomes, Joins, Crosses, Leaves}
 use Rattle.gw_cmd.specs.declared.change.Decided.{Decided}
-use Rattle.gw_cmd.specs.declared.change.Merged.{Merged}
 use Rattle.gw_cmd.specs.declared.outcome.CmdOutcome.{CmdOutcome}
 use Rattle.gw_refusal.specs.Asked.{is_wildcard, matches, audited, asks_media, is_some_list, service_asked}
 use Rattle.gw_table.specs.Members.{put_service}
-use Rattle.gw_cmd.specs.Commands.{has_error, error_of, error_in, first_error, told, on_targets, on_names, new_reply, on_new, all_serviced, serviced_if, bare_if, bare_told, root_parts, root_maps, on_root, refused, carried, unless_refused, command}
-use Rattle.gw_cmd.specs.Effects.{filled_part, parts_of, merging_to, merging, refusal_to_add, refusal_to_move, refusal_elsewhere, joins, crosses, becomes, unless, what_remains, after_change, decided_in, decided_in_null, is_full, decided, done, on_record, on_found, on_name}
+use Rattle.gw_cmd.specs.Commands.{has_error, error_of, error_in, first_error, written, on_targets, on_names, new_reply, on_new, all_serviced, serviced_if, bare_if, bare_answer, root_parts, root_maps, on_root, refused, executed, unless_refused, command}
+use Rattle.gw_cmd.specs.Effects.{Merged, filled_part, parts_of, merging_to, merging, refusal_to_add, refusal_to_move, refusal_elsewhere, joins, crosses, becomes, unless, what_remains, after_change, decided_in, decided_in_null, is_full, decided, done, on_record, on_found, on_name}
 use Rattle.gw_cmd.specs.KeptForms.{AreKept, IsAsked, IsSlot, KeepsForms}
 use Rattle.gw_table.specs.Members.{with_member, without_member, unless_none, unless_empty}
 use Rattle.gw_cmd.specs.Changes.{changed}
@@ -295,8 +294,8 @@ error_in_kept (Some r) = error_kept r.result
 one_kept : (c : Command) (sent : TermRef) (x : Result (List ReplyPart) Code) → HasForm sent → AllOk HasKeptReply x → All IsKeptCommand ((record { verb = c.verb; term = sent; result = x }) ∷ [])
 one_kept c sent x form h = All-cons IsKeptCommand (record { verb = c.verb; term = sent; result = x }) [] (form, h) (All-nil IsKeptCommand)
 
-told_kept : (c : Command) (replies : List CommandReply) → HasForm c.term → All IsKeptCommand replies → All IsKeptCommand (told c replies)
-told_kept c replies form h = by (c.wild && is_wildcard c.term)
+written_kept : (c : Command) (replies : List CommandReply) → HasForm c.term → All IsKeptCommand replies → All IsKeptCommand (written c replies)
+written_kept c replies form h = by (c.wild && is_wildcard c.term)
   where
     by : (b : Bool) → All IsKeptCommand (cond b ((record { verb = c.verb; term = c.term; result = first_error replies }) ∷ []) replies)
     by true = one_kept c c.term (first_error replies) form (error_in_kept (find has_error replies))
@@ -330,9 +329,9 @@ bare_kept : (o : Option AuditItem) → All HasKeptReply (bare_if o)
 bare_kept None = All-nil HasKeptReply
 bare_kept (Some i) = All-cons HasKeptReply (part.Bare i) [] tt (All-nil HasKeptReply)
 
-bares_kept : (words : List (List ℕ)) → All HasKeptReply (flat_map bare_told words)
+bares_kept : (words : List (List ℕ)) → All HasKeptReply (flat_map bare_answer words)
 bares_kept [] = All-nil HasKeptReply
-bares_kept (w ∷ ws) = All-append HasKeptReply (bare_told w) (flat_map bare_told ws) (bare_kept (item_of w)) (bares_kept ws)
+bares_kept (w ∷ ws) = All-append HasKeptReply (bare_answer w) (flat_map bare_answer ws) (bare_kept (item_of w)) (bares_kept ws)
 
 -- ---- the targets
 
@@ -376,18 +375,18 @@ module _ (rules : Rules) (address : IsAddress rules.media) where
   on_names_kept : (at : At) (c : Command) (m : Maps) → IsAsked c → AreKept m → KeepsForms (on_names rules at c m)
   on_names_kept at c m good k =
       let h = targets_kept rules address at c (targets at c m) m (all_texts at c m c.term good.term k) good.descriptors k in
-      record { maps = h.0; replies = told_kept c (on_targets rules at c (targets at c m) m).answer.answers good.term h.1 }
+      record { maps = h.0; replies = written_kept c (on_targets rules at c (targets at c m) m).answer.answers good.term h.1 }
 
   on_root_kept : (at : At) (c : Command) (m : Maps) → AreKept m → KeepsForms (on_root at c m)
   on_root_kept at c m k = record { maps = root_kept c.verb c.descriptors m k; replies = one_kept c Root (Ok (root_parts c)) tt (bares_kept (audited c.descriptors)) }
 
-  carried_kept : (at : At) (slot : Option ℕ) (c : Command) (m : Maps) (r : TermRef) → IsSlot slot → IsAsked c → AreKept m → KeepsForms (carried rules at slot c m r)
-  carried_kept at slot c m Root small good k = on_root_kept at c m k
-  carried_kept at slot c m Choose small good k = on_new_kept at c slot m small good k
-  carried_kept at slot c m (Name t) small good k = on_names_kept at c m good k
-  carried_kept at slot c m Every small good k = on_names_kept at c m good k
-  carried_kept at slot c m (Under prefix) small good k = on_names_kept at c m good k
-  carried_kept at slot c m (Other text) small good k = on_names_kept at c m good k
+  executed_kept : (at : At) (slot : Option ℕ) (c : Command) (m : Maps) (r : TermRef) → IsSlot slot → IsAsked c → AreKept m → KeepsForms (executed rules at slot c m r)
+  executed_kept at slot c m Root small good k = on_root_kept at c m k
+  executed_kept at slot c m Choose small good k = on_new_kept at c slot m small good k
+  executed_kept at slot c m (Name t) small good k = on_names_kept at c m good k
+  executed_kept at slot c m Every small good k = on_names_kept at c m good k
+  executed_kept at slot c m (Under prefix) small good k = on_names_kept at c m good k
+  executed_kept at slot c m (Other text) small good k = on_names_kept at c m good k
 
   unless_refused_kept : (o : Option Code) (at : At) (c : Command) (m : Maps) (x : Outcome CmdOutcome) → HasForm c.term → AreKept m → KeepsForms x → KeepsForms (unless_refused o at c m x)
   unless_refused_kept (Some code) at c m x form k h = refused_kept at c code m form k
@@ -395,4 +394,4 @@ module _ (rules : Rules) (address : IsAddress rules.media) where
 
   pub command_kept : (at : At) (slot : Option ℕ) (c : Command) (m : Maps) → IsSlot slot → IsAsked c → AreKept m → KeepsForms (command rules at slot c m)
   unfolding command
-  command_kept at slot c m small good k = unless_refused_kept (refusal at slot c m) at c m (carried rules at slot c m c.term) good.term k (carried_kept at slot c m c.term small good k)
+  command_kept at slot c m small good k = unless_refused_kept (refusal at slot c m) at c m (executed rules at slot c m c.term) good.term k (executed_kept at slot c m c.term small good k)

@@ -22,7 +22,7 @@ use Rattle.gw_cmd.specs.declared.change.Decided.{Decided}
 use Rattle.gw_cmd.specs.declared.outcome.CmdOutcome.{CmdOutcome}
 use Rattle.gw_refusal.specs.Asked.{service_asked}
 use Rattle.gw_table.specs.Members.{put_service}
-use Rattle.gw_cmd.specs.Commands.{on_target, on_names, on_new, all_serviced, serviced_if, root_maps, carried, unless_refused, command}
+use Rattle.gw_cmd.specs.Commands.{on_target, on_names, on_new, all_serviced, serviced_if, root_maps, executed, unless_refused, command}
 use Rattle.gw_cmd.specs.Effects.{decided, done, on_record, on_found, on_name}
 use Rattle.gw_cmd.specs.Changes.{changed}
 use Rattle.gw_refusal.specs.Places.{place_at}
@@ -90,13 +90,13 @@ module _ {P : Maps → Type 0} (rules : Rules) (passes : List ℕ → Bool) (mak
   kept_names : (at : At) (c : Command) (m : Maps) → ((t : List ℕ) → passes t ≡ true) → P m → P (on_names rules at c m).maps
   kept_names at c m h p = kept (on_target rules at c) P (λ s t n q. kept_name (place_at at) c t n (λ _. h t) q) tt (targets at c m) m p
 
-  kept_carried : (at : At) (slot : Option ℕ) (c : Command) (m : Maps) (r : TermRef) → ((t : List ℕ) → passes t ≡ true) → IsUnused slot m → MayMake makes slot → P m → P (carried rules at slot c m r).maps
-  kept_carried at slot c m Root h u a p = kept_root c.verb c.descriptors m h p
-  kept_carried at slot c m Choose h u a p = kept_new at c slot m h u a p
-  kept_carried at slot c m (Name t) h u a p = kept_names at c m h p
-  kept_carried at slot c m All h u a p = kept_names at c m h p
-  kept_carried at slot c m (Under prefix) h u a p = kept_names at c m h p
-  kept_carried at slot c m (Other text) h u a p = kept_names at c m h p
+  kept_executed : (at : At) (slot : Option ℕ) (c : Command) (m : Maps) (r : TermRef) → ((t : List ℕ) → passes t ≡ true) → IsUnused slot m → MayMake makes slot → P m → P (executed rules at slot c m r).maps
+  kept_executed at slot c m Root h u a p = kept_root c.verb c.descriptors m h p
+  kept_executed at slot c m Choose h u a p = kept_new at c slot m h u a p
+  kept_executed at slot c m (Name t) h u a p = kept_names at c m h p
+  kept_executed at slot c m All h u a p = kept_names at c m h p
+  kept_executed at slot c m (Under prefix) h u a p = kept_names at c m h p
+  kept_executed at slot c m (Other text) h u a p = kept_names at c m h p
 
   kept_unless : (o : Option Code) (at : At) (c : Command) (m : Maps) (x : Outcome CmdOutcome) → P m → P x.maps → P (unless_refused o at c m x).maps
   kept_unless (Some code) at c m x p q = p
@@ -104,4 +104,4 @@ module _ {P : Maps → Type 0} (rules : Rules) (passes : List ℕ → Bool) (mak
 
   pub kept_command : (at : At) (slot : Option ℕ) (c : Command) (m : Maps) → ((t : List ℕ) → passes t ≡ true) → IsUnused slot m → MayMake makes slot → P m → P (command rules at slot c m).maps
   unfolding command
-  kept_command at slot c m h u a p = kept_unless (refusal at slot c m) at c m (carried rules at slot c m c.term) p (kept_carried at slot c m c.term h u a p)
+  kept_command at slot c m h u a p = kept_unless (refusal at slot c m) at c m (executed rules at slot c m c.term) p (kept_executed at slot c m c.term h u a p)

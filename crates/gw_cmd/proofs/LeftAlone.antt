@@ -1,8 +1,7 @@
 -- Idle commands: what comes of a target, and of all of them.
-use Rattle.std.proofs.Common.{◌≡◌, ℕ, Bool, true, false, List, [], ◌∷◌, ◌++◌, map, take, drop, Option, None, Some, is_some, is_none, Result, Ok, Err, bytes_eq, refl, sym, ap, ◌∙◌}
+use Rattle.std.proofs.Common.{◌≡◌, ℕ, Bool, true, false, List, [], ◌∷◌, map, Option, None, Some, is_some, is_none, Result, Ok, Err, bytes_eq, refl, sym, ap, ◌∙◌}
 use Rattle.std.specs.Prelude.{◌||◌, ◌&&◌, not, is_err, if◌then◌else◌}
 use Rattle.std.specs.List.{list_any, filter, find}
-use Rattle.std.proofs.lemmas.List.{take-append-drop, map-append}
 use Rattle.gw_base.specs.declared.code.Code.{Code}
 use Rattle.gw_base.specs.declared.code.Code.TheVariants.{ContextFull, NotInContext, NoWildcardMatch}
 use Rattle.gw_base.specs.declared.ids.CtxNum.{CtxNum}
@@ -19,14 +18,10 @@ use Rattle.gw_base.proofs.NameTests.{same_name, number_itself}
 use Rattle.gw_base.proofs.NamesInLists.{or_left, or_right, or_cases, either, itself}
 use Rattle.gw_desc.specs.Checks.{check_code}
 use Rattle.gw_desc.specs.declared.descriptor.Descriptor.{Descriptor}
-use Rattle.gw_length.specs.declared.telling.Telling.{Telling}
-use Rattle.gw_length.specs.declared.telling.Telling.TheVariants.{TooLong}
-use Rattle.gw_length.specs.Tellings.{told_behind}
-use Rattle.gw_length.proofs.Tellings.{told_more}
+use Rattle.gw_reply.specs.declared.writer.ReplyWriter.TheVariants.{TooLong}
 use Rattle.gw_msg.specs.declared.message.Command.{Command}
 use Rattle.gw_reply.specs.declared.parts.ReplyPart.{ReplyPart}
 use Rattle.gw_reply.specs.declared.reply.CommandReply.{CommandReply}
-use Rattle.gw_reply.specs.Replies.{command_reply_text}
 use Rattle.gw_term.specs.Audit.{audit_parts}
 use Rattle.gw_term.specs.declared.record.Termination.{Termination}
 use Rattle.gw_table.specs.declared.attempts.Attempts.{Attempts}
@@ -43,19 +38,16 @@ use Rattle.gw_refusal.specs.Targets.{those_in, source, matched, targets_of, targ
 use Rattle.gw_cmd.specs.declared.change.Change.TheVariants.{Stays}
 use Rattle.gw_cmd.specs.declared.outcome.CmdOutcome.{CmdOutcome}
 use Rattle.gw_cmd.specs.declared.outcome.Seen.{Seen}
-use Rattle.gw_cmd.specs.Commands.{reply, has_error, is_done, error_of, error_in, first_error, outcome_told, on_target, on_targets, on_names, carried, unless_refused, allowed}
+use Rattle.gw_cmd.specs.Commands.{reply, has_error, is_done, error_of, error_in, first_error, outcome_written, on_target, on_targets, on_names, executed, unless_refused, allowed}
 use Rattle.gw_cmd.specs.Effects.{refusal_elsewhere, refusal_to_add, is_full, joins, unless, decided_in, decided_in_null, done, on_record, on_found, on_name}
-use Rattle.gw_cmd.specs.Idle.{is_full_at, leaves_all, audit_of, idle_code, idle_answer, idle_reply, idle_seen, IsIdle}
+use Rattle.gw_cmd.specs.Idle.{is_full_at, leaves_all, code_idle, seen_idle, IsIdle}
 use Rattle.gw_cmd.specs.Keys.{member_keys, term_keys, command_keys}
 use Rattle.gw_cmd.specs.Refusals.{code_if, missing, first_code, refusal_by_tables}
-use Rattle.gw_cmd.specs.Told.{code_of, seen}
+use Rattle.gw_cmd.specs.Written.{code_of, seen}
 use Rattle.gw_cmd.proofs.AsItIs.{left_alone, modify_alone, refused_at_once}
 use Rattle.gw_cmd.proofs.Ready.{has_term, is_named, in_filter, among_term}
 
 -- ---- one target
-
-abbrev left : Command → List ℕ → Maps → Outcome (Result (List ReplyPart) Code)
-left c t m = record { maps = m; answer = idle_answer c.verb c.descriptors (term m t) }
 
 place_itself : (p : Option CtxNum) → same_place p p ≡ true
 place_itself None = refl
@@ -89,35 +81,36 @@ no_items : {X : Type 0} (l : List X) → not (is_some_list l) ≡ true → l ≡
 no_items [] h = refl
 no_items (x ∷ xs) h = absurd cc
 
--- nothing is told where nothing is asked for
-pub asks_nothing : (ds : List Descriptor) (o : Option Termination) → audited ds ≡ [] → audit_of ds o ≡ []
-unfolding audit_parts
-asks_nothing ds None none = refl
-asks_nothing ds (Some r) none = ap (λ (words : List (List ℕ)). audit_parts words r) none
-
 both_of : (a b : Bool) → (a && b) ≡ true → (a ≡ true) × (b ≡ true)
 both_of true b h = (refl, h)
 both_of false b h = absurd cc
 
+-- it leaves the maps as they are, and its answer has this code, or none
+record IsLeft (m : Maps) (k : Option Code) (o : Outcome (Result (List ReplyPart) Code)) : Type 0 where
+  maps : o.maps ≡ m
+  code : code_of o.answer ≡ k
+
+left : (m : Maps) (answer : Result (List ReplyPart) Code) (code : Option Code) (o : Outcome (Result (List ReplyPart) Code)) → o ≡ record { maps = m; answer = answer } → code_of answer ≡ code → IsLeft m code o
+left m answer code o e h = record { maps = ap (λ (x : Outcome (Result (List ReplyPart) Code)). x.maps) e; code = ap (λ (x : Outcome (Result (List ReplyPart) Code)). code_of x.answer) e ∙ h }
+
 left_one : (rules : Rules) (at : At) (c : Command) (t : List ℕ) (r : Termination) (m : Maps) → leaves_all c.verb (is_some_list c.descriptors) (is_full_at rules (place_at at) m) ≡ true → term m t ≡ Some r → r.place ≡ source at c
-    → on_name rules (place_at at) c t m ≡ left c t m
+    → IsLeft m (code_idle c.verb) (on_name rules (place_at at) c t m)
 left_one rules at c t r m leaves found there = by c.verb refl leaves there
   where
     here : on_name rules (place_at at) c t m ≡ on_record rules (place_at at) c t r m
     here = ap (λ (o : Option Termination). on_found rules (place_at at) c t o m) found
 
-    told : (v : Verb) → c.verb ≡ v → ◌≡◌ {A = Outcome (Result (List ReplyPart) Code)} (record { maps = m; answer = idle_answer v c.descriptors (Some r) }) (left c t m)
-    told v e = ap (λ (o : Option Termination). let x : Outcome (Result (List ReplyPart) Code) = record { maps = m; answer = idle_answer v c.descriptors o } in x) (sym found) ∙ ap (λ (w : Verb). let x : Outcome (Result (List ReplyPart) Code) = record { maps = m; answer = idle_answer w c.descriptors (term m t) } in x) (sym e)
+    code : (v : Verb) → c.verb ≡ v → code_idle v ≡ code_idle c.verb
+    code v e = ap (λ (w : Verb). code_idle w) (sym e)
 
-    add : (p : Option CtxNum) → place_at at ≡ p → c.verb ≡ Add → c.descriptors ≡ [] → is_full_at rules p m ≡ true → r.place ≡ None → on_name rules (place_at at) c t m ≡ left c t m
+    add : (p : Option CtxNum) → place_at at ≡ p → c.verb ≡ Add → c.descriptors ≡ [] → is_full_at rules p m ≡ true → r.place ≡ None → IsLeft m (code_idle c.verb) (on_name rules (place_at at) c t m)
     add None e verb none full free = absurd cc
-    add (Some n) e verb none full free = here ∙ ap (λ (p : Option CtxNum). on_record rules p c t r m) e ∙ add_alone rules n c t r m verb none full free ∙ told Add verb
+    add (Some n) e verb none full free = left m (Err ContextFull) _ _ (here ∙ ap (λ (p : Option CtxNum). on_record rules p c t r m) e ∙ add_alone rules n c t r m verb none full free) (code Add verb)
 
-    by : (v : Verb) → c.verb ≡ v → leaves_all v (is_some_list c.descriptors) (is_full_at rules (place_at at) m) ≡ true → r.place ≡ (if is_add v then None else place_at at) → on_name rules (place_at at) c t m ≡ left c t m
-    by AuditValue verb h there = here ∙ audit_alone rules (place_at at) c t r m verb there ∙ told AuditValue verb
+    by : (v : Verb) → c.verb ≡ v → leaves_all v (is_some_list c.descriptors) (is_full_at rules (place_at at) m) ≡ true → r.place ≡ (if is_add v then None else place_at at) → IsLeft m (code_idle c.verb) (on_name rules (place_at at) c t m)
+    by AuditValue verb h there = left m (Ok (audit_parts (audited c.descriptors) r)) _ _ (here ∙ audit_alone rules (place_at at) c t r m verb there) (code AuditValue verb)
     by Modify verb h there =
-        here ∙ modify_alone rules (place_at at) c t r m verb (no_items c.descriptors h) found ∙ ap (λ (o : Option Code). left_alone o m) (stands_here (place_at at) r.place there)
-        ∙ ap (λ (l : List ReplyPart). let x : Outcome (Result (List ReplyPart) Code) = record { maps = m; answer = Ok l } in x) (sym (asks_nothing c.descriptors (Some r) (ap (λ (l : List Descriptor). audited l) (no_items c.descriptors h)))) ∙ told Modify verb
+        left m (Ok []) _ _ (here ∙ modify_alone rules (place_at at) c t r m verb (no_items c.descriptors h) found ∙ ap (λ (o : Option Code). left_alone o m) (stands_here (place_at at) r.place there)) (code Modify verb)
     by Add verb h there = let two = both_of (not (is_some_list c.descriptors)) (is_full_at rules (place_at at) m) h in add (place_at at) refl verb (no_items c.descriptors two.0) two.1 there
     by Move verb h there = absurd cc
     by Subtract verb h there = absurd cc
@@ -127,26 +120,19 @@ left_one rules at c t r m leaves found there = by c.verb refl leaves there
 
 -- ---- one after another
 
-left_all : (rules : Rules) (at : At) (c : Command) (m : Maps) (ts : List (List ℕ)) → ((t : List ℕ) → is_in t ts ≡ true → on_name rules (place_at at) c t m ≡ left c t m) → on_targets rules at c ts m ≡ ended m tt (map (idle_reply c m) ts) false
+-- the reply of one, in these maps
+abbrev reply_at : Rules → At → Command → Maps → List ℕ → CommandReply
+reply_at rules at c m t = reply c (Name t) (on_name rules (place_at at) c t m).answer
+
+left_all : (rules : Rules) (at : At) (c : Command) (m : Maps) (ts : List (List ℕ)) → ((t : List ℕ) → is_in t ts ≡ true → (on_name rules (place_at at) c t m).maps ≡ m) → on_targets rules at c ts m ≡ ended m tt (map (reply_at rules at c m) ts) false
 left_all rules at c m [] each = in_order-none (on_target rules at c) tt m
 left_all rules at c m (t ∷ ts) each =
     in_order-more (on_target rules at c) tt t ts m
-    ∙ ap (λ (o : Outcome (Result (List ReplyPart) Code)). attempts_behind (reply c (Name t) o.answer ∷ []) (in_order (on_target rules at c) tt ts o.maps)) (each t (or_left (bytes_eq t t) (is_in t ts) (itself t)))
-    ∙ ap (λ (o : Outcome (Attempts Unit CommandReply)). attempts_behind (idle_reply c m t ∷ []) o) (left_all rules at c m ts (λ q h. each q (or_right (bytes_eq q t) (is_in q ts) h)))
+    ∙ ap (λ (x : Maps). attempts_behind (reply_at rules at c m t ∷ []) (in_order (on_target rules at c) tt ts x)) (each t (or_left (bytes_eq t t) (is_in t ts) (itself t)))
+    ∙ ap (λ (o : Outcome (Attempts Unit CommandReply)). attempts_behind (reply_at rules at c m t ∷ []) o) (left_all rules at c m ts (λ q h. each q (or_right (bytes_eq q t) (is_in q ts) h)))
 
--- ---- the errors among what is told
+-- ---- the errors among replies that have this code, or none
 
-idle_code_of : (v : Verb) (descriptors : List Descriptor) (o : Option Termination) → code_of (idle_answer v descriptors o) ≡ idle_code v
-idle_code_of Add descriptors o = refl
-idle_code_of AuditValue descriptors o = refl
-idle_code_of Modify descriptors o = refl
-idle_code_of Move descriptors o = refl
-idle_code_of Subtract descriptors o = refl
-idle_code_of AuditCapability descriptors o = refl
-idle_code_of Notify descriptors o = refl
-idle_code_of ServiceChange descriptors o = refl
-
--- a reply before others, by what it is
 first_by : (r : CommandReply) (rest : List CommandReply) (x : Result (List ReplyPart) Code) (b : Bool) (k : Option Code) → r.result ≡ x → code_of x ≡ k → code_of (first_error rest) ≡ (if b then k else None) → code_of (first_error (r ∷ rest)) ≡ k
 first_by r rest (Ok parts) b k is code h = ap (λ y. code_of (error_in (if is_err y then Some r else find has_error rest))) is ∙ h ∙ neither b ∙ code
   where
@@ -163,35 +149,14 @@ any_by rest (Err e) b k code h = h ∙ ap (λ o. b && is_none o) (sym code) ∙ 
     none true = refl
     none false = refl
 
-module _ (c : Command) (m : Maps) where
-  idle_first : (ts : List (List ℕ)) → code_of (first_error (map (idle_reply c m) ts)) ≡ (if is_some_list ts then idle_code c.verb else None)
-  idle_first [] = refl
-  idle_first (t ∷ ts) = first_by (idle_reply c m t) (map (idle_reply c m) ts) (idle_answer c.verb c.descriptors (term m t)) (is_some_list ts) (idle_code c.verb) refl (idle_code_of c.verb c.descriptors (term m t)) (idle_first ts)
+module _ (f : List ℕ → CommandReply) (k : Option Code) where
+  first_of_all : (ts : List (List ℕ)) → ((t : List ℕ) → is_in t ts ≡ true → code_of (f t).result ≡ k) → code_of (first_error (map f ts)) ≡ (if is_some_list ts then k else None)
+  first_of_all [] each = refl
+  first_of_all (t ∷ ts) each = first_by (f t) (map f ts) (f t).result (is_some_list ts) k refl (each t (or_left (bytes_eq t t) (is_in t ts) (itself t))) (first_of_all ts (λ q h. each q (or_right (bytes_eq q t) (is_in q ts) h)))
 
-  idle_done : (ts : List (List ℕ)) → list_any is_done (map (idle_reply c m) ts) ≡ (is_some_list ts && is_none (idle_code c.verb))
-  idle_done [] = refl
-  idle_done (t ∷ ts) = any_by (map (idle_reply c m) ts) (idle_answer c.verb c.descriptors (term m t)) (is_some_list ts) (idle_code c.verb) (idle_code_of c.verb c.descriptors (term m t)) (idle_done ts)
-
-  -- what comes of some, told behind what was told before them
-  pub seen_idle : (told whole : Telling CommandReply) (ts : List (List ℕ)) → is_some_list ts ≡ true → whole ≡ told_behind command_reply_text told (map (idle_reply c m) ts) → idle_seen c.verb whole ≡ seen told (map (idle_reply c m) ts)
-  seen_idle told whole ts some is =
-      let first = idle_first ts ∙ ap (λ (b : Bool). if b then idle_code c.verb else None) some in
-      let any = idle_done ts ∙ ap (λ (b : Bool). b && is_none (idle_code c.verb)) some in
-      let made : Telling CommandReply → Option Code → Bool → Seen = λ t f d. record { told = t; first_error = f; any_done = d } in
-      λ i. made (is i) (sym first i) (sym any i)
-
--- ---- told one after another
-
-module _ (told : Telling CommandReply) (f : List ℕ → CommandReply) where
-  -- these, and then those
-  pub told_both : (xs ys : List (List ℕ)) → told_behind command_reply_text (told_behind command_reply_text told (map f xs)) (map f ys) ≡ told_behind command_reply_text told (map f (xs ++ ys))
-  told_both xs ys = told_more command_reply_text told (map f xs) (map f ys) ∙ ap (λ (l : List CommandReply). told_behind command_reply_text told l) (sym (map-append f xs ys))
-
-  -- once it is too long, it stays so
-  pub too_long : (ts : List (List ℕ)) (i : ℕ) → TooLong ≡ told_behind command_reply_text told (map f (take i ts)) → TooLong ≡ told_behind command_reply_text told (map f ts)
-  too_long ts i e =
-      ap (λ (t : Telling CommandReply). told_behind command_reply_text t (map f (drop i ts))) e ∙ told_both (take i ts) (drop i ts)
-      ∙ ap (λ (l : List (List ℕ)). told_behind command_reply_text told (map f l)) (take-append-drop i ts)
+  any_of_all : (ts : List (List ℕ)) → ((t : List ℕ) → is_in t ts ≡ true → code_of (f t).result ≡ k) → list_any is_done (map f ts) ≡ (is_some_list ts && is_none k)
+  any_of_all [] each = refl
+  any_of_all (t ∷ ts) each = any_by (map f ts) (f t).result (is_some_list ts) k (each t (or_left (bytes_eq t t) (is_in t ts) (itself t))) (any_of_all ts (λ q h. each q (or_right (bytes_eq q t) (is_in q ts) h)))
 
 -- ---- a wildcard that is not refused
 
@@ -222,13 +187,13 @@ module _ (at : At) (slot : Option ℕ) (c : Command) (m : Maps) where
       let rest = (first_none _ (first_code (missing at slot c m c.term) (check_code c.verb c.descriptors)) h).1 in
       matched_by c.term wildcard (first_none (missing at slot c m c.term) (check_code c.verb c.descriptors) rest).0
 
-  pub carried_on : (rules : Rules) (r : TermRef) → is_wildcard r ≡ true → carried rules at slot c m r ≡ on_names rules at c m
-  carried_on rules All w = refl
-  carried_on rules (Under x) w = refl
-  carried_on rules Root w = absurd cc
-  carried_on rules Choose w = absurd cc
-  carried_on rules (Name x) w = absurd cc
-  carried_on rules (Other x) w = absurd cc
+  pub executed_on : (rules : Rules) (r : TermRef) → is_wildcard r ≡ true → executed rules at slot c m r ≡ on_names rules at c m
+  executed_on rules All w = refl
+  executed_on rules (Under x) w = refl
+  executed_on rules Root w = absurd cc
+  executed_on rules Choose w = absurd cc
+  executed_on rules (Name x) w = absurd cc
+  executed_on rules (Other x) w = absurd cc
 
 -- ---- the targets of a command
 
@@ -306,14 +271,22 @@ module _ (keys : PartKeys) (at : At) (slot : Option ℕ) (c : Command) (m : Maps
   each_stands t h = stands t (is_add c.verb) (in_place t (in_matched t c.term wildcard h))
 
 module _ (keys : PartKeys) (rules : Rules) (at : At) (slot : Option ℕ) (c : Command) (m : Maps) (sound : IsSound keys m) (covered : Holds keys (command_keys at slot c m)) (idle : IsIdle keys rules at c m) where
-  each_left : (t : List ℕ) → is_in t (targets at c m) ≡ true → on_name rules (place_at at) c t m ≡ left c t m
+  each_left : (t : List ℕ) → is_in t (targets at c m) ≡ true → IsLeft m (code_idle c.verb) (on_name rules (place_at at) c t m)
   each_left t h = let one = each_stands keys at slot c m sound covered idle.wildcard idle.held t h in left_one rules at c t one.0 m idle.leaves one.1 one.2
 
-  pub some_target : refusal_by_tables at slot c m ≡ None → is_some_list (targets at c m) ≡ true
-  some_target h = some_matched at slot c m idle.wildcard h
-
-  -- the maps stay, and each target has its reply
-  pub idle_carried : refusal_by_tables at slot c m ≡ None → allowed rules at slot c m ≡ record { maps = m; answer = outcome_told at c (map (idle_reply c m) (targets at c m)) }
-  idle_carried h =
-      ap (λ (o : Option Code). unless_refused o at c m (carried rules at slot c m c.term)) h ∙ carried_on at slot c m rules c.term idle.wildcard
-      ∙ ap (λ (o : Outcome (Attempts Unit CommandReply)). let x : Outcome CmdOutcome = record { maps = o.maps; answer = outcome_told at c o.answer.answers } in x) (left_all rules at c m (targets at c m) each_left)
+  -- the maps stay, and what comes of the targets shows without them
+  pub idle_executed : refusal_by_tables at slot c m ≡ None
+      → (replies : List CommandReply) × (allowed rules at slot c m ≡ record { maps = m; answer = outcome_written at c replies }) × (seen_idle c.verb ≡ seen TooLong replies)
+  idle_executed h =
+      let ts : List (List ℕ) = targets at c m in
+      let some = some_matched at slot c m idle.wildcard h in
+      let k : Option Code = code_idle c.verb in
+      let f : List ℕ → CommandReply = reply_at rules at c m in
+      let first = first_of_all f k ts (λ t i. (each_left t i).code) ∙ ap (λ (b : Bool). if b then k else None) some in
+      let any = any_of_all f k ts (λ t i. (each_left t i).code) ∙ ap (λ (b : Bool). b && is_none k) some in
+      let made : Option Code → Bool → Seen = λ e d. record { written = TooLong; first_error = e; any_done = d } in (
+        map f ts,
+        ap (λ (o : Option Code). unless_refused o at c m (executed rules at slot c m c.term)) h ∙ executed_on at slot c m rules c.term idle.wildcard
+            ∙ ap (λ (o : Outcome (Attempts Unit CommandReply)). let x : Outcome CmdOutcome = record { maps = o.maps; answer = outcome_written at c o.answer.answers } in x) (left_all rules at c m ts (λ t i. (each_left t i).maps)),
+        (λ i. made (sym first i) (sym any i)),
+      )

@@ -41,7 +41,7 @@ use Rattle.gw_refusal.specs.Forms.{refusal_by_form}
 use Rattle.gw_cmd.specs.Refusals.{refusal_by_tables, has_ended, first_code, code_if}
 use Rattle.gw_cmd.specs.Suits.{HoldsSlot, IsReady}
 use Rattle.gw_refusal.specs.Targets.{those_in, source, targets_of, targets, matched, is_free}
-use Rattle.gw_cmd.proofs.Programs.{of_members, of_those, of_matched, of_targets, of_ended, of_missing, of_tables, of_names, of_new, of_root, of_serviced_if, of_carried, unless_told, of_rest, of_allowed, program, effect-of_targets, effect-of_ended, effect-of_tables, effect-program}
+use Rattle.gw_cmd.proofs.Programs.{of_members, of_those, of_matched, of_targets, of_ended, of_missing, of_tables, of_names, of_new, of_root, of_serviced_if, of_executed, unless_code, of_rest, of_allowed, program, effect-of_targets, effect-of_ended, effect-of_tables, effect-program}
 use Rattle.gw_cmd.proofs.Ready.{among_all, among_action, among_term, every_term, every_ctx, named, in_filter, same_any, ready, ready_new}
 use Rattle.gw_cmd.proofs.Within.{within-names, within-one, within-new, within-services}
 
@@ -168,19 +168,19 @@ module _ (rules : Rules) (at : At) (slot : Option ℕ) (c : Command) (m : Maps) 
   do_new None h p = tt
   do_new (Some s) h p = within-then keys _ (λ x. Done (commands.outcome_of at (commands.new_reply c s x ∷ []))) m (within-new keys rules (place_at at) c s m h p) tt
 
-  do_carried : refusal_by_form at c ≡ None → IsReady (Only keys) at c m → (r : TermRef) → c.term ≡ r → Within keys (of_carried rules at slot c (targets_of r at c m) r) m
-  do_carried f p Root e = within-then keys (of_root c.verb c.descriptors) (λ _. Done (commands.outcome_of at (commands.reply c Root (Ok (commands.root_parts c)) ∷ []))) m (do_root e c.verb refl) tt
-  do_carried f p Choose e = do_new slot (ready_new (Only keys) at slot c m covered f e) p.place
-  do_carried f p (Name t) e =
-      within-then keys (of_names rules at c (t ∷ [])) (λ rs. Done (commands.outcome_told at c rs)) m
+  do_executed : refusal_by_form at c ≡ None → IsReady (Only keys) at c m → (r : TermRef) → c.term ≡ r → Within keys (of_executed rules at slot c (targets_of r at c m) r) m
+  do_executed f p Root e = within-then keys (of_root c.verb c.descriptors) (λ _. Done (commands.outcome_of at (commands.reply c Root (Ok (commands.root_parts c)) ∷ []))) m (do_root e c.verb refl) tt
+  do_executed f p Choose e = do_new slot (ready_new (Only keys) at slot c m covered f e) p.place
+  do_executed f p (Name t) e =
+      within-then keys (of_names rules at c (t ∷ [])) (λ rs. Done (commands.outcome_written at c rs)) m
       (within-one keys rules at c t m p.place (in_term (Name t) e (Term t) (has-head (Term t) (place_key (place_of (term m t))))) (p.moved t e)) tt
-  do_carried f p All e = within-then keys (of_names rules at c (targets_of All at c m)) (λ rs. Done (commands.outcome_told at c rs)) m (do_wild p All e (λ t x. cc)) tt
-  do_carried f p (Under x) e = within-then keys (of_names rules at c (targets_of (Under x) at c m)) (λ rs. Done (commands.outcome_told at c rs)) m (do_wild p (Under x) e (λ t y. cc)) tt
-  do_carried f p (Other x) e = within-then keys (of_names rules at c []) (λ rs. Done (commands.outcome_told at c rs)) m tt tt
+  do_executed f p All e = within-then keys (of_names rules at c (targets_of All at c m)) (λ rs. Done (commands.outcome_written at c rs)) m (do_wild p All e (λ t x. cc)) tt
+  do_executed f p (Under x) e = within-then keys (of_names rules at c (targets_of (Under x) at c m)) (λ rs. Done (commands.outcome_written at c rs)) m (do_wild p (Under x) e (λ t y. cc)) tt
+  do_executed f p (Other x) e = within-then keys (of_names rules at c []) (λ rs. Done (commands.outcome_written at c rs)) m tt tt
 
-  do_unless : refusal_by_form at c ≡ None → (x : Option Code) → refusal_by_tables at slot c m ≡ x → Within keys (unless_told at c x (of_carried rules at slot c (targets at c m) c.term)) m
+  do_unless : refusal_by_form at c ≡ None → (x : Option Code) → refusal_by_tables at slot c m ≡ x → Within keys (unless_code at c x (of_executed rules at slot c (targets at c m) c.term)) m
   do_unless f (Some code) e = tt
-  do_unless f None e = do_carried f (ready (Only keys) at slot c m covered f e) c.term refl
+  do_unless f None e = do_executed f (ready (Only keys) at slot c m covered f e) c.term refl
 
   ended_then : Bool → Accesses (Option Code)
   ended_then e = and_then (of_missing slot (targets at c m) c.term) (λ x. Done (first_code (code_if UnknownContext e) (first_code x (check_code c.verb c.descriptors))))
@@ -194,10 +194,10 @@ module _ (rules : Rules) (at : At) (slot : Option ℕ) (c : Command) (m : Maps) 
 
   do_rest : refusal_by_form at c ≡ None → Within keys (of_rest rules at slot c (targets at c m)) m
   do_rest f =
-      within-then keys (of_tables at slot c (targets at c m)) (λ x. unless_told at c x (of_carried rules at slot c (targets at c m) c.term)) m read_tables
-      (subst (λ (o : Outcome (Option Code)). Within keys (unless_told at c o.answer (of_carried rules at slot c (targets at c m) c.term)) o.maps) (sym (effect-of_tables at slot c m)) (do_unless f (refusal_by_tables at slot c m) refl))
+      within-then keys (of_tables at slot c (targets at c m)) (λ x. unless_code at c x (of_executed rules at slot c (targets at c m) c.term)) m read_tables
+      (subst (λ (o : Outcome (Option Code)). Within keys (unless_code at c o.answer (of_executed rules at slot c (targets at c m) c.term)) o.maps) (sym (effect-of_tables at slot c m)) (do_unless f (refusal_by_tables at slot c m) refl))
 
-  do_form : (x : Option Code) → refusal_by_form at c ≡ x → Within keys (unless_told at c x (of_allowed rules at slot c)) m
+  do_form : (x : Option Code) → refusal_by_form at c ≡ x → Within keys (unless_code at c x (of_allowed rules at slot c)) m
   do_form (Some code) e = tt
   do_form None e =
       within-then keys (of_targets c.term at c) (λ ts. of_rest rules at slot c ts) m (read_targets c.term refl)

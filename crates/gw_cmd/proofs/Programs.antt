@@ -254,12 +254,12 @@ effect-of_new rules at c (Some slot) m =
 -- ---- the command
 
 abbrev pub of_each : Rules → At → Command → List (List ℕ) → Accesses CmdOutcome
-of_each rules at c ts = and_then (of_names rules at c ts) (λ rs. Done (commands.outcome_told at c rs))
+of_each rules at c ts = and_then (of_names rules at c ts) (λ rs. Done (commands.outcome_written at c rs))
 
 effect-of_each : (rules : Rules) (at : At) (c : Command) (m : Maps) → effect (of_each rules at c (targets at c m)) m ≡ commands.on_names rules at c m
 effect-of_each rules at c m =
-    effect-then (of_names rules at c (targets at c m)) (λ rs. Done (commands.outcome_told at c rs)) m
-    ∙ ap (λ (o : Outcome (List CommandReply)). giving o.maps (commands.outcome_told at c o.answer)) (effect-of_names rules at c (targets at c m) m)
+    effect-then (of_names rules at c (targets at c m)) (λ rs. Done (commands.outcome_written at c rs)) m
+    ∙ ap (λ (o : Outcome (List CommandReply)). giving o.maps (commands.outcome_written at c o.answer)) (effect-of_names rules at c (targets at c m) m)
 
 abbrev pub of_gateway : At → Command → Accesses CmdOutcome
 of_gateway at c = and_then (of_root c.verb c.descriptors) (λ _. Done (commands.outcome_of at (commands.reply c Root (Ok (commands.root_parts c)) ∷ [])))
@@ -269,36 +269,36 @@ effect-of_gateway at c m =
     effect-then (of_root c.verb c.descriptors) (λ _. Done (commands.outcome_of at (commands.reply c Root (Ok (commands.root_parts c)) ∷ []))) m
     ∙ ap (λ (o : Outcome (Unit {0})). giving o.maps (commands.outcome_of at (commands.reply c Root (Ok (commands.root_parts c)) ∷ []))) (effect-of_root c.verb c.descriptors m)
 
-abbrev pub of_carried : Rules → At → Option ℕ → Command → List (List ℕ) → TermRef → Accesses CmdOutcome
-of_carried rules at slot c ts Root = of_gateway at c
-of_carried rules at slot c ts Choose = of_new rules at c slot
-of_carried rules at slot c ts (Name t) = of_each rules at c ts
-of_carried rules at slot c ts All = of_each rules at c ts
-of_carried rules at slot c ts (Under prefix) = of_each rules at c ts
-of_carried rules at slot c ts (Other text) = of_each rules at c ts
+abbrev pub of_executed : Rules → At → Option ℕ → Command → List (List ℕ) → TermRef → Accesses CmdOutcome
+of_executed rules at slot c ts Root = of_gateway at c
+of_executed rules at slot c ts Choose = of_new rules at c slot
+of_executed rules at slot c ts (Name t) = of_each rules at c ts
+of_executed rules at slot c ts All = of_each rules at c ts
+of_executed rules at slot c ts (Under prefix) = of_each rules at c ts
+of_executed rules at slot c ts (Other text) = of_each rules at c ts
 
-effect-of_carried : (rules : Rules) (at : At) (slot : Option ℕ) (c : Command) (r : TermRef) (m : Maps) → effect (of_carried rules at slot c (targets at c m) r) m ≡ commands.carried rules at slot c m r
-effect-of_carried rules at slot c Root m = effect-of_gateway at c m
-effect-of_carried rules at slot c Choose m = effect-of_new rules at c slot m
-effect-of_carried rules at slot c (Name t) m = effect-of_each rules at c m
-effect-of_carried rules at slot c All m = effect-of_each rules at c m
-effect-of_carried rules at slot c (Under prefix) m = effect-of_each rules at c m
-effect-of_carried rules at slot c (Other text) m = effect-of_each rules at c m
+effect-of_executed : (rules : Rules) (at : At) (slot : Option ℕ) (c : Command) (r : TermRef) (m : Maps) → effect (of_executed rules at slot c (targets at c m) r) m ≡ commands.executed rules at slot c m r
+effect-of_executed rules at slot c Root m = effect-of_gateway at c m
+effect-of_executed rules at slot c Choose m = effect-of_new rules at c slot m
+effect-of_executed rules at slot c (Name t) m = effect-of_each rules at c m
+effect-of_executed rules at slot c All m = effect-of_each rules at c m
+effect-of_executed rules at slot c (Under prefix) m = effect-of_each rules at c m
+effect-of_executed rules at slot c (Other text) m = effect-of_each rules at c m
 
-abbrev pub unless_told : At → Command → Option Code → Accesses CmdOutcome → Accesses CmdOutcome
-unless_told at c (Some code) p = Done (commands.outcome_of at (commands.reply c c.term (Err code) ∷ []))
-unless_told at c None p = p
+abbrev pub unless_code : At → Command → Option Code → Accesses CmdOutcome → Accesses CmdOutcome
+unless_code at c (Some code) p = Done (commands.outcome_of at (commands.reply c c.term (Err code) ∷ []))
+unless_code at c None p = p
 
 abbrev pub of_rest : Rules → At → Option ℕ → Command → List (List ℕ) → Accesses CmdOutcome
-of_rest rules at slot c ts = and_then (of_tables at slot c ts) (λ x. unless_told at c x (of_carried rules at slot c ts c.term))
+of_rest rules at slot c ts = and_then (of_tables at slot c ts) (λ x. unless_code at c x (of_executed rules at slot c ts c.term))
 
 abbrev pub of_allowed : Rules → At → Option ℕ → Command → Accesses CmdOutcome
 of_allowed rules at slot c = and_then (of_targets c.term at c) (λ ts. of_rest rules at slot c ts)
 
 unfoldable pub program : Rules → At → Option ℕ → Command → Accesses CmdOutcome
-program rules at slot c = unless_told at c (refusal_by_form at c) (of_allowed rules at slot c)
+program rules at slot c = unless_code at c (refusal_by_form at c) (of_allowed rules at slot c)
 
-effect-unless : (at : At) (c : Command) (x : Option Code) (p : Accesses CmdOutcome) (o : Outcome CmdOutcome) (m : Maps) → effect p m ≡ o → effect (unless_told at c x p) m ≡ commands.unless_refused x at c m o
+effect-unless : (at : At) (c : Command) (x : Option Code) (p : Accesses CmdOutcome) (o : Outcome CmdOutcome) (m : Maps) → effect p m ≡ o → effect (unless_code at c x p) m ≡ commands.unless_refused x at c m o
 effect-unless at c (Some code) p o m e = refl
 effect-unless at c None p o m e = e
 
@@ -310,12 +310,12 @@ pub effect-program : (rules : Rules) (at : At) (slot : Option ℕ) (c : Command)
 unfolding program commands.command
 effect-program rules at slot c m =
     let ts : List (List ℕ) = targets at c m in
-    let whole : Outcome CmdOutcome = commands.carried rules at slot c m c.term in
+    let whole : Outcome CmdOutcome = commands.executed rules at slot c m c.term in
     let rest = λ (l : List (List ℕ)). of_rest rules at slot c l in
     effect-unless at c (refusal_by_form at c) (of_allowed rules at slot c) (commands.unless_refused (refusal_by_tables at slot c m) at c m whole) m
     (effect-then (of_targets c.term at c) rest m
     ∙ ap (λ (o : Outcome (List (List ℕ))). effect (rest o.answer) o.maps) (effect-of_targets c.term at c m)
-    ∙ effect-then (of_tables at slot c ts) (λ x. unless_told at c x (of_carried rules at slot c ts c.term)) m
-    ∙ ap (λ (o : Outcome (Option Code)). effect (unless_told at c o.answer (of_carried rules at slot c ts c.term)) o.maps) (effect-of_tables at slot c m)
-    ∙ effect-unless at c (refusal_by_tables at slot c m) (of_carried rules at slot c ts c.term) whole m (effect-of_carried rules at slot c c.term m))
+    ∙ effect-then (of_tables at slot c ts) (λ x. unless_code at c x (of_executed rules at slot c ts c.term)) m
+    ∙ ap (λ (o : Outcome (Option Code)). effect (unless_code at c o.answer (of_executed rules at slot c ts c.term)) o.maps) (effect-of_tables at slot c m)
+    ∙ effect-unless at c (refusal_by_tables at slot c m) (of_executed rules at slot c ts c.term) whole m (effect-of_executed rules at slot c c.term m))
     ∙ both_refusals (refusal_by_form at c) (refusal_by_tables at slot c m) at c m whole

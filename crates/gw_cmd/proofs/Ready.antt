@@ -1,4 +1,4 @@
--- A command that is not refused, on a part that has its keys, is ready to be carried out.
+-- A command that is not refused, on a part that has its keys, is ready to be executed out.
 use Rattle.std.proofs.Common.{nat_eq, ◌≡◌, ℕ, Bool, true, false, List, [], ◌∷◌, ◌++◌, map, Option, None, Some, is_some, is_none, bytes_eq, refl, sym, ap, ◌∙◌}
 use Rattle.std.specs.Prelude.{◌≢◌, ◌||◌, ◌&&◌, not, if◌then◌else◌}
 use Rattle.std.specs.Ordering.{nat_cmp}
@@ -9,6 +9,7 @@ use Rattle.gw_base.specs.declared.code.Code.TheVariants.{UnknownCommand, NotImpl
 use Rattle.gw_base.specs.declared.ids.CtxNum.{CtxNum}
 use Rattle.gw_base.specs.declared.key.Key.{Key}
 use Rattle.gw_base.specs.declared.key.Key.TheVariants.{Term, Ctx, Whole}
+use Rattle.gw_base.specs.declared.command_words.Service.{Service}
 use Rattle.gw_base.specs.declared.command_words.Verb.{Verb}
 use Rattle.gw_base.specs.declared.command_words.Verb.TheVariants.{Add, Modify, Move, Subtract, AuditValue, AuditCapability, Notify, ServiceChange}
 use Rattle.gw_base.specs.declared.term_ref.TermRef.{TermRef}
@@ -32,6 +33,7 @@ use Rattle.gw_refusal.specs.Places.{place_at, is_null, is_unmade, is_each}
 use Rattle.gw_refusal.specs.Forms.{is_left_out, is_misplaced, refusal_by_form}
 use Rattle.gw_cmd.specs.Refusals.{has_ended, code_if, missing, first_code, refusal_by_tables}
 use Rattle.gw_cmd.specs.Suits.{HoldsFound, HoldsSlot, HoldsNew, IsReady}
+use Rattle.gw_cmd.specs.Tasks.{task_of}
 use Rattle.gw_refusal.specs.Targets.{those_in, source, matched, targets_of}
 
 -- ---- tests
@@ -51,18 +53,19 @@ not_false false h = absurd cc
 -- ---- refusals that do not come
 
 record PassesForm (at : At) (c : Command) : Type 0 where
+  known : is_unsupported c.verb ≡ false
   kept : is_left_out at c ≡ false
   placed : is_misplaced at c ≡ false
 
 form_none : (at : At) (c : Command) → refusal_by_form at c ≡ None → PassesForm at c
 unfolding refusal_by_form
-form_none at c h = by (is_unsupported c.verb) (is_left_out at c) (is_misplaced at c) refl refl h
+form_none at c h = by (is_unsupported c.verb) (is_left_out at c) (is_misplaced at c) refl refl refl h
   where
-    by : (u l p : Bool) → is_left_out at c ≡ l → is_misplaced at c ≡ p → (if u then Some UnknownCommand else if l then Some NotImplemented else if p then Some IllegalCombination else None) ≡ None → PassesForm at c
-    by true l p e f k = absurd cc
-    by false true p e f k = absurd cc
-    by false false true e f k = absurd cc
-    by false false false e f k = record { kept = e; placed = f }
+    by : (u l p : Bool) → is_unsupported c.verb ≡ u → is_left_out at c ≡ l → is_misplaced at c ≡ p → (if u then Some UnknownCommand else if l then Some NotImplemented else if p then Some IllegalCombination else None) ≡ None → PassesForm at c
+    by true l p d e f k = absurd cc
+    by false true p d e f k = absurd cc
+    by false false true d e f k = absurd cc
+    by false false false d e f k = record { known = d; kept = e; placed = f }
 
 live_by : (at : At) (slot : Option ℕ) (c : Command) (m : Maps) → refusal_by_tables at slot c m ≡ None → has_ended at m ≡ false
 unfolding refusal_by_tables
@@ -157,6 +160,9 @@ module _ (at : At) (c : Command) (p : PassesForm at c) where
   behind : ((is_root c.term && (brings c.verb || is_subtract c.verb)) ≡ false) × ((is_choose c.term && not (brings c.verb)) ≡ false)
   behind = late_two_of (is_null at && (brings c.verb || is_subtract c.verb)) (is_each at && brings c.verb) (is_unmade at && not (brings c.verb)) (is_root c.term && (brings c.verb || is_subtract c.verb)) (is_choose c.term && not (brings c.verb)) (is_root c.term && not (is_null at)) p.placed
 
+  first : (is_null at && (brings c.verb || is_subtract c.verb)) ≡ false
+  first = (two_of (is_null at && (brings c.verb || is_subtract c.verb)) (is_each at && brings c.verb) (is_unmade at && not (brings c.verb)) (is_root c.term && (brings c.verb || is_subtract c.verb)) (is_choose c.term && not (brings c.verb)) (is_root c.term && not (is_null at)) p.placed).0
+
   -- a Move has a name
   stays_by : (r : TermRef) → c.term ≡ r → ((t : List ℕ) → c.term ≢ Name t) → is_move c.verb ≡ false
   stays_by (Name t) e h = absurd (h t e)
@@ -175,6 +181,34 @@ module _ (at : At) (c : Command) (p : PassesForm at c) where
       add_of c.verb
       (not_false (brings c.verb) (and_false (is_choose c.term) (not (brings c.verb)) behind.1 (ap (λ (r : TermRef). is_choose r) e)))
       (either_false (is_move c.verb) (is_wildcard c.term || is_choose c.term) front.1 (ap (λ (r : TermRef). is_wildcard r || is_choose r) e))
+
+-- a termination is made by an Add
+pub adds_new : (at : At) (c : Command) → refusal_by_form at c ≡ None → c.term ≡ Choose → is_add c.verb ≡ true
+adds_new at c form = adds at c (form_none at c form)
+
+-- there is something that the command does
+pub has_task : (at : At) (c : Command) (service : Option Service) → refusal_by_form at c ≡ None → is_some (task_of c.verb (place_at at) service) ≡ true
+has_task at c service form = by c.verb refl
+  where
+    p : PassesForm at c
+    p = form_none at c form
+
+    some : (a : At) → at ≡ a → brings c.verb || is_subtract c.verb ≡ true → (f : Option CtxNum → Bool) → ((n : CtxNum) → f (Some n) ≡ true) → f (place_at a) ≡ true
+    some Null e h f g =
+        absurd (let clash : true ≡ false = sym (ap (λ (b : Bool). is_null Null && b) h) ∙ ap (λ (x : At). is_null x && (brings c.verb || is_subtract c.verb)) (sym e) ∙ first at c p in cc)
+    some (Live n) e h f g = g n
+    some (Unmade n) e h f g = g n
+    some (Each n) e h f g = g n
+
+    by : (v : Verb) → c.verb ≡ v → is_some (task_of v (place_at at) service) ≡ true
+    by Add e = some at refl (ap (λ (v : Verb). brings v || is_subtract v) e) (λ o. is_some (task_of Add o service)) (λ n. refl)
+    by Move e = some at refl (ap (λ (v : Verb). brings v || is_subtract v) e) (λ o. is_some (task_of Move o service)) (λ n. refl)
+    by Subtract e = some at refl (ap (λ (v : Verb). brings v || is_subtract v) e) (λ o. is_some (task_of Subtract o service)) (λ n. refl)
+    by Modify e = refl
+    by AuditValue e = refl
+    by ServiceChange e = refl
+    by AuditCapability e = absurd (let clash : true ≡ false = sym (ap (λ (v : Verb). is_unsupported v) e) ∙ p.known in cc)
+    by Notify e = absurd (let clash : true ≡ false = sym (ap (λ (v : Verb). is_unsupported v) e) ∙ p.known in cc)
 
 -- ---- targets
 

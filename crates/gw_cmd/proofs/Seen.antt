@@ -7,7 +7,7 @@ use Rattle.gw_base.specs.declared.code.Code.{Code}
 use Rattle.gw_reply.specs.declared.parts.ReplyPart.{ReplyPart}
 use Rattle.gw_reply.specs.declared.reply.CommandReply.{CommandReply}
 use Rattle.gw_cmd.specs.Commands.{has_error, is_done, error_of, error_in, first_error}
-use Rattle.gw_cmd.specs.Told.{code_of}
+use Rattle.gw_cmd.specs.Written.{code_of}
 
 no_code : (x : Result (List ReplyPart) Code) → is_err x ≡ false → None ≡ code_of x
 no_code (Ok parts) e = refl

@@ -19,9 +19,9 @@ use Rattle.gw_reply.specs.declared.reply.CommandReply.{CommandReply}
 use Rattle.gw_term.specs.Record.{ephemeral}
 use Rattle.gw_table.specs.declared.attempts.Attempts.{Attempts}
 use Rattle.gw_table.specs.Folds.{in_order}
-use Rattle.gw_table.specs.Maps.{Maps, Outcome, names}
+use Rattle.gw_table.specs.Maps.{Maps, Outcome, term, names}
 use Rattle.gw_table.specs.Reserved.{slot_name}
-pub use Rattle.gw_table.specs.Served.{all_serviced}
+use Rattle.gw_table.specs.Members.{put_service}
 use Rattle.gw_refusal.specs.declared.at.At.{At}
 use Rattle.gw_cmd.specs.declared.outcome.CmdOutcome.{CmdOutcome}
 use Rattle.gw_refusal.specs.Asked.{is_wildcard, audited, service_asked}
@@ -83,21 +83,21 @@ abbrev pub first_error : List CommandReply → Result (List ReplyPart) Code
 first_error replies = error_in (find has_error replies)
 
 -- W- with a wildcard has one reply to it as sent
-abbrev pub told : Command → List CommandReply → List CommandReply
-told c replies = if c.wild && is_wildcard c.term then reply c c.term (first_error replies) ∷ [] else replies
+abbrev pub written : Command → List CommandReply → List CommandReply
+written c replies = if c.wild && is_wildcard c.term then reply c c.term (first_error replies) ∷ [] else replies
 
--- what its targets gave: it failed if one of them did, and made its context if it was carried out on one of them
-abbrev pub outcome_told : At → Command → List CommandReply → CmdOutcome
-outcome_told at c replies = record (outcome_of at replies) { replies = told c replies }
+-- what its targets gave: it failed if one of them did, and made its context if it was done to one of them
+abbrev pub outcome_written : At → Command → List CommandReply → CmdOutcome
+outcome_written at c replies = record (outcome_of at replies) { replies = written c replies }
 
 abbrev pub on_names : Rules → At → Command → Maps → Outcome CmdOutcome
 on_names rules at c m =
     let o = on_targets rules at c (targets at c m) m in
-    record { maps = o.maps; answer = outcome_told at c o.answer.answers }
+    record { maps = o.maps; answer = outcome_written at c o.answer.answers }
 
 -- ---- on a termination that is made
 
--- told by its name where it came into being, else as $
+-- by its name where it came into being, else as $
 abbrev pub new_reply : Command → ℕ → Result (List ReplyPart) Code → CommandReply
 new_reply c slot (Ok parts) = reply c (Name (slot_name slot)) (Ok parts)
 new_reply c slot (Err code) = reply c Choose (Err code)
@@ -110,7 +110,12 @@ on_new rules at c (Some slot) m =
 
 -- ---- on ROOT, the gateway itself
 
--- a service state for every termination, if one is asked for
+-- these terminations have this service state, one after another
+abbrev pub all_serviced : Service → List (List ℕ) → Maps → Maps
+all_serviced s [] m = m
+all_serviced s (t ∷ ts) m = all_serviced s ts (put_service s t m (term m t))
+
+-- a service state for every termination, if the Method has one
 abbrev pub serviced_if : Option Service → Maps → Maps
 serviced_if None m = m
 serviced_if (Some s) m = all_serviced s (names m) m
@@ -119,12 +124,12 @@ abbrev pub bare_if : Option AuditItem → List ReplyPart
 bare_if None = []
 bare_if (Some item) = part.Bare item ∷ []
 
-abbrev pub bare_told : List ℕ → List ReplyPart
-bare_told word = bare_if (item_of word)
+abbrev pub bare_answer : List ℕ → List ReplyPart
+bare_answer word = bare_if (item_of word)
 
--- every item is told bare
+-- every item is answered bare
 abbrev pub root_parts : Command → List ReplyPart
-root_parts c = flat_map bare_told (audited c.descriptors)
+root_parts c = flat_map bare_answer (audited c.descriptors)
 
 -- a ServiceChange is for every termination
 abbrev pub root_maps : Verb → List Descriptor → Maps → Maps
@@ -136,13 +141,13 @@ on_root at c m = with_replies at (root_maps c.verb c.descriptors m) (reply c Roo
 
 -- ---- the command
 
-abbrev pub carried : Rules → At → Option ℕ → Command → Maps → TermRef → Outcome CmdOutcome
-carried rules at slot c m Root = on_root at c m
-carried rules at slot c m Choose = on_new rules at c slot m
-carried rules at slot c m (Name t) = on_names rules at c m
-carried rules at slot c m All = on_names rules at c m
-carried rules at slot c m (Under prefix) = on_names rules at c m
-carried rules at slot c m (Other text) = on_names rules at c m
+abbrev pub executed : Rules → At → Option ℕ → Command → Maps → TermRef → Outcome CmdOutcome
+executed rules at slot c m Root = on_root at c m
+executed rules at slot c m Choose = on_new rules at c slot m
+executed rules at slot c m (Name t) = on_names rules at c m
+executed rules at slot c m All = on_names rules at c m
+executed rules at slot c m (Under prefix) = on_names rules at c m
+executed rules at slot c m (Other text) = on_names rules at c m
 
 abbrev pub unless_refused : Option Code → At → Command → Maps → Outcome CmdOutcome → Outcome CmdOutcome
 unless_refused (Some code) at c m o = refused at c code m
@@ -150,7 +155,7 @@ unless_refused None at c m o = o
 
 -- one that its form allows
 abbrev pub allowed : Rules → At → Option ℕ → Command → Maps → Outcome CmdOutcome
-allowed rules at slot c m = unless_refused (refusal_by_tables at slot c m) at c m (carried rules at slot c m c.term)
+allowed rules at slot c m = unless_refused (refusal_by_tables at slot c m) at c m (executed rules at slot c m c.term)
 
 unfoldable pub command : Rules → At → Option ℕ → Command → Maps → Outcome CmdOutcome
-command rules at slot c m = unless_refused (refusal at slot c m) at c m (carried rules at slot c m c.term)
+command rules at slot c m = unless_refused (refusal at slot c m) at c m (executed rules at slot c m c.term)

@@ -1,4 +1,4 @@
--- What a command does to one termination, and what it tells of it (RFC 3525, section 7.2; which case gets which code, and in
+-- What a command does to one termination, and what its reply has (RFC 3525, section 7.2; which case gets which code, and in
 -- which order, is own). It is decided by the termination's record, and by whether the action's context is full.
 use Rattle.std.specs.Prelude.{ℕ, nat_eq, nat_le, Bool, not, ◌||◌, if◌then◌else◌, List, [], ◌∷◌, ◌++◌, length, Option, None, Some, Result, Ok, Err}
 use Rattle.std.specs.Option.{unwrap_or}
@@ -24,7 +24,6 @@ use Rattle.gw_table.specs.Members.{put_service}
 use Rattle.gw_refusal.specs.Asked.{audited, asks_media, is_some_list, service_asked}
 use Rattle.gw_cmd.specs.declared.change.Change.TheVariants.{Stays, Becomes, Joins, Crosses, Leaves}
 use Rattle.gw_cmd.specs.declared.change.Decided.{Decided}
-use Rattle.gw_cmd.specs.declared.change.Merged.{Merged}
 use Rattle.gw_cmd.specs.Changes.{changed}
 use Rattle.gw_refusal.specs.Places.{same_place}
 
@@ -38,7 +37,11 @@ filled_part descriptors filled = if asks_media descriptors || not (is_some_list 
 abbrev pub parts_of : List Descriptor → List FilledStream → Termination → List ReplyPart
 parts_of descriptors filled new = filled_part descriptors filled ++ audit_parts (audited descriptors) new
 
--- the record after a merge, and what is told of it
+-- what a merge comes to: the record after it, and what the reply has
+pub record Merged : Type 0 where
+  pub record_after : Termination
+  pub parts : List ReplyPart
+
 abbrev pub with_parts : List Descriptor → List FilledStream → Termination → Merged
 with_parts descriptors filled new = record { record_after = new; parts = parts_of descriptors filled new }
 
@@ -107,10 +110,10 @@ unless None d = Ok d
 abbrev pub subtracted : List Descriptor → CtxNum → Termination → Result Decided Code
 subtracted descriptors n r = unless (refusal_elsewhere (Some n) r.place) (record { change = Leaves n (what_remains r); parts = audit_parts (audited descriptors) r })
 
-abbrev pub told_of : List Descriptor → Option CtxNum → Termination → Result Decided Code
-told_of descriptors place r = unless (refusal_elsewhere place r.place) (record { change = Stays; parts = audit_parts (audited descriptors) r })
+abbrev pub audited_in : List Descriptor → Option CtxNum → Termination → Result Decided Code
+audited_in descriptors place r = unless (refusal_elsewhere place r.place) (record { change = Stays; parts = audit_parts (audited descriptors) r })
 
--- the service state that is asked for, or as it was
+-- the service state of the Method, or as it was
 abbrev pub after_change : List Descriptor → Termination → Termination
 after_change descriptors r = serviced r (unwrap_or (service_asked descriptors) r.service)
 
@@ -124,14 +127,14 @@ decided_in rules Add descriptors full n r = added rules descriptors full n r
 decided_in rules Move descriptors full n r = moved rules descriptors full n r
 decided_in rules Subtract descriptors full n r = subtracted descriptors n r
 decided_in rules Modify descriptors full n r = modified rules descriptors (Some n) r
-decided_in rules AuditValue descriptors full n r = told_of descriptors (Some n) r
+decided_in rules AuditValue descriptors full n r = audited_in descriptors (Some n) r
 decided_in rules ServiceChange descriptors full n r = service_changed descriptors (Some n) r
 decided_in rules AuditCapability descriptors full n r = Err UnknownCommand
 decided_in rules Notify descriptors full n r = Err UnknownCommand
 
 abbrev pub decided_in_null : Rules → Verb → List Descriptor → Termination → Result Decided Code
 decided_in_null rules Modify descriptors r = modified rules descriptors None r
-decided_in_null rules AuditValue descriptors r = told_of descriptors None r
+decided_in_null rules AuditValue descriptors r = audited_in descriptors None r
 decided_in_null rules ServiceChange descriptors r = service_changed descriptors None r
 decided_in_null rules Add descriptors r = Err IllegalCombination
 decided_in_null rules Move descriptors r = Err IllegalCombination
@@ -149,7 +152,7 @@ abbrev pub decided : Rules → Option CtxNum → Command → Maps → Terminatio
 decided rules None c m r = decided_in_null rules c.verb c.descriptors r
 decided rules (Some n) c m r = decided_in rules c.verb c.descriptors (is_full rules n m) n r
 
--- the maps and what is told, after a decision; a refusal leaves all as it was
+-- the maps and the answer after a decision; a refusal leaves all as it was
 abbrev pub done : List ℕ → Maps → Result Decided Code → Outcome (Result (List ReplyPart) Code)
 done t m (Err code) = record { maps = m; answer = Err code }
 done t m (Ok d) = record { maps = changed t d.change m; answer = Ok d.parts }
@@ -168,10 +171,10 @@ on_name rules place c t m = on_found rules place c t (term m t) m
 
 -- ---- what needs no new record
 
--- of a termination that is left as it is nothing is told, unless it is refused
-abbrev pub nothing_told : Option Code → Result (List ReplyPart) Code
-nothing_told (Some code) = Err code
-nothing_told None = Ok []
+-- a termination that is left as it is has an empty answer, unless it is refused
+abbrev pub empty_unless : Option Code → Result (List ReplyPart) Code
+empty_unless (Some code) = Err code
+empty_unless None = Ok []
 
 -- another service state, unless it is refused
 abbrev pub after_service : Option Code → Service → List ℕ → Maps → Outcome (Result (List ReplyPart) Code)

@@ -1,4 +1,4 @@
--- The forms of what tables keep as sent, and of what commands tell of it (own).
+-- The forms of what tables keep as sent, and of what replies have of it (own).
 use Rattle.std.specs.Prelude.{◌≡◌, ◌<◌, ℕ, List, Some, Option}
 use Rattle.std.specs.List.{All}
 use Rattle.gw_base.specs.Names.{IsName}

@@ -12,13 +12,13 @@ abbrev pub refusal_of : ApplyFault → Refusal
 refusal_of (apply.Code code) = refusal.Code code
 refusal_of apply.NoMemory = refusal.NoMemory
 
--- what a call tells, and the maps that it leaves, but for want of memory
-abbrev pub Tells : {A : Type 0} → Result A Refusal → Maps → Outcome (Result A Code) → Type 0
-Tells (Ok a) m o = (m ≡ o.maps) × (Ok a ≡ o.answer)
-Tells (Err (refusal.Code code)) m o = (m ≡ o.maps) × (Err code ≡ o.answer)
-Tells (Err refusal.NoMemory) m o = Unit {0}
+-- what a call gives, and the maps that it leaves, but for a lack of memory
+abbrev pub Gives : {A : Type 0} → Result A Refusal → Maps → Outcome (Result A Code) → Type 0
+Gives (Ok a) m o = (m ≡ o.maps) × (Ok a ≡ o.answer)
+Gives (Err (refusal.Code code)) m o = (m ≡ o.maps) × (Err code ≡ o.answer)
+Gives (Err refusal.NoMemory) m o = Unit {0}
 
--- what a call answers that changes nothing, but for want of memory
+-- what a call answers that changes nothing, but for a lack of memory
 abbrev pub Answers : {A : Type 0} → Result A Refusal → Result A Code → Type 0
 Answers (Ok a) o = Ok a ≡ o
 Answers (Err (refusal.Code code)) o = Err code ≡ o

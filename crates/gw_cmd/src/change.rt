@@ -2,7 +2,7 @@
 
 use gw_base::{CtxNum, Held, Items};
 use gw_reply::ReplyPart;
-use gw_term::Termination;
+use gw_term::{Filled, Termination};
 
 /// What becomes of a termination and of who is in which context.
 #[derive(Drop)]
@@ -19,20 +19,20 @@ pub(crate) enum Change {
     Leaves(CtxNum, Option<Held<Termination>>),
 }
 
+/// What becomes of a termination that is not refused.
+#[derive(Drop)]
+pub(crate) struct Plan {
+    /// The change.
+    pub change: Change,
+    /// The streams of the new record whose Local was filled.
+    pub filled: Filled,
+}
+
 /// What is decided of a termination that is not refused.
 #[derive(Drop)]
 pub(crate) struct Decided {
     /// What becomes of it.
     pub change: Change,
-    /// What the reply tells of it.
-    pub parts: Items<ReplyPart>,
-}
-
-/// What a merge comes to.
-#[derive(Drop)]
-pub(crate) struct Merged {
-    /// The record after it.
-    pub record_after: Held<Termination>,
-    /// What the reply tells of it.
+    /// What its reply has.
     pub parts: Items<ReplyPart>,
 }

@@ -1,24 +1,27 @@
 //! What is decided of one termination, by its record and by whether the action's context is full.
 
-ghost use Rattle.std.specs.Prelude.{◌≡◌, ◌++◌, None, Some, Ok};
-ghost use Rattle.gw_term.specs.Audit.{audit_parts};
-ghost use Rattle.gw_refusal.specs.Asked.{audited};
-ghost use Rattle.gw_cmd.specs.Effects.{refusal_to_add, refusal_to_move, refusal_elsewhere, added, crosses, moved, modified, subtracted, told_of, service_changed, decided_in, decided_in_null};
+ghost use Rattle.std.specs.Prelude.{◌≡◌, List, Ok};
+ghost use Rattle.gw_desc.specs.declared.descriptor.Descriptor.{Descriptor};
+ghost use Rattle.gw_term.specs.declared.record.Termination.{Termination as Record};
 ghost use Rattle.gw_refusal.specs.Places.{same_place};
+ghost use Rattle.gw_cmd.specs.Effects.{refusal_to_add, refusal_to_move, refusal_elsewhere, with_parts, merging, added, crosses, moved, modified, subtracted, audited_in};
+ghost use Rattle.gw_cmd.specs.Mergers.{IsSameMerger};
 ghost use Rattle.gw_cmd.specs.Refused.{Answers};
+ghost use Rattle.gw_cmd.specs.Plans.{Merges, Plans, decided_if};
+ghost use Rattle.gw_cmd.specs.Tasks.{decided_by};
 
-use crate::change::{Change, Decided, Merged};
-use crate::merge::{audit, merging};
+use crate::change::{Change, Decided, Plan};
+use crate::members::is_full;
+use crate::parts::parts_if;
 use crate::refusal::Refusal;
-use gw_base::{Code, CtxNum, Held, Items, Rules, Verb};
-use gw_desc::Descriptor;
-use gw_refusal::service_asked;
-use gw_table::what_remains;
-use gw_term::Termination;
+use crate::task::Act;
+use gw_base::{Code, CtxNum, Items};
+use gw_table::{Draft, what_remains};
+use gw_term::{Applied, Merger, Termination};
 use std::alloc::Global;
 
 /// Whether both are the null context or one context.
-pub(crate) fn is_same_place(a: Option<CtxNum>, b: Option<CtxNum>) -> bool
+fn is_same_place(a: Option<CtxNum>, b: Option<CtxNum>) -> bool
     ensures { result ≡ same_place a b }
 {
     match (a, b) {
@@ -62,166 +65,154 @@ pub(crate) fn refusal_elsewhere(place: Option<CtxNum>, there: Option<CtxNum>) ->
     }
 }
 
+/// The record after the descriptors, in this place, unless that is refused. A list that would hold too many properties is
+/// refused first.
+#[tactic(auto, unfolding(crate::specs::Effects::merging))]
+fn merged(
+    alloc: Global,
+    merger: &mut Merger<'_, '_>,
+    old: &Termination,
+    place: Option<CtxNum>,
+    refused: Option<Code>,
+) -> Result<Applied, Refusal>
+    ensures merged { Merges merger.old.descriptors.now result (merging merger.old.rules.now merger.old.descriptors.now old.now place refused) }
+    ensures same { IsSameMerger merger.old merger.new }
+{
+    let Applied { record, filled } = merger.merged(alloc, old)?;
+    if let Some(code) = refused {
+        return Err(Refusal::Code(code));
+    }
+    let mut record = record;
+    record.get_mut().set_place(place);
+    Ok(Applied { record, filled })
+}
+
 fn added(
     alloc: Global,
-    rules: &Rules,
-    descriptors: &[Descriptor<'_>],
+    merger: &mut Merger<'_, '_>,
     full: bool,
     number: CtxNum,
     old: &Termination,
-) -> Result<Decided, Refusal>
-    ensures { Answers result (added rules.now descriptors.now full number old.now) }
+) -> Result<Plan, Refusal>
+    ensures plan { Plans merger.old.descriptors.now old.now result (added merger.old.rules.now merger.old.descriptors.now full number old.now) }
+    ensures same { IsSameMerger merger.old merger.new }
 {
     let refused = refusal_to_add(full, old.place());
-    let merged = merging(alloc, rules, descriptors, old, Some(number), refused)?;
-    Ok(Decided {
-        change: Change::Joins(number, merged.record_after),
-        parts: merged.parts,
+    let Applied { record, filled } = merged(alloc, merger, old, Some(number), refused)?;
+    Ok(Plan {
+        change: Change::Joins(number, record),
+        filled,
     })
 }
 
 /// The termination crosses from the context that it is in.
-fn crosses(from: Option<CtxNum>, number: CtxNum, merged: Merged) -> Result<Decided, Refusal>
-    ensures { Answers result (crosses from number (Ok merged)) }
+fn crosses(from: Option<CtxNum>, number: CtxNum, applied: Applied) -> Result<Plan, Refusal>
+    ensures { (descriptors : List Descriptor) (old : Record) → Plans descriptors old result (crosses from number (Ok (with_parts descriptors applied.filled applied.record))) }
 {
     let Some(from) = from else {
         return Err(Refusal::Code(Code::NotInContext));
     };
-    Ok(Decided {
-        change: Change::Crosses(from, number, merged.record_after),
-        parts: merged.parts,
+    Ok(Plan {
+        change: Change::Crosses(from, number, applied.record),
+        filled: applied.filled,
     })
 }
 
 fn moved(
     alloc: Global,
-    rules: &Rules,
-    descriptors: &[Descriptor<'_>],
+    merger: &mut Merger<'_, '_>,
     full: bool,
     number: CtxNum,
     old: &Termination,
-) -> Result<Decided, Refusal>
-    ensures { Answers result (moved rules.now descriptors.now full number old.now) }
+) -> Result<Plan, Refusal>
+    ensures plan { Plans merger.old.descriptors.now old.now result (moved merger.old.rules.now merger.old.descriptors.now full number old.now) }
+    ensures same { IsSameMerger merger.old merger.new }
 {
     let refused = refusal_to_move(full, number, old.place());
-    let merged = merging(alloc, rules, descriptors, old, Some(number), refused)?;
-    crosses(old.place(), number, merged)
+    let applied = merged(alloc, merger, old, Some(number), refused)?;
+    crosses(old.place(), number, applied)
 }
 
 fn modified(
     alloc: Global,
-    rules: &Rules,
-    descriptors: &[Descriptor<'_>],
+    merger: &mut Merger<'_, '_>,
     place: Option<CtxNum>,
     old: &Termination,
-) -> Result<Decided, Refusal>
-    ensures { Answers result (modified rules.now descriptors.now place old.now) }
+) -> Result<Plan, Refusal>
+    ensures plan { Plans merger.old.descriptors.now old.now result (modified merger.old.rules.now merger.old.descriptors.now place old.now) }
+    ensures same { IsSameMerger merger.old merger.new }
 {
     let refused = refusal_elsewhere(place, old.place());
-    let merged = merging(alloc, rules, descriptors, old, place, refused)?;
-    Ok(Decided {
-        change: Change::Becomes(merged.record_after),
-        parts: merged.parts,
+    let Applied { record, filled } = merged(alloc, merger, old, place, refused)?;
+    Ok(Plan {
+        change: Change::Becomes(record),
+        filled,
     })
 }
 
-fn subtracted(
-    alloc: Global,
-    descriptors: &[Descriptor<'_>],
-    number: CtxNum,
-    old: &Termination,
-) -> Result<Decided, Refusal>
-    ensures { Answers result (subtracted descriptors.now number old.now) }
+fn subtracted(alloc: Global, number: CtxNum, old: &Termination) -> Result<Plan, Refusal>
+    ensures { (descriptors : List Descriptor) → Plans descriptors old.now result (subtracted descriptors number old.now) }
 {
     if let Some(code) = refusal_elsewhere(Some(number), old.place()) {
         return Err(Refusal::Code(code));
     }
-    let parts = audit(alloc, old, descriptors)?;
-    let remains = what_remains(alloc, old)?;
-    Ok(Decided {
-        change: Change::Leaves(number, remains),
-        parts,
+    Ok(Plan {
+        change: Change::Leaves(number, what_remains(alloc, old)?),
+        filled: Items::new(alloc),
     })
 }
 
-fn told_of(
-    alloc: Global,
-    descriptors: &[Descriptor<'_>],
-    place: Option<CtxNum>,
-    old: &Termination,
-) -> Result<Decided, Refusal>
-    ensures { Answers result (told_of descriptors.now place old.now) }
+fn audited(alloc: Global, place: Option<CtxNum>, old: &Termination) -> Result<Plan, Refusal>
+    ensures { (descriptors : List Descriptor) → Plans descriptors old.now result (audited_in descriptors place old.now) }
 {
-    if let Some(code) = refusal_elsewhere(place, old.place()) {
-        return Err(Refusal::Code(code));
-    }
-    let told = audit(alloc, old, descriptors)?;
-    Ok(Decided {
-        change: Change::Stays,
-        parts: told,
-    })
-}
-
-fn service_changed(
-    alloc: Global,
-    descriptors: &[Descriptor<'_>],
-    place: Option<CtxNum>,
-    old: &Termination,
-) -> Result<Decided, Refusal>
-    ensures { Answers result (service_changed descriptors.now place old.now) }
-{
-    if let Some(code) = refusal_elsewhere(place, old.place()) {
-        return Err(Refusal::Code(code));
-    }
-    let mut after = Held::new(alloc, old.copy(alloc)?)?;
-    after
-        .get_mut()
-        .set_service(service_asked(descriptors).unwrap_or(old.service()));
-    Ok(Decided {
-        change: Change::Becomes(after),
-        parts: Items::new(alloc),
-    })
-}
-
-/// What is decided of a termination, for a command in a context.
-pub(crate) fn decided_in(
-    alloc: Global,
-    rules: &Rules,
-    verb: Verb,
-    descriptors: &[Descriptor<'_>],
-    full: bool,
-    number: CtxNum,
-    old: &Termination,
-) -> Result<Decided, Refusal>
-    ensures { Answers result (decided_in rules.now verb descriptors.now full number old.now) }
-{
-    let place = Some(number);
-    match verb {
-        Verb::Add => added(alloc, rules, descriptors, full, number, old),
-        Verb::Move => moved(alloc, rules, descriptors, full, number, old),
-        Verb::Subtract => subtracted(alloc, descriptors, number, old),
-        Verb::Modify => modified(alloc, rules, descriptors, place, old),
-        Verb::AuditValue => told_of(alloc, descriptors, place, old),
-        Verb::ServiceChange => service_changed(alloc, descriptors, place, old),
-        Verb::AuditCapability | Verb::Notify => Err(Refusal::Code(Code::UnknownCommand)),
+    match refusal_elsewhere(place, old.place()) {
+        Some(code) => Err(Refusal::Code(code)),
+        None => Ok(Plan {
+            change: Change::Stays,
+            filled: Items::new(alloc),
+        }),
     }
 }
 
-/// What is decided of a termination, for a command in the null context.
-pub(crate) fn decided_in_null(
+/// What becomes of a termination with this record.
+fn planned(
     alloc: Global,
-    rules: &Rules,
-    verb: Verb,
-    descriptors: &[Descriptor<'_>],
+    draft: &Draft<'_>,
+    act: Act,
+    merger: &mut Merger<'_, '_>,
     old: &Termination,
-) -> Result<Decided, Refusal>
-    ensures { Answers result (decided_in_null rules.now verb descriptors.now old.now) }
+) -> Result<Plan, Refusal>
+    ensures plan { Plans merger.old.descriptors.now old.now result (decided_by merger.old.rules.now merger.old.descriptors.now act draft.now.maps old.now) }
+    ensures same { IsSameMerger merger.old merger.new }
 {
-    match verb {
-        Verb::Modify => modified(alloc, rules, descriptors, None, old),
-        Verb::AuditValue => told_of(alloc, descriptors, None, old),
-        Verb::ServiceChange => service_changed(alloc, descriptors, None, old),
-        Verb::Add | Verb::Move | Verb::Subtract => { Err(Refusal::Code(Code::IllegalCombination)) }
-        Verb::AuditCapability | Verb::Notify => Err(Refusal::Code(Code::UnknownCommand)),
+    match act {
+        Act::Add(number) => {
+            let full = is_full(merger.rules, draft, number);
+            added(alloc, merger, full, number, old)
+        }
+        Act::Move(number) => {
+            let full = is_full(merger.rules, draft, number);
+            moved(alloc, merger, full, number, old)
+        }
+        Act::Modify(place) => modified(alloc, merger, place, old),
+        Act::Subtract(number) => subtracted(alloc, number, old),
+        Act::Audit(place) => audited(alloc, place, old),
     }
+}
+
+/// What is decided of a termination with this record. What its reply has is found only where it is wanted.
+pub(crate) fn decided(
+    alloc: Global,
+    draft: &Draft<'_>,
+    act: Act,
+    merger: &mut Merger<'_, '_>,
+    old: &Termination,
+    wanted: bool,
+) -> Result<Decided, Refusal>
+    ensures decided { Answers result (decided_if wanted (decided_by merger.old.rules.now merger.old.descriptors.now act draft.now.maps old.now)) }
+    ensures same { IsSameMerger merger.old merger.new }
+{
+    let Plan { change, filled } = planned(alloc, draft, act, merger, old)?;
+    let parts = parts_if(alloc, wanted, merger.descriptors, filled, &change, old)?;
+    Ok(Decided { change, parts })
 }

@@ -1,32 +1,35 @@
 //! What a command does to one termination.
 
-ghost use Rattle.std.specs.Prelude.{◌≡◌, true, List, None, Ok, OnOk};
-ghost use Rattle.gw_base.specs.declared.key.Key.TheVariants.{Term, Ctx};
+ghost use Rattle.std.specs.Prelude.{◌≡◌, true, None, OnOk, Bool};
+ghost use Rattle.gw_base.specs.declared.command_words.Rules.{Rules as TheRules};
+ghost use Rattle.gw_base.specs.declared.key.Key.TheVariants.{Term};
+ghost use Rattle.gw_msg.specs.declared.message.Command.{Command};
 ghost use Rattle.gw_table.specs.Maps.{term, put_term, place_of};
 ghost use Rattle.gw_table.specs.Parts.{holds, HoldsPlace};
 ghost use Rattle.gw_table.specs.WellFormed.{IsSound};
 ghost use Rattle.gw_term.specs.Record.{ephemeral};
-ghost use Rattle.gw_term.specs.declared.record.Termination.{Termination};
-ghost use Rattle.gw_desc.specs.declared.descriptor.Descriptor.{Descriptor};
-ghost use Rattle.gw_cmd.specs.Effects.{refusal_elsewhere, nothing_told, after_service, is_full, decided_in, decided as decided_by, done, on_record, on_name};
 ghost use Rattle.gw_cmd.specs.Changes.{changed};
-ghost use Rattle.gw_cmd.specs.Refused.{Answers, Tells};
+ghost use Rattle.gw_cmd.specs.Effects.{on_record, on_name};
+ghost use Rattle.gw_cmd.specs.Plans.{answered};
+ghost use Rattle.gw_cmd.specs.Prepared.{IsSameCommand};
+ghost use Rattle.gw_cmd.specs.Refused.{Gives};
 ghost use Rattle.gw_cmd.specs.Suits.{Suits, HoldsMoved, HoldsFound};
+ghost use Rattle.gw_cmd.specs.declared.task.Task.TheVariants as does;
+ghost use Rattle.gw_cmd.specs.Tasks.{act_place, act_verb, task_place, task_verb, Does};
 
-use crate::change::{Change, Decided};
-use crate::decide::{decided_in, decided_in_null, refusal_elsewhere};
-use crate::members::is_full;
+use crate::change::Change;
+use crate::decide::{decided, refusal_elsewhere};
+use crate::prepared::Prepared;
 use crate::refusal::Refusal;
-use gw_base::{Code, CtxNum, Held, Items, NoMemory, Rules, Service, TermName, Verb};
-use gw_msg::Command;
-use gw_refusal::service_asked;
+use crate::task::{Act, Task};
+use gw_base::{Code, CtxNum, Held, Items, NoMemory, Rules, Service, TermName};
 use gw_reply::ReplyPart;
 use gw_table::Draft;
 use gw_term::Termination;
 use std::alloc::Global;
 
 /// The termination's record becomes this one, or none.
-pub(crate) fn put(
+fn put(
     draft: &mut Draft<'_>,
     name: &TermName,
     entry: Option<Held<Termination>>,
@@ -69,154 +72,100 @@ fn changed(
     }
 }
 
-/// What is decided is done, and told.
-fn done(
-    alloc: Global,
-    rules: &Rules,
-    draft: &mut Draft<'_>,
-    name: &TermName,
-    decided: Decided,
-) -> Result<Items<ReplyPart>, Refusal>
-    requires { Suits rules.now draft.old.keys name.now decided.change draft.old.maps }
-    ensures told { Tells result draft.new.maps (done name.now draft.old.maps (Ok decided)) }
-    ensures keys { draft.new.keys ≡ draft.old.keys }
-{
-    changed(alloc, rules, draft, name, decided.change)?;
-    Ok(decided.parts)
-}
-
-/// Whether the context takes no more members, as far as the command asks: an Add and a Move do, and no other costs a look-up.
-fn is_full_for(rules: &Rules, draft: &Draft<'_>, verb: Verb, number: CtxNum) -> bool
-    ensures { (descriptors : List Descriptor) (r : Termination) → decided_in rules.now verb descriptors result number r ≡ decided_in rules.now verb descriptors (is_full rules.now number draft.now.maps) number r }
-{
-    match verb {
-        Verb::Add | Verb::Move => is_full(rules, draft, number),
-        _ => false,
-    }
-}
-
-/// What is decided of a termination with this record.
-fn decided(
-    alloc: Global,
-    rules: &Rules,
-    draft: &Draft<'_>,
-    place: Option<CtxNum>,
-    command: &Command<'_>,
-    old: &Termination,
-) -> Result<Decided, Refusal>
-    ensures { Answers result (decided_by rules.now place command.now draft.now.maps old.now) }
-{
-    let descriptors = command.descriptors.as_slice();
-    match place {
-        None => decided_in_null(alloc, rules, command.verb, descriptors, old),
-        Some(number) => {
-            let full = is_full_for(rules, draft, command.verb, number);
-            decided_in(alloc, rules, command.verb, descriptors, full, number, old)
-        }
-    }
-}
-
-/// What is told of a termination that a merge of nothing leaves as it is, without a copy of its record.
-fn unchanged(
-    alloc: Global,
-    place: Option<CtxNum>,
-    old: &Termination,
-) -> Result<Items<ReplyPart>, Refusal>
-    ensures { Answers result (nothing_told (refusal_elsewhere place old.now.place)) }
-{
-    match refusal_elsewhere(place, old.place()) {
-        Some(code) => Err(Refusal::Code(code)),
-        None => Ok(Items::new(alloc)),
-    }
-}
-
-/// Changes the service state of a termination where it lies.
-fn serviced(
+/// Does this to the termination of a name.
+fn act_on(
     alloc: Global,
     draft: &mut Draft<'_>,
-    place: Option<CtxNum>,
+    act: Act,
+    prepared: &mut Prepared<'_, '_>,
     name: &TermName,
-    there: Option<CtxNum>,
-    service: Service,
-) -> Result<Items<ReplyPart>, Refusal>
-    requires { holds draft.old.keys (Term name.now) ≡ true }
-    ensures told { Tells result draft.new.maps (after_service (refusal_elsewhere place there) service name.now draft.old.maps) }
-    ensures keys { draft.new.keys ≡ draft.old.keys }
-{
-    if let Some(code) = refusal_elsewhere(place, there) {
-        return Err(Refusal::Code(code));
-    }
-    draft.set_service(alloc, name, service)?;
-    Ok(Items::new(alloc))
-}
-
-/// Carries the command out on the termination of a name.
-#[tactic(auto, unfolding(crate::specs::Effects::on_record))]
-pub(crate) fn on_name(
-    alloc: Global,
-    rules: &Rules,
-    draft: &mut Draft<'_>,
-    place: Option<CtxNum>,
-    command: &Command<'_>,
-    name: &TermName,
+    wanted: bool,
 ) -> Result<Items<ReplyPart>, Refusal>
     requires sound { IsSound draft.old.keys draft.old.maps }
     requires term_key { HoldsFound draft.old.keys name.now draft.old.maps }
-    requires ctx_key { HoldsPlace draft.old.keys place }
-    requires moved_key { HoldsMoved draft.old.keys command.now.verb (place_of (term draft.old.maps name.now)) }
-    ensures told { Tells result draft.new.maps (on_name rules.now place command.now name.now draft.old.maps) }
+    requires ctx_key { HoldsPlace draft.old.keys (act_place act) }
+    requires moved_key { HoldsMoved draft.old.keys (act_verb act) (place_of (term draft.old.maps name.now)) }
+    requires does { Does (does.Act act) prepared.old.command.now }
+    ensures gives { Gives result draft.new.maps (answered wanted (on_name prepared.old.rules.now (act_place act) prepared.old.command.now name.now draft.old.maps)) }
+    ensures keys { draft.new.keys ≡ draft.old.keys }
+    ensures same { IsSameCommand prepared.old prepared.new }
+{
+    let Some(old) = draft.term(name) else {
+        return Err(Refusal::Code(Code::UnknownTermination));
+    };
+    let decided = decided(alloc, draft, act, &mut prepared.merger, old, wanted)?;
+    changed(alloc, prepared.rules, draft, name, decided.change)?;
+    Ok(decided.parts)
+}
+
+/// Gives the termination of a name, if it is in this place, the service state, if there is one for it.
+fn serve(
+    alloc: Global,
+    draft: &mut Draft<'_>,
+    place: Option<CtxNum>,
+    service: Option<Service>,
+    name: &TermName,
+) -> Result<Items<ReplyPart>, Refusal>
+    requires { HoldsFound draft.old.keys name.now draft.old.maps }
+    ensures gives { (rules : TheRules) (c : Command) (wanted : Bool) → Does (does.Serve place service) c → Gives result draft.new.maps (answered wanted (on_name rules place c name.now draft.old.maps)) }
     ensures keys { draft.new.keys ≡ draft.old.keys }
 {
     let Some(old) = draft.term(name) else {
         return Err(Refusal::Code(Code::UnknownTermination));
     };
-    match command.verb {
-        Verb::Modify if command.descriptors.is_empty() => unchanged(alloc, place, old),
-        Verb::ServiceChange => {
-            let there = old.place();
-            let service = service_asked(command.descriptors.as_slice()).unwrap_or(old.service());
-            serviced(alloc, draft, place, name, there, service)
-        }
-        _ => {
-            let decided = decided(alloc, rules, draft, place, command, old)?;
-            done(alloc, rules, draft, name, decided)
-        }
+    if let Some(code) = refusal_elsewhere(place, old.place()) {
+        return Err(Refusal::Code(code));
+    }
+    let given = service.unwrap_or(old.service());
+    draft.set_service(alloc, name, given)?;
+    Ok(Items::new(alloc))
+}
+
+/// Does the task to the termination of a name. What its reply has is found only where it is wanted.
+pub(crate) fn on_name(
+    alloc: Global,
+    draft: &mut Draft<'_>,
+    task: Task,
+    prepared: &mut Prepared<'_, '_>,
+    name: &TermName,
+    wanted: bool,
+) -> Result<Items<ReplyPart>, Refusal>
+    requires sound { IsSound draft.old.keys draft.old.maps }
+    requires term_key { HoldsFound draft.old.keys name.now draft.old.maps }
+    requires ctx_key { HoldsPlace draft.old.keys (task_place task) }
+    requires moved_key { HoldsMoved draft.old.keys (task_verb task) (place_of (term draft.old.maps name.now)) }
+    requires does { Does task prepared.old.command.now }
+    ensures gives { Gives result draft.new.maps (answered wanted (on_name prepared.old.rules.now (task_place task) prepared.old.command.now name.now draft.old.maps)) }
+    ensures keys { draft.new.keys ≡ draft.old.keys }
+    ensures same { IsSameCommand prepared.old prepared.new }
+{
+    match task {
+        Task::Act(act) => act_on(alloc, draft, act, prepared, name, wanted),
+        Task::Serve(place, service) => serve(alloc, draft, place, service, name),
     }
 }
 
-/// What is decided of a termination that is about to be made in a slot.
-fn decided_new(
-    alloc: Global,
-    rules: &Rules,
-    draft: &Draft<'_>,
-    place: Option<CtxNum>,
-    command: &Command<'_>,
-    slot: u16,
-) -> Result<Decided, Refusal>
-    ensures { Answers result (decided_by rules.now place command.now draft.now.maps (ephemeral slot)) }
-{
-    let new = Termination::ephemeral(alloc, slot);
-    decided(alloc, rules, draft, place, command, &new)
-}
-
-/// Carries an Add out on a termination that it makes in a slot, under the slot's name.
-#[tactic(auto, unfolding(crate::specs::Effects::on_record))]
+/// Does this to a termination that it makes in a slot, under the slot's name.
 pub(crate) fn on_new(
     alloc: Global,
-    rules: &Rules,
     draft: &mut Draft<'_>,
-    place: Option<CtxNum>,
-    command: &Command<'_>,
+    act: Act,
+    prepared: &mut Prepared<'_, '_>,
     slot: u16,
     name: &TermName,
+    wanted: bool,
 ) -> Result<Items<ReplyPart>, Refusal>
     requires sound { IsSound draft.old.keys draft.old.maps }
     requires unused { term draft.old.maps name.now ≡ None }
     requires term_key { holds draft.old.keys (Term name.now) ≡ true }
-    requires ctx_key { HoldsPlace draft.old.keys place }
-    ensures told { Tells result draft.new.maps (on_record rules.now place command.now name.now (ephemeral slot) draft.old.maps) }
+    requires ctx_key { HoldsPlace draft.old.keys (act_place act) }
+    requires does { Does (does.Act act) prepared.old.command.now }
+    ensures gives { Gives result draft.new.maps (answered wanted (on_record prepared.old.rules.now (act_place act) prepared.old.command.now name.now (ephemeral slot) draft.old.maps)) }
     ensures keys { draft.new.keys ≡ draft.old.keys }
+    ensures same { IsSameCommand prepared.old prepared.new }
 {
-    let decided = decided_new(alloc, rules, draft, place, command, slot)?;
-    done(alloc, rules, draft, name, decided)
+    let new = Termination::ephemeral(slot);
+    let decided = decided(alloc, draft, act, &mut prepared.merger, &new, wanted)?;
+    changed(alloc, prepared.rules, draft, name, decided.change)?;
+    Ok(decided.parts)
 }

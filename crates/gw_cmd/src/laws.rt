@@ -31,7 +31,7 @@ pub fn commands_keep_tables_well_formed()
 {}
 
 /// A command whose TerminationID and descriptors have their forms leaves tables whose names are names and whose kept texts have
-/// their forms, and its replies name and tell such texts.
+/// their forms, and its replies have such names and texts.
 pub fn commands_keep_forms()
     ensures { (rules : Rules) (at : At) (slot : Option ℕ) (c : Command) (m : Maps) → IsAddress rules.media → IsSlot slot → IsAsked c → AreKept m → KeepsForms (command rules at slot c m) }
 {}
@@ -52,7 +52,7 @@ pub fn the_whole_is_a_key_of_commands_for_all()
     ensures { (at : At) (slot : Option ℕ) (c : Command) (m : Maps) → has (command_keys at slot c m) Whole ≡ is_for_all at c }
 {}
 
-/// Keys that cannot be left out. Without the key of its context an Add is told that there is no such context, and without
+/// Keys that cannot be left out. Without the key of its context an Add is answered that there is no such context, and without
 /// that of its termination that there is no such termination. After a Move without the key of the context that the termination
 /// was in, the termination still stands in that context, where in truth it has left it.
 pub fn keys_are_needed()

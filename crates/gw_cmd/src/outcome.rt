@@ -1,8 +1,7 @@
 //! What a command gives, beside the changed tables.
 
 use gw_base::{Code, Items};
-use gw_length::Telling;
-use gw_reply::CommandReply;
+use gw_reply::{CommandReply, ReplyWriter};
 
 /// What a command gave.
 #[derive(Drop)]
@@ -15,11 +14,11 @@ pub struct CmdOutcome {
     pub made: bool,
 }
 
-/// What a command gave whose replies are told behind those before them.
+/// What a command gave whose replies are written behind those before them.
 #[derive(Drop)]
-pub struct CmdTold {
-    /// What is told by now.
-    pub told: Telling<CommandReply>,
+pub struct CmdWritten {
+    /// What is written by now.
+    pub written: ReplyWriter<CommandReply>,
     /// Whether one of its replies is an error.
     pub failed: bool,
     /// Whether it made its action's context.
@@ -29,10 +28,10 @@ pub struct CmdTold {
 /// What came of the targets of a command.
 #[derive(Drop)]
 pub(crate) struct Seen {
-    /// What is told by now.
-    pub told: Telling<CommandReply>,
+    /// What is written by now.
+    pub written: ReplyWriter<CommandReply>,
     /// The first error, if there is one.
     pub first_error: Option<Code>,
-    /// Whether the command was carried out on one of them.
+    /// Whether the command was done to one of them.
     pub any_done: bool,
 }

@@ -8,12 +8,12 @@ use gw_base::{Code, NoMemory};
 use gw_term::ApplyFault;
 use std::alloc::AllocError;
 
-/// Why a termination is not changed: an error for its reply, or want of memory for the whole command.
+/// Why a termination is not changed: an error for its reply, or no memory for the whole command.
 #[derive(Drop)]
 pub(crate) enum Refusal {
     /// The error, after which the tables are as they were.
     Code(Code),
-    /// A growth was refused.
+    /// Out of memory.
     NoMemory,
 }
 

@@ -2,36 +2,58 @@
 
 ghost use Rattle.std.specs.Prelude.{◌≡◌, true, List, ℕ, IfOk, OnOk};
 ghost use Rattle.std.specs.List.{flat_map};
+ghost use Rattle.gw_base.specs.declared.command_words.Verb.TheVariants.{ServiceChange};
 ghost use Rattle.gw_base.specs.declared.key.Key.TheVariants.{Term};
 ghost use Rattle.gw_base.specs.NameLists.{is_in};
 ghost use Rattle.gw_table.specs.Maps.{names};
 ghost use Rattle.gw_table.specs.Parts.{holds};
 ghost use Rattle.gw_refusal.specs.Asked.{audited};
-ghost use Rattle.gw_cmd.specs.Commands.{all_serviced, bare_told};
+ghost use Rattle.gw_cmd.specs.Commands.{all_serviced, serviced_if, bare_answer};
+ghost use Rattle.gw_cmd.specs.Tasks.{task_verb, task_service};
 
-use gw_base::{Items, NoMemory, Service, Span};
+use crate::task::Task;
+use gw_base::{Items, NoMemory, Service, Span, TermName};
 use gw_desc::{Descriptor, item_of};
 use gw_refusal::first_audit;
 use gw_reply::{AuditReply, ReplyPart};
-use gw_table::{Draft, Reach};
+use gw_table::Draft;
 use std::alloc::Global;
 
-/// Every termination has this service state.
-pub(crate) fn every_serviced(
+/// The terminations of these names have this service state.
+fn all_serviced(
     alloc: Global,
     draft: &mut Draft<'_>,
     service: Service,
+    named: &[TermName],
 ) -> Result<(), NoMemory>
-    requires { (t : List ℕ) → is_in t (names draft.old.maps) ≡ true → holds draft.old.keys (Term t) ≡ true }
-    ensures ok { OnOk result (draft.new.maps ≡ all_serviced service (names draft.old.maps) draft.old.maps) }
+    requires { (t : List ℕ) → is_in t named.now ≡ true → holds draft.old.keys (Term t) ≡ true }
+    ensures maps { OnOk result (draft.new.maps ≡ all_serviced service named.now draft.old.maps) }
     ensures keys { draft.new.keys ≡ draft.old.keys }
 {
-    draft.set_service_of_all(alloc, Reach::Every, b"", service)
+    for name in named {
+        draft.set_service(alloc, name, service)?;
+    }
+    Ok(())
 }
 
-/// The items that the words ask for, each bare.
+/// Every termination has the service state that the task has for them, if there is one.
+pub(crate) fn serve_all(alloc: Global, draft: &mut Draft<'_>, task: Task) -> Result<(), NoMemory>
+    requires { task_verb task ≡ ServiceChange → (t : List ℕ) → is_in t (names draft.old.maps) ≡ true → holds draft.old.keys (Term t) ≡ true }
+    ensures maps { OnOk result (draft.new.maps ≡ serviced_if (task_service task) draft.old.maps) }
+    ensures keys { draft.new.keys ≡ draft.old.keys }
+{
+    match task {
+        Task::Serve(_, Some(service)) => {
+            let named = draft.names(alloc)?;
+            all_serviced(alloc, draft, service, &named)
+        }
+        Task::Serve(_, None) | Task::Act(_) => Ok(()),
+    }
+}
+
+/// The items of these words, each bare.
 fn bare_parts(alloc: Global, words: &[Span<'_>]) -> Result<AuditReply, NoMemory>
-    ensures { IfOk result (λ parts. parts ≡ flat_map bare_told words.now) }
+    ensures { IfOk result (λ parts. parts ≡ flat_map bare_answer words.now) }
 {
     let mut parts = Items::new(alloc);
     for word in words {
@@ -47,7 +69,7 @@ pub(crate) fn root_parts(
     alloc: Global,
     descriptors: &[Descriptor<'_>],
 ) -> Result<AuditReply, NoMemory>
-    ensures { IfOk result (λ parts. parts ≡ flat_map bare_told (audited descriptors.now)) }
+    ensures { IfOk result (λ parts. parts ≡ flat_map bare_answer (audited descriptors.now)) }
 {
     match first_audit(descriptors) {
         Some(words) => bare_parts(alloc, words.as_slice()),

@@ -27,7 +27,7 @@ pub use fault::{ConfigFault, LimitName};
 pub use gateway::Gateway;
 pub use gw_base::Config;
 pub use gw_draw::{Gate, OpenGate};
-pub use laws::answers_are_read_as_messages;
+pub use laws::{answers_are_read_as_messages, bursts_go_in_phases};
 pub use octets::Octets;
 pub use run::BurstAnswers;
 pub use usage::Usage;

@@ -13,7 +13,7 @@ use Rattle.gw_kept.specs.Pairs.{KeptList, key_of}
 use Rattle.gw_kept.specs.Forgotten.{is_named}
 use Rattle.gw_kept.specs.Changes.{Change, Keep, Remove, kept_after, entries_in}
 use Rattle.gw_kept.specs.Classes.{Standing, standing_of, keys_of, class_at, with_key, without, behind, behind_request, classes_behind, classes_of}
-use Rattle.gw_kept.specs.Index.{asks_behind, seen}
+use Rattle.gw_kept.specs.Index.{requests_behind, seen}
 use Rattle.gw_kept.specs.Repeats.{standing_after, class_after, classes_after}
 use Rattle.gw_kept.proofs.Changed.{one_more_after, entries_more, most_after}
 use Rattle.gw_kept.proofs.Last.{keys_last}
@@ -67,14 +67,14 @@ then_other k cs key rest h =
 
 -- ---- where no request comes behind an acknowledgement
 
--- nothing is asked any more
-all_nothing : (most old : ℕ) (s t : Standing) (items : List Point) → asks_behind true items ≡ false → classes_behind most old s items ≡ classes_behind most old t (map (seen false) items)
+-- no request comes any more
+all_nothing : (most old : ℕ) (s t : Standing) (items : List Point) → requests_behind true items ≡ false → classes_behind most old s items ≡ classes_behind most old t (map (seen false) items)
 all_nothing most old s t [] none = refl
 all_nothing most old s t (point.Request key ∷ rest) none = absurd cc
 all_nothing most old s t (point.Ack r ∷ rest) none = ap (λ (l : List Class). Nothing ∷ l) (all_nothing most old (without r s) t rest none)
 all_nothing most old s t (point.Nothing ∷ rest) none = ap (λ (l : List Class). Nothing ∷ l) (all_nothing most old s t rest none)
 
-no_say : (most old : ℕ) (s : Standing) (items : List Point) → asks_behind false items ≡ false → classes_behind most old s items ≡ classes_behind most old s (map (seen false) items)
+no_say : (most old : ℕ) (s : Standing) (items : List Point) → requests_behind false items ≡ false → classes_behind most old s items ≡ classes_behind most old s (map (seen false) items)
 no_say most old s [] none = refl
 no_say most old s (point.Request key ∷ rest) none = ap (λ (l : List Class). class_at old (point.Request key) s ∷ l) (no_say most old (behind most old (point.Request key) s) rest none)
 no_say most old s (point.Ack r ∷ rest) none = ap (λ (l : List Class). Nothing ∷ l) (all_nothing most old (without r s) s rest none)
@@ -87,20 +87,20 @@ all_seen (point.Ack r ∷ rest) = ap (λ (l : List Point). point.Ack r ∷ l) (a
 all_seen (point.Nothing ∷ rest) = ap (λ (l : List Point). point.Nothing ∷ l) (all_seen rest)
 
 -- the classes are those of what is seen
-pub as_seen : (b : Bool) (k : KeptList) (items : List Point) → b ≡ asks_behind false items → classes_of k items ≡ classes_of k (map (seen b) items)
+pub as_seen : (b : Bool) (k : KeptList) (items : List Point) → b ≡ requests_behind false items → classes_of k items ≡ classes_of k (map (seen b) items)
 as_seen true k items is = ap (classes_of k) (sym (all_seen items))
 as_seen false k items is = no_say k.most (length k.pairs) (standing_of k) items (sym is)
 
 -- ---- one item more
 
-pub goes_on : (most before : ℕ) (b : Bool) (asked : List Point) (i : ℕ) (x : Point) (classes : List Class) (c : Class) (s : Standing) (total : List Class) → i < length asked → x ≡ get_or asked i x
-    → classes ++ classes_behind most before s (map (seen b) (drop i asked)) ≡ total
+pub goes_on : (most before : ℕ) (b : Bool) (requested : List Point) (i : ℕ) (x : Point) (classes : List Class) (c : Class) (s : Standing) (total : List Class) → i < length requested → x ≡ get_or requested i x
+    → classes ++ classes_behind most before s (map (seen b) (drop i requested)) ≡ total
     → c ≡ class_at before (seen b x) s
-    → (classes ++ c ∷ []) ++ classes_behind most before (behind most before (seen b x) s) (map (seen b) (drop (i + 1) asked)) ≡ total
-goes_on most before b asked i x classes c s total h is so_far class =
-    let next : List Class = classes_behind most before (behind most before (seen b x) s) (map (seen b) (drop (i + 1) asked)) in
+    → (classes ++ c ∷ []) ++ classes_behind most before (behind most before (seen b x) s) (map (seen b) (drop (i + 1) requested)) ≡ total
+goes_on most before b requested i x classes c s total h is so_far class =
+    let next : List Class = classes_behind most before (behind most before (seen b x) s) (map (seen b) (drop (i + 1) requested)) in
     append_assoc classes (c ∷ []) next
     ∙ ap (λ (d : Class). classes ++ d ∷ next) class
-    ∙ ap (λ (y : Point). classes ++ classes_behind most before s (map (seen b) (y ∷ drop (i + 1) asked))) is
-    ∙ ap (λ (l : List Point). classes ++ classes_behind most before s (map (seen b) l)) (sym (drop_more asked i x h))
+    ∙ ap (λ (y : Point). classes ++ classes_behind most before s (map (seen b) (y ∷ drop (i + 1) requested))) is
+    ∙ ap (λ (l : List Point). classes ++ classes_behind most before s (map (seen b) l)) (sym (drop_more requested i x h))
     ∙ so_far

@@ -1,4 +1,4 @@
--- What an index tells, and the index with one more pair.
+-- What an index holds, and the index with one more pair.
 use Rattle.std.proofs.Common.{◌≡◌, ℕ, zero, suc, ◌+◌, ◌-◌, ◌<◌, ◌≤◌, ◌||◌, nat_le, nat_lt, not, Bool, true, false, cond, List, [], ◌∷◌, ◌++◌, length, take, drop, get_or, Option, Some, None, refl, ap, sym, subst, ◌∙◌, length-append, length-drop, arith}
 use Rattle.std.proofs.lemmas.List.{take_more, drop-append-le, drop-drop}
 use Rattle.std.proofs.lemmas.Bool.Decides.{nat_tests}
@@ -18,49 +18,49 @@ use Rattle.gw_kept.specs.Pairs.{KeptList, key_of, is_same}
 use Rattle.gw_kept.specs.Rows.{Gapped, present, kept_in}
 use Rattle.gw_kept.specs.Forgotten.{is_named, forgotten}
 use Rattle.gw_kept.specs.Classes.{Standing, keys_of, or_here, source_at, last_place, has_pair, kept_place, class_of, class_at, behind, behind_request, with_key, without, most_new}
-use Rattle.gw_kept.specs.Index.{is_asked, kept_at, seen, IsAsked, AreLeft, IsIndex}
-use Rattle.gw_kept.specs.Asked.{asked_cmp, asked_key}
+use Rattle.gw_kept.specs.Index.{is_requested, kept_at, seen, IsRequested, AreLeft, IsIndex}
+use Rattle.gw_kept.specs.Order.{key_cmp}
 use Rattle.gw_kept.proofs.Filters.{filter_map_is}
-use Rattle.gw_kept.proofs.Places.{within, among_last, one_more, asked_test, same_key, same_itself}
+use Rattle.gw_kept.proofs.Places.{within, among_last, one_more, key_test, same_key, same_itself}
 
--- ---- what is asked
+-- ---- which keys are requested
 
-asked_end : (t : Bool) → (t || false) ≡ cond t true false
-asked_end true = refl
-asked_end false = refl
+requested_end : (t : Bool) → (t || false) ≡ cond t true false
+requested_end true = refl
+requested_end false = refl
 
-asked_step : (s t u : Bool) → (s || cond t true u) ≡ cond t true (s || u)
-asked_step true true u = refl
-asked_step true false u = refl
-asked_step false t u = refl
+requested_step : (s t u : Bool) → (s || cond t true u) ≡ cond t true (s || u)
+requested_step true true u = refl
+requested_step true false u = refl
+requested_step false t u = refl
 
-pub asked_more : (q k : RequestKey) (xs : List Point) → is_asked q (xs ++ point.Request k ∷ []) ≡ cond (is_same k q) true (is_asked q xs)
-asked_more q k [] = asked_end (is_same k q)
-asked_more q k (point.Request j ∷ xs) = ap (λ (t : Bool). is_same j q || t) (asked_more q k xs) ∙ asked_step (is_same j q) (is_same k q) (is_asked q xs)
-asked_more q k (point.Ack r ∷ xs) = asked_more q k xs
-asked_more q k (point.Nothing ∷ xs) = asked_more q k xs
+pub requested_more : (q k : RequestKey) (xs : List Point) → is_requested q (xs ++ point.Request k ∷ []) ≡ cond (is_same k q) true (is_requested q xs)
+requested_more q k [] = requested_end (is_same k q)
+requested_more q k (point.Request j ∷ xs) = ap (λ (t : Bool). is_same j q || t) (requested_more q k xs) ∙ requested_step (is_same j q) (is_same k q) (is_requested q xs)
+requested_more q k (point.Ack r ∷ xs) = requested_more q k xs
+requested_more q k (point.Nothing ∷ xs) = requested_more q k xs
 
--- what asks nothing
-abbrev pub asks : Point → Bool
-asks (point.Request k) = true
-asks (point.Ack r) = false
-asks point.Nothing = false
+-- no request
+abbrev pub is_request : Point → Bool
+is_request (point.Request k) = true
+is_request (point.Ack r) = false
+is_request point.Nothing = false
 
-pub asks_not : (x : Point) → ((k : RequestKey) → x ≡ point.Request k → ⊥) → asks x ≡ false
-asks_not (point.Request k) f = absurd (f k refl)
-asks_not (point.Ack r) f = refl
-asks_not point.Nothing f = refl
+pub no_request : (x : Point) → ((k : RequestKey) → x ≡ point.Request k → ⊥) → is_request x ≡ false
+no_request (point.Request k) f = absurd (f k refl)
+no_request (point.Ack r) f = refl
+no_request point.Nothing f = refl
 
-asks_none : (q : RequestKey) (x : Point) → asks x ≡ false → is_asked q (x ∷ []) ≡ false
-asks_none q (point.Request k) e = absurd cc
-asks_none q (point.Ack r) e = refl
-asks_none q point.Nothing e = refl
+none_requested : (q : RequestKey) (x : Point) → is_request x ≡ false → is_requested q (x ∷ []) ≡ false
+none_requested q (point.Request k) e = absurd cc
+none_requested q (point.Ack r) e = refl
+none_requested q point.Nothing e = refl
 
-pub asked_none : (q : RequestKey) (xs : List Point) (x : Point) → asks x ≡ false → is_asked q (xs ++ x ∷ []) ≡ is_asked q xs
-asked_none q [] x e = asks_none q x e
-asked_none q (point.Request j ∷ xs) x e = ap (λ (t : Bool). is_same j q || t) (asked_none q xs x e)
-asked_none q (point.Ack r ∷ xs) x e = asked_none q xs x e
-asked_none q (point.Nothing ∷ xs) x e = asked_none q xs x e
+pub requested_none : (q : RequestKey) (xs : List Point) (x : Point) → is_request x ≡ false → is_requested q (xs ++ x ∷ []) ≡ is_requested q xs
+requested_none q [] x e = none_requested q x e
+requested_none q (point.Request j ∷ xs) x e = ap (λ (t : Bool). is_same j q || t) (requested_none q xs x e)
+requested_none q (point.Ack r ∷ xs) x e = requested_none q xs x e
+requested_none q (point.Nothing ∷ xs) x e = requested_none q xs x e
 
 or_true : (t : Bool) → (t || true) ≡ true
 or_true true = refl
@@ -69,27 +69,24 @@ or_true false = refl
 at_head : (k : RequestKey) (t : Bool) → (is_same k k || t) ≡ true
 at_head k t = rw (same_itself k) refl
 
-asked_first : (x : Point) (xs : List Point) → IsAsked x (x ∷ xs)
-asked_first (point.Request k) xs = at_head k (is_asked k xs)
-asked_first (point.Ack r) xs = tt
-asked_first point.Nothing xs = tt
+requested_first : (x : Point) (xs : List Point) → IsRequested x (x ∷ xs)
+requested_first (point.Request k) xs = at_head k (is_requested k xs)
+requested_first (point.Ack r) xs = tt
+requested_first point.Nothing xs = tt
 
-asked_behind : (y x : Point) (xs : List Point) → IsAsked x xs → IsAsked x (y ∷ xs)
-asked_behind (point.Request j) (point.Request k) xs e = ap (λ (t : Bool). is_same j k || t) e ∙ or_true (is_same j k)
-asked_behind (point.Ack r) (point.Request k) xs e = e
-asked_behind point.Nothing (point.Request k) xs e = e
-asked_behind y (point.Ack r) xs e = tt
-asked_behind y point.Nothing xs e = tt
+requested_behind : (y x : Point) (xs : List Point) → IsRequested x xs → IsRequested x (y ∷ xs)
+requested_behind (point.Request j) (point.Request k) xs e = ap (λ (t : Bool). is_same j k || t) e ∙ or_true (is_same j k)
+requested_behind (point.Ack r) (point.Request k) xs e = e
+requested_behind point.Nothing (point.Request k) xs e = e
+requested_behind y (point.Ack r) xs e = tt
+requested_behind y point.Nothing xs e = tt
 
-pub asked_here : (xs : List Point) (i : ℕ) (x : Point) → i < length xs → x ≡ get_or xs i x → IsAsked x xs
-asked_here [] i x h is = absurd (omega arith)
-asked_here (y ∷ ys) zero x h is = subst (λ (z : Point). IsAsked z (y ∷ ys)) (sym is) (asked_first y ys)
-asked_here (y ∷ ys) (suc i) x h is = asked_behind y x ys (asked_here ys i x (omega arith) is)
+pub requested_here : (xs : List Point) (i : ℕ) (x : Point) → i < length xs → x ≡ get_or xs i x → IsRequested x xs
+requested_here [] i x h is = absurd (omega arith)
+requested_here (y ∷ ys) zero x h is = subst (λ (z : Point). IsRequested z (y ∷ ys)) (sym is) (requested_first y ys)
+requested_here (y ∷ ys) (suc i) x h is = requested_behind y x ys (requested_here ys i x (omega arith) is)
 
 -- ---- the kept place
-
-le_true : (d p : ℕ) → d ≤ p → nat_le d p ≡ true
-le_true d p h = grind (arith, nat_tests)
 
 pub some_within : (d p : ℕ) (o : Option ℕ) (b : Bool) → nat_le d p ≡ b → or_here d o None ≡ cond (nat_le d p) (Some p) None → b ≡ is_some o
 some_within d p (Some q) true is e = refl
@@ -102,42 +99,42 @@ some_within d p None true is e =
     absurd cc
 
 -- where nothing was removed, a key's last pair is kept if it is one of the last so many
-pub kept_by_place : (asked : List Point) (index : Index) (s : Standing) (key : RequestKey) (p : ℕ) → IsIndex asked index s → index.left ≡ None → last_place key s.pairs ≡ Some p → nat_le (index.total - index.most) p ≡ has_pair key s.kept
-kept_by_place asked index s key p h none at =
+pub kept_by_place : (requested : List Point) (index : Index) (s : Standing) (key : RequestKey) (p : ℕ) → IsIndex requested index s → index.left ≡ None → last_place key s.pairs ≡ Some p → nat_le (index.total - index.most) p ≡ has_pair key s.kept
+kept_by_place requested index s key p h none at =
     let d : ℕ = length s.pairs - index.most in
     let kept : s.kept ≡ keep_last index.most s.pairs = subst (λ (o : Option Gapped). AreLeft index.most o s) none h.left in
     ap (λ (n : ℕ). nat_le (n - index.most) p) h.total
     ∙ some_within d p (last_place key (drop d s.pairs)) (nat_le d p) refl (among_last key d s.pairs ∙ ap (within d) at)
     ∙ ap (λ (l : List RequestKey). is_some (last_place key l)) (sym kept)
 
--- ---- a place for each key that is asked
+-- ---- a place for each key that is requested
 
 abbrev pub Places : List Point → List RequestKey → (RequestKey → Option (Option ℕ)) → Type 0
-Places asked pairs places = (q : RequestKey) → places q ≡ cond (is_asked q asked) (Some (last_place q pairs)) None
+Places requested pairs places = (q : RequestKey) → places q ≡ cond (is_requested q requested) (Some (last_place q pairs)) None
 
-other_pair : (asked : List Point) (pairs : List RequestKey) (key q : RequestKey) → is_same key q ≡ false → cond (is_asked q asked) (Some (last_place q pairs)) None ≡ cond (is_asked q asked) (Some (last_place q (pairs ++ key ∷ []))) None
-other_pair asked pairs key q e =
+other_pair : (requested : List Point) (pairs : List RequestKey) (key q : RequestKey) → is_same key q ≡ false → cond (is_requested q requested) (Some (last_place q pairs)) None ≡ cond (is_requested q requested) (Some (last_place q (pairs ++ key ∷ []))) None
+other_pair requested pairs key q e =
     let same : last_place q (pairs ++ key ∷ []) ≡ last_place q pairs = one_more q key pairs ∙ ap (λ (t : Bool). cond t (Some (length pairs)) (last_place q pairs)) e in
-    ap (λ (l : Option ℕ). cond (is_asked q asked) (Some l) None) (sym same)
+    ap (λ (l : Option ℕ). cond (is_requested q requested) (Some l) None) (sym same)
 
-put_at : (t : Bool) (asked : List Point) (old : Option (Option ℕ)) (pairs : List RequestKey) (key q : RequestKey) → is_same key q ≡ t → is_asked key asked ≡ true → old ≡ cond (is_asked q asked) (Some (last_place q pairs)) None
-    → cond t (Some (Some (length pairs))) old ≡ cond (is_asked q asked) (Some (last_place q (pairs ++ key ∷ []))) None
-put_at true asked old pairs key q is known h =
+put_at : (t : Bool) (requested : List Point) (old : Option (Option ℕ)) (pairs : List RequestKey) (key q : RequestKey) → is_same key q ≡ t → is_requested key requested ≡ true → old ≡ cond (is_requested q requested) (Some (last_place q pairs)) None
+    → cond t (Some (Some (length pairs))) old ≡ cond (is_requested q requested) (Some (last_place q (pairs ++ key ∷ []))) None
+put_at true requested old pairs key q is known h =
     let same : last_place q (pairs ++ key ∷ []) ≡ Some (length pairs) = one_more q key pairs ∙ ap (λ (t : Bool). cond t (Some (length pairs)) (last_place q pairs)) is in
-    let also : is_asked q asked ≡ true = ap (λ (k : RequestKey). is_asked k asked) (sym (same_key key q is)) ∙ known in
-    sym (ap (λ (l : Option ℕ). cond (is_asked q asked) (Some l) None) same ∙ ap (λ (t : Bool). cond t (Some (Some (length pairs))) None) also)
-put_at false asked old pairs key q is known h = h ∙ other_pair asked pairs key q is
+    let also : is_requested q requested ≡ true = ap (λ (k : RequestKey). is_requested k requested) (sym (same_key key q is)) ∙ known in
+    sym (ap (λ (l : Option ℕ). cond (is_requested q requested) (Some l) None) same ∙ ap (λ (t : Bool). cond t (Some (Some (length pairs))) None) also)
+put_at false requested old pairs key q is known h = h ∙ other_pair requested pairs key q is
 
--- one more pair of a key that is asked
-pub put : (asked : List Point) (old new : RequestKey → Option (Option ℕ)) (pairs : List RequestKey) (key : RequestKey) (place : ℕ) → is_asked key asked ≡ true → place ≡ length pairs → Places asked pairs old
-    → ((q : RequestKey) → new q ≡ cond (is_at (asked_cmp (asked_key key)) (asked_key q)) (Some (Some place)) (old q)) → Places asked (pairs ++ key ∷ []) new
-put asked old new pairs key place known size h u q =
+-- one more pair of a key that is requested
+pub put : (requested : List Point) (old new : RequestKey → Option (Option ℕ)) (pairs : List RequestKey) (key : RequestKey) (place : ℕ) → is_requested key requested ≡ true → place ≡ length pairs → Places requested pairs old
+    → ((q : RequestKey) → new q ≡ cond (is_at (key_cmp key) q) (Some (Some place)) (old q)) → Places requested (pairs ++ key ∷ []) new
+put requested old new pairs key place known size h u q =
     u q
-    ∙ ap (λ (n : ℕ). cond (is_at (asked_cmp (asked_key key)) (asked_key q)) (Some (Some n)) (old q)) size
-    ∙ ap (λ (t : Bool). cond t (Some (Some (length pairs))) (old q)) (asked_test key q)
-    ∙ put_at (is_same key q) asked (old q) pairs key q refl known (h q)
+    ∙ ap (λ (n : ℕ). cond (is_at (key_cmp key) q) (Some (Some n)) (old q)) size
+    ∙ ap (λ (t : Bool). cond t (Some (Some (length pairs))) (old q)) (key_test key q)
+    ∙ put_at (is_same key q) requested (old q) pairs key q refl known (h q)
 
--- ---- the keys that are asked
+-- ---- the keys that are requested
 
 -- a key, and the place of its pair
 abbrev pub placed : (q : RequestKey) → (pairs : List RequestKey) → Bool → Option (Option ℕ)
@@ -148,63 +145,63 @@ put_key true t key q pairs is = ap (λ (k : RequestKey). Some (last_place k pair
 put_key false t key q pairs is = refl
 
 pub key_more : (old new : RequestKey → Option (Option ℕ)) (pairs : List RequestKey) (xs : List Point) (i : ℕ) (x : Point) (key : RequestKey) (place : Option ℕ) → i < length xs → x ≡ get_or xs i x → x ≡ point.Request key → place ≡ last_place key pairs
-    → ((q : RequestKey) → old q ≡ placed q pairs (is_asked q (take i xs))) → ((q : RequestKey) → new q ≡ cond (is_at (asked_cmp (asked_key key)) (asked_key q)) (Some place) (old q)) → (q : RequestKey) → new q ≡ placed q pairs (is_asked q (take (i + 1) xs))
+    → ((q : RequestKey) → old q ≡ placed q pairs (is_requested q (take i xs))) → ((q : RequestKey) → new q ≡ cond (is_at (key_cmp key) q) (Some place) (old q)) → (q : RequestKey) → new q ≡ placed q pairs (is_requested q (take (i + 1) xs))
 key_more old new pairs xs i x key place h is some there f u q =
     let last : take (i + 1) xs ≡ take i xs ++ point.Request key ∷ [] = take_more xs i x h ∙ ap (λ (y : Point). take i xs ++ y ∷ []) (sym is ∙ some) in
     u q
-    ∙ ap (λ (t : Bool). cond t (Some place) (old q)) (asked_test key q)
+    ∙ ap (λ (t : Bool). cond t (Some place) (old q)) (key_test key q)
     ∙ ap (λ (p : Option ℕ). cond (is_same key q) (Some p) (old q)) there
     ∙ ap (cond (is_same key q) (Some (last_place key pairs))) (f q)
-    ∙ put_key (is_same key q) (is_asked q (take i xs)) key q pairs refl
-    ∙ ap (placed q pairs) (sym (asked_more q key (take i xs)))
-    ∙ ap (λ (l : List Point). placed q pairs (is_asked q l)) (sym last)
+    ∙ put_key (is_same key q) (is_requested q (take i xs)) key q pairs refl
+    ∙ ap (placed q pairs) (sym (requested_more q key (take i xs)))
+    ∙ ap (λ (l : List Point). placed q pairs (is_requested q l)) (sym last)
 
-pub no_key_more : (old : RequestKey → Option (Option ℕ)) (pairs : List RequestKey) (xs : List Point) (i : ℕ) (x : Point) → i < length xs → x ≡ get_or xs i x → asks x ≡ false
-    → ((q : RequestKey) → old q ≡ placed q pairs (is_asked q (take i xs))) → (q : RequestKey) → old q ≡ placed q pairs (is_asked q (take (i + 1) xs))
+pub no_key_more : (old : RequestKey → Option (Option ℕ)) (pairs : List RequestKey) (xs : List Point) (i : ℕ) (x : Point) → i < length xs → x ≡ get_or xs i x → is_request x ≡ false
+    → ((q : RequestKey) → old q ≡ placed q pairs (is_requested q (take i xs))) → (q : RequestKey) → old q ≡ placed q pairs (is_requested q (take (i + 1) xs))
 no_key_more old pairs xs i x h is none f q =
     let last : take (i + 1) xs ≡ take i xs ++ x ∷ [] = take_more xs i x h ∙ ap (λ (y : Point). take i xs ++ y ∷ []) (sym is) in
-    f q ∙ ap (placed q pairs) (sym (asked_none q (take i xs) x none)) ∙ ap (λ (l : List Point). placed q pairs (is_asked q l)) (sym last)
+    f q ∙ ap (placed q pairs) (sym (requested_none q (take i xs) x none)) ∙ ap (λ (l : List Point). placed q pairs (is_requested q l)) (sym last)
 
 -- ---- what the index says of a key
 
 some_is : (o p : Option ℕ) → Some o ≡ Some p → o ≡ p
 some_is o p e = cc
 
--- the place that is noted for a key
-pub noted_place : (asked : List Point) (index : Index) (s : Standing) (key : RequestKey) (place : Option ℕ) → IsIndex asked index s → is_asked key asked ≡ true → Some place ≡ get asked_cmp index.places (asked_key key) → place ≡ last_place key s.pairs
-noted_place asked index s key place h known at =
+-- the place that the index has for a key
+pub place_there : (requested : List Point) (index : Index) (s : Standing) (key : RequestKey) (place : Option ℕ) → IsIndex requested index s → is_requested key requested ≡ true → Some place ≡ get key_cmp index.places key → place ≡ last_place key s.pairs
+place_there requested index s key place h known at =
     some_is place (last_place key s.pairs) (at ∙ h.places key ∙ ap (λ (t : Bool). cond t (Some (last_place key s.pairs)) None) known)
 
 none_either : (t : Bool) → ◌≡◌ {A = Option ℕ} None (cond t None None)
 none_either true = refl
 none_either false = refl
 
-told_by : (left : Option Gapped) (asked : List Point) (index : Index) (s : Standing) (key : RequestKey) (o : Option ℕ) → IsIndex asked index s → index.left ≡ left → last_place key s.pairs ≡ o
+kept_by : (left : Option Gapped) (requested : List Point) (index : Index) (s : Standing) (key : RequestKey) (o : Option ℕ) → IsIndex requested index s → index.left ≡ left → last_place key s.pairs ≡ o
     → kept_at o key (index.total - index.most) left ≡ cond (has_pair key s.kept) o None
-told_by left asked index s key None h is at = none_either (has_pair key s.kept)
-told_by None asked index s key (Some p) h is at = ap (λ (t : Bool). cond t (Some p) None) (kept_by_place asked index s key p h is at)
-told_by (Some g) asked index s key (Some p) h is at =
+kept_by left requested index s key None h is at = none_either (has_pair key s.kept)
+kept_by None requested index s key (Some p) h is at = ap (λ (t : Bool). cond t (Some p) None) (kept_by_place requested index s key p h is at)
+kept_by (Some g) requested index s key (Some p) h is at =
     let left : AreLeft index.most (Some g) s = subst (λ (o : Option Gapped). AreLeft index.most o s) is h.left in
     ap (λ (l : List RequestKey). cond (has_pair key l) (Some p) None) left.0
 
 -- it is the place of the key's pair where that is kept
-pub kept_told : (asked : List Point) (index : Index) (s : Standing) (key : RequestKey) (place : Option ℕ) → IsIndex asked index s → place ≡ last_place key s.pairs → kept_at place key (index.total - index.most) index.left ≡ kept_place key s
-kept_told asked index s key place h is =
-    told_by index.left asked index s key place h refl (sym is) ∙ ap (λ (o : Option ℕ). cond (has_pair key s.kept) o None) is
+pub place_known : (requested : List Point) (index : Index) (s : Standing) (key : RequestKey) (place : Option ℕ) → IsIndex requested index s → place ≡ last_place key s.pairs → kept_at place key (index.total - index.most) index.left ≡ kept_place key s
+place_known requested index s key place h is =
+    kept_by index.left requested index s key place h refl (sym is) ∙ ap (λ (o : Option ℕ). cond (has_pair key s.kept) o None) is
 
 -- a place that is written as it was
 same_at : (t : Bool) (old : Option (Option ℕ)) (place : Option ℕ) → (t ≡ true → Some place ≡ old) → cond t (Some place) old ≡ old
 same_at true old place f = f refl
 same_at false old place f = refl
 
-pub index_same : (asked : List Point) (index next : Index) (s : Standing) (key : RequestKey) (place : Option ℕ) → IsIndex asked index s → Some place ≡ get asked_cmp index.places (asked_key key)
-    → ((q : RequestKey) → get asked_cmp next.places (asked_key q) ≡ cond (is_at (asked_cmp (asked_key key)) (asked_key q)) (Some place) (get asked_cmp index.places (asked_key q)))
-    → next.most ≡ index.most → next.before ≡ index.before → next.total ≡ index.total → next.left ≡ index.left → IsIndex asked next s
-index_same asked index next s key place h at u most before total left = record {
+pub index_same : (requested : List Point) (index next : Index) (s : Standing) (key : RequestKey) (place : Option ℕ) → IsIndex requested index s → Some place ≡ get key_cmp index.places key
+    → ((q : RequestKey) → get key_cmp next.places q ≡ cond (is_at (key_cmp key) q) (Some place) (get key_cmp index.places q))
+    → next.most ≡ index.most → next.before ≡ index.before → next.total ≡ index.total → next.left ≡ index.left → IsIndex requested next s
+index_same requested index next s key place h at u most before total left = record {
   places = λ q.
       u q
-      ∙ ap (λ (t : Bool). cond t (Some place) (get asked_cmp index.places (asked_key q))) (asked_test key q)
-      ∙ same_at (is_same key q) (get asked_cmp index.places (asked_key q)) place (λ same. at ∙ ap (λ (k : RequestKey). get asked_cmp index.places (asked_key k)) (same_key key q same))
+      ∙ ap (λ (t : Bool). cond t (Some place) (get key_cmp index.places q)) (key_test key q)
+      ∙ same_at (is_same key q) (get key_cmp index.places q) place (λ same. at ∙ ap (λ (k : RequestKey). get key_cmp index.places k) (same_key key q same))
       ∙ h.places q;
   total = total ∙ h.total;
   before = omega (arith, before, h.before);
@@ -276,13 +273,13 @@ among_more most key q s h none =
     let parts = more_parts (is_same key q) (length s.pairs) (last_place q s.pairs) (sym (one_more q key s.pairs) ∙ none) in
     none_last q (length (s.kept ++ key ∷ []) - most) (s.kept ++ key ∷ []) (one_more q key s.kept ∙ with_none (is_same key q) (length s.kept) (last_place q s.kept) parts.0 (h parts.1))
 
-pub noted : (asked : List Point) (index next : Index) (s : Standing) (key : RequestKey) → IsIndex asked index s → is_asked key asked ≡ true
-    → ((q : RequestKey) → get asked_cmp next.places (asked_key q) ≡ cond (is_at (asked_cmp (asked_key key)) (asked_key q)) (Some (Some index.total)) (get asked_cmp index.places (asked_key q)))
-    → next.before ≡ index.before → next.total ≡ index.total + 1 → length s.pairs - index.before < most_new → AreLeft next.most next.left (with_key index.most key s) → IsIndex asked next (with_key index.most key s)
-noted asked index next s key h known u same more less left =
+pub one_more_index : (requested : List Point) (index next : Index) (s : Standing) (key : RequestKey) → IsIndex requested index s → is_requested key requested ≡ true
+    → ((q : RequestKey) → get key_cmp next.places q ≡ cond (is_at (key_cmp key) q) (Some (Some index.total)) (get key_cmp index.places q))
+    → next.before ≡ index.before → next.total ≡ index.total + 1 → length s.pairs - index.before < most_new → AreLeft next.most next.left (with_key index.most key s) → IsIndex requested next (with_key index.most key s)
+one_more_index requested index next s key h known u same more less left =
     let size : length (s.pairs ++ key ∷ []) ≡ length s.pairs + 1 = omega (arith, length-append s.pairs (key ∷ [])) in
     record {
-      places = put asked (λ q. get asked_cmp index.places (asked_key q)) (λ q. get asked_cmp next.places (asked_key q)) s.pairs key index.total known h.total h.places u;
+      places = put requested (λ q. get key_cmp index.places q) (λ q. get key_cmp next.places q) s.pairs key index.total known h.total h.places u;
       total = more ∙ omega (arith, size, h.total);
       before = omega (arith, size, same, h.before);
       few = omega (arith, size, same, h.before, less);
@@ -298,27 +295,27 @@ absent_now : (o : Option ℕ) (s : Standing) (key : RequestKey) → last_place k
 absent_now (Some q) s key is none among = among (ap (λ (o : Option ℕ). cond (is_some o) (last_place key s.pairs) None) (sym is) ∙ none)
 absent_now None s key is none among = is
 
-pub left_by_place : (asked : List Point) (index : Index) (s : Standing) (key : RequestKey) → IsIndex asked index s → index.left ≡ None → AreLeft index.most index.left (with_key index.most key s)
-left_by_place asked index s key h none =
+pub left_by_place : (requested : List Point) (index : Index) (s : Standing) (key : RequestKey) → IsIndex requested index s → index.left ≡ None → AreLeft index.most index.left (with_key index.most key s)
+left_by_place requested index s key h none =
     let kept : s.kept ≡ keep_last index.most s.pairs = subst (λ (o : Option Gapped). AreLeft index.most o s) none h.left in
     let now : AreLeft index.most None (with_key index.most key s) = ap (λ (l : List RequestKey). keep_last index.most (l ++ key ∷ [])) kept ∙ last_more index.most s.pairs key in
     subst (λ (o : Option Gapped). AreLeft index.most o (with_key index.most key s)) (sym none) now
 
-pub left_by_list : (asked : List Point) (index : Index) (s : Standing) (key : RequestKey) (old new : Gapped) → IsIndex asked index s → index.left ≡ Some old → kept_place key s ≡ None
+pub left_by_list : (requested : List Point) (index : Index) (s : Standing) (key : RequestKey) (old new : Gapped) → IsIndex requested index s → index.left ≡ Some old → kept_place key s ≡ None
     → (last_place key (keys_of (kept_in old)) ≡ None → keys_of (kept_in new) ≡ keep_last old.most (keys_of (kept_in old) ++ key ∷ [])) → new.most ≡ old.most → AreLeft index.most (Some new) (with_key index.most key s)
-left_by_list asked index s key old new h some none keys most =
+left_by_list requested index s key old new h some none keys most =
     let left : AreLeft index.most (Some old) s = subst (λ (o : Option Gapped). AreLeft index.most o s) some h.left in
     let gone : last_place key s.kept ≡ None = absent_now (last_place key s.kept) s key refl none (h.among key) in (
       keys (ap (last_place key) left.0 ∙ gone) ∙ ap (λ (m : ℕ). keep_last m (keys_of (kept_in old) ++ key ∷ [])) left.1 ∙ ap (λ (l : List RequestKey). keep_last index.most (l ++ key ∷ [])) left.0,
       most ∙ left.1,
     )
 
-pub acknowledged : (asked : List Point) (index next : Index) (s : Standing) (r : Removal) (old new : Gapped) → IsIndex asked index s → index.left ≡ Some old → kept_in new ≡ forgotten (kept_in old) r.mid r.ranges
-    → next ≡ record { places = index.places; most = index.most; before = index.before; total = index.total; left = Some new } → IsIndex asked next (without r s)
-acknowledged asked index next s r old new h some is same =
+pub acknowledged : (requested : List Point) (index next : Index) (s : Standing) (r : Removal) (old new : Gapped) → IsIndex requested index s → index.left ≡ Some old → kept_in new ≡ forgotten (kept_in old) r.mid r.ranges
+    → next ≡ record { places = index.places; most = index.most; before = index.before; total = index.total; left = Some new } → IsIndex requested next (without r s)
+acknowledged requested index next s r old new h some is same =
     let left : AreLeft index.most (Some old) s = subst (λ (o : Option Gapped). AreLeft index.most o s) some h.left in
     let t : RequestKey → Bool = λ k. not (is_named r.mid r.ranges k) in
-    subst (λ (i : Index). IsIndex asked i (without r s)) (sym same) (record {
+    subst (λ (i : Index). IsIndex requested i (without r s)) (sym same) (record {
       places = h.places;
       total = h.total;
       before = h.before;
@@ -330,19 +327,19 @@ acknowledged asked index next s r old new h some is same =
 
 -- ---- the class of an item
 
-pub request_told : (c : Class) (most before : ℕ) (b : Bool) (asked : List Point) (new : Index) (s : Standing) (p : Point) (key : RequestKey) → p ≡ point.Request key
-    → (c ≡ class_of before s.pairs (kept_place key s)) × IsIndex asked new (behind_request most c key s)
-    → (c ≡ class_at before (seen b p) s) × IsIndex asked new (behind most before (seen b p) s)
-request_told c most before b asked new s p key is h =
-    subst (λ (q : Point). (c ≡ class_at before (seen b q) s) × IsIndex asked new (behind most before (seen b q) s)) (sym is)
-    (h.0, subst (λ (d : Class). IsIndex asked new (behind_request most d key s)) h.0 h.1)
+pub request_at : (c : Class) (most before : ℕ) (b : Bool) (requested : List Point) (new : Index) (s : Standing) (p : Point) (key : RequestKey) → p ≡ point.Request key
+    → (c ≡ class_of before s.pairs (kept_place key s)) × IsIndex requested new (behind_request most c key s)
+    → (c ≡ class_at before (seen b p) s) × IsIndex requested new (behind most before (seen b p) s)
+request_at c most before b requested new s p key is h =
+    subst (λ (q : Point). (c ≡ class_at before (seen b q) s) × IsIndex requested new (behind most before (seen b q) s)) (sym is)
+    (h.0, subst (λ (d : Class). IsIndex requested new (behind_request most d key s)) h.0 h.1)
 
-ack_seen : (b : Bool) (most before : ℕ) (asked : List Point) (new : Index) (s : Standing) (r : Removal) → (b ≡ true → IsIndex asked new (without r s)) → (b ≡ false → IsIndex asked new s)
-    → (Nothing ≡ class_at before (seen b (point.Ack r)) s) × IsIndex asked new (behind most before (seen b (point.Ack r)) s)
-ack_seen true most before asked new s r f g = (refl, f refl)
-ack_seen false most before asked new s r f g = (refl, g refl)
+ack_seen : (b : Bool) (most before : ℕ) (requested : List Point) (new : Index) (s : Standing) (r : Removal) → (b ≡ true → IsIndex requested new (without r s)) → (b ≡ false → IsIndex requested new s)
+    → (Nothing ≡ class_at before (seen b (point.Ack r)) s) × IsIndex requested new (behind most before (seen b (point.Ack r)) s)
+ack_seen true most before requested new s r f g = (refl, f refl)
+ack_seen false most before requested new s r f g = (refl, g refl)
 
-pub ack_told : (b : Bool) (most before : ℕ) (asked : List Point) (new : Index) (s : Standing) (p : Point) (r : Removal) → p ≡ point.Ack r → (b ≡ true → IsIndex asked new (without r s)) → (b ≡ false → IsIndex asked new s)
-    → (Nothing ≡ class_at before (seen b p) s) × IsIndex asked new (behind most before (seen b p) s)
-ack_told b most before asked new s p r is f g =
-    subst (λ (q : Point). (Nothing ≡ class_at before (seen b q) s) × IsIndex asked new (behind most before (seen b q) s)) (sym is) (ack_seen b most before asked new s r f g)
+pub ack_at : (b : Bool) (most before : ℕ) (requested : List Point) (new : Index) (s : Standing) (p : Point) (r : Removal) → p ≡ point.Ack r → (b ≡ true → IsIndex requested new (without r s)) → (b ≡ false → IsIndex requested new s)
+    → (Nothing ≡ class_at before (seen b p) s) × IsIndex requested new (behind most before (seen b p) s)
+ack_at b most before requested new s p r is f g =
+    subst (λ (q : Point). (Nothing ≡ class_at before (seen b q) s) × IsIndex requested new (behind most before (seen b q) s)) (sym is) (ack_seen b most before requested new s r f g)

@@ -8,8 +8,7 @@ pub mod Rows
 pub mod Orders
 pub mod Spans
 pub mod Forgetting
-pub mod Arrivals
-pub mod Passed
+pub mod Freed
 pub mod Settled
 pub mod Copied
 pub mod Changed

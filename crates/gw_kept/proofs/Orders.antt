@@ -1,12 +1,11 @@
 -- What a search in the order of keys finds, and the order with one pair more or less.
 use Rattle.std.proofs.Common.{◌≡◌, ℕ, zero, suc, ◌+◌, ◌-◌, ◌<◌, ◌%◌, ◌^◌, ◌≢◌, true, false, List, [], ◌∷◌, ◌++◌, map, length, drop, set, get_or, is_some, Option, Some, None, Result, Ok, Err, refl, ap, sym, subst, ◌∙◌, length-append, arith}
-use Rattle.std.proofs.lemmas.List.{get_or-map, get_or_default, length-map, get_or_append_left, get_or_push, length-drop, get_or-drop, length-set, get_or-set_same, get_or-set_other}
-use Rattle.std.proofs.lemmas.List.Edits.{length-remove, length-insert, get_or-remove_below, get_or-remove_above}
+use Rattle.std.proofs.lemmas.List.{get_or-map, get_or_default, length-map, get_or_append_left, get_or_push, length-drop, get_or-drop}
+use Rattle.std.proofs.lemmas.List.Edits.{length-insert}
 use Rattle.std.proofs.lemmas.List.Elements.{All-map}
-use Rattle.std.proofs.lemmas.List.Quantifiers.{all_pairs_remove}
 use Rattle.std.proofs.lemmas.List.Sorted.{searchable_from_sorted}
 use Rattle.std.specs.Cmp.{tied_itself}
-use Rattle.std.specs.List.{All, Contains, insert, remove}
+use Rattle.std.specs.List.{Contains, insert}
 use Rattle.std.specs.List.Sorted.{IsSearchInRange, IsBinarySearchResult, IsNonDecreasingBy}
 use Rattle.std.specs.Option.{unwrap_or}
 use Rattle.std.specs.Ordering.{is_eq, is_lt, ordering_index, ordering_reverse}
@@ -16,9 +15,9 @@ use Rattle.gw_kept.specs.declared.entry.RequestKey.{RequestKey}
 use Rattle.gw_kept.specs.Rows.{present, key_in, most_places}
 use Rattle.gw_kept.specs.Order.{key_cmp, key_total, number_at, place_of, Before, IsTaken, IsSorted, IsOrder, IsStand}
 use Rattle.gw_kept.proofs.Circle.{place_back, number_next, next_around}
-use Rattle.gw_kept.proofs.Lists.{three_ways, below_or_not, all_insert, contains_insert, contains_itself, all_pairs_insert, all_pairs_weaker, all_weaker_here, all_pairs_map, map_agree, map_map, map_insert, map_remove}
+use Rattle.gw_kept.proofs.Lists.{three_ways, below_or_not, all_insert, contains_insert, contains_itself, all_pairs_insert, all_pairs_weaker, all_weaker_here, all_pairs_map, map_agree, map_map, map_insert}
 use Rattle.gw_kept.proofs.Places.{key_test, same_key}
-use Rattle.gw_kept.proofs.Rows.{present_append, present_gap, present_behind, taken_below, key_default, key_is}
+use Rattle.gw_kept.proofs.Rows.{present_append, present_behind, taken_below, key_default, key_is}
 
 -- ---- the order of keys
 
@@ -133,7 +132,7 @@ behind_all keys first numbers key i number o last read less =
       ),
     )
 
-stand_is : (keys : List (Option RequestKey)) (places : List ℕ) (key : RequestKey) (i : ℕ) → IsSorted keys places → IsStand keys places key (Ok i) → get_or keys (get_or places i 0) None ≡ Some key
+pub stand_is : (keys : List (Option RequestKey)) (places : List ℕ) (key : RequestKey) (i : ℕ) → IsSorted keys places → IsStand keys places key (Ok i) → get_or keys (get_or places i 0) None ≡ Some key
 stand_is keys places key i sorted stand = key_is keys (get_or places i 0) key (sorted.within i 0 stand.0) ∙ ap (λ (k : RequestKey). Some k) stand.1
 
 pub found : (keys : List (Option RequestKey)) (first : ℕ) (numbers : List ℕ) (key : RequestKey) (i number place : ℕ) → (o : IsOrder keys first numbers) → IsStand keys o.places key (Ok i) → number ≡ get_or numbers i number → place ≡ place_of first number → get_or keys place None ≡ Some key
@@ -159,17 +158,6 @@ pub found_none : (keys : List (Option RequestKey)) (places : List ℕ) (key : Re
 found_none keys places key i sorted stand none = none (get_or places i 0) (stand_is keys places key i sorted stand)
 
 -- ---- no pairs
-
-pub none_sorted : (first : ℕ) → first < 2 ^ 16 → IsOrder [] first []
-none_sorted first h =
-    record {
-      places = [];
-      numbered = refl;
-      sorted = record { within = λ i d l. absurd (omega arith); whole = λ p l. absurd cc; rises = λ i j d l within. absurd (omega arith) };
-      around = h;
-      few = omega arith;
-      many = refl;
-    }
 
 -- ---- one more pair, behind the others
 
@@ -225,84 +213,11 @@ one_more_order keys first numbers next key i number o stand few is made =
           ∙ sym (ap length (present_append keys (Some key ∷ [])) ∙ length-append (present keys) (key ∷ []));
     }
 
--- ---- a gap in place of a pair
-
--- what is left after one item was taken out stands elsewhere
-record Elsewhere (places : List ℕ) (i value : ℕ) : Type 0 where
-  pub at : ℕ
-  pub within : at < length places
-  pub other : at ≡ i → ⊥
-  pub is : get_or places at 0 ≡ value
-
-elsewhere : (places : List ℕ) (i k d : ℕ) → i < length places → k < length (remove places i) → Elsewhere places i (get_or (remove places i) k d)
-elsewhere places i k d l within =
-    let n : length (remove places i) + 1 ≡ length places = length-remove places i l in
-    below_or_not k i (Elsewhere places i (get_or (remove places i) k d))
-    (λ less. record { at = k; within = omega arith; other = λ e. omega arith; is = get_or_default places k 0 d (omega arith) ∙ sym (get_or-remove_below places i d k less l) })
-    (λ more. record { at = k + 1; within = omega arith; other = λ e. omega arith; is = get_or_default places (k + 1) 0 d (omega arith) ∙ sym (get_or-remove_above places i d k more l) })
-
--- and what stood elsewhere is left
-left : (places : List ℕ) (i j p : ℕ) → i < length places → j < length places → (j ≡ i → ⊥) → get_or places j p ≡ p → Contains (remove places i) p
-left places i j p li lj other at =
-    let n : length (remove places i) + 1 ≡ length places = length-remove places i li in
-    three_ways j i (Contains (remove places i) p) (λ less. (j, omega arith, get_or-remove_below places i p j less li ∙ at)) (λ same. absurd (other same))
-    (λ more.
-    let e : j - 1 + 1 ≡ j = omega arith in
-    (j - 1, omega arith, get_or-remove_above places i p (j - 1) (omega arith) li ∙ ap (λ (m : ℕ). get_or places m p) e ∙ at))
-
 -- the other places are others
 pub others : (keys : List (Option RequestKey)) (places : List ℕ) (i j : ℕ) → IsSorted keys places → i < length places → j < length places → (j ≡ i → ⊥) → get_or places j 0 ≢ get_or places i 0
 others keys places i j sorted li lj other e =
     three_ways i j ⊥ (λ l. differ keys (get_or places i 0) (get_or places j 0) (sorted.rises i j 0 l lj) (sym e)) (λ same. other (sym same))
     (λ l. differ keys (get_or places j 0) (get_or places i 0) (sorted.rises j i 0 l li) e)
-
-all_others : (keys : List (Option RequestKey)) (places : List ℕ) (i : ℕ) → IsSorted keys places → i < length places → All (λ p. (p ≢ get_or places i 0) × IsTaken keys p) (remove places i)
-all_others keys places i sorted l k d within =
-    let e = elsewhere places i k d l within in
-    subst (λ (p : ℕ). (p ≢ get_or places i 0) × IsTaken keys p) e.is (others keys places i e.at sorted l e.within e.other, sorted.within e.at 0 e.within)
-
-pub sorted_gap : (keys : List (Option RequestKey)) (places : List ℕ) (i : ℕ) → IsSorted keys places → i < length places → IsSorted (set keys (get_or places i 0) None) (remove places i)
-sorted_gap keys places i sorted l =
-    let p : ℕ = get_or places i 0 in
-    let after : List (Option RequestKey) = set keys p None in
-    let rest = all_others keys places i sorted l in
-    let there : (q : ℕ) → q ≢ p → get_or after q None ≡ get_or keys q None = λ q h. get_or-set_other keys p q None None h in
-    let gone : (q : ℕ) → q ≡ p → IsTaken after q → ⊥ =
-    λ q e t.
-    let none : get_or after q None ≡ None = ap (λ (n : ℕ). get_or after n None) e ∙ get_or-set_same keys p None None (taken_below keys p (sorted.within i 0 l)) in
-    let clash : false ≡ true = sym (ap is_some none) ∙ t in
-    absurd cc
-    in
-    record {
-      within = all_weaker_here (λ q. (q ≢ p) × IsTaken keys q) (IsTaken after) (remove places i) (λ q h. ap is_some (there q h.0) ∙ h.1) rest;
-      whole =
-          λ q t.
-          let other : q ≢ p = λ e. gone q e t in
-          let c = sorted.whole q (ap is_some (sym (there q other)) ∙ t) in
-          left places i c.0 q l c.1 (λ e. other (sym c.2 ∙ ap (λ (n : ℕ). get_or places n q) e ∙ get_or_default places i q 0 l)) c.2;
-      rises =
-          all_pairs_weaker (λ q. (q ≢ p) × IsTaken keys q) (Before keys) (Before after) (remove places i) rest
-          (λ q r hq hr before d.
-          ap (λ (o : Option RequestKey). key_cmp (unwrap_or o d) (key_in after r d)) (there q hq.0) ∙ ap (λ (o : Option RequestKey). key_cmp (key_in keys q d) (unwrap_or o d)) (there r hr.0) ∙ before d)
-          (all_pairs_remove (Before keys) places i l sorted.rises);
-    }
-
-pub order_gap : (keys : List (Option RequestKey)) (first : ℕ) (numbers : List ℕ) (i p : ℕ) → (o : IsOrder keys first numbers) → i < length o.places → p ≡ get_or o.places i 0 → IsOrder (set keys p None) first (remove numbers i)
-order_gap keys first numbers i p o l is =
-    record {
-      places = remove o.places i;
-      numbered = ap (λ (ns : List ℕ). remove ns i) o.numbered ∙ map_remove (number_at first) o.places i;
-      sorted = subst (λ (q : ℕ). IsSorted (set keys q None) (remove o.places i)) (sym is) (sorted_gap keys o.places i o.sorted l);
-      around = o.around;
-      few = omega (arith, length-set keys p None, o.few);
-      many =
-          (let taken : IsTaken keys p = subst (IsTaken keys) (sym is) (o.sorted.within i 0 l) in
-          omega (arith, length-remove numbers i (omega (arith, numbers_are keys first numbers o)), o.many, present_gap keys p taken));
-    }
-
-pub gap_places : (keys : List (Option RequestKey)) (first : ℕ) (numbers : List ℕ) (i p : ℕ) → (o : IsOrder keys first numbers) → (l : i < length o.places) → (is : p ≡ get_or o.places i 0) → (order_gap keys first numbers i p o l is).places ≡ remove o.places i
-unfolding order_gap
-gap_places keys first numbers i p o l is = refl
 
 -- ---- without a gap in front
 
@@ -368,13 +283,6 @@ gap_there (k ∷ ks) = refl
 same_gap : (keys : List (Option RequestKey)) → get_or keys 0 None ≡ None → set keys 0 None ≡ keys
 same_gap [] e = refl
 same_gap (k ∷ ks) e = ap (λ (o : Option RequestKey). o ∷ ks) (sym e)
-
-pub front_out : (keys : List (Option RequestKey)) (first : ℕ) (numbers : List ℕ) (key : RequestKey) (i : ℕ) → (o : IsOrder keys first numbers) → IsStand keys o.places key (Ok i) → get_or keys 0 None ≡ Some key → IsOrder (set keys 0 None) first (remove numbers i)
-front_out keys first numbers key i o stand at =
-    order_gap keys first numbers i 0 o stand.0 (one_place keys first numbers 0 (get_or o.places i 0) key o at (stand_is keys o.places key i o.sorted stand))
-
-pub front_gap : (keys : List (Option RequestKey)) (first : ℕ) (numbers : List ℕ) → IsOrder keys first numbers → get_or keys 0 None ≡ None → IsOrder (set keys 0 None) first numbers
-front_gap keys first numbers o gap = subst (λ (ks : List (Option RequestKey)). IsOrder ks first numbers) (sym (same_gap keys gap)) o
 
 pub front_left : (keys : List (Option RequestKey)) (first next : ℕ) (numbers : List ℕ) → IsOrder (set keys 0 None) first numbers → next ≡ (first + 1) % 2 ^ 16 → IsOrder (drop 1 keys) next numbers
 front_left keys first next numbers o is = subst (λ (ks : List (Option RequestKey)). IsOrder ks next numbers) (same_behind keys) (order_behind (set keys 0 None) first next numbers o (gap_there keys) is)

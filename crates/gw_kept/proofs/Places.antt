@@ -13,7 +13,6 @@ use Rattle.gw_kept.specs.declared.entry.RequestKey.{RequestKey}
 use Rattle.gw_kept.specs.Pairs.{is_same}
 use Rattle.gw_kept.specs.Classes.{or_here, last_place}
 use Rattle.gw_kept.specs.Order.{key_cmp}
-use Rattle.gw_kept.specs.Asked.{asked_cmp, asked_key}
 
 -- ---- among the last so many
 
@@ -67,7 +66,7 @@ one_more key k (p ∷ ps) =
     let here : Option ℕ = cond (is_same p key) (Some 0) None in
     ap (λ (o : Option ℕ). or_here 1 o here) (one_more key k ps) ∙ step (is_same k key) true (length ps) (last_place key ps) here
 
--- ---- the order of keys tells the same keys
+-- ---- keys that tie in the order are the same
 
 then_test : (r s : Ordering) → is_eq (ordering_then r s) ≡ (is_eq r && is_eq s)
 then_test Less s = refl
@@ -94,12 +93,6 @@ key_test a b =
     ∙ ap (λ (t : Bool). is_eq (slice_cmp nat_cmp a.mid b.mid) && t) (number_test a.id b.id)
     ∙ ap (λ (t : Bool). t && a.id == b.id) (is_eq-slice_cmp a.mid b.mid)
     ∙ both_back (bytes_eq a.mid b.mid) (a.id == b.id)
-
-pub asked_test : (a b : RequestKey) → is_eq (asked_cmp (asked_key a) (asked_key b)) ≡ is_same a b
-asked_test a b =
-    then_test (nat_cmp a.id b.id) (slice_cmp nat_cmp a.mid b.mid)
-    ∙ ap (λ (t : Bool). t && is_eq (slice_cmp nat_cmp a.mid b.mid)) (number_test a.id b.id)
-    ∙ ap (λ (t : Bool). a.id == b.id && t) (is_eq-slice_cmp a.mid b.mid)
 
 -- ---- keys that are the same
 

@@ -127,9 +127,9 @@ is_kept k cs key q distinct new at =
 
 -- ---- where a class comes from
 
--- a class is told by the place among all, where it is kept
-abbrev told : KeptList → List Change → (kept all : Option ℕ) → Class
-told k cs kept all = class_of (length k.pairs) (map key_of (k.pairs ++ entries_in cs)) (cond (is_some kept) all None)
+-- a class by the place among all, where it is kept
+abbrev class_by : KeptList → List Change → (kept all : Option ℕ) → Class
+class_by k cs kept all = class_of (length k.pairs) (map key_of (k.pairs ++ entries_in cs)) (cond (is_some kept) all None)
 
 abbrev kept_at_point : KeptList → List Change → RequestKey → Option ℕ
 kept_at_point k cs key = last_place key (map key_of (kept_after k cs).pairs)
@@ -137,11 +137,11 @@ kept_at_point k cs key = last_place key (map key_of (kept_after k cs).pairs)
 abbrev among_all : KeptList → List Change → RequestKey → Option ℕ
 among_all k cs key = last_place key (map key_of (k.pairs ++ entries_in cs))
 
-told_kept : (k : KeptList) (cs : List Change) (key : RequestKey) (q : ℕ) (h : IsKept k cs key) → kept_at_point k cs key ≡ Some q → class_after k cs key ≡ Repeat (source_at (length k.pairs) h.place)
-told_kept k cs key q h at = ap (λ (o : Option ℕ). told k cs o (among_all k cs key)) at ∙ ap (λ (o : Option ℕ). told k cs (Some q) o) h.last
+class_kept : (k : KeptList) (cs : List Change) (key : RequestKey) (q : ℕ) (h : IsKept k cs key) → kept_at_point k cs key ≡ Some q → class_after k cs key ≡ Repeat (source_at (length k.pairs) h.place)
+class_kept k cs key q h at = ap (λ (o : Option ℕ). class_by k cs o (among_all k cs key)) at ∙ ap (λ (o : Option ℕ). class_by k cs (Some q) o) h.last
 
-told_other : (k : KeptList) (cs : List Change) (key : RequestKey) → kept_at_point k cs key ≡ None → class_after k cs key ≡ class_of (length k.pairs) (map key_of (k.pairs ++ entries_in cs)) None
-told_other k cs key at = ap (λ (o : Option ℕ). told k cs o (among_all k cs key)) at
+class_other : (k : KeptList) (cs : List Change) (key : RequestKey) → kept_at_point k cs key ≡ None → class_after k cs key ≡ class_of (length k.pairs) (map key_of (k.pairs ++ entries_in cs)) None
+class_other k cs key at = ap (λ (o : Option ℕ). class_by k cs o (among_all k cs key)) at
 
 no_repeat : (b : Bool) (s : Source) → cond b New Over ≡ Repeat s → (P : Type 0) → P
 no_repeat true s e P = absurd cc
@@ -163,14 +163,14 @@ HasReply k cs key source = (bytes : List ℕ) × (bytes_of source k (entries_in 
 replied : (o : Option ℕ) (k : KeptList) (cs : List Change) (key : RequestKey) (source : Source) → AreDistinct k.pairs → AreNew k cs → kept_at_point k cs key ≡ o → class_after k cs key ≡ Repeat source → HasReply k cs key source
 replied (Some q) k cs key source distinct new at e =
     let h : IsKept k cs key = is_kept k cs key q distinct new at in
-    let both : Repeat (source_at (length k.pairs) h.place) ≡ Repeat source = sym (told_kept k cs key q h at) ∙ e in
+    let both : Repeat (source_at (length k.pairs) h.place) ≡ Repeat source = sym (class_kept k cs key q h at) ∙ e in
     let is : source_at (length k.pairs) h.place ≡ source = cc in (
       h.entry.bytes,
       ap (λ (s : Source). bytes_of s k (entries_in cs)) (sym is) ∙ sourced (nat_lt h.place (length k.pairs)) k (entries_in cs) h.place h.entry refl h.there,
       h.bytes,
     )
 replied None k cs key source distinct new at e =
-    no_repeat (nat_lt (length (map key_of (k.pairs ++ entries_in cs)) - length k.pairs) most_new) source (sym (told_other k cs key at) ∙ e) (HasReply k cs key source)
+    no_repeat (nat_lt (length (map key_of (k.pairs ++ entries_in cs)) - length k.pairs) most_new) source (sym (class_other k cs key at) ∙ e) (HasReply k cs key source)
 
 pub has_reply : (k : KeptList) (cs : List Change) (key : RequestKey) (source : Source) → AreDistinct k.pairs → AreNew k cs → class_after k cs key ≡ Repeat source → HasReply k cs key source
 has_reply k cs key source distinct new e = replied (kept_at_point k cs key) k cs key source distinct new refl e
@@ -198,28 +198,28 @@ lt_not a b e = grind (arith, nat_tests)
 not_repeat : (o : Option ℕ) (c : Class) (k : KeptList) (cs : List Change) (key : RequestKey) → AreDistinct k.pairs → AreNew k cs → kept_at_point k cs key ≡ o → class_after k cs key ≡ c → ((s : Source) → c ≡ Repeat s → ⊥) → kept_at_point k cs key ≡ None
 not_repeat (Some q) c k cs key distinct new at e other =
     let h : IsKept k cs key = is_kept k cs key q distinct new at in
-    absurd (other (source_at (length k.pairs) h.place) (sym e ∙ told_kept k cs key q h at))
+    absurd (other (source_at (length k.pairs) h.place) (sym e ∙ class_kept k cs key q h at))
 not_repeat None c k cs key distinct new at e other = at
 
 pub new_is_not_kept : (k : KeptList) (cs : List Change) (key : RequestKey) → AreDistinct k.pairs → AreNew k cs → class_after k cs key ≡ New → (bytes_for key (kept_after k cs).pairs ≡ None) × (length (entries_in cs) < most_new)
 new_is_not_kept k cs key distinct new e =
     let none = not_repeat (kept_at_point k cs key) New k cs key distinct new refl e (λ s f. absurd cc) in
-    let few = when_new (nat_lt (length (map key_of (k.pairs ++ entries_in cs)) - length k.pairs) most_new) (sym (told_other k cs key none) ∙ e) in
+    let few = when_new (nat_lt (length (map key_of (k.pairs ++ entries_in cs)) - length k.pairs) most_new) (sym (class_other k cs key none) ∙ e) in
     (not_kept key (kept_after k cs).pairs none, subst (λ (n : ℕ). n < most_new) (came k (entries_in cs)) (lt_is (length (map key_of (k.pairs ++ entries_in cs)) - length k.pairs) most_new few))
 
 pub over_is_not_kept : (k : KeptList) (cs : List Change) (key : RequestKey) → AreDistinct k.pairs → AreNew k cs → class_after k cs key ≡ Over → (bytes_for key (kept_after k cs).pairs ≡ None) × (most_new ≤ length (entries_in cs))
 over_is_not_kept k cs key distinct new e =
     let none = not_repeat (kept_at_point k cs key) Over k cs key distinct new refl e (λ s f. absurd cc) in
-    let many = when_over (nat_lt (length (map key_of (k.pairs ++ entries_in cs)) - length k.pairs) most_new) (sym (told_other k cs key none) ∙ e) in
+    let many = when_over (nat_lt (length (map key_of (k.pairs ++ entries_in cs)) - length k.pairs) most_new) (sym (class_other k cs key none) ∙ e) in
     (not_kept key (kept_after k cs).pairs none, subst (λ (n : ℕ). most_new ≤ n) (came k (entries_in cs)) (lt_not (length (map key_of (k.pairs ++ entries_in cs)) - length k.pairs) most_new many))
 
-unasked : (b : Bool) → cond b New Over ≡ Nothing → ⊥
-unasked true e = absurd cc
-unasked false e = absurd cc
+never_neither : (b : Bool) → cond b New Over ≡ Nothing → ⊥
+never_neither true e = absurd cc
+never_neither false e = absurd cc
 
 never : (o : Option ℕ) (k : KeptList) (es : List RequestKey) → class_of (length k.pairs) es o ≡ Nothing → ⊥
 never (Some q) k es e = absurd cc
-never None k es e = unasked (nat_lt (length es - length k.pairs) most_new) e
+never None k es e = never_neither (nat_lt (length es - length k.pairs) most_new) e
 
 pub never_nothing : (k : KeptList) (cs : List Change) (key : RequestKey) → class_after k cs key ≡ Nothing → ⊥
 never_nothing k cs key e = never (cond (is_some (kept_at_point k cs key)) (among_all k cs key) None) k (map key_of (k.pairs ++ entries_in cs)) e

@@ -1,4 +1,4 @@
--- Requests whose numbers rise: what each is told, and that none is asked twice.
+-- Requests whose numbers rise: the class of each, and that none comes twice.
 use Rattle.std.proofs.Common.{◌≡◌, ℕ, ◌+◌, ◌-◌, ◌<◌, ◌==◌, ◌&&◌, ◌||◌, nat_le, nat_lt, Bool, true, false, cond, List, [], ◌∷◌, ◌++◌, length, drop, get_or, bytes_eq, Option, Some, None, refl, ap, sym, subst, ◌∙◌, length-append, arith}
 use Rattle.std.proofs.lemmas.Bool.Decides.{nat_tests}
 use Rattle.std.proofs.lemmas.List.{drop_more, length-map}
@@ -10,7 +10,7 @@ use Rattle.gw_kept.specs.declared.entry.RequestKey.{RequestKey}
 use Rattle.gw_kept.specs.declared.point.Point.{Point}
 use Rattle.gw_kept.specs.declared.point.Point.TheVariants as point
 use Rattle.gw_kept.specs.Classes.{Standing, standing_of, keys_of, last_place, has_pair, kept_place, class_of, class_at, behind, behind_request, with_key, most_new}
-use Rattle.gw_kept.specs.Index.{is_asked, kept_at, seen}
+use Rattle.gw_kept.specs.Index.{is_requested, kept_at, seen}
 use Rattle.gw_kept.specs.Pairs.{KeptList, IsBounded, is_same, key_of}
 use Rattle.gw_kept.specs.Rises.{is_above, do_numbers_rise, IsApart, IsTurn}
 use Rattle.gw_kept.proofs.Places.{within, among_last, one_more, same_itself}
@@ -22,31 +22,31 @@ none_either : (t : Bool) → ◌≡◌ {A = Option ℕ} None (cond t None None)
 none_either true = refl
 none_either false = refl
 
-told_by : (k : KeptList) (key : RequestKey) (s : Standing) (o : Option ℕ) → s.kept ≡ keep_last k.most s.pairs → last_place key s.pairs ≡ o → kept_at o key (length s.pairs - k.most) None ≡ cond (has_pair key s.kept) o None
-told_by k key s None kept at = none_either (has_pair key s.kept)
-told_by k key s (Some p) kept at =
+kept_by : (k : KeptList) (key : RequestKey) (s : Standing) (o : Option ℕ) → s.kept ≡ keep_last k.most s.pairs → last_place key s.pairs ≡ o → kept_at o key (length s.pairs - k.most) None ≡ cond (has_pair key s.kept) o None
+kept_by k key s None kept at = none_either (has_pair key s.kept)
+kept_by k key s (Some p) kept at =
     let d : ℕ = length s.pairs - k.most in
     ap (λ (t : Bool). cond t (Some p) None)
     (some_within d p (last_place key (drop d s.pairs)) (nat_le d p) refl (among_last key d s.pairs ∙ ap (within d) at)
     ∙ ap (λ (l : List RequestKey). is_some (last_place key l)) (sym kept))
 
--- its place among the pairs that were kept before tells whether it is kept still
-told_apart : (k : KeptList) (key : RequestKey) (s : Standing) (total : ℕ) → IsApart k key s → total ≡ length s.pairs → kept_at (last_place key (keys_of k)) key (total - k.most) None ≡ kept_place key s
-told_apart k key s total h size =
+-- its place among the pairs that were kept before shows whether it is kept still
+kept_apart : (k : KeptList) (key : RequestKey) (s : Standing) (total : ℕ) → IsApart k key s → total ≡ length s.pairs → kept_at (last_place key (keys_of k)) key (total - k.most) None ≡ kept_place key s
+kept_apart k key s total h size =
     ap (λ (n : ℕ). kept_at (last_place key (keys_of k)) key (n - k.most) None) size
-    ∙ told_by k key s (last_place key (keys_of k)) h.kept h.last
+    ∙ kept_by k key s (last_place key (keys_of k)) h.kept h.last
     ∙ ap (λ (o : Option ℕ). cond (has_pair key s.kept) o None) (sym h.last)
 
--- the same, in the steps by which it is told
-pub told_in_steps : (k : KeptList) (key : RequestKey) (s : Standing) (total oldest most : ℕ) (place kept : Option ℕ) → IsApart k key s → total ≡ length s.pairs → kept ≡ kept_at place key oldest None → oldest ≡ total - most → most ≡ k.most → place ≡ last_place key (keys_of k)
+-- the same, step by step
+pub kept_in_steps : (k : KeptList) (key : RequestKey) (s : Standing) (total oldest most : ℕ) (place kept : Option ℕ) → IsApart k key s → total ≡ length s.pairs → kept ≡ kept_at place key oldest None → oldest ≡ total - most → most ≡ k.most → place ≡ last_place key (keys_of k)
     → kept ≡ kept_place key s
-told_in_steps k key s total oldest most place kept h size is old limit at =
+kept_in_steps k key s total oldest most place kept h size is old limit at =
     is
     ∙ ap (λ (n : ℕ). kept_at place key n None) (old ∙ ap (λ (m : ℕ). total - m) limit)
     ∙ ap (λ (o : Option ℕ). kept_at o key (total - k.most) None) at
-    ∙ told_apart k key s total h size
+    ∙ kept_apart k key s total h size
 
--- ---- none is asked twice
+-- ---- none comes twice
 
 both_of : (a b : Bool) → (a && b) ≡ true → (a ≡ true) × (b ≡ true)
 both_of true b h = (refl, h)
@@ -66,17 +66,17 @@ is_other q k h = other_by q k h (k.id == q.id) refl
 same_number : (j q : RequestKey) → is_same j q ≡ true → j.id ≡ q.id
 same_number j q h = let e : (j.id == q.id) ≡ true = (both_of (j.id == q.id) (bytes_eq j.mid q.mid) h).0 in grind (arith, nat_tests)
 
--- what is asked later has a higher number
-later_is_above : (last : ℕ) (rest : List Point) (q : RequestKey) → do_numbers_rise (Some last) rest ≡ true → is_asked q rest ≡ true → last < q.id
-later_is_above last [] q rise asked = absurd cc
-later_is_above last (point.Ack r ∷ rest) q rise asked = later_is_above last rest q rise asked
-later_is_above last (point.Nothing ∷ rest) q rise asked = later_is_above last rest q rise asked
-later_is_above last (point.Request j ∷ rest) q rise asked =
+-- a later request has a higher number
+later_is_above : (last : ℕ) (rest : List Point) (q : RequestKey) → do_numbers_rise (Some last) rest ≡ true → is_requested q rest ≡ true → last < q.id
+later_is_above last [] q rise requested = absurd cc
+later_is_above last (point.Ack r ∷ rest) q rise requested = later_is_above last rest q rise requested
+later_is_above last (point.Nothing ∷ rest) q rise requested = later_is_above last rest q rise requested
+later_is_above last (point.Request j ∷ rest) q rise requested =
     let both = both_of (nat_lt last j.id) (do_numbers_rise (Some j.id) rest) rise in
     let up : last < j.id = above_is last j.id both.0 in
-    by up (later_is_above j.id rest q both.1) (is_same j q) refl asked
+    by up (later_is_above j.id rest q both.1) (is_same j q) refl requested
   where
-    by : last < j.id → (is_asked q rest ≡ true → j.id < q.id) → (t : Bool) → is_same j q ≡ t → (t || is_asked q rest) ≡ true → last < q.id
+    by : last < j.id → (is_requested q rest ≡ true → j.id < q.id) → (t : Bool) → is_same j q ≡ t → (t || is_requested q rest) ≡ true → last < q.id
     by up later true e a = let same : j.id ≡ q.id = same_number j q e in omega (arith, up, same)
     by up later false e a = let more : j.id < q.id = later a in omega (arith, up, more)
 
@@ -93,9 +93,9 @@ or_later : (t u : Bool) → u ≡ true → (t || u) ≡ true
 or_later true u h = refl
 or_later false u h = h
 
--- the key that is asked now is apart
+-- the key of the next request is apart
 pub now_apart : (k : KeptList) (s : Standing) (key : RequestKey) (rest : List Point) (total : ℕ) → IsTurn k s (point.Request key ∷ rest) total → IsApart k key s
-now_apart k s key rest total h = record { kept = h.kept; last = h.apart key (at_head key (is_asked key rest)) }
+now_apart k s key rest total h = record { kept = h.kept; last = h.apart key (at_head key (is_requested key rest)) }
 
 -- where nothing changes
 pub stays : (k : KeptList) (s : Standing) (key : RequestKey) (rest : List Point) (total : ℕ) → IsTurn k s (point.Request key ∷ rest) total → IsTurn k s rest total
@@ -105,7 +105,7 @@ stays k s key rest total h = record {
   before = h.before;
   few = h.few;
   bounded = h.bounded;
-  apart = λ q asked. h.apart q (or_later (is_same key q) (is_asked q rest) asked);
+  apart = λ q requested. h.apart q (or_later (is_same key q) (is_requested q rest) requested);
   number = Some key.id;
   rise = rest_rises h.number key rest h.rise;
 }
@@ -121,20 +121,13 @@ goes_on_new k s key rest total next h less more =
       before = omega (arith, size, h.before);
       few = omega (arith, size, h.before, less);
       bounded = h.bounded;
-      apart = λ q asked.
+      apart = λ q requested.
           one_more q key s.pairs
-          ∙ ap (λ (t : Bool). cond t (Some (length s.pairs)) (last_place q s.pairs)) (is_other q key (later_is_above key.id rest q rise asked))
-          ∙ h.apart q (or_later (is_same key q) (is_asked q rest) asked);
+          ∙ ap (λ (t : Bool). cond t (Some (length s.pairs)) (last_place q s.pairs)) (is_other q key (later_is_above key.id rest q rise requested))
+          ∙ h.apart q (or_later (is_same key q) (is_requested q rest) requested);
       number = Some key.id;
       rise = rise;
     }
-
--- behind what asks nothing
-pub passes_ack : (k : KeptList) (s : Standing) (p : Point) (rest : List Point) (total : ℕ) → ((key : RequestKey) → p ≡ point.Request key → ⊥) → IsTurn k s (p ∷ rest) total
-    → (Nothing ≡ class_at (length k.pairs) (seen false p) s) × IsTurn k (behind k.most (length k.pairs) (seen false p) s) rest total
-passes_ack k s (point.Request key) rest total not h = absurd (not key refl)
-passes_ack k s (point.Ack r) rest total not h = (refl, record { kept = h.kept; size = h.size; before = h.before; few = h.few; bounded = h.bounded; apart = h.apart; number = h.number; rise = h.rise })
-passes_ack k s point.Nothing rest total not h = (refl, record { kept = h.kept; size = h.size; before = h.before; few = h.few; bounded = h.bounded; apart = h.apart; number = h.number; rise = h.rise })
 
 -- a request that is not new changes nothing
 no_change : (most : ℕ) (c : Class) (key : RequestKey) (s : Standing) → (c ≡ New → ⊥) → behind_request most c key s ≡ s
@@ -145,11 +138,11 @@ no_change most Nothing key s not = refl
 
 pub passes_old : (k : KeptList) (s : Standing) (p : Point) (key : RequestKey) (rest : List Point) (total : ℕ) (c : Class) → p ≡ point.Request key → (c ≡ New → ⊥) → c ≡ class_of (length k.pairs) s.pairs (kept_place key s) → IsTurn k s (p ∷ rest) total
     → (c ≡ class_at (length k.pairs) (seen false p) s) × IsTurn k (behind k.most (length k.pairs) (seen false p) s) rest total
-passes_old k s p key rest total c is not told h =
+passes_old k s p key rest total c is not found h =
     let turn : IsTurn k s (point.Request key ∷ rest) total = subst (λ (x : Point). IsTurn k s (x ∷ rest) total) is h in
-    let same : behind_request k.most (class_of (length k.pairs) s.pairs (kept_place key s)) key s ≡ s = ap (λ (d : Class). behind_request k.most d key s) (sym told) ∙ no_change k.most c key s not in
+    let same : behind_request k.most (class_of (length k.pairs) s.pairs (kept_place key s)) key s ≡ s = ap (λ (d : Class). behind_request k.most d key s) (sym found) ∙ no_change k.most c key s not in
     subst (λ (x : Point). (c ≡ class_at (length k.pairs) (seen false x) s) × IsTurn k (behind k.most (length k.pairs) (seen false x) s) rest total) (sym is)
-    (told, subst (λ (t : Standing). IsTurn k t rest total) (sym same) (stays k s key rest total turn))
+    (found, subst (λ (t : Standing). IsTurn k t rest total) (sym same) (stays k s key rest total turn))
 
 class_new : (pairs before : ℕ) (o : Option ℕ) (all : List RequestKey) → New ≡ class_of before all o → length all - before < most_new
 class_new pairs before (Some place) all e = absurd cc
@@ -161,12 +154,12 @@ class_new pairs before None all e = by (nat_lt (length all - before) most_new) r
 
 pub passes_new : (k : KeptList) (s : Standing) (p : Point) (key : RequestKey) (rest : List Point) (total next : ℕ) → p ≡ point.Request key → New ≡ class_of (length k.pairs) s.pairs (kept_place key s) → next ≡ total + 1 → IsTurn k s (p ∷ rest) total
     → (New ≡ class_at (length k.pairs) (seen false p) s) × IsTurn k (behind k.most (length k.pairs) (seen false p) s) rest next
-passes_new k s p key rest total next is told more h =
+passes_new k s p key rest total next is found more h =
     let turn : IsTurn k s (point.Request key ∷ rest) total = subst (λ (x : Point). IsTurn k s (x ∷ rest) total) is h in
-    let less : length s.pairs - length k.pairs < most_new = class_new 0 (length k.pairs) (kept_place key s) s.pairs told in
-    let same : behind_request k.most (class_of (length k.pairs) s.pairs (kept_place key s)) key s ≡ with_key k.most key s = ap (λ (d : Class). behind_request k.most d key s) (sym told) in
+    let less : length s.pairs - length k.pairs < most_new = class_new 0 (length k.pairs) (kept_place key s) s.pairs found in
+    let same : behind_request k.most (class_of (length k.pairs) s.pairs (kept_place key s)) key s ≡ with_key k.most key s = ap (λ (d : Class). behind_request k.most d key s) (sym found) in
     subst (λ (x : Point). (New ≡ class_at (length k.pairs) (seen false x) s) × IsTurn k (behind k.most (length k.pairs) (seen false x) s) rest next) (sym is)
-    (told, subst (λ (t : Standing). IsTurn k t rest next) (sym same) (goes_on_new k s key rest total next turn less more))
+    (found, subst (λ (t : Standing). IsTurn k t rest next) (sym same) (goes_on_new k s key rest total next turn less more))
 
 -- ---- from the first item on
 
@@ -181,11 +174,11 @@ begun k items total size bounded rise =
       before = omega (arith, keys);
       few = omega (arith, keys);
       bounded = bounded;
-      apart = λ q asked. refl;
+      apart = λ q requested. refl;
       number = None;
       rise = rise;
     }
 
 -- at the next item
-pub turn_at : (k : KeptList) (s : Standing) (asked : List Point) (i : ℕ) (x : Point) (total : ℕ) → i < length asked → x ≡ get_or asked i x → IsTurn k s (drop i asked) total → IsTurn k s (x ∷ drop (i + 1) asked) total
-turn_at k s asked i x total h is turn = subst (λ (l : List Point). IsTurn k s l total) (drop_more asked i x h ∙ ap (λ (y : Point). y ∷ drop (i + 1) asked) (sym is)) turn
+pub turn_at : (k : KeptList) (s : Standing) (requested : List Point) (i : ℕ) (x : Point) (total : ℕ) → i < length requested → x ≡ get_or requested i x → IsTurn k s (drop i requested) total → IsTurn k s (x ∷ drop (i + 1) requested) total
+turn_at k s requested i x total h is turn = subst (λ (l : List Point). IsTurn k s l total) (drop_more requested i x h ∙ ap (λ (y : Point). y ∷ drop (i + 1) requested) (sym is)) turn

@@ -10,7 +10,7 @@ use Rattle.gw_kept.specs.Classes.{last_place, has_pair}
 use Rattle.gw_kept.specs.Rows.{Gapped, gapped, present, kept_in, keys_in, key_in, IsFound}
 use Rattle.gw_kept.specs.Order.{IsTaken}
 use Rattle.gw_kept.proofs.Places.{same_key, same_itself}
-use Rattle.gw_kept.proofs.Found.{not_kept, no_place}
+use Rattle.gw_kept.proofs.Found.{not_kept, no_place, place_is}
 
 -- ---- what is there
 
@@ -75,6 +75,15 @@ module _ {X : Type 0} where
   set_outside [] p o e = refl
   set_outside (x ∷ xs) zero o e = absurd cc
   set_outside (x ∷ xs) (suc p) o e = ap (λ (ys : List (Option X)). x ∷ ys) (set_outside xs p o e)
+
+  some_at : (xs : List X) (p : ℕ) → get_or (map (λ x. Some x) xs) p None ≡ slice_get xs p
+  some_at [] p = refl
+  some_at (x ∷ xs) zero = refl
+  some_at (x ∷ xs) (suc p) = some_at xs p
+
+  -- where there is no gap, a place is the count of those before
+  pub whole_at : (xs : List (Option X)) (p : ℕ) → xs ≡ map (λ x. Some x) (present xs) → get_or xs p None ≡ slice_get (present xs) p
+  whole_at xs p whole = ap (λ (ys : List (Option X)). get_or ys p None) whole ∙ some_at (present xs) p
 
   pub none_there : (xs : List (Option X)) (p : ℕ) → None ≡ slice_get xs p → None ≡ get_or xs p None
   none_there [] p e = refl
@@ -179,3 +188,12 @@ same_keys row other same = sym (keys_present row) ∙ ap present same ∙ keys_p
 
 pub bounded_few : (g : Gapped) (row : List (Option Entry)) (most : ℕ) → IsBounded (kept_in g) → length (present row) ≤ length (present g.row) → most ≡ g.most → IsBounded (kept_in (gapped row most))
 bounded_few g row most b few same = record { few = omega (arith, b.few); some = omega (arith, b.some); limit = omega (arith, b.limit) }
+
+-- where there is no gap, a key's place is that of its last pair
+pub whole_place : (o : Option ℕ) (key : RequestKey) (row : List (Option Entry)) → row ≡ map (λ e. Some e) (present row) → AreDistinct (present row) → IsFound (keys_in row) key o → o ≡ last_place key (map key_of (present row))
+whole_place None key row whole distinct none = sym (no_place key (present row) (nowhere_none key row none))
+whole_place (Some p) key row whole distinct found =
+    sym (place_is key (present row) p distinct (ap (λ (ks : List RequestKey). slice_get ks p) (sym (keys_present row)) ∙ sym (whole_at (keys_in row) p (whole_keys row whole)) ∙ found))
+  where
+    whole_keys : (row : List (Option Entry)) → row ≡ map (λ e. Some e) (present row) → keys_in row ≡ map (λ k. Some k) (present (keys_in row))
+    whole_keys row whole = ap keys_in whole ∙ keys_some (present row) ∙ ap (map (λ k. Some k)) (sym (keys_present row))

@@ -1,6 +1,6 @@
--- The order of the keys when gaps are closed, and a ring in which each pair behind a gap comes forward.
-use Rattle.std.proofs.Common.{◌≡◌, ℕ, zero, suc, ◌+◌, ◌-◌, ◌<◌, ◌≤◌, true, cond, List, [], ◌∷◌, ◌++◌, map, length, take, drop, set, get_or, is_some, Option, Some, None, refl, ap, sym, ◌∙◌, append_assoc, add-one, replicate, length-append, arith}
-use Rattle.std.proofs.lemmas.List.{append-nil, drop_more, take_more, take-map, get_or-map, get_or-drop, get_or-set_same, get_or-set_other, length-map, length-take, take_all, drop_all, map-append}
+-- The ring and the order of the keys when gaps are closed.
+use Rattle.std.proofs.Common.{◌≡◌, ℕ, zero, suc, ◌+◌, ◌-◌, ◌<◌, ◌≤◌, true, cond, List, [], ◌∷◌, ◌++◌, map, length, take, drop, set, get_or, is_some, Option, Some, None, refl, ap, sym, ◌∙◌, append_assoc, length-append, length-drop, arith}
+use Rattle.std.proofs.lemmas.List.{append-nil, get_or-append_right, get_or-drop, length-take-le, drop_more, take_more, take-map, get_or-map, get_or-set_same, get_or-set_other, length-map, length-take, take_all, drop_all, map-append}
 use Rattle.std.proofs.lemmas.List.Elements.{All-map}
 use Rattle.std.specs.List.{Contains}
 use Rattle.std.specs.Option.{option_map, unwrap_or}
@@ -44,10 +44,6 @@ module _ {X : Type 0} where
   ranked (Some x ∷ xs) (suc q) h = let r = ranked xs q h in record { place = suc r.place; taken = r.taken; ranks = ap suc r.ranks }
   ranked (None ∷ xs) q h = let r = ranked xs q h in record { place = suc r.place; taken = r.taken; ranks = r.ranks }
 
-  -- what came before the place is there without the gaps, and behind it are the gaps
-  abbrev pub closing : List (Option X) → ℕ → List (Option X)
-  closing xs i = closed (take i xs) ++ (replicate (i - rank xs i) None ++ drop i xs)
-
 -- one place more
 rank_step : {X : Type 0} (o : Option X) (xs : List (Option X)) → length (present (xs ++ o ∷ [])) ≡ length (present xs) + cond (is_some o) 1 0
 rank_step (Some x) xs = omega (arith, ap length (present_append xs (Some x ∷ [])), length-append (present xs) (x ∷ []))
@@ -65,33 +61,14 @@ placed_more xs places at left so_far is room p l =
 pub rank_keys : (row : List (Option Entry)) (p : ℕ) → rank (keys_in row) p ≡ rank row p
 rank_keys row p = ap (λ (ks : List (Option RequestKey)). length (present ks)) (take-map (option_map key_of) p row) ∙ ap length (present_map key_of (take p row)) ∙ length-map (present (take p row)) key_of
 
--- ---- numbers, one after another
-
--- the first so many are changed
-abbrev pub mapped : (ℕ → ℕ) → List ℕ → ℕ → List ℕ
-mapped f xs i = map f (take i xs) ++ drop i xs
-
-pub mapped_at : (f : ℕ → ℕ) (xs : List ℕ) (i d : ℕ) → get_or (mapped f xs i) i d ≡ get_or xs i d
-mapped_at f [] zero d = refl
-mapped_at f [] (suc i) d = refl
-mapped_at f (x ∷ xs) zero d = refl
-mapped_at f (x ∷ xs) (suc i) d = mapped_at f xs i d
-
-pub mapped_more : (f : ℕ → ℕ) (xs : List ℕ) (i x : ℕ) → i < length xs → x ≡ get_or xs i x → set (mapped f xs i) i (f x) ≡ mapped f xs (i + 1)
-mapped_more f [] i x l is = absurd (omega arith)
-mapped_more f (y ∷ ys) zero x l is = ap (λ (n : ℕ). f n ∷ ys) is
-mapped_more f (y ∷ ys) (suc i) x l is = let e : suc i + 1 ≡ suc (i + 1) = omega arith in rw e (ap (λ (ns : List ℕ). f y ∷ ns) (mapped_more f ys i x (omega arith) is))
-
-pub mapped_all : (f : ℕ → ℕ) (xs : List ℕ) (i : ℕ) → length xs ≤ i → mapped f xs i ≡ map f xs
-mapped_all f xs i l = ap (λ (ys : List ℕ). map f (take i xs) ++ ys) (drop_all i xs l) ∙ append-nil (map f (take i xs)) ∙ ap (map f) (take_all i xs l)
-
-pub mapped_long : (f : ℕ → ℕ) (xs : List ℕ) (i : ℕ) → length (mapped f xs i) ≡ length xs
-mapped_long f [] zero = refl
-mapped_long f [] (suc i) = refl
-mapped_long f (x ∷ xs) zero = refl
-mapped_long f (x ∷ xs) (suc i) = ap (λ (n : ℕ). suc n) (mapped_long f xs i)
-
 -- ---- the order
+
+-- the next number is as it was, where those before it were changed
+pub at_next : (f : ℕ → ℕ) (xs : List ℕ) (i d : ℕ) → i < length xs → get_or (map f (take i xs) ++ drop i xs) i d ≡ get_or xs i d
+at_next f xs i d l =
+    let front : length (map f (take i xs)) ≡ i = omega (arith, length-map (take i xs) f, length-take-le i xs (omega arith)) in
+    let e : i + (i - i) ≡ i = omega arith in
+    get_or-append_right (map f (take i xs)) (drop i xs) i i d front (omega arith) ∙ get_or-drop i xs (i - i) d ∙ ap (λ (n : ℕ). get_or xs n d) e
 
 contains_map : (f : ℕ → ℕ) (xs : List ℕ) (p q : ℕ) → f p ≡ q → Contains xs p → Contains (map f xs) q
 contains_map f xs p q e c = (c.0, omega (arith, length-map xs f, c.1), get_or-map f xs c.0 p q c.1 ∙ ap f c.2 ∙ e)
@@ -133,101 +110,40 @@ order_closed keys first numbers places next o ranks is =
       many = ap length is ∙ length-map numbers (λ n. get_or places (place_of first n) 0) ∙ o.many ∙ ap length (sym (present_some (present keys)));
     }
 
--- ---- the ring, one place after another
+-- ---- the ring, turned once round
 
 module _ {X : Type 0} where
-  one_more : (xs : List (Option X)) (i : ℕ) → i < length xs → closed (take (i + 1) xs) ≡ closed (take i xs) ++ closed (get_or xs i None ∷ [])
-  one_more xs i l =
+  -- so many went from the front to the back, but the gaps
+  abbrev pub turned : List (Option X) → ℕ → List (Option X)
+  turned xs i = drop i xs ++ closed (take i xs)
+
+  closed_more : (xs : List (Option X)) (i : ℕ) → i < length xs → closed (take (i + 1) xs) ≡ closed (take i xs) ++ closed (get_or xs i None ∷ [])
+  closed_more xs i l =
       ap closed (take_more xs i None l)
       ∙ ap (map (λ x. Some x)) (present_append (take i xs) (get_or xs i None ∷ []))
       ∙ map-append (λ x. Some x) (present (take i xs)) (present (get_or xs i None ∷ []))
 
-  size : (xs : List (Option X)) (i : ℕ) → length (closed (take i xs)) ≡ rank xs i
-  size xs i = length-map (present (take i xs)) (λ x. Some x)
+  pub turned_front : (xs : List (Option X)) (i : ℕ) → i < length xs → get_or (turned xs i) 0 None ≡ get_or xs i None
+  turned_front xs i l = ap (λ (ys : List (Option X)). get_or (ys ++ closed (take i xs)) 0 None) (drop_more xs i None l)
 
-  -- one gap more
-  gap_more : (k : ℕ) (rest : List (Option X)) → replicate k None ++ None ∷ rest ≡ replicate (k + 1) None ++ rest
-  gap_more zero rest = refl
-  gap_more (suc k) rest = let e : suc k + 1 ≡ suc (k + 1) = omega arith in rw e (ap (λ (ys : List (Option X)). None ∷ ys) (gap_more k rest))
+  without_front : (xs : List (Option X)) (i : ℕ) → i < length xs → drop 1 (turned xs i) ≡ drop (i + 1) xs ++ closed (take i xs)
+  without_front xs i l = ap (λ (ys : List (Option X)). drop 1 (ys ++ closed (take i xs))) (drop_more xs i None l)
 
-  set_behind : (fs bs : List (Option X)) (j : ℕ) (o : Option X) → set (fs ++ bs) (length fs + j) o ≡ fs ++ set bs j o
-  set_behind [] bs j o = ap (λ (n : ℕ). set bs n o) (let e : 0 + j ≡ j = omega arith in e)
-  set_behind (a ∷ fs) bs j o = let e : suc (length fs) + j ≡ suc (length fs + j) = omega arith in rw e (ap (λ (ys : List (Option X)). a ∷ ys) (set_behind fs bs j o))
+  pub turn_gap : (xs : List (Option X)) (i : ℕ) → i < length xs → None ≡ get_or xs i None → drop 1 (turned xs i) ≡ turned xs (i + 1)
+  turn_gap xs i l at =
+      without_front xs i l
+      ∙ ap (λ (ys : List (Option X)). drop (i + 1) xs ++ ys) (sym (closed_more xs i l ∙ ap (λ (o : Option X). closed (take i xs) ++ closed (o ∷ [])) (sym at) ∙ append-nil (closed (take i xs))))
 
-  get_behind : (fs bs : List (Option X)) (j : ℕ) → get_or (fs ++ bs) (length fs + j) None ≡ get_or bs j None
-  get_behind [] bs j = ap (λ (n : ℕ). get_or bs n None) (let e : 0 + j ≡ j = omega arith in e)
-  get_behind (a ∷ fs) bs j = let e : suc (length fs) + j ≡ suc (length fs + j) = omega arith in rw e (get_behind fs bs j)
+  pub turn_pair : (xs : List (Option X)) (i : ℕ) (x : X) → i < length xs → Some x ≡ get_or xs i None → drop 1 (turned xs i) ++ Some x ∷ [] ≡ turned xs (i + 1)
+  turn_pair xs i x l at =
+      ap (λ (ys : List (Option X)). ys ++ Some x ∷ []) (without_front xs i l)
+      ∙ append_assoc (drop (i + 1) xs) (closed (take i xs)) (Some x ∷ [])
+      ∙ ap (λ (ys : List (Option X)). drop (i + 1) xs ++ ys) (sym (closed_more xs i l ∙ ap (λ (o : Option X). closed (take i xs) ++ closed (o ∷ [])) (sym at)))
 
-  set_gap : (k : ℕ) (o : Option X) (rest : List (Option X)) → set (replicate k None ++ o ∷ rest) k None ≡ replicate (k + 1) None ++ rest
-  set_gap zero o rest = refl
-  set_gap (suc k) o rest = let e : suc k + 1 ≡ suc (k + 1) = omega arith in rw e (ap (λ (ys : List (Option X)). None ∷ ys) (set_gap k o rest))
+  -- there is room for the one that went
+  pub turned_short : (xs : List (Option X)) (i : ℕ) → i < length xs → length (drop 1 (turned xs i)) < length xs
+  turned_short xs i l =
+      omega (arith, ap length (without_front xs i l), length-append (drop (i + 1) xs) (closed (take i xs)), length-drop (i + 1) xs, length-map (present (take i xs)) (λ x. Some x), few_present (take i xs), length-take i xs)
 
-  get_gap : (k : ℕ) (rest : List (Option X)) → get_or (replicate k None ++ rest) k None ≡ get_or rest 0 None
-  get_gap zero rest = refl
-  get_gap (suc k) rest = get_gap k rest
-
-  set_first : (k : ℕ) (o : Option X) (rest : List (Option X)) → set (replicate (k + 1) None ++ rest) 0 o ≡ o ∷ replicate k None ++ rest
-  set_first k o rest = ap (λ (n : ℕ). set (replicate n None ++ rest) 0 o) (add-one k)
-
-  -- a pair is brought in front of the gaps before it
-  brought : (fs rest : List (Option X)) (k : ℕ) (o p : Option X) → set (set (fs ++ (replicate k None ++ o ∷ rest)) (length fs + k) None) (length fs + 0) p ≡ (fs ++ p ∷ []) ++ (replicate k None ++ rest)
-  brought fs rest k o p =
-      ap (λ (ys : List (Option X)). set ys (length fs + 0) p) (set_behind fs (replicate k None ++ o ∷ rest) k None ∙ ap (λ (ys : List (Option X)). fs ++ ys) (set_gap k o rest))
-      ∙ set_behind fs (replicate (k + 1) None ++ rest) 0 p
-      ∙ ap (λ (ys : List (Option X)). fs ++ ys) (set_first k p rest)
-      ∙ sym (append_assoc fs (p ∷ []) (replicate k None ++ rest))
-
-  pub closing_at : (xs : List (Option X)) (i : ℕ) → get_or (closing xs i) i None ≡ get_or xs i None
-  closing_at xs i =
-      let k : ℕ = i - rank xs i in
-      let there : i ≡ length (closed (take i xs)) + k = omega (arith, size xs i, few_before xs i) in
-      let z : i + 0 ≡ i = omega arith in
-      ap (λ (n : ℕ). get_or (closing xs i) n None) there
-      ∙ get_behind (closed (take i xs)) (replicate k None ++ drop i xs) k
-      ∙ get_gap k (drop i xs)
-      ∙ get_or-drop i xs 0 None
-      ∙ ap (λ (n : ℕ). get_or xs n None) z
-
-  -- a gap is passed over
-  pub close_over : (xs : List (Option X)) (i : ℕ) → i < length xs → None ≡ get_or xs i None → closing xs i ≡ closing xs (i + 1)
-  close_over xs i l at =
-      let k : ℕ = i - rank xs i in
-      let same : rank xs (i + 1) ≡ rank xs i = (let m : rank xs (i + 1) ≡ rank xs i + 0 = rank_more xs i l ∙ ap (λ (o : Option X). rank xs i + cond (is_some o) 1 0) (sym at) in omega arith) in
-      let more : k + 1 ≡ i + 1 - rank xs (i + 1) = omega (arith, same, few_before xs i) in
-      ap (λ (ys : List (Option X)). closed (take i xs) ++ (replicate k None ++ ys)) (drop_more xs i None l ∙ ap (λ (o : Option X). o ∷ drop (i + 1) xs) (sym at))
-      ∙ ap (λ (ys : List (Option X)). closed (take i xs) ++ ys) (gap_more k (drop (i + 1) xs))
-      ∙ ap (λ (n : ℕ). closed (take i xs) ++ (replicate n None ++ drop (i + 1) xs)) more
-      ∙ ap (λ (ys : List (Option X)). ys ++ (replicate (i + 1 - rank xs (i + 1)) None ++ drop (i + 1) xs))
-      (sym (one_more xs i l ∙ ap (λ (o : Option X). closed (take i xs) ++ closed (o ∷ [])) (sym at) ∙ append-nil (closed (take i xs))))
-
-  -- a pair comes forward
-  pub close_here : (xs : List (Option X)) (i : ℕ) (x : X) → i < length xs → Some x ≡ get_or xs i None → set (set (closing xs i) i None) (rank xs i) (get_or (closing xs i) i None) ≡ closing xs (i + 1)
-  close_here xs i x l at =
-      let k : ℕ = i - rank xs i in
-      let fs : List (Option X) = closed (take i xs) in
-      let value : get_or (closing xs i) i None ≡ Some x = closing_at xs i ∙ sym at in
-      let there : i ≡ length fs + k = omega (arith, size xs i, few_before xs i) in
-      let here : rank xs i ≡ length fs + 0 = omega (arith, size xs i) in
-      let one : rank xs (i + 1) ≡ rank xs i + 1 = rank_more xs i l ∙ ap (λ (o : Option X). rank xs i + cond (is_some o) 1 0) (sym at) in
-      let more : k ≡ i + 1 - rank xs (i + 1) = omega (arith, one, few_before xs i) in
-      let split : closing xs i ≡ fs ++ (replicate k None ++ Some x ∷ drop (i + 1) xs) =
-      ap (λ (ys : List (Option X)). fs ++ (replicate k None ++ ys)) (drop_more xs i None l ∙ ap (λ (o : Option X). o ∷ drop (i + 1) xs) (sym at))
-      in
-      ap (λ (o : Option X). set (set (closing xs i) i None) (rank xs i) o) value
-      ∙ ap (λ (ys : List (Option X)). set (set ys i None) (rank xs i) (Some x)) split
-      ∙ ap (λ (n : ℕ). set (set (fs ++ (replicate k None ++ Some x ∷ drop (i + 1) xs)) n None) (rank xs i) (Some x)) there
-      ∙ ap (λ (n : ℕ). set (set (fs ++ (replicate k None ++ Some x ∷ drop (i + 1) xs)) (length fs + k) None) n (Some x)) here
-      ∙ brought fs (drop (i + 1) xs) k (Some x) (Some x)
-      ∙ ap (λ (n : ℕ). (fs ++ Some x ∷ []) ++ (replicate n None ++ drop (i + 1) xs)) more
-      ∙ ap (λ (ys : List (Option X)). ys ++ (replicate (i + 1 - rank xs (i + 1)) None ++ drop (i + 1) xs))
-      (sym (one_more xs i l ∙ ap (λ (o : Option X). fs ++ closed (o ∷ [])) (sym at)))
-
-  take_front : (fs bs : List (Option X)) → take (length fs) (fs ++ bs) ≡ fs
-  take_front [] bs = refl
-  take_front (a ∷ fs) bs = ap (λ (ys : List (Option X)). a ∷ ys) (take_front fs bs)
-
-  pub closing_all : (xs : List (Option X)) (i : ℕ) → length xs ≤ i → take (rank xs i) (closing xs i) ≡ closed xs
-  closing_all xs i l =
-      ap (λ (n : ℕ). take n (closing xs i)) (sym (size xs i))
-      ∙ take_front (closed (take i xs)) (replicate (i - rank xs i) None ++ drop i xs)
-      ∙ ap closed (take_all i xs l)
+  pub turned_all : (xs : List (Option X)) (i : ℕ) → length xs ≤ i → turned xs i ≡ closed xs
+  turned_all xs i l = ap (λ (ys : List (Option X)). ys ++ closed (take i xs)) (drop_all i xs l) ∙ ap closed (take_all i xs l)

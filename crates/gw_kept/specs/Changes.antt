@@ -1,5 +1,5 @@
--- What a burst changes in the kept replies, in order of arrival (own): the reply to a new request is kept, and an acknowledgement
--- removes those that it names.
+-- What a burst changes in the kept replies, in order of arrival (own): the reply to a new request is kept, and an
+-- acknowledgement removes those that it names.
 use Rattle.std.specs.Prelude.{◌≡◌, List, [], ◌∷◌, None}
 use Rattle.gw_kept.specs.declared.entry.Entry.{Entry}
 use Rattle.gw_kept.specs.declared.point.Removal.{Removal}

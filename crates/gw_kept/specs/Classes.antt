@@ -1,5 +1,5 @@
--- The classes of a burst's items, from keys and acknowledgements alone (own): which request is a repeat, which is new, and which is
--- over.
+-- The classes of a burst's items, from keys and acknowledgements alone (own): which request is a repeat, which is
+-- new, and which is over.
 use Rattle.std.specs.Prelude.{nat_lt, ◌+◌, ◌-◌, ℕ, Bool, not, if◌then◌else◌, List, [], ◌∷◌, ◌++◌, map, length, Option, Some, None, is_some}
 use Rattle.std.specs.List.{filter}
 use Rattle.circular_buffer.specs.Buffer.{keep_last}
@@ -39,7 +39,8 @@ abbrev pub last_place : RequestKey → List RequestKey → Option ℕ
 last_place key [] = None
 last_place key (k ∷ ks) = or_here 1 (last_place key ks) (if is_same k key then Some 0 else None)
 
--- Where a burst stands: the keys of all pairs there were, those before the burst first, and of those that are kept at this point.
+-- Where a burst stands: the keys of all pairs there were, those before the burst first, and of those that are kept at
+-- this point.
 pub record Standing : Type 0 where
   pub pairs : List RequestKey
   pub kept : List RequestKey

@@ -13,7 +13,7 @@ abbrev pub is_acknowledged : ℕ → List AckRange → Bool
 is_acknowledged id [] = false
 is_acknowledged id (range ∷ rest) = is_within id range || is_acknowledged id rest
 
--- what this sender asked, under a number in one of the ranges
+-- this sender's, under a number in one of the ranges
 abbrev pub is_named : (mid : List ℕ) → List AckRange → RequestKey → Bool
 is_named mid ranges key = bytes_eq key.mid mid && is_acknowledged key.id ranges
 

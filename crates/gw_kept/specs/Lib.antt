@@ -6,8 +6,6 @@ pub mod Changes
 pub mod Classes
 pub mod Rows
 pub mod Order
-pub mod Arrival
-pub mod Asked
 pub mod Index
 pub mod Rises
 pub mod Repeats

@@ -1,5 +1,5 @@
--- The kept pairs in the order of their keys (own): by which a key's pair is found without passing over the others. Each place of the
--- row has a number. They are numbered as pairs come, one after another, around a circle.
+-- The kept pairs in the order of their keys (own): by which a key's pair is found without passing over the others.
+-- Each place of the row has a number. They are numbered as pairs come, one after another, around a circle.
 use Rattle.std.specs.Prelude.{◌≡◌, ◌≤◌, ◌<◌, ◌+◌, ◌-◌, ◌%◌, ◌^◌, ◌&&◌, nat_le, nat_lt, true, ℕ, List, [], ◌∷◌, map, length, slice_index, slice_index_or, Option, None, is_some, Result, Ok, Err}
 use Rattle.std.specs.List.{All, AllPairs, Contains}
 use Rattle.std.specs.List.Sorted.{IsPartitionPoint}
@@ -9,12 +9,11 @@ use Rattle.std.specs.Cmp.Lexicographic.{slice_cmp, nat_list_cmp_total}
 use Rattle.std.specs.declared.cmp.Ordering.{Ordering}
 use Rattle.std.specs.declared.cmp.Ordering.TheVariants.{Less, Greater}
 use Rattle.gw_msg.specs.declared.message.AckRange.{AckRange}
-use Rattle.gw_kept.specs.declared.entry.Entry.{Entry}
 use Rattle.gw_kept.specs.declared.entry.RequestKey.{RequestKey}
 use Rattle.gw_kept.specs.Forgotten.{is_named}
-use Rattle.gw_kept.specs.Rows.{present, keys_in, key_in, most_places}
+use Rattle.gw_kept.specs.Rows.{present, key_in, most_places}
 
--- by the bytes of the sender, and then by the number: what one sender asked stands together
+-- by the bytes of the sender, and then by the number: the requests of one sender stand together
 abbrev pub key_cmp : RequestKey → RequestKey → Ordering
 key_cmp a b = ordering_then (slice_cmp nat_cmp a.mid b.mid) (nat_cmp a.id b.id)
 
@@ -65,8 +64,3 @@ key_there keys places at d = key_in keys (slice_index places at) d
 abbrev pub IsSpan : List (Option RequestKey) → (places : List ℕ) → (mid : List ℕ) → AckRange → ℕ × ℕ → Type 0
 IsSpan keys places mid range span =
     (at : ℕ) (d : RequestKey) → at < length places → (nat_le span.0 at && nat_lt at span.1) ≡ is_named mid (range ∷ []) (key_there keys places at d)
-
--- these are the numbers of all the keys in a row, and one range names those of them from here to before there
-pub record IsMarked (row : List (Option Entry)) (first : ℕ) (numbers : List ℕ) (mid : List ℕ) (range : AckRange) (here_there : ℕ × ℕ) : Type 0 where
-  pub order : IsOrder (keys_in row) first numbers
-  pub span : IsSpan (keys_in row) order.places mid range here_there

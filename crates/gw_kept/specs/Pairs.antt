@@ -1,4 +1,5 @@
--- The replies that are kept for repeats (own): pairs of a key, who asked under which number, and the bytes that were sent.
+-- The replies that are kept for repeats (own): pairs of a key, which is a sender and a number, and the bytes that
+-- were sent.
 use Rattle.std.specs.Prelude.{◌≡◌, ◌≤◌, ◌==◌, ◌&&◌, nat_lt, ℕ, Bool, if◌then◌else◌, bytes_eq, List, [], ◌∷◌, ◌++◌, length, slice_get, Option, Some, None, refl}
 use Rattle.std.specs.Option.{option_map}
 use Rattle.std.specs.Coded.{Coded, code_by, coded×, coded_list, coded_ℕ}
@@ -14,7 +15,7 @@ pub record KeptList : Type 0 where
 abbrev pub kept_list : List Entry → ℕ → KeptList
 kept_list pairs most = record { pairs = pairs; most = most }
 
--- how many pairs a list may be told to keep
+-- how many pairs a list may keep at most
 abbrev pub most_kept : ℕ
 most_kept = 4096
 
@@ -60,7 +61,7 @@ with_pair k e = kept_list (keep_last k.most (k.pairs ++ e ∷ [])) k.most
 abbrev pub dropped_by : KeptList → Entry → Option Entry
 dropped_by k e = if nat_lt (length k.pairs) k.most then None else slice_get (k.pairs ++ e ∷ []) 0
 
--- ---- codes, by which values of models are told apart
+-- ---- codes, by which values of models are compared
 
 abbrev coded_bytes : Coded (List ℕ)
 coded_bytes = coded_list coded_ℕ

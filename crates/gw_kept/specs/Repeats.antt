@@ -1,4 +1,4 @@
--- What a burst's classes mean for the list that is kept while its requests are carried out (own).
+-- What a burst's classes mean for the list that is kept while its requests are executed (own).
 use Rattle.std.specs.Prelude.{ℕ, List, ◌++◌, map, length, Option}
 use Rattle.gw_kept.specs.declared.entry.Entry.{Entry}
 use Rattle.gw_kept.specs.declared.entry.RequestKey.{RequestKey}

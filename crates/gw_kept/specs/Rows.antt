@@ -1,4 +1,5 @@
--- The kept pairs in a row (own, for private functions): oldest first, with a gap in the place of each that was removed.
+-- The kept pairs in a row (own, for private functions): oldest first, with a gap in the place of each that was
+-- removed.
 use Rattle.std.specs.Prelude.{◌≡◌, ◌≢◌, ◌+◌, min, ℕ, if◌then◌else◌, List, [], ◌∷◌, map, slice_index_or, Option, Some, None, option_map, unwrap_or, refl}
 use Rattle.std.specs.Coded.{Coded, code_by, coded×, coded_list, coded_option, coded_ℕ}
 use Rattle.gw_msg.specs.declared.message.AckRange.{AckRange}
@@ -58,7 +59,7 @@ abbrev pub left_of : (mid : List ℕ) → List AckRange → Option Entry → Opt
 left_of mid ranges None = None
 left_of mid ranges (Some e) = if is_named mid ranges (key_of e) then None else Some e
 
--- ---- codes, by which values of models are told apart
+-- ---- codes, by which values of models are compared
 
 abbrev pub coded_gapped : Coded Gapped
 coded_gapped = code_by (List (Option Entry) × ℕ) (coded× (coded_list (coded_option coded_entry)) coded_ℕ) (λ g. (g.row, g.most)) (λ p. gapped p.0 p.1) (λ _. refl)

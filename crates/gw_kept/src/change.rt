@@ -17,12 +17,14 @@ pub enum Turn<'h> {
 }
 
 impl Kept {
-    /// Makes the changes of a burst, one after another; each turn that keeps a pair takes the next of these entries. The caller
-    /// knows that at its turn each has a key that no kept pair has. It takes no memory, and costs what `push` and `forget` do.
+    /// Makes the changes of a burst, one after another; each turn that keeps a pair takes the next of these entries.
+    /// The caller knows that at its turn each has a key that no kept pair has. It takes no memory, and costs what
+    /// `push` and `forget` do, but one pass over the pairs at the end for all that it removes.
     pub fn change(&mut self, turns: &[Turn<'_>], entries: Vec<Entry>)
         requires { AreNew self.old (changes_of turns.now entries.items) }
         ensures { self.new ≡ kept_after self.old (changes_of turns.now entries.items) }
     {
         self.row.change(turns, entries);
+        self.row.settle();
     }
 }

@@ -3,7 +3,7 @@
 /// What is done with an item of a burst.
 #[derive(Clone, Copy, PartialEq, Eq)]
 pub enum Class {
-    /// A request that is carried out, and whose reply is kept.
+    /// A request that is executed, and whose reply is kept.
     New,
     /// A request that gets the reply of an earlier one.
     Repeat(Source),

@@ -2,7 +2,7 @@
 
 ghost use Rattle.std.specs.Prelude.{◌≡◌, IfOk, false};
 ghost use Rattle.gw_kept.specs.Classes.{classes_of};
-ghost use Rattle.gw_kept.specs.Index.{asks_behind};
+ghost use Rattle.gw_kept.specs.Index.{requests_behind};
 
 use crate::class::Class;
 use crate::index::Index;
@@ -12,9 +12,9 @@ use crate::rising::do_numbers_rise;
 use gw_base::{Items, NoMemory};
 use std::alloc::Global;
 
-/// Tells whether a request comes behind an acknowledgement. Else acknowledgements have no say in the classes.
-fn asks_behind(points: &[Point<'_>]) -> bool
-    ensures { result ≡ asks_behind false points.now }
+/// Whether a request comes behind an acknowledgement. Else acknowledgements have no say in the classes.
+fn requests_behind(points: &[Point<'_>]) -> bool
+    ensures { result ≡ requests_behind false points.now }
 {
     let mut acknowledged = false;
     for point in points {
@@ -28,21 +28,23 @@ fn asks_behind(points: &[Point<'_>]) -> bool
 }
 
 impl Kept {
-    /// The classes of a burst's items, in order of arrival, each told by what it is to the kept replies: `Point::of` has it. They
-    /// are told from keys and ranges alone, before anything is carried out. A request is a repeat where its reply is kept at that
-    /// point: it is among the last ones, those of the burst's new requests included, and no acknowledgement has removed it.
+    /// The classes of a burst's items, in order of arrival, each by what it is to the kept replies: `Point::of` has
+    /// it. They follow from keys and ranges alone, before anything is executed. A request is a repeat where its reply
+    /// is kept at that point: it is among the last ones, those of the burst's new requests included, and no
+    /// acknowledgement has removed it.
     ///
-    /// Where the numbers of the requests rise, each key is looked up among the kept pairs: n log k steps for n requests and k pairs.
-    /// Else an index of the burst's keys is made first, each looked up so: n log n and n log k steps. Where a request comes behind an acknowledgement, the keys of the kept pairs are copied once, and each
+    /// Where the numbers of the requests rise, each key is looked up among the kept pairs: n log k steps for n
+    /// requests and k pairs. Else an index of the burst's keys is made first, each looked up so: n log n and n log k
+    /// steps. Where a request comes behind an acknowledgement, the keys of the kept pairs are copied once, and each
     /// acknowledgement costs what `forget` does, without its pass over the pairs.
     ///
     /// # Errors
     ///
-    /// Want of memory.
+    /// Out of memory.
     pub fn classify(&self, alloc: Global, points: &[Point<'_>]) -> Result<Items<Class>, NoMemory>
         ensures classes { IfOk result (λ classes. classes ≡ classes_of self.now points.now) }
     {
-        let acknowledged = asks_behind(points);
+        let acknowledged = requests_behind(points);
         if !acknowledged && do_numbers_rise(points) {
             return self.classify_rising(alloc, points);
         }

@@ -4,15 +4,14 @@ ghost use Rattle.std.specs.Prelude.{◌≡◌};
 ghost use Rattle.gw_kept.specs.Order.{key_cmp};
 ghost use Rattle.gw_kept.specs.Pairs.{key_by, key_of};
 
-use crate::point::LentKey;
 use gw_base::{Items, Mid, TxId};
 use std::alloc::Global;
 use std::cmp::Ordering;
 
-/// A reply that is kept for repeats (own to this profile; RFC 3525, Annex D.1, asks that a repeat is not carried out again).
+/// A reply that is kept for repeats (own to this profile; by RFC 3525, Annex D.1, a repeat is not executed again).
 #[derive(Drop)]
 pub struct Entry {
-    /// Who asked, as sent.
+    /// The sender of the request, as sent.
     pub mid: Mid,
     /// The number of the transaction.
     pub id: TxId,
@@ -20,10 +19,10 @@ pub struct Entry {
     pub bytes: Items<u8>,
 }
 
-/// Who asked, and under which number: what a repeat is told by.
-#[derive(Clone, Copy, PartialEq, Eq)]
+/// Who sent a request, and under which number: a repeat has the same.
+#[derive(Clone, Copy, PartialEq, Eq, PartialOrd, Ord)]
 pub struct RequestKey {
-    /// Who asked, byte for byte as sent.
+    /// The sender, byte for byte as sent.
     pub mid: Mid,
     /// The number of the transaction.
     pub id: u32,
@@ -43,31 +42,12 @@ impl RequestKey {
 }
 
 impl Entry {
-    /// How the key of the pair stands to another. Most senders are the same, which is told at once.
+    /// How the key of the pair stands to another.
     #[inline(always)]
     pub(crate) fn compare_key(&self, mid: &Mid, id: u32) -> Ordering
         ensures { result ≡ key_cmp (key_of self.now) (key_by mid.now id) }
     {
-        if self.mid == *mid {
-            self.id.0.cmp(&id)
-        } else {
-            self.compare_apart(mid, id)
-        }
-    }
-
-    /// The same, of senders that are not.
-    #[inline(never)]
-    fn compare_apart(&self, mid: &Mid, id: u32) -> Ordering
-        ensures { result ≡ key_cmp (key_of self.now) (key_by mid.now id) }
-    {
         self.mid.cmp(mid).then(self.id.0.cmp(&id))
-    }
-
-    /// The key of the pair, lent.
-    pub(crate) fn lent_key(&self) -> LentKey<'_>
-        ensures { result ≡ key_of self.now }
-    {
-        LentKey::by(&self.mid, self.id.0)
     }
 
     /// The key of the pair.

@@ -5,11 +5,11 @@ ghost use Rattle.std.specs.BTreeMap.{get};
 ghost use Rattle.gw_kept.specs.declared.entry.RequestKey.{RequestKey as Key};
 ghost use Rattle.gw_kept.specs.declared.point.Point.{Point as Item};
 ghost use Rattle.gw_kept.specs.Classes.{Standing, standing_of, keys_of, most_new, source_at, has_pair, last_place, kept_place, class_at, class_of, behind, behind_request, with_key, without};
-ghost use Rattle.gw_kept.specs.Index.{is_asked, kept_at, seen, IsAsked, IsIndex};
-ghost use Rattle.gw_kept.specs.Asked.{asked_cmp, asked_key};
+ghost use Rattle.gw_kept.specs.Index.{is_requested, kept_at, seen, IsRequested, IsIndex};
+ghost use Rattle.gw_kept.specs.Order.{key_cmp};
 
-use crate::asked::AskedKey;
 use crate::class::{Class, Source};
+use crate::entry::RequestKey;
 use crate::kept::Kept;
 use crate::point::{LentKey, Point, Removal};
 use crate::row::Row;
@@ -19,11 +19,11 @@ use std::collections::BTreeMap;
 /// How many new requests a burst may have.
 pub(crate) const MOST_NEW: usize = 1024;
 
-/// The keys that a burst asks, each with the place of its last pair, if it has one: counted from the oldest pair that was kept
-/// before the burst.
+/// The keys of the requests of a burst, each with the place of its last pair, if it has one: counted from the oldest
+/// pair that was kept before the burst.
 #[derive(Drop)]
 pub struct Index {
-    pub(crate) places: BTreeMap<AskedKey, Option<usize>>,
+    pub(crate) places: BTreeMap<RequestKey, Option<usize>>,
     /// How many pairs are kept at most.
     pub(crate) most: usize,
     /// How many there were before the burst.
@@ -34,18 +34,18 @@ pub struct Index {
     pub(crate) left: Option<Row>,
 }
 
-/// The keys that are asked, each with the place of its pair, if it has one.
-fn asked_places(
+/// The keys of the requests, each with the place of its pair, if it has one.
+fn requested_places(
     alloc: Global,
     kept: &Kept,
     points: &[Point<'_>],
-) -> Result<BTreeMap<AskedKey, Option<usize>>, AllocError>
-    ensures { IfOk result (λ places. (q : Key) → get asked_cmp places (asked_key q) ≡ (if is_asked q points.now then Some (last_place q (keys_of kept.now)) else None)) }
+) -> Result<BTreeMap<RequestKey, Option<usize>>, AllocError>
+    ensures { IfOk result (λ places. (q : Key) → get key_cmp places q ≡ (if is_requested q points.now then Some (last_place q (keys_of kept.now)) else None)) }
 {
     let mut places = BTreeMap::new(alloc);
     for point in points {
         if let Point::Request(key) = point {
-            places.insert(AskedKey { key: key.get() }, kept.place(key))?;
+            places.insert(key.get(), kept.place(key))?;
         }
     }
     Ok(places)
@@ -62,7 +62,8 @@ pub(crate) fn source(before: usize, place: usize) -> Source
     }
 }
 
-/// The place of a key's last pair, if that is kept: where acknowledgements have no say, if it is none before the oldest.
+/// The place of a key's last pair, if that is kept: where acknowledgements have no say, if it is none before the
+/// oldest.
 pub(crate) fn kept_place(
     place: Option<usize>,
     key: &LentKey<'_>,
@@ -80,12 +81,12 @@ pub(crate) fn kept_place(
 }
 
 impl Index {
-    /// The index of what a burst asks, before its first item: each key is looked up among the kept pairs. The caller says whether
-    /// acknowledgements have a say.
+    /// The index of a burst's requests, before its first item: each key is looked up among the kept pairs. The caller
+    /// says whether acknowledgements have a say.
     ///
     /// # Errors
     ///
-    /// `AllocError` where a growth was refused.
+    /// `AllocError` where memory was refused.
     pub fn of(
         alloc: Global,
         kept: &Kept,
@@ -103,7 +104,7 @@ impl Index {
             None
         };
         Ok(Index {
-            places: asked_places(alloc, kept, points)?,
+            places: requested_places(alloc, kept, points)?,
             most: kept.most(),
             before: kept.len(),
             total: kept.len(),
@@ -111,25 +112,25 @@ impl Index {
         })
     }
 
-    /// The class of a request that is asked, which is noted if it is new: one look-up in the index.
+    /// The class of a request of the burst, and its pair in the index if it is new: one look-up in the index.
     fn request_class(&mut self, alloc: Global, key: &LentKey<'_>) -> Class
-        ensures exact { (asked : List Item) (s : Standing) → IsIndex asked self.old s → is_asked key.now asked ≡ true → (result ≡ class_of self.old.before s.pairs (kept_place key.now s)) × IsIndex asked self.new (behind_request self.old.most result key.now s) }
+        ensures exact { (requested : List Item) (s : Standing) → IsIndex requested self.old s → is_requested key.now requested ≡ true → (result ≡ class_of self.old.before s.pairs (kept_place key.now s)) × IsIndex requested self.new (behind_request self.old.most result key.now s) }
         ensures most { self.new.most ≡ self.old.most }
         ensures before { self.new.before ≡ self.old.before }
         ensures left { is_some self.new.left ≡ is_some self.old.left }
     {
-        // Each request of the burst is asked, so that its key has a place here.
-        let Some(noted) = self.places.get_mut(&AskedKey { key: key.get() }) else {
+        // The key of each request of the burst has a place here.
+        let Some(last) = self.places.get_mut(&key.get()) else {
             return Class::Nothing;
         };
         let oldest = self.total.saturating_sub(self.most);
-        if let Some(place) = kept_place(*noted, key, oldest, &self.left) {
+        if let Some(place) = kept_place(*last, key, oldest, &self.left) {
             return Class::Repeat(source(self.before, place));
         }
         if self.total.saturating_sub(self.before) >= MOST_NEW {
             return Class::Over;
         }
-        *noted = Some(self.total);
+        *last = Some(self.total);
         self.total = self.total.saturating_add(1);
         if let Some(row) = &mut self.left {
             row.push_key(alloc, key);
@@ -137,10 +138,10 @@ impl Index {
         Class::New
     }
 
-    /// Lets go what an acknowledgement names, where acknowledgements have a say.
+    /// Removes what an acknowledgement names, where acknowledgements have a say.
     fn acknowledge(&mut self, removal: &Removal<'_>)
-        ensures exact { (asked : List Item) (s : Standing) → IsIndex asked self.old s → is_some self.old.left ≡ true → IsIndex asked self.new (without removal.now s) }
-        ensures none { (asked : List Item) (s : Standing) → IsIndex asked self.old s → is_some self.old.left ≡ false → IsIndex asked self.new s }
+        ensures exact { (requested : List Item) (s : Standing) → IsIndex requested self.old s → is_some self.old.left ≡ true → IsIndex requested self.new (without removal.now s) }
+        ensures none { (requested : List Item) (s : Standing) → IsIndex requested self.old s → is_some self.old.left ≡ false → IsIndex requested self.new s }
         ensures most { self.new.most ≡ self.old.most }
         ensures before { self.new.before ≡ self.old.before }
         ensures left { is_some self.new.left ≡ is_some self.old.left }
@@ -152,7 +153,7 @@ impl Index {
 
     /// The class of the next item, which changes what is kept behind it.
     pub fn class(&mut self, alloc: Global, point: &Point<'_>) -> Class
-        ensures exact { (asked : List Item) (s : Standing) → IsIndex asked self.old s → IsAsked point.now asked → (result ≡ class_at self.old.before (seen (is_some self.old.left) point.now) s) × IsIndex asked self.new (behind self.old.most self.old.before (seen (is_some self.old.left) point.now) s) }
+        ensures exact { (requested : List Item) (s : Standing) → IsIndex requested self.old s → IsRequested point.now requested → (result ≡ class_at self.old.before (seen (is_some self.old.left) point.now) s) × IsIndex requested self.new (behind self.old.most self.old.before (seen (is_some self.old.left) point.now) s) }
         ensures most { self.new.most ≡ self.old.most }
         ensures before { self.new.before ≡ self.old.before }
         ensures left { is_some self.new.left ≡ is_some self.old.left }

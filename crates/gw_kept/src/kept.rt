@@ -14,7 +14,8 @@ use gw_msg::AckRange;
 use std::alloc::{AllocError, Global};
 use std::marker::Model;
 
-/// The last replies, for requests that are sent again. Contracts see the pairs, oldest first, and how many are kept at most.
+/// The last replies, for requests that are sent again. Contracts see the pairs, oldest first, and how many are kept
+/// at most.
 #[derive(Drop)]
 pub struct Kept {
     pub(crate) row: Row,
@@ -22,13 +23,15 @@ pub struct Kept {
 
 impl Model for Kept {
     ghost use Rattle.gw_kept.specs.Pairs.{KeptList, coded_kept};
-    ghost use Rattle.gw_kept.specs.Rows.{kept_in};
+    ghost use Rattle.gw_kept.specs.Rows.{kept_in, IsWhole};
 
     ghost Value = { KeptList };
 
     ghost coded = { coded_kept };
 
     ghost view = { λ a. kept_in a.row };
+
+    ghost invariant = { λ a. IsWhole a.row };
 }
 
 impl Kept {
@@ -36,7 +39,7 @@ impl Kept {
     ///
     /// # Errors
     ///
-    /// Want of memory.
+    /// Out of memory.
     pub fn new(alloc: Global, most: u32) -> Result<Kept, NoMemory>
         requires some { 1 ≤ most }
         requires limit { most ≤ 4096 }
@@ -55,27 +58,28 @@ impl Kept {
         self.row.len()
     }
 
-    /// Keeps a pair, whose key no kept pair has: the caller knows that. A full list hands back its oldest pair. It takes no
-    /// memory. For k kept pairs it costs log k steps, or one where the key comes behind all others, and two moves of at most k bytes,
-    /// or none where keys come in their order and leave in it. Where acknowledgements have left gaps and no place is free, one pass over
-    /// the pairs comes first: once in as many pairs as were removed, those that are kept at most or 1,024.
+    /// Keeps a pair, whose key no kept pair has: the caller knows that. A full list hands back its oldest pair. It
+    /// takes no memory. For k kept pairs it costs log k steps, or one where the key comes behind all others, and two
+    /// moves of at most k bytes, or none where keys come in their order and leave in it.
     pub fn push(&mut self, entry: Entry) -> Option<Entry>
         requires { bytes_for (key_of entry) self.old.pairs ≡ None }
         ensures pairs { self.new ≡ with_pair self.old entry }
         ensures dropped { result ≡ dropped_by self.old entry }
     {
-        self.row.push(entry)
+        let dropped = self.row.push(entry);
+        self.row.settle();
+        dropped
     }
 
-    /// Removes each pair of this sender whose number is in one of the ranges, both ends included; the others keep their order.
-    /// A range whose first number is above its last has none. It takes no memory. For n ranges and k pairs it costs n log k
-    /// steps, a few moves of at most k bytes for each range that names some, and a constant for each pair that goes: its place stays
-    /// as a gap. Beside it, all pairs are looked at that arrived between the first and the last of a range; where these are more than 36
-    /// for each that goes, each costs log k steps and a move of at most k bytes instead.
+    /// Removes each pair of this sender whose number is in one of the ranges, both ends included; the others keep
+    /// their order. A range whose first number is above its last has none. It takes no memory. For n ranges and k
+    /// pairs it costs n log k steps, two moves of at most k bytes for each range that names some, and one pass over
+    /// the pairs where any goes.
     pub fn forget(&mut self, mid: &Mid, ranges: &[AckRange])
         ensures { self.new ≡ forgotten self.old mid.now ranges.now }
     {
         self.row.forget(mid, ranges);
+        self.row.settle();
     }
 
     /// The reply that was sent to this sender under this number, if it is kept: log k steps for k pairs.
@@ -89,20 +93,19 @@ impl Kept {
         }
     }
 
-    /// The reply at a place, counted from the oldest pair, as a `Source` of `classify` tells it: one look.
+    /// The reply at a place, counted from the oldest pair, as a `Source` of `classify` has it: one look.
     pub fn reply_at(&self, place: usize) -> Option<&[u8]>
         ensures { option_copied result ≡ bytes_at place self.now.pairs }
     {
         self.row.reply_at(place)
     }
 
-    /// The place of a key's pair, counted from the oldest on: twice log k steps for k pairs, or once where it has none.
-    #[inline(always)]
+    /// The place of a key's pair, counted from the oldest on: log k steps for k pairs.
     pub(crate) fn place(&self, key: &LentKey<'_>) -> Option<usize>
         ensures place { result ≡ last_place key.now (keys_of self.now) }
         ensures distinct { AreDistinct self.now.pairs }
     {
-        self.row.rank(key)
+        self.row.find(key)
     }
 
     /// How many pairs are kept at most.

@@ -1,7 +1,7 @@
-//! What follows from the definitions alone: how the classes, told from keys and acknowledgements before anything is carried out, fit
-//! what is kept while the burst is carried out. In each law `k` is kept at the burst's start, with a key of its own in each pair,
-//! and `cs` are the changes so far, so `kept_after k cs` is kept at that point, and `entries_in cs` are the pairs of the new requests
-//! so far.
+//! What follows from the definitions alone: how the classes, which follow from keys and acknowledgements before
+//! anything is executed, fit what is kept while the burst is executed. In each law `k` is kept at the burst's start,
+//! with a key of its own in each pair, and `cs` are the changes so far, so `kept_after k cs` is kept at that point,
+//! and `entries_in cs` are the pairs of the new requests so far.
 
 ghost use Rattle.std.specs.Prelude.{◌≡◌, ◌≢◌, ℕ, ◌<◌, ◌≤◌, ◌∷◌, ◌++◌, [], List, None, Some, length, true, false};
 ghost use Rattle.gw_kept.specs.declared.entry.Entry.{Entry};
@@ -17,15 +17,15 @@ ghost use Rattle.gw_kept.specs.Changes.{Change, Keep, Remove, changed, kept_afte
 ghost use Rattle.gw_kept.specs.Classes.{most_new, classes_of};
 ghost use Rattle.gw_kept.specs.Repeats.{class_after, classes_after, bytes_of};
 
-/// A repeat's key has a pair among those kept at that point, and the bytes of that pair are those that its source names. So
-/// they can be sent without looking through the list.
+/// A repeat's key has a pair among those kept at that point, and the bytes of that pair are those that its source
+/// names. So they can be sent without looking through the list.
 pub fn repeats_get_kept_replies()
     ensures { (k : KeptList) (cs : List Change) (key : Key) (source : Origin) → AreDistinct k.pairs → AreNew k cs → class_after k cs key ≡ Repeat source
         → (bytes : List ℕ) × (bytes_of source k (entries_in cs) ≡ Some bytes) × (bytes_for key (kept_after k cs).pairs ≡ Some bytes) }
 {}
 
-/// A request that is no repeat has no pair among those kept at that point: it is new if fewer than 1,024 new ones came before
-/// it, and over otherwise.
+/// A request that is no repeat has no pair among those kept at that point: it is new if fewer than 1,024 new ones
+/// came before it, and over otherwise.
 pub fn what_is_no_repeat_is_not_kept()
     ensures new { (k : KeptList) (cs : List Change) (key : Key) → AreDistinct k.pairs → AreNew k cs → class_after k cs key ≡ New → (bytes_for key (kept_after k cs).pairs ≡ None) × (length (entries_in cs) < most_new) }
     ensures over { (k : KeptList) (cs : List Change) (key : Key) → AreDistinct k.pairs → AreNew k cs → class_after k cs key ≡ Over → (bytes_for key (kept_after k cs).pairs ≡ None) × (most_new ≤ length (entries_in cs)) }

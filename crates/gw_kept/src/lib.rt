@@ -1,8 +1,6 @@
-//! Replies that are kept for repeats, what acknowledgements let go, and which requests of a burst are repeats.
+//! Replies that are kept for repeats, what acknowledgements remove, and which requests of a burst are repeats.
 #![tactic(auto)]
 
-mod arrival;
-mod asked;
 mod change;
 mod class;
 mod classify;

@@ -1,28 +1,23 @@
 //! The kept pairs in the order of their keys: a key's pair is found without looking at the others.
 
-ghost use Rattle.std.specs.Prelude.{List, Option, ◌≡◌, ◌≤◌, ◌<◌, ◌∷◌, ◌++◌, [], Some, None, Err, IfOk, true, drop, length, map, slice_index, slice_index_or, slice_set};
+ghost use Rattle.std.specs.Prelude.{◌≡◌, ◌≤◌, ◌<◌, ◌∷◌, ◌++◌, [], Some, None, Err, IfOk, true, drop, length, map, slice_index_or, slice_set};
 ghost use Rattle.std.specs.VecDeque.{deque_capacity, deque_len};
-ghost use Rattle.std.specs.List.{remove};
 ghost use Rattle.std.specs.List.Sorted.{IsSearchInRange};
-ghost use Rattle.circular_buffer.specs.Buffer.{buffer};
 ghost use Rattle.gw_kept.specs.Rows.{keys_in, key_in, most_places, present, IsFound};
-ghost use Rattle.gw_kept.specs.Order.{key_cmp, number_at, place_of, IsOrder, IsStand, IsTaken};
+ghost use Rattle.gw_kept.specs.Order.{key_cmp, place_of, IsOrder, IsStand};
 ghost use Rattle.gw_kept.specs.Pairs.{key_by, key_of};
-ghost use Rattle.gw_kept.specs.Arrival.{IsArrival};
-ghost use Rattle.gw_kept.specs.declared.entry.RequestKey.{RequestKey as Key};
 
-use crate::arrival::Arrival;
 use crate::entry::Entry;
 use crate::point::LentKey;
-use crate::ring::{Ring, pair_at, places_left, take};
+use crate::ring::{Ring, pair_at, places_left};
 use gw_base::Mid;
 use std::alloc::{AllocError, Global};
 use std::cmp::Ordering;
 use std::collections::VecDeque;
 
-/// The numbers of the kept pairs, in the order of their keys: in a queue, so that what goes in or out near either end moves few. The
-/// places of the ring are numbered as they come, gaps among them, and behind 65,535 comes 0: so what leaves the front changes no
-/// other number. Where gaps are closed, all are numbered anew.
+/// The numbers of the kept pairs, in the order of their keys: in a queue, so that what goes in or out near either end
+/// moves few. The places of the ring are numbered as they come, gaps among them, and behind 65,535 comes 0: so what
+/// leaves the front changes no other number. Where gaps are closed, all are numbered anew.
 #[derive(Drop)]
 pub struct Order {
     pub(crate) numbers: VecDeque<u16>,
@@ -95,63 +90,32 @@ impl Order {
         }
     }
 
-    /// Where a key stands in the order, or where it would stand: one step where it comes behind all others, as the next number of
-    /// a sender mostly does, and else as many more as the count of pairs has binary digits.
-    #[inline(always)]
-    pub fn search(&self, ring: &Ring, key: &LentKey<'_>) -> Result<usize, usize>
+    /// Where a key stands in the order, or where it would stand: one step where it comes behind all others, as the
+    /// next number of a sender mostly does, and else as many more as the count of pairs has binary digits.
+    pub fn search(&self, ring: &Ring, mid: &Mid, id: u32) -> Result<usize, usize>
         ensures range { IsSearchInRange result (deque_len self.now.numbers) }
-        ensures stand { (order : IsOrder (keys_in ring.now.items) self.now.first self.now.numbers.items) → IsStand (keys_in ring.now.items) order.places key.now result }
+        ensures stand { (order : IsOrder (keys_in ring.now.items) self.now.first self.now.numbers.items) → IsStand (keys_in ring.now.items) order.places (key_by mid.now id) result }
     {
-        if self.is_behind(ring, key.mid(), key.id()) {
+        if self.is_behind(ring, mid, id) {
             return Err(self.numbers.len());
         }
-        self.search_among(ring, key)
-    }
-
-    /// The same by halves, wherever it comes.
-    #[inline(never)]
-    fn search_among(&self, ring: &Ring, key: &LentKey<'_>) -> Result<usize, usize>
-        ensures range { IsSearchInRange result (deque_len self.now.numbers) }
-        ensures stand { (order : IsOrder (keys_in ring.now.items) self.now.first self.now.numbers.items) → IsStand (keys_in ring.now.items) order.places key.now result }
-    {
         self.numbers
-            .binary_search_by(|number| self.compare(ring, *number, key.mid(), key.id()))
-    }
-
-    /// Where the key of a pair stands in the order, or where it would stand.
-    #[inline(never)]
-    fn search_pair(&self, ring: &Ring, pair: &Entry) -> Result<usize, usize>
-        ensures range { IsSearchInRange result (deque_len self.now.numbers) }
-        ensures stand { (order : IsOrder (keys_in ring.now.items) self.now.first self.now.numbers.items) → IsStand (keys_in ring.now.items) order.places (key_of pair.now) result }
-    {
-        self.search_among(ring, &pair.lent_key())
-    }
-
-    /// Where the key of the pair in the foremost place stands: mostly in front, which is told by its number.
-    #[inline(always)]
-    fn search_oldest(&self, ring: &Ring, oldest: &Entry) -> Result<usize, usize>
-        ensures { (order : IsOrder (keys_in ring.now.items) self.now.first self.now.numbers.items) → slice_index_or (keys_in ring.now.items) 0 None ≡ Some (key_of oldest.now) → IsStand (keys_in ring.now.items) order.places (key_of oldest.now) result }
-    {
-        match self.numbers.front() {
-            Some(number) if *number == self.first => Ok(0),
-            _ => self.search_pair(ring, oldest),
-        }
+            .binary_search_by(|number| self.compare(ring, *number, mid, id))
     }
 
     /// The place of a key's pair, gaps counted.
-    #[inline(always)]
     pub fn find(&self, ring: &Ring, key: &LentKey<'_>) -> Option<usize>
         requires { IsOrder (keys_in ring.now.items) self.now.first self.now.numbers.items }
         ensures { IsFound (keys_in ring.now.items) key.now result }
     {
-        match self.search(ring, key) {
+        match self.search(ring, key.mid(), key.id()) {
             Ok(at) => Some(self.place(self.numbers[at])),
             Err(_) => None,
         }
     }
 
-    /// Notes the key of a pair that is to go last, which no pair has. It takes no memory: the caller knows that there is room.
-    #[inline(always)]
+    /// Inserts the number of a pair that is to go last, and whose key no pair has. It takes no memory: the caller
+    /// knows that there is room.
     pub fn insert(&mut self, ring: &Ring, entry: &Entry)
         requires order { IsOrder (keys_in ring.now.items) self.old.first self.old.numbers.items }
         requires new { IsFound (keys_in ring.now.items) (key_of entry.now) None }
@@ -161,83 +125,43 @@ impl Order {
         ensures room { deque_capacity self.old.numbers ≤ deque_capacity self.new.numbers }
     {
         let number = self.first.wrapping_add(ring.len() as u16);
-        if self.is_behind(ring, &entry.mid, entry.id.0) {
-            self.numbers.push_back_reserved(number);
-        } else {
-            self.insert_among(ring, entry, number);
-        }
-    }
-
-    /// The same, wherever the key comes, where the pair is to have this number.
-    #[inline(never)]
-    fn insert_among(&mut self, ring: &Ring, entry: &Entry, number: u16)
-        requires order { IsOrder (keys_in ring.now.items) self.old.first self.old.numbers.items }
-        requires new { IsFound (keys_in ring.now.items) (key_of entry.now) None }
-        requires few { length ring.now.items < most_places }
-        requires room { deque_len self.old.numbers < deque_capacity self.old.numbers }
-        requires number { number ≡ number_at self.old.first (length ring.now.items) }
-        ensures order { IsOrder (keys_in ring.now.items ++ Some (key_of entry.now) ∷ []) self.new.first self.new.numbers.items }
-        ensures room { deque_capacity self.old.numbers ≤ deque_capacity self.new.numbers }
-    {
-        if let Err(at) = self.search_pair(ring, entry) {
+        if let Err(at) = self.search(ring, &entry.mid, entry.id.0) {
             let _ = self.numbers.insert(at, number);
         }
     }
 
-    /// Leaves out the number that stands here, which moves nothing where it is the first.
+    /// Where the key of the pair in the foremost place stands: mostly in front, as its number shows.
     #[inline(always)]
-    fn leave_out(&mut self, at: usize)
-        requires { at < deque_len self.old.numbers }
-        ensures numbers { self.new.numbers.items ≡ remove self.old.numbers.items at }
-        ensures first { self.new.first ≡ self.old.first }
-        ensures room { deque_capacity self.new.numbers ≡ deque_capacity self.old.numbers }
+    fn search_oldest(&self, ring: &Ring, oldest: &Entry) -> Result<usize, usize>
+        ensures { (order : IsOrder (keys_in ring.now.items) self.now.first self.now.numbers.items) → slice_index_or (keys_in ring.now.items) 0 None ≡ Some (key_of oldest.now) → IsStand (keys_in ring.now.items) order.places (key_of oldest.now) result }
     {
-        if at == 0 {
-            self.numbers.pop_front();
-        } else {
-            self.numbers.remove(at);
+        match self.numbers.front() {
+            Some(number) if *number == self.first => Ok(0),
+            _ => self.search(ring, &oldest.mid, oldest.id.0),
         }
     }
 
-    /// Leaves out the pair in the foremost place, if it is no gap.
-    #[inline(always)]
-    fn leave_pair(&mut self, ring: &Ring)
+    /// Removes the number of the pair in the foremost place, if it is no gap.
+    fn remove_pair(&mut self, ring: &Ring)
         requires { IsOrder (keys_in ring.now.items) self.old.first self.old.numbers.items }
         ensures order { IsOrder (slice_set (keys_in ring.now.items) 0 None) self.new.first self.new.numbers.items }
         ensures room { deque_capacity self.new.numbers ≡ deque_capacity self.old.numbers }
     {
         if let Some(oldest) = pair_at(ring, 0) {
             if let Ok(at) = self.search_oldest(ring, oldest) {
-                self.leave_out(at);
+                self.numbers.remove(at);
             }
         }
     }
 
-    /// Leaves out the foremost place, which is to leave the ring: a pair or a gap.
-    #[inline(always)]
-    pub fn leave_front(&mut self, ring: &Ring)
+    /// Removes the foremost place, which is to leave the ring: a pair or a gap.
+    pub fn remove_front(&mut self, ring: &Ring)
         requires { IsOrder (keys_in ring.now.items) self.old.first self.old.numbers.items }
         ensures order { IsOrder (drop 1 (keys_in ring.now.items)) self.new.first self.new.numbers.items }
         ensures room { deque_capacity self.new.numbers ≡ deque_capacity self.old.numbers }
     {
-        self.leave_pair(ring);
+        self.remove_pair(ring);
         self.first = self.first.wrapping_add(1);
-    }
-
-    /// Takes out the pair that stands here in the order, and lets it go: it leaves a gap.
-    pub fn take_out(&mut self, ring: &mut Ring, arrival: &mut Arrival, at: usize)
-        requires { at < deque_len self.old.numbers }
-        ensures numbers { self.new.numbers.items ≡ remove self.old.numbers.items at }
-        ensures first { self.new.first ≡ self.old.first }
-        ensures gap { ring.new ≡ buffer (slice_set ring.old.items (place_of self.old.first (slice_index self.old.numbers.items at)) None) ring.old.capacity }
-        ensures arrival { (keys : List (Option Key)) → IsArrival keys arrival.old.first arrival.old.numbers.items → IsTaken keys (place_of self.old.first (slice_index self.old.numbers.items at)) → IsArrival (slice_set keys (place_of self.old.first (slice_index self.old.numbers.items at)) None) arrival.new.first arrival.new.numbers.items }
-        ensures room { (deque_capacity self.new.numbers ≡ deque_capacity self.old.numbers) × (deque_capacity arrival.new.numbers ≡ deque_capacity arrival.old.numbers) }
-    {
-        if let Some(number) = self.numbers.remove(at) {
-            let place = self.place(number);
-            take(ring, place);
-            arrival.leave(place);
-        }
     }
 
     /// Numbers the pairs anew, as they stand when the gaps are closed.

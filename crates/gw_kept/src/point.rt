@@ -9,7 +9,7 @@ use gw_base::{Mid, TxId};
 use gw_msg::{AckRange, Item, Sender};
 use std::marker::Model;
 
-/// The key of a request, lent by the message that it came in. Contracts see the key itself.
+/// The key of a request, borrowed from the message that it came in. Contracts see the key itself.
 #[derive(Drop)]
 pub struct LentKey<'h> {
     mid: Sender<'h>,
@@ -43,7 +43,7 @@ impl<'h> LentKey<'h> {
         }
     }
 
-    /// Who asked.
+    /// The sender.
     #[inline(always)]
     pub fn mid(&self) -> &'h Mid
         ensures { result.now ≡ self.now.mid }
@@ -70,7 +70,7 @@ impl<'h> LentKey<'h> {
     }
 }
 
-/// The ranges of an acknowledgement, lent by the message that it came in. Contracts see the ranges themselves.
+/// The ranges of an acknowledgement, borrowed from the message that it came in. Contracts see the ranges themselves.
 #[derive(Drop)]
 pub struct Ranges<'h> {
     ranges: &'h [AckRange],
@@ -86,14 +86,14 @@ impl<'h> Model for Ranges<'h> {
 }
 
 impl<'h> Ranges<'h> {
-    /// The ranges, lent.
+    /// The ranges, borrowed.
     pub fn new(ranges: &'h [AckRange]) -> Self
         ensures { result ≡ ranges.now }
     {
         Ranges { ranges }
     }
 
-    /// The same, lent once more.
+    /// The same, borrowed once more.
     pub fn again(&self) -> Ranges<'h>
         ensures { result ≡ self.now }
     {
@@ -120,7 +120,7 @@ pub struct Removal<'h> {
 }
 
 impl<'h> Removal<'h> {
-    /// The same, lent once more.
+    /// The same, borrowed once more.
     pub fn again(&self) -> Removal<'h>
         ensures { result ≡ self.now }
     {
@@ -134,7 +134,7 @@ impl<'h> Removal<'h> {
 /// What an item of a burst is to the kept replies.
 #[derive(Drop)]
 pub enum Point<'h> {
-    /// A request, told by its key.
+    /// A request, by its key.
     Request(LentKey<'h>),
     /// An acknowledgement.
     Ack(Removal<'h>),

@@ -1,6 +1,6 @@
-//! The ring of the kept pairs: the oldest is in front, and where one was removed there is a gap.
+//! The ring of the kept pairs: the oldest is in front, and until a burst ends there is a gap where one was removed.
 
-ghost use Rattle.std.specs.Prelude.{◌≡◌, ◌≤◌, ◌<◌, ℕ, None, Some, drop, length, map, slice_index, slice_index_or, slice_set, take, option_copied};
+ghost use Rattle.std.specs.Prelude.{◌≡◌, ◌≤◌, ◌<◌, ◌∷◌, ◌++◌, [], ℕ, None, Some, drop, length, map, slice_index, slice_index_or, slice_set, take, option_copied};
 ghost use Rattle.circular_buffer.specs.Buffer.{buffer};
 ghost use Rattle.gw_kept.specs.Rows.{most_places, present};
 
@@ -24,34 +24,12 @@ pub fn pair_at(ring: &Ring, place: usize) -> Option<&Entry>
     }
 }
 
-/// Takes the pair at a place: it leaves a gap.
-pub fn take(ring: &mut Ring, place: usize) -> Option<Entry>
-    ensures pair { result ≡ slice_index_or ring.old.items place None }
-    ensures gap { ring.new ≡ buffer (slice_set ring.old.items place None) ring.old.capacity }
-{
-    match ring.get_mut(place) {
-        Some(pair) => pair.take(),
-        None => None,
-    }
-}
-
-/// Lets the pair at a place go: it leaves a gap.
-pub fn let_go(ring: &mut Ring, place: usize)
+/// Frees the pair at a place: it leaves a gap.
+pub fn free(ring: &mut Ring, place: usize)
     ensures { ring.new ≡ buffer (slice_set ring.old.items place None) ring.old.capacity }
 {
-    take(ring, place);
-}
-
-/// Brings the pair at a place to one in front of it, or leaves it where it is.
-fn bring(ring: &mut Ring, from: usize, to: usize)
-    requires { to ≤ from }
-    ensures { ring.new ≡ buffer (slice_set (slice_set ring.old.items from None) to (slice_index_or ring.old.items from None)) ring.old.capacity }
-{
-    if to < from {
-        let brought = take(ring, from);
-        if let Some(pair) = ring.get_mut(to) {
-            *pair = brought;
-        }
+    if let Some(pair) = ring.get_mut(place) {
+        *pair = None;
     }
 }
 
@@ -67,18 +45,24 @@ pub fn pop(ring: &mut Ring) -> Option<Entry>
     }
 }
 
-/// Closes the gaps: each pair behind one comes forward.
+/// Puts a pair behind the others. The caller knows that there is room.
+#[inline(always)]
+pub fn put_last(ring: &mut Ring, pair: Entry)
+    requires { length ring.old.items < ring.old.capacity }
+    ensures { ring.new ≡ buffer (ring.old.items ++ Some pair ∷ []) ring.old.capacity }
+{
+    let _ = ring.try_push_back(Some(pair));
+}
+
+/// Closes the gaps: each pair goes from the front to the back, once round.
 pub fn close_gaps(ring: &mut Ring)
     ensures { ring.new ≡ buffer (map (λ e. Some e) (present ring.old.items)) ring.old.capacity }
 {
-    let mut left = 0;
-    for at in 0..ring.len() {
-        if let Some(_entry) = pair_at(ring, at) {
-            bring(ring, at, left);
-            left += 1;
+    for _at in 0..ring.len() {
+        if let Some(pair) = pop(ring) {
+            put_last(ring, pair);
         }
     }
-    ring.truncate_back(left);
 }
 
 /// For each place, how many pairs are before it: its own place when the gaps are closed.
@@ -91,7 +75,7 @@ pub fn places_left(ring: &Ring) -> [u16; MOST_PLACES]
     let mut left = 0;
     for at in 0..ring.len() {
         places[at] = left;
-        if let Some(_entry) = pair_at(ring, at) {
+        if let Some(_pair) = pair_at(ring, at) {
             left += 1;
         }
     }

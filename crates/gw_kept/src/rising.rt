@@ -1,9 +1,9 @@
-//! The classes of requests whose numbers rise: none of them is asked twice, so no index of them is needed.
+//! The classes of requests whose numbers rise: none of them comes twice, so no index of them is needed.
 
 ghost use Rattle.std.specs.Prelude.{◌≡◌, ◌∷◌, List, None, Some, IfOk, true, false, length};
 ghost use Rattle.gw_kept.specs.declared.point.Point.{Point as Item};
 ghost use Rattle.gw_kept.specs.Classes.{Standing, kept_place, class_at, class_of, classes_of, behind};
-ghost use Rattle.gw_kept.specs.Index.{asks_behind, seen};
+ghost use Rattle.gw_kept.specs.Index.{requests_behind, seen};
 ghost use Rattle.gw_kept.specs.Rises.{is_above, do_numbers_rise, IsApart, IsTurn};
 
 use crate::class::Class;
@@ -23,7 +23,7 @@ fn is_above(last: Option<u32>, number: u32) -> bool
     }
 }
 
-/// Whether the numbers of the requests rise, each above that of the one before it. Then none is asked twice.
+/// Whether the numbers of the requests rise, each above that of the one before it. Then none comes twice.
 pub(crate) fn do_numbers_rise(points: &[Point<'_>]) -> bool
     ensures { result ≡ do_numbers_rise None points.now }
 {
@@ -40,8 +40,8 @@ pub(crate) fn do_numbers_rise(points: &[Point<'_>]) -> bool
 }
 
 impl Kept {
-    /// The class of a request whose key no new request of the burst has, where there are so many pairs, those of the new ones counted: one
-    /// look-up among the kept pairs.
+    /// The class of a request whose key no new request of the burst has, where there are so many pairs, those of the
+    /// new ones counted: one look-up among the kept pairs.
     fn class_among(&self, key: &LentKey<'_>, total: usize) -> Class
         ensures { (s : Standing) → IsApart self.now key.now s → total ≡ length s.pairs → result ≡ class_of (length self.now.pairs) s.pairs (kept_place key.now s) }
     {
@@ -69,19 +69,19 @@ impl Kept {
         }
     }
 
-    /// The classes of a burst's items, where the numbers of its requests rise and no request comes behind an acknowledgement: one look-up
-    /// among the kept pairs for each request.
+    /// The classes of a burst's items, where the numbers of its requests rise and no request comes behind an
+    /// acknowledgement: one look-up among the kept pairs for each request.
     ///
     /// # Errors
     ///
-    /// Want of memory.
+    /// Out of memory.
     pub(crate) fn classify_rising(
         &self,
         alloc: Global,
         points: &[Point<'_>],
     ) -> Result<Items<Class>, NoMemory>
         requires rise { do_numbers_rise None points.now ≡ true }
-        requires unsaid { asks_behind false points.now ≡ false }
+        requires unsaid { requests_behind false points.now ≡ false }
         ensures { IfOk result (λ classes. classes ≡ classes_of self.now points.now) }
     {
         let mut total = self.len();

@@ -1,27 +1,26 @@
-//! The kept pairs in a row, oldest first, with a gap in the place of each that was removed.
+//! The kept pairs in a row, oldest first. Until a burst ends there is a gap in the place of each that was removed.
 
 ghost use Rattle.std.specs.Prelude.{◌≡◌, ◌≤◌, ◌<◌, ◌-◌, ◌++◌, ◌∷◌, [], None, if◌then◌else◌, drop, length, nat_lt, slice_get, slice_index_or, IfOk, option_copied, option_map};
 ghost use Rattle.circular_buffer.specs.Buffer.{keep_last};
 ghost use Rattle.gw_kept.specs.Changes.{changes_of, kept_after, AreNew};
 ghost use Rattle.gw_kept.specs.Classes.{keys_of, last_place, has_pair};
 ghost use Rattle.gw_kept.specs.Forgotten.{forgotten};
-ghost use Rattle.gw_kept.specs.Pairs.{key_of, bytes_at, bytes_for, kept_list, with_pair, dropped_by, AreDistinct, IsBounded};
+ghost use Rattle.gw_kept.specs.Pairs.{key_of, bytes_for, kept_list, with_pair, dropped_by, AreDistinct, IsBounded};
 ghost use Rattle.gw_kept.specs.Rows.{gapped, present, kept_in, keys_in, places_for, bytes_there, IsFound, IsWhole};
 
-use crate::arrival::Arrival;
 use crate::change::Turn;
 use crate::entry::Entry;
 use crate::order::Order;
 use crate::point::LentKey;
-use crate::ring::{Ring, close_gaps, pair_at, pop};
+use crate::ring::{Ring, close_gaps, pair_at, pop, put_last};
 use circular_buffer::HeapCircularBuffer;
 use gw_base::Mid;
 use gw_msg::AckRange;
 use std::alloc::{AllocError, Global};
 use std::marker::Model;
 
-/// How many places there are at most beyond those of the pairs: so many pairs are removed at least before gaps have to be closed,
-/// and these share the pass over the places.
+/// How many places there are at most beyond those of the pairs: so many pairs are removed in a burst before gaps have
+/// to be closed.
 const MOST_BEYOND: usize = 1024;
 
 /// The kept pairs, with gaps where pairs were removed.
@@ -29,7 +28,6 @@ const MOST_BEYOND: usize = 1024;
 pub struct Row {
     ring: Ring,
     order: Order,
-    arrival: Arrival,
     /// How many pairs are kept at most.
     most: usize,
 }
@@ -38,7 +36,6 @@ impl Model for Row {
     ghost use Rattle.gw_kept.specs.Pairs.{IsBounded};
     ghost use Rattle.gw_kept.specs.Rows.{Gapped, coded_gapped, gapped, kept_in, keys_in, places_for};
     ghost use Rattle.gw_kept.specs.Order.{IsOrder};
-    ghost use Rattle.gw_kept.specs.Arrival.{IsArrival};
     ghost use Rattle.std.specs.Prelude.{◌≡◌, ◌≤◌};
     ghost use Rattle.std.specs.VecDeque.{deque_capacity};
 
@@ -48,7 +45,7 @@ impl Model for Row {
 
     ghost view = { λ a. gapped a.ring.items a.most };
 
-    ghost invariant = { λ a. IsBounded (kept_in (gapped a.ring.items a.most)) × IsOrder (keys_in a.ring.items) a.order.first a.order.numbers.items × (a.ring.capacity ≡ places_for a.most) × (a.ring.capacity ≤ deque_capacity a.order.numbers) × IsArrival (keys_in a.ring.items) a.arrival.first a.arrival.numbers.items × (a.ring.capacity ≤ deque_capacity a.arrival.numbers) };
+    ghost invariant = { λ a. IsBounded (kept_in (gapped a.ring.items a.most)) × IsOrder (keys_in a.ring.items) a.order.first a.order.numbers.items × (a.ring.capacity ≡ places_for a.most) × (a.ring.capacity ≤ deque_capacity a.order.numbers) };
 }
 
 impl Row {
@@ -66,7 +63,6 @@ impl Row {
         Ok(Row {
             ring: HeapCircularBuffer::with_capacity(alloc, places)?,
             order: Order::new(alloc, places)?,
-            arrival: Arrival::new(alloc, places)?,
             most,
         })
     }
@@ -86,8 +82,8 @@ impl Row {
         self.most
     }
 
-    /// The reply at a place, gaps counted.
-    fn reply_there(&self, place: usize) -> Option<&[u8]>
+    /// The reply at a place, gaps counted: one look.
+    pub fn reply_at(&self, place: usize) -> Option<&[u8]>
         ensures { option_copied result ≡ bytes_there place self.now.row }
     {
         match pair_at(&self.ring, place) {
@@ -96,31 +92,7 @@ impl Row {
         }
     }
 
-    /// The reply of the pair that has so many before it, gaps not counted: one look.
-    pub fn reply_at(&self, rank: usize) -> Option<&[u8]>
-        ensures { option_copied result ≡ bytes_at rank (present self.now.row) }
-    {
-        match self.arrival.nth(rank) {
-            Some(place) => self.reply_there(place),
-            None => None,
-        }
-    }
-
-    /// How many pairs are before a key's pair, gaps not counted, if it has one: twice log k steps for k pairs. Each pair has a key
-    /// of its own.
-    #[inline(always)]
-    pub fn rank(&self, key: &LentKey<'_>) -> Option<usize>
-        ensures rank { result ≡ last_place key.now (keys_of (kept_in self.now)) }
-        ensures distinct { AreDistinct (present self.now.row) }
-    {
-        match self.find(key) {
-            Some(place) => self.arrival.rank(place),
-            None => None,
-        }
-    }
-
     /// The place of a key's pair, gaps counted: log k steps for k pairs. Each pair has a key of its own.
-    #[inline(always)]
     pub fn find(&self, key: &LentKey<'_>) -> Option<usize>
         ensures found { IsFound (keys_in self.now.row) key.now result }
         ensures distinct { AreDistinct (present self.now.row) }
@@ -135,11 +107,10 @@ impl Row {
         self.find(key).is_some()
     }
 
-    /// Keeps a pair, whose key no kept pair has: the caller knows that. Where as many are there as are kept at most, the oldest is
-    /// handed back. It takes no memory. For k kept pairs it costs log k steps, or one where the key comes behind all others, and two
-    /// moves of at most k bytes, or none where keys come in their order and leave in it. Where no place is free, the gaps are closed
-    /// first, which is shared by the pairs that were removed since they were closed last.
-    #[inline(always)]
+    /// Keeps a pair, whose key no kept pair has: the caller knows that. Where as many are there as are kept at most,
+    /// the oldest is handed back. It takes no memory. For k kept pairs it costs log k steps, or one where the key
+    /// comes behind all others, and two moves of at most k bytes, or none where keys come in their order and leave in
+    /// it. Where no place is free, the gaps are closed first.
     pub fn push(&mut self, entry: Entry) -> Option<Entry>
         requires { bytes_for (key_of entry) (present self.old.row) ≡ None }
         ensures pairs { kept_in self.new ≡ with_pair (kept_in self.old) entry }
@@ -147,13 +118,11 @@ impl Row {
     {
         let dropped = self.make_room();
         self.order.insert(&self.ring, &entry);
-        self.arrival.push(self.ring.len());
-        let _ = self.ring.try_push_back(Some(entry));
+        put_last(&mut self.ring, entry);
         dropped
     }
 
     /// Makes room for one more pair.
-    #[inline(always)]
     fn make_room(&mut self) -> Option<Entry>
         ensures pairs { kept_in self.new ≡ kept_list (keep_last (self.old.most - 1) (present self.old.row)) self.old.most }
         ensures dropped { result ≡ (if nat_lt (length (present self.old.row)) self.old.most then None else slice_get (present self.old.row) 0) }
@@ -169,7 +138,6 @@ impl Row {
     }
 
     /// Takes the oldest pair, and with it the gaps in front of it.
-    #[inline(always)]
     fn pop_oldest(&mut self) -> Option<Entry>
         ensures row { present self.new.row ≡ drop 1 (present self.old.row) }
         ensures most { self.new.most ≡ self.old.most }
@@ -177,8 +145,7 @@ impl Row {
         ensures room { 0 < length (present self.old.row) → length self.new.row < places_for self.new.most }
     {
         for _at in 0..self.ring.len() {
-            self.order.leave_front(&self.ring);
-            self.arrival.leave_front(&self.ring);
+            self.order.remove_front(&self.ring);
             if let Some(entry) = pop(&mut self.ring) {
                 return Some(entry);
             }
@@ -186,16 +153,14 @@ impl Row {
         None
     }
 
-    /// Removes what an acknowledgement names, and leaves gaps. It takes no memory. For n ranges and k pairs it costs n log k steps, a
-    /// few moves of at most k bytes for each range that names some, and a constant for each pair that goes. Beside it, all pairs are
-    /// looked at that arrived between the first and the last of a range; where these are more than 36 for each that goes, each costs
-    /// log k steps and a move of at most k bytes instead.
+    /// Removes what an acknowledgement names, and leaves gaps. It takes no memory. For n ranges and k pairs it costs
+    /// n log k steps, two moves of at most k bytes for each range that names some, and a constant for each pair that
+    /// goes.
     pub fn forget(&mut self, mid: &Mid, ranges: &[AckRange])
         ensures { kept_in self.new ≡ forgotten (kept_in self.old) mid.now ranges.now }
     {
         for range in ranges {
-            self.order
-                .forget(&mut self.ring, &mut self.arrival, mid, range);
+            self.order.forget(&mut self.ring, mid, range);
         }
     }
 
@@ -218,14 +183,12 @@ impl Row {
     }
 
     /// Closes the gaps, where there are any: one pass over the places.
-    #[inline(never)]
-    fn settle(&mut self)
+    pub fn settle(&mut self)
         ensures kept { kept_in self.new ≡ kept_in self.old }
         ensures whole { IsWhole self.new }
     {
         if self.len() < self.ring.len() {
             self.order.number_anew(&self.ring);
-            self.arrival.number_anew();
             close_gaps(&mut self.ring);
         }
     }
@@ -255,11 +218,9 @@ impl Row {
             ring.push_back(self.key_alone(alloc, at));
         }
         let order = self.order.copy(alloc, places)?;
-        let arrival = self.arrival.copy(alloc, places)?;
         Ok(Row {
             ring,
             order,
-            arrival,
             most: self.most,
         })
     }

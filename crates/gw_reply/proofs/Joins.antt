@@ -6,7 +6,7 @@ use Rattle.gw_reply.specs.declared.context_parts.ContextPart.{ContextPart}
 use Rattle.gw_reply.specs.declared.reply.CommandReply.{CommandReply}
 use Rattle.gw_reply.specs.ContextParts.{context_part_text}
 use Rattle.gw_reply.specs.Lists.{comma, comma_separated, later, parts_text}
-use Rattle.gw_reply.specs.Replies.{replies_text, replies_texts, later_replies, replies_behind, command_reply_text, told_text}
+use Rattle.gw_reply.specs.Replies.{replies_text, replies_texts, later_replies, replies_behind, command_reply_text, inner_text}
 
 from_first : {T : Type 0} (text : T → List ℕ) (first : T) (rest : List T) → text first ++ later text rest ≡ comma_separated (map text (first ∷ rest))
 from_first text first [] = append-nil (text first)
@@ -50,7 +50,7 @@ one_written text front parts i part before here out more begun one e =
     e ∙ ap (λ (t : List ℕ). t ++ more) begun ∙ append_assoc before (parts_text text front (take i parts)) more ∙ ap (λ (t : List ℕ). before ++ t) (sym one)
     ∙ ap (λ (n : ℕ). before ++ parts_text text front (take n parts)) next
 
--- ---- what an action reply tells
+-- ---- what stands between the braces of an action reply
 
 -- texts behind a comma each
 abbrev pub behind : List (List ℕ) → List ℕ
@@ -74,29 +74,29 @@ behind_replies : {T : Type 0} (text : T → List ℕ) (r : Result (List T) Code)
 behind_replies text (Ok replies) = behind_all text replies
 behind_replies text (Err code) = ap (λ t. comma ∷ t) (append-nil _)
 
--- with something to tell of the context itself
-pub told_first : (first : ContextPart) (rest : List ContextPart) (r : Result (List CommandReply) Code)
-    → told_text (first ∷ rest) r ≡ context_part_text first ++ (later context_part_text rest ++ later_replies command_reply_text r)
-told_first first rest r =
+-- with properties of the context
+pub inner_first : (first : ContextPart) (rest : List ContextPart) (r : Result (List CommandReply) Code)
+    → inner_text (first ∷ rest) r ≡ context_part_text first ++ (later context_part_text rest ++ later_replies command_reply_text r)
+inner_first first rest r =
     first_then (context_part_text first) (map context_part_text rest ++ replies_texts command_reply_text r)
     ∙ ap (λ t. context_part_text first ++ t) (behind_map context_part_text rest (replies_texts command_reply_text r) ∙ ap (λ t. later context_part_text rest ++ t) (behind_replies command_reply_text r))
 
--- with nothing
-pub told_none : (r : Result (List CommandReply) Code) → told_text [] r ≡ replies_text command_reply_text r
-told_none (Ok replies) = refl
-told_none (Err code) = refl
+-- with none
+pub inner_none : (r : Result (List CommandReply) Code) → inner_text [] r ≡ replies_text command_reply_text r
+inner_none (Ok replies) = refl
+inner_none (Err code) = refl
 
 some_parts : (n : ℕ) → not (suc n == 0) ≡ true
 some_parts n = ap not (ne_eqb (suc n) 0 (λ e. omega (arith, e)))
 
 -- what was written, once the parts and the replies are
-pub told_written : (parts : List ContextPart) (r : Result (List CommandReply) Code) (before one out : List ℕ) (front : Bool)
-    → one ≡ before ++ comma_separated (map context_part_text parts) → front ≡ not (length parts == 0) → out ≡ one ++ replies_behind command_reply_text front r → out ≡ before ++ told_text parts r
-told_written [] r before one out front begun is e =
+pub inner_written : (parts : List ContextPart) (r : Result (List CommandReply) Code) (before one out : List ℕ) (front : Bool)
+    → one ≡ before ++ comma_separated (map context_part_text parts) → front ≡ not (length parts == 0) → out ≡ one ++ replies_behind command_reply_text front r → out ≡ before ++ inner_text parts r
+inner_written [] r before one out front begun is e =
     e ∙ ap (λ (b : Bool). one ++ replies_behind command_reply_text b r) is ∙ ap (λ (t : List ℕ). t ++ replies_text command_reply_text r) (begun ∙ append-nil before)
-    ∙ ap (λ (t : List ℕ). before ++ t) (sym (told_none r))
-told_written (first ∷ rest) r before one out front begun is e =
+    ∙ ap (λ (t : List ℕ). before ++ t) (sym (inner_none r))
+inner_written (first ∷ rest) r before one out front begun is e =
     let now = later context_part_text rest in let end = later_replies command_reply_text r in
     e ∙ ap (λ (b : Bool). one ++ replies_behind command_reply_text b r) (is ∙ some_parts (length rest))
     ∙ ap (λ (t : List ℕ). t ++ end) (begun ∙ ap (λ (t : List ℕ). before ++ t) (sym (from_first context_part_text first rest)))
-    ∙ append_assoc before (context_part_text first ++ now) end ∙ ap (λ (t : List ℕ). before ++ t) (append_assoc (context_part_text first) now end ∙ sym (told_first first rest r))
+    ∙ append_assoc before (context_part_text first ++ now) end ∙ ap (λ (t : List ℕ). before ++ t) (append_assoc (context_part_text first) now end ∙ sym (inner_first first rest r))

@@ -14,7 +14,7 @@ short_text : (code : Code) → length (code_text code) ≤ 43
 short_text SyntaxError = omega arith
 short_text _ = omega arith
 
-length-in_braces : (text : List ℕ) → length (in_braces text) ≡ length text + 2
+pub length-in_braces : (text : List ℕ) → length (in_braces text) ≡ length text + 2
 length-in_braces text = omega (arith, length-append text (codes "}"))
 
 length-quoted : (text : List ℕ) → length (quoted text) ≡ length text + 2

@@ -1,4 +1,4 @@
--- What an action reply tells of its context itself (RFC 3525, Annex B.2, priority, emergency, topologyDescriptor; without white space:
+-- The properties of a context in an action reply (RFC 3525, Annex B.2, priority, emergency, topologyDescriptor; without white space:
 -- own).
 use Rattle.std.specs.Prelude.{ℕ, List, ◌++◌, map, codes, decimal}
 use Rattle.gw_base.specs.declared.context_words.Flow.{Flow}

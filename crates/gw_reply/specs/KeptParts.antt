@@ -1,4 +1,4 @@
--- The forms of what a reply tells as it is kept (own): of properties, tails, Locals and Remotes.
+-- The forms of what a reply has as it is kept (own): of properties, tails, Locals and Remotes.
 use Rattle.std.specs.Prelude.{List, Result, Ok, Err}
 use Rattle.std.specs.List.{All}
 use Rattle.gw_base.specs.declared.code.Code.{Code}
@@ -24,7 +24,7 @@ pub record IsKeptMediaReply (m : MediaReply) : Type 0 where
   pub properties : All IsKeptProperty m.properties
   pub streams : All IsKeptStreamReply m.streams
 
--- what of the part is told as it is kept has its form
+-- what the part has as it is kept has its form
 abbrev pub HasKeptReply : ReplyPart → Type 0
 HasKeptReply (part.Filled streams) = All IsKeptFilled streams
 HasKeptReply (part.Media m) = IsKeptMediaReply m

@@ -1,4 +1,4 @@
--- The forms of the texts in a tree of replies (own): of its TerminationIDs, and of what it tells as it is kept.
+-- The forms of the texts in a tree of replies (own): of its TerminationIDs, and of what is kept as sent.
 use Rattle.std.specs.Prelude.{◌<◌, ℕ}
 use Rattle.std.specs.List.{All}
 use Rattle.gw_base.specs.Names.{IsName}
@@ -24,7 +24,7 @@ HasForm _ = Unit {0}
 abbrev pub IsWide : ℕ → Type 0
 IsWide n = n < 4294967296
 
--- what a command reply names, and the parts that it tells
+-- what a command reply names, and its parts
 abbrev pub IsKeptCommand : CommandReply → Type 0
 IsKeptCommand c = HasForm c.term × AllOk HasKeptReply c.result
 
@@ -32,12 +32,12 @@ IsKeptCommand c = HasForm c.term × AllOk HasKeptReply c.result
 abbrev pub HasNames : Link → Type 0
 HasNames l = IsTermText l.a × IsTermText l.b
 
--- what is told of a context names TerminationIDs alone
+-- a property of a context names TerminationIDs alone
 abbrev pub IsKeptPart : ContextPart → Type 0
 IsKeptPart (Topology links) = All HasNames links
 IsKeptPart _ = Unit {0}
 
--- what an action reply tells of its context, and of the commands
+-- the properties of the context in an action reply, and its command replies
 pub record IsKeptAction (a : ActionReply) : Type 0 where
   pub parts : All IsKeptPart a.parts
   pub commands : AllOk IsKeptCommand a.result

@@ -36,13 +36,13 @@ abbrev pub replies_texts : {T : Type 0} → (T → List ℕ) → Result (List T)
 replies_texts text (Ok replies) = map text replies
 replies_texts text (Err code) = error_text code ∷ []
 
--- what an action reply tells: of the context itself, and behind that of the commands, joined by commas
-abbrev pub told_text : List ContextPart → Result (List CommandReply) Code → List ℕ
-told_text parts result = comma_separated (map context_part_text parts ++ replies_texts command_reply_text result)
+-- what stands between the braces of an action reply: properties of its context, and behind them command replies, joined by commas
+abbrev pub inner_text : List ContextPart → Result (List CommandReply) Code → List ℕ
+inner_text parts result = comma_separated (map context_part_text parts ++ replies_texts command_reply_text result)
 
 -- Context=<ContextID>{..}
 abbrev pub action_reply_text : ActionReply → List ℕ
-action_reply_text reply = codes "Context=" ++ context_text reply.ctx ++ in_braces (told_text reply.parts reply.result)
+action_reply_text reply = codes "Context=" ++ context_text reply.ctx ++ in_braces (inner_text reply.parts reply.result)
 
 -- Context=<ContextID>{..} of what stands between the braces, where each part of it has a comma before it
 abbrev pub framed : CtxRef → List ℕ → List ℕ

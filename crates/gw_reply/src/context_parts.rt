@@ -1,4 +1,4 @@
-//! What an action reply tells of its context itself (RFC 3525, Annex B.2, `contextProperties`).
+//! The properties of a context in an action reply (RFC 3525, Annex B.2, `contextProperties`).
 
 use gw_base::{Items, Link};
 

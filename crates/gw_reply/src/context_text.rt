@@ -1,10 +1,10 @@
-//! The text of what an action reply tells of its context itself.
+//! The text of the properties of a context in an action reply.
 
-ghost use Rattle.std.specs.Prelude.{◌≡◌, ◌++◌, OnOk};
-ghost use Rattle.gw_reply.specs.ContextParts.{context_part_text, flow_word};
+ghost use Rattle.std.specs.Prelude.{◌≡◌};
+ghost use Rattle.gw_reply.specs.ContextParts.{flow_word};
 
 use crate::context_parts::ContextPart;
-use crate::wire::{WireText, write_number, write_parts};
+use crate::wire::{Written, write_number, write_parts};
 use gw_base::{Flow, Link};
 use std::alloc::AllocError;
 
@@ -18,7 +18,7 @@ fn flow_word(flow: Flow) -> &'static str
     }
 }
 
-impl WireText for Link {
+impl Written for Link {
     ghost use Rattle.gw_reply.specs.ContextParts.{link_text};
 
     ghost text = { link_text };
@@ -32,7 +32,7 @@ impl WireText for Link {
     }
 }
 
-impl WireText for ContextPart {
+impl Written for ContextPart {
     ghost use Rattle.gw_reply.specs.ContextParts.{context_part_text};
 
     ghost text = { context_part_text };
@@ -52,15 +52,4 @@ impl WireText for ContextPart {
             }
         }
     }
-}
-
-/// Writes what is told of a context behind what the buffer holds.
-///
-/// # Errors
-///
-/// `AllocError` where memory was refused; the buffer is then of no use.
-pub fn write_context_part(part: &ContextPart, out: &mut Vec<u8>) -> Result<(), AllocError>
-    ensures { OnOk result (out.new.items ≡ out.old.items ++ context_part_text part.now) }
-{
-    part.write_to(out)
 }

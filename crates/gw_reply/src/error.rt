@@ -3,7 +3,7 @@
 ghost use Rattle.std.specs.Prelude.{◌≡◌};
 ghost use Rattle.gw_reply.specs.Errors.{error_text};
 
-use crate::wire::WireText;
+use crate::wire::Written;
 use gw_base::Code;
 use std::alloc::AllocError;
 
@@ -37,7 +37,7 @@ pub fn error_descriptor(code: Code) -> &'static str
     }
 }
 
-impl WireText for Code {
+impl Written for Code {
     ghost text = { error_text };
 
     fn write_to(&self, out: &mut Vec<u8>) -> Result<(), AllocError> {

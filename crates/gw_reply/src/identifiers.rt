@@ -4,7 +4,7 @@ ghost use Rattle.std.specs.Prelude.{◌≡◌, ◌++◌, OnOk, codes};
 ghost use Rattle.gw_reply.specs.Commands.{command_word};
 ghost use Rattle.gw_reply.specs.Contexts.{context_text};
 
-use crate::wire::{WireText, write_opening};
+use crate::wire::{Written, write_opening};
 use gw_base::{CtxNum, CtxRef, TermRef, Verb};
 use itoa::Buffer;
 use std::alloc::AllocError;
@@ -34,7 +34,7 @@ pub(crate) fn context_word<'a>(ctx: &CtxRef, digits: &'a mut Buffer) -> &'a [u8]
     }
 }
 
-impl WireText for TermRef {
+impl Written for TermRef {
     ghost use Rattle.gw_reply.specs.Terminations.{term_text};
 
     ghost text = { term_text };

@@ -11,14 +11,14 @@ mod parts;
 mod reply;
 mod tree_text;
 mod wire;
+mod writer;
 
 pub use context_parts::ContextPart;
-pub use context_text::write_context_part;
 pub use error::error_descriptor;
 pub use message::{write_fault, write_framed_reply, write_reply};
 pub use parts::{
     AuditReply, FilledStream, KeptProperty, KeptTail, MediaReply, ReplyPart, StreamReply,
 };
 pub use reply::{ActionReply, CommandReply, TxReply};
-pub use tree_text::{framed_action, write_action_reply, write_command_reply};
-pub use wire::write_number;
+pub use wire::{Written, write_number};
+pub use writer::ReplyWriter;

@@ -5,7 +5,7 @@ ghost use Rattle.gw_reply.specs.Replies.{framed_reply, transaction_reply_text};
 ghost use Rattle.gw_reply.specs.Messages.{message_text, longest_header, longest_message, longest_short_reply, too_long, reply_text, fault_text};
 
 use crate::reply::TxReply;
-use crate::wire::{WireText, write_opening};
+use crate::wire::{Written, write_opening};
 use gw_base::{Code, Mid, NoMemory, TxId};
 use std::alloc::Global;
 
@@ -16,7 +16,7 @@ const LONGEST_MESSAGE: usize = 16_384;
 const ROOM: usize = 512;
 
 /// The message that has this body.
-fn write_message<T: WireText>(alloc: Global, body: &T, mid: &Mid) -> Result<Vec<u8>, NoMemory>
+fn write_message<T: Written>(alloc: Global, body: &T, mid: &Mid) -> Result<Vec<u8>, NoMemory>
     ensures text { IfOk result (λ text. text.items ≡ message_text mid.now (T.text body.now)) }
     ensures header { IfOk result (λ text. length text.items ≤ longest_header + length (T.text body.now)) }
 {
@@ -44,7 +44,7 @@ fn too_long(id: TxId) -> TxReply
 ///
 /// # Errors
 ///
-/// Want of memory.
+/// Out of memory.
 #[tactic(auto, unfolding(crate::specs::Messages::reply_text))]
 pub fn write_reply(alloc: Global, reply: &TxReply, mid: &Mid) -> Result<Vec<u8>, NoMemory>
     ensures text { IfOk result (λ text. text.items ≡ reply_text mid.now reply.now) }
@@ -64,7 +64,7 @@ const AROUND: usize = b"MEGACO/1 \nReply=4294967295{}".len();
 ///
 /// # Errors
 ///
-/// Want of memory.
+/// Out of memory.
 pub fn write_framed_reply(
     alloc: Global,
     id: TxId,
@@ -90,7 +90,7 @@ pub fn write_framed_reply(
 ///
 /// # Errors
 ///
-/// Want of memory.
+/// Out of memory.
 #[tactic(auto, using(crate::proofs::TextLengths::error_is_short), unfolding(crate::specs::Messages::fault_text))]
 pub fn write_fault(alloc: Global, code: Code, mid: &Mid) -> Result<Vec<u8>, NoMemory>
     ensures text { IfOk result (λ text. text.items ≡ fault_text mid.now code) }

@@ -7,7 +7,7 @@ ghost use Rattle.gw_reply.specs.Parts.{mode_word, service_word, kind_word, item_
 ghost use Rattle.gw_reply.specs.declared.parts.ReplyPart.TheVariants.{Filled};
 
 use crate::parts::{FilledStream, KeptProperty, KeptTail, MediaReply, ReplyPart, StreamReply};
-use crate::wire::{WireText, write_opening, write_parts};
+use crate::wire::{Written, write_opening, write_parts};
 use gw_base::{Items, Service};
 use gw_desc::{AuditItem, KeptKind, Mode, Property, Sign, Tail};
 use std::alloc::AllocError;
@@ -68,7 +68,7 @@ fn sign_byte(sign: Sign) -> u8
     }
 }
 
-impl WireText for Property<Items<u8>> {
+impl Written for Property<Items<u8>> {
     ghost use Rattle.gw_reply.specs.Parts.{stream_parts, property_text};
 
     ghost text = { property_text };
@@ -90,7 +90,7 @@ fn write_if(text: &Option<Items<u8>>, out: &mut Vec<u8>) -> Result<(), AllocErro
     }
 }
 
-impl WireText for Tail<Items<u8>> {
+impl Written for Tail<Items<u8>> {
     ghost use Rattle.gw_reply.specs.Parts.{tail_text};
 
     ghost text = { tail_text };
@@ -144,7 +144,7 @@ fn write_stream(stream: &StreamReply, out: &mut Vec<u8>) -> Result<(), AllocErro
     write_octets(b"Remote", &stream.remote, out)
 }
 
-impl WireText for StreamReply {
+impl Written for StreamReply {
     ghost use Rattle.gw_reply.specs.Parts.{stream_text};
 
     ghost text = { stream_text };
@@ -167,7 +167,7 @@ fn write_local(text: &[u8], out: &mut Vec<u8>) -> Result<(), AllocError>
     out.extend_from_slice(b"}}")
 }
 
-impl WireText for FilledStream {
+impl Written for FilledStream {
     ghost use Rattle.gw_reply.specs.Parts.{filled_stream_text};
 
     ghost text = { filled_stream_text };
@@ -194,7 +194,7 @@ fn write_state(
     Ok(())
 }
 
-impl WireText for MediaReply {
+impl Written for MediaReply {
     ghost use Rattle.gw_reply.specs.Parts.{media_text};
 
     ghost text = { media_text };
@@ -218,7 +218,7 @@ fn write_filled(streams: &[FilledStream], out: &mut Vec<u8>) -> Result<(), Alloc
     Ok(())
 }
 
-impl WireText for ReplyPart {
+impl Written for ReplyPart {
     ghost use Rattle.gw_reply.specs.Parts.{part_text};
 
     ghost text = { part_text };

@@ -21,7 +21,7 @@ pub enum ReplyPart {
     Media(MediaReply),
     /// An audited descriptor that is kept as sent.
     Kept(KeptKind, KeptTail),
-    /// An audited item of which there is nothing to tell: its word alone.
+    /// An audited item that has no value here: its word alone.
     Bare(AuditItem),
 }
 
@@ -44,7 +44,7 @@ pub struct MediaReply {
     pub streams: Items<StreamReply>,
 }
 
-// By hand, so that a function that lets media go does so by one call. A derived one would stand in it field by field.
+// By hand: a function that drops media then has one call, where a derived impl would be inlined field by field.
 impl Drop for MediaReply {
     fn drop(self) {
         let MediaReply {

@@ -18,7 +18,7 @@ pub struct TxReply {
 pub struct ActionReply {
     /// The context: its number once it was made, else as sent.
     pub ctx: CtxRef,
-    /// What is told of the context itself, in front of the command replies.
+    /// Properties of the context itself, in front of the command replies.
     pub parts: Items<ContextPart>,
     /// The command replies in order, or the error that stands for the whole action.
     pub result: Result<Items<CommandReply>, Code>,
@@ -30,11 +30,11 @@ pub struct CommandReply {
     pub verb: Verb,
     /// The termination, or the TerminationID as sent where the command was refused before it had one.
     pub term: TermRef,
-    /// What is told of it, perhaps nothing but that it was carried out, or why it was not.
+    /// Its parts, none where the command was executed and has nothing to report, or why it was refused.
     pub result: Result<Items<ReplyPart>, Code>,
 }
 
-// By hand, so that a function that lets a reply go does so by one call. A derived one would stand in it field by field.
+// By hand: a function that drops a reply then has one call, where a derived impl would be inlined field by field.
 impl Drop for CommandReply {
     fn drop(self) {
         let CommandReply {

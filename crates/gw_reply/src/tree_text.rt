@@ -2,13 +2,13 @@
 
 ghost use Rattle.std.specs.Prelude.{◌≡◌, ◌+◌, ◌∷◌, ◌++◌, IfOk, OnOk, codes, length};
 ghost use Rattle.gw_reply.specs.Lists.{comma};
-ghost use Rattle.gw_reply.specs.Replies.{action_reply_text, body_text, command_reply_text, framed, told_text};
+ghost use Rattle.gw_reply.specs.Replies.{body_text, framed, inner_text};
 
 use crate::context_parts::ContextPart;
 use crate::identifiers::{context_word, write_command, write_context};
 use crate::parts::ReplyPart;
 use crate::reply::{ActionReply, CommandReply, TxReply};
-use crate::wire::{WireText, write_opening, write_parts, write_replies};
+use crate::wire::{Written, write_opening, write_parts, write_replies};
 use gw_base::{Code, CtxRef, Items};
 use itoa::Buffer;
 use std::alloc::AllocError;
@@ -34,7 +34,7 @@ fn write_body(outcome: &Result<Items<ReplyPart>, Code>, out: &mut Vec<u8>) -> Re
     }
 }
 
-impl WireText for CommandReply {
+impl Written for CommandReply {
     ghost use Rattle.gw_reply.specs.Replies.{command_reply_text};
 
     ghost text = { command_reply_text };
@@ -46,19 +46,19 @@ impl WireText for CommandReply {
     }
 }
 
-/// What an action reply tells: of the context itself, and behind that of the commands.
-fn write_told(
+/// What stands between the braces of an action reply: the properties of its context, and behind them the command replies.
+fn write_inner(
     parts: &[ContextPart],
     outcome: &Result<Items<CommandReply>, Code>,
     out: &mut Vec<u8>,
 ) -> Result<(), AllocError>
-    ensures { OnOk result (out.new.items ≡ out.old.items ++ told_text parts.now outcome.now) }
+    ensures { OnOk result (out.new.items ≡ out.old.items ++ inner_text parts.now outcome.now) }
 {
     write_parts(false, parts, out)?;
     write_replies(!parts.is_empty(), outcome, out)
 }
 
-impl WireText for ActionReply {
+impl Written for ActionReply {
     ghost use Rattle.gw_reply.specs.Replies.{action_reply_text};
 
     ghost text = { action_reply_text };
@@ -66,32 +66,10 @@ impl WireText for ActionReply {
     fn write_to(&self, out: &mut Vec<u8>) -> Result<(), AllocError> {
         out.extend_from_slice(b"Context=")?;
         write_context(&self.ctx, out)?;
-        write_told(self.parts.as_slice(), &self.result, out)?;
+        write_inner(self.parts.as_slice(), &self.result, out)?;
         out.push(b'}')?;
         Ok(())
     }
-}
-
-/// Writes the reply to a command behind what the buffer holds.
-///
-/// # Errors
-///
-/// `AllocError` where memory was refused; the buffer is then of no use.
-pub fn write_command_reply(reply: &CommandReply, out: &mut Vec<u8>) -> Result<(), AllocError>
-    ensures { OnOk result (out.new.items ≡ out.old.items ++ command_reply_text reply.now) }
-{
-    reply.write_to(out)
-}
-
-/// Writes the reply to an action behind what the buffer holds.
-///
-/// # Errors
-///
-/// `AllocError` where memory was refused; the buffer is then of no use.
-pub fn write_action_reply(reply: &ActionReply, out: &mut Vec<u8>) -> Result<(), AllocError>
-    ensures { OnOk result (out.new.items ≡ out.old.items ++ action_reply_text reply.now) }
-{
-    reply.write_to(out)
 }
 
 /// What stands in front of the ContextID.
@@ -109,11 +87,7 @@ fn fill_head(place: &mut [u8], word: &[u8])
 
 /// The reply to an action in this context, behind a comma: from what stands between its braces, where each part of that has a comma before
 /// it. It is made in the buffer that it is given.
-///
-/// # Errors
-///
-/// `AllocError` where memory was refused.
-pub fn framed_action(ctx: &CtxRef, inner: Vec<u8>) -> Result<Vec<u8>, AllocError>
+pub(crate) fn framed_action(ctx: &CtxRef, inner: Vec<u8>) -> Result<Vec<u8>, AllocError>
     ensures { IfOk result (λ out. out.items ≡ comma ∷ framed ctx.now inner.items) }
 {
     let mut digits = Buffer::new();
@@ -136,7 +110,7 @@ pub fn framed_action(ctx: &CtxRef, inner: Vec<u8>) -> Result<Vec<u8>, AllocError
     Ok(out)
 }
 
-impl WireText for TxReply {
+impl Written for TxReply {
     ghost use Rattle.gw_reply.specs.Replies.{transaction_reply_text};
 
     ghost text = { transaction_reply_text };

@@ -11,11 +11,15 @@ use std::alloc::AllocError;
 /// So many bytes a short number has at most, of five digits, with the brace behind it.
 const SHORT: usize = 6;
 
-/// What has a text of its own in a message.
-pub(crate) trait WireText {
+/// What has a text in a message.
+pub trait Written {
     ghost text: { Self → List ℕ };
 
-    /// The text goes behind what was written. After a refused growth the buffer is of no use.
+    /// Writes the text behind what the buffer holds.
+    ///
+    /// # Errors
+    ///
+    /// `AllocError` where memory was refused; the buffer is then of no use.
     fn write_to(&self, out: &mut Vec<u8>) -> Result<(), AllocError>
         ensures { OnOk result (out.new.items ≡ out.old.items ++ text self.now) };
 }
@@ -85,7 +89,7 @@ pub(crate) fn write_opening(number: u32, out: &mut Vec<u8>) -> Result<(), AllocE
 }
 
 /// The parts, with a comma between each two, and one before the first where it stands behind something.
-pub(crate) fn write_parts<T: WireText>(
+pub(crate) fn write_parts<T: Written>(
     behind: bool,
     parts: &[T],
     out: &mut Vec<u8>,
@@ -102,7 +106,7 @@ pub(crate) fn write_parts<T: WireText>(
 }
 
 /// The replies, as `write_parts` does, or the error that stands for all of them.
-pub(crate) fn write_replies<T: WireText + Drop>(
+pub(crate) fn write_replies<T: Written + Drop>(
     behind: bool,
     replies: &Result<Items<T>, Code>,
     out: &mut Vec<u8>,

@@ -29,7 +29,7 @@ use Rattle.gw_base.specs.declared.context_words.Link.{Link}
 use Rattle.gw_reply.specs.declared.context_parts.ContextPart.{ContextPart}
 use Rattle.gw_reply.specs.declared.context_parts.ContextPart.TheVariants as told
 use Rattle.gw_reply.specs.ContextParts.{flow_word, link_text, context_part_text}
-use Rattle.gw_reply.proofs.Joins.{told_first, told_none}
+use Rattle.gw_reply.proofs.Joins.{inner_first, inner_none}
 use Rattle.gw_reply.specs.Contexts.{context_text}
 use Rattle.gw_reply.specs.Terminations.{term_text}
 use Rattle.gw_reply.specs.Errors.{error_text}
@@ -37,7 +37,7 @@ use Rattle.gw_reply.specs.KeptParts.{IsKeptFilled, IsKeptStreamReply, HasKeptRep
 use Rattle.gw_reply.specs.Lists.{in_braces, comma_separated, later}
 use Rattle.gw_reply.specs.Messages.{message_text, longest_message, too_long, reply_text}
 use Rattle.gw_reply.specs.Parts.{mode_word, service_word, kind_word, item_word, property_text, text_if, equals_text, later_octets, control_text, numbered, stream_parts, stream_text, filled_stream_text, state_text, part_text}
-use Rattle.gw_reply.specs.Replies.{replies_text, later_replies, told_text, body_text, command_reply_text, action_reply_text, transaction_reply_text}
+use Rattle.gw_reply.specs.Replies.{replies_text, later_replies, inner_text, body_text, command_reply_text, action_reply_text, transaction_reply_text}
 use Rattle.gw_reply.specs.declared.parts.ReplyPart.{ReplyPart}
 use Rattle.gw_reply.specs.declared.parts.ReplyPart.TheVariants as part
 use Rattle.gw_reply.specs.declared.parts.FilledStream.{FilledStream}
@@ -234,11 +234,11 @@ context_part_runs levels (told.Topology links) room h =
     as_runs (block levels (codes "Topology") (comma_separated (map link_text links)) room (record { run = refl; some = omega arith }) refl (joined_runs (levels - 1) link_text HasNames (link_runs (levels - 1)) links h))
 
 -- what is told of the context itself, and behind that of the commands
-told_runs : (levels : ℕ) (parts : List ContextPart) (r : Result (List CommandReply) Code) → request_depth + 3 < levels → All IsKeptPart parts → AllOk IsKeptCommand r → Runs levels Other false (told_text parts r)
+told_runs : (levels : ℕ) (parts : List ContextPart) (r : Result (List CommandReply) Code) → request_depth + 3 < levels → All IsKeptPart parts → AllOk IsKeptCommand r → Runs levels Other false (inner_text parts r)
 told_runs levels [] r room h k =
-    subst (Runs levels Other false) (sym (told_none r)) (replies_run levels command_reply_text IsKeptCommand (omega (arith, room)) (λ c kept. command_runs levels c room kept) r k)
+    subst (Runs levels Other false) (sym (inner_none r)) (replies_run levels command_reply_text IsKeptCommand (omega (arith, room)) (λ c kept. command_runs levels c room kept) r k)
 told_runs levels (p ∷ ps) r room h k =
-    subst (Runs levels Other false) (sym (told_first p ps r))
+    subst (Runs levels Other false) (sym (inner_first p ps r))
     (runs_then_runs (context_part_runs levels p (omega (arith, room)) (All-head IsKeptPart p ps h))
     (λ b v. runs_then_runs (later_runs levels context_part_text IsKeptPart (λ q kept. context_part_runs levels q (omega (arith, room)) kept) ps (All-tail IsKeptPart p ps h) b v) (λ c u. later_replies_run r k c u)))
   where
@@ -249,7 +249,7 @@ told_runs levels (p ∷ ps) r room h k =
 action_runs : (levels : ℕ) (a : ActionReply) → request_depth + 4 < levels → IsKeptAction a → Runs levels Other false (action_reply_text a)
 action_runs levels a room h =
     as_runs (then (then (fits_key levels Other (codes "Context") equals_sign (record { run = refl; some = omega arith }) refl) (fits_word levels Equals (context_text a.ctx) (context_is_word a.ctx)))
-    (fits_braces levels (after_word Equals (context_text a.ctx)) true (told_text a.parts a.result) refl (omega arith)
+    (fits_braces levels (after_word Equals (context_text a.ctx)) true (inner_text a.parts a.result) refl (omega arith)
     (told_runs (levels - 1) a.parts a.result (omega arith) h.parts h.commands)))
 
 tree_group : (t : TxReply) → IsKeptTree t → IsGroup reply_depth (in_braces (replies_text action_reply_text t.result))

@@ -47,6 +47,10 @@ module _ {X Y : Type 0} (wants : X → Bool) where
       by true e f = ap (λ l. slice_get free 0 ∷ l) (f ∙ ap (λ (l : List Y). taken_by wants xs (drop 1 free) ++ taken_by wants ys l) (drop_more (count wants xs) free))
 
   -- there is one entry for each
+  pub taken_length : (xs : List X) (free : List Y) → length (taken_by wants xs free) ≡ length xs
+  taken_length [] free = refl
+  taken_length (x ∷ xs) free = ap (λ (n : ℕ). suc n) (taken_length xs (if wants x then drop 1 free else free))
+
   pub behind_taken : (xs : List X) (free : List Y) (more : List (Option Y)) → drop (length xs) (taken_by wants xs free ++ more) ≡ more
   behind_taken [] free more = refl
   behind_taken (x ∷ xs) free more = behind_taken xs (if wants x then drop 1 free else free) more

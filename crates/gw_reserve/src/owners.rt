@@ -1,6 +1,6 @@
 //! Reserving: what the requests of a burst own.
 
-ghost use Rattle.std.specs.Prelude.{◌≡◌, ℕ, ◌≤◌, ◌∷◌, [], IfOk, OnOk, take, drop};
+ghost use Rattle.std.specs.Prelude.{◌≡◌, ℕ, ◌≤◌, ◌∷◌, [], IfOk, OnOk, length, take, drop};
 ghost use Rattle.gw_base.specs.Choose.{is_choose};
 ghost use Rattle.gw_table.specs.Unused.{owned};
 ghost use Rattle.gw_table.specs.Stored.{maps_of};
@@ -125,7 +125,8 @@ impl Reservation {
         }
     }
 
-    /// What the burst's next request owns, in the tables as they are at the burst's start. Over a whole burst each number and
+    /// What the burst's next request owns, in the tables as they are at the burst's start: an entry for each of its actions, and for each of
+    /// its commands. Over a whole burst each number and
     /// each slot is passed by once, from the cursor to the last one owned, or round to the cursor where they run out, 64 at a time
     /// where they are taken; each command is looked at once.
     ///
@@ -138,6 +139,8 @@ impl Reservation {
         tables: &Tables,
         request: &Request<'_>,
     ) -> Result<Owned, NoMemory>
+        ensures entry_for_action { IfOk result (λ o. length o.contexts ≡ length request.now.actions) }
+        ensures entry_for_command { IfOk result (λ o. length o.slots ≡ length (all_commands request.now.actions)) }
         ensures paired { IfOk result (λ o. paired request.now o ≡ with_ids request.now (ids_of request.now (numbers_left (maps_of tables.now) self.old) (slots_left (maps_of tables.now) self.old))) }
         ensures contexts { IfOk result (λ o. owned o.contexts ≡ take (number_choices request.now) (numbers_left (maps_of tables.now) self.old)) }
         ensures owned_slots { IfOk result (λ o. owned o.slots ≡ take (slot_choices request.now) (slots_left (maps_of tables.now) self.old)) }

@@ -1,10 +1,10 @@
 -- The names of the terminations of the null context, by the entries of the ordered map.
-use Rattle.std.proofs.Common.{◌≡◌, ℕ, suc, nat_eq, Bool, true, false, cond, List, [], ◌∷◌, length, Option, Some, refl, sym, ap, ◌∙◌}
+use Rattle.std.proofs.Common.{◌≡◌, ℕ, Bool, true, false, cond, List, [], ◌∷◌, Option, Some, refl, sym, ap, ◌∙◌}
 use Rattle.std.specs.Prelude.{◌||◌, ◌&&◌}
 use Rattle.std.specs.BTreeMap.{is_at}
 use Rattle.std.specs.Cmp.{tied_itself, eq_by_cmp_equiv}
 use Rattle.std.specs.Cmp.Lexicographic.{nat_list_cmp_total}
-use Rattle.std.specs.List.{AllByRecursion, list_any, filter, starts_with}
+use Rattle.std.specs.List.{AllByRecursion, list_any, filter}
 use Rattle.std.specs.List.Sorted.{IsStrictlySortedBy}
 use Rattle.std.specs.Map.{keys_of, lookup}
 use Rattle.std.specs.Option.{is_none}
@@ -83,32 +83,3 @@ any_free p es cs s order is =
 -- the first of them passes a test
 pub free_first : (p : List ℕ → Bool) (t : List ℕ) (x : Place Termination) (es : List Named) → is_free_at x ≡ true → p t ≡ true → true ≡ list_any p (free_here ((t, x) ∷ es))
 free_first p t x es f h = ap (λ b. b || list_any p (free_here es)) (sym h) ∙ ap (λ b. list_any p (cond b (t ∷ free_here es) (free_here es))) (sym f)
-
--- ---- how many names begin so
-
-abbrev pub begin_so : List ℕ → List (List ℕ) → List (List ℕ)
-begin_so prefix ts = filter (λ t. starts_with nat_eq t prefix) ts
-
-pub free_begin : (prefix : List ℕ) (es : List Named) (cs : List (ℕ × Place ContextRecord)) (s : Stored) → IsStrictlySortedBy name_cmp (keys_of es) → stored es cs ≡ s
-    → length (begin_so prefix (free_here es)) ≡ length (begin_so prefix (filter (is_free (maps_of s)) (names (maps_of s))))
-free_begin prefix es cs s order is =
-    ap (λ (l : List (List ℕ)). length (begin_so prefix l)) (free_are es cs order)
-    ∙ ap (λ (x : Stored). length (begin_so prefix (filter (is_free (maps_of x)) (names (maps_of x))))) is
-
--- the first counts
-pub counts : (prefix t : List ℕ) (x : Place Termination) (es : List Named) → is_free_at x ≡ true → starts_with nat_eq t prefix ≡ true → length (begin_so prefix (free_here ((t, x) ∷ es))) ≡ suc (length (begin_so prefix (free_here es)))
-counts prefix t x es f h =
-    ap (λ b. length (begin_so prefix (cond b (t ∷ free_here es) (free_here es)))) f
-    ∙ ap (λ b. length (cond b (t ∷ begin_so prefix (free_here es)) (begin_so prefix (free_here es)))) h
-
--- the first is not free
-pub counts_not : (prefix t : List ℕ) (x : Place Termination) (es : List Named) → is_free_at x ≡ false → length (begin_so prefix (free_here ((t, x) ∷ es))) ≡ length (begin_so prefix (free_here es))
-counts_not prefix t x es f = ap (λ b. length (begin_so prefix (cond b (t ∷ free_here es) (free_here es)))) f
-
--- the first begins otherwise
-pub begins_not : (prefix t : List ℕ) (x : Place Termination) (es : List Named) → starts_with nat_eq t prefix ≡ false → length (begin_so prefix (free_here ((t, x) ∷ es))) ≡ length (begin_so prefix (free_here es))
-begins_not prefix t x es h = by (is_free_at x)
-  where
-    by : (f : Bool) → length (begin_so prefix (cond f (t ∷ free_here es) (free_here es))) ≡ length (begin_so prefix (free_here es))
-    by true = ap (λ b. length (cond b (t ∷ begin_so prefix (free_here es)) (begin_so prefix (free_here es)))) h
-    by false = refl

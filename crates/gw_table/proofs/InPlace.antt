@@ -11,28 +11,26 @@ use Rattle.gw_term.specs.declared.record.Termination.{Termination}
 use Rattle.gw_term.specs.Record.{serviced}
 use Rattle.gw_ctx.specs.Contexts.{ContextRecord}
 use Rattle.gw_table.specs.declared.originals.Write.{Write}
-use Rattle.gw_table.specs.declared.originals.Write.TheVariants.{OfTerm, OfCtx, OfProperties, OfRecord}
+use Rattle.gw_table.specs.declared.originals.Write.TheVariants.{OfTerm, OfCtx, OfProperties}
 use Rattle.gw_table.specs.declared.setting.Setting.{Setting}
 use Rattle.gw_table.specs.declared.setting.Setting.TheVariants.{Both}
 use Rattle.gw_table.specs.declared.place.Place.{Place}
 use Rattle.gw_table.specs.declared.place.Place.TheVariants.{Empty, Here, Out}
-use Rattle.gw_table.specs.declared.site.Found.{Found}
-use Rattle.gw_table.specs.declared.site.Found.TheVariants.{Noted, Original}
-use Rattle.gw_table.specs.Found.{IsFound, original_of}
-use Rattle.gw_table.specs.KeptSettings.{IsKept}
-use Rattle.gw_table.specs.Maps.{term, ctx, put_term, put_ctx}
+use Rattle.gw_table.specs.declared.row.Found.{Found}
+use Rattle.gw_table.specs.declared.row.Found.TheVariants.{Logged, Unlogged}
+use Rattle.gw_table.specs.Found.{IsFound, unlogged_of}
+use Rattle.gw_table.specs.KeptSettings.{IsKept, MayKeep}
+use Rattle.gw_table.specs.Maps.{number, term, ctx, put_term, put_ctx}
 use Rattle.gw_table.specs.Members.{put_service}
 use Rattle.gw_table.specs.Originals.{keys_written, without_write, undone, begun_by, before_all, has_properties, IsInPlace}
-use Rattle.gw_table.specs.Records.{put_record, put_record_place}
 use Rattle.gw_table.specs.Settings.{with_setting, put_setting, set_at, set_place}
 use Rattle.gw_table.specs.Stored.{Stored, shown, placed, has_left, maps_of, is_ready, put_term_place, put_ctx_place, with_service, without_ctx, NoneIsOut, AreReady, KeepReady}
-use Rattle.gw_table.proofs.Leaving.{put_term-same, put_ctx-same}
+use Rattle.gw_table.proofs.Leaving.{put_ctx-same}
 use Rattle.gw_table.proofs.Moved.{has-pushed}
-use Rattle.gw_base.proofs.NameTests.{same_name, same_number}
+use Rattle.gw_base.proofs.NameTests.{same_number}
 use Rattle.gw_base.proofs.NamesInLists.{or_left, or_right}
 use Rattle.gw_table.proofs.Lookups.{ctx-put_ctx, term-put_ctx}
-use Rattle.gw_table.proofs.Records.{maps-put_record_place}
-use Rattle.gw_table.proofs.Places.{got_term, got_ctx, term-maps_of, ctx-maps_of, maps-put_term_place, maps-put_ctx_place, shown_placed, in-put_term, in-put_ctx}
+use Rattle.gw_table.proofs.Places.{got_term, got_ctx, ctx-maps_of, maps-put_term_place, maps-put_ctx_place, shown_placed, in-put_term, in-put_ctx}
 use Rattle.gw_table.proofs.SettingLookups.{with_it}
 use Rattle.gw_table.proofs.Settings.{maps-set_place}
 use Rattle.gw_table.proofs.Undone.{undone_more, keys_more, undone_term, undone_ctx, undone_term_again, undone_ctx_again, settled, settled_so, undone_beside}
@@ -95,7 +93,6 @@ by_maps : (w : Write) (s : Stored) → maps_of (begun_by w s) ≡ without_write 
 by_maps (OfTerm t o) s = maps-put_term_place s t (placed o) ∙ ap (put_term (maps_of s) t) (shown_placed o)
 by_maps (OfCtx n o) s = maps-put_ctx_place s n (placed o) ∙ ap (put_ctx (maps_of s) n) (shown_placed o)
 by_maps (OfProperties n p e) s = maps-set_place (Both p e) n s (ctx (maps_of s) n)
-by_maps (OfRecord t r) s = maps-put_record_place r t s (term (maps_of s) t)
 
 pub maps_before_all : (ws : List Write) (s : Stored) → maps_of (before_all ws s) ≡ undone ws (maps_of s)
 maps_before_all [] s = refl
@@ -119,20 +116,6 @@ has_place s n (Some c) x e k h = this_or_other (same_key k (Ctx n)) (is_ready s 
     at (Ctx q) f = ap (λ (m : CtxNum). is_some (finite.get s.contexts m.0)) (same_number q n f) ∙ some (finite.get s.contexts n.0) (e ∙ ctx-maps_of s n)
     at Whole f = absurd cc
 
--- and so has a termination
-has_term_place : (s : Stored) (t : List ℕ) (o : Option Termination) (r : Termination) → o ≡ term (maps_of s) t → KeepReady (put_record_place r t s o) s
-has_term_place s t None r e k h = h
-has_term_place s t (Some x) r e k h = this_or_other (same_key k (Term t)) (is_ready s k ≡ true) (λ f. at k f) (λ f. other_term s t (Here r) k f h)
-  where
-    some : (o : Option (Place Termination)) → Some x ≡ shown o → is_some o ≡ true
-    some None g = absurd cc
-    some (Some p) g = refl
-
-    at : (k : Key) → same_key k (Term t) ≡ true → is_ready s k ≡ true
-    at (Term q) f = ap (λ (y : List ℕ). is_some (finite.get s.terms y)) (same_name q t f) ∙ some (finite.get s.terms t) (e ∙ term-maps_of s t)
-    at (Ctx q) f = absurd cc
-    at Whole f = absurd cc
-
 -- no key but these has got a place
 no_other : (ws : List Write) (s : Stored) → AreReady (keys_written ws) s → KeepReady (before_all ws s) s
 no_other [] s ready k h = h
@@ -144,26 +127,19 @@ no_other (OfCtx n o ∷ ws) s ready k h = this_or_other (same_key k (Ctx n)) (is
     (λ e. no_other ws s (λ q g. ready q (or_right (same_key q (Ctx n)) (has (keys_written ws) q) g)) k (other_ctx (before_all ws s) n (placed o) k e h))
 no_other (OfProperties n p e ∷ ws) s ready k h =
     no_other ws s (λ q g. ready q (or_right (same_key q Whole) (has (keys_written ws) q) g)) k (has_place (before_all ws s) n (ctx (maps_of (before_all ws s)) n) (Both p e) refl k h)
-no_other (OfRecord t r ∷ ws) s ready k h =
-    no_other ws s (λ q g. ready q (or_right (same_key q Whole) (has (keys_written ws) q) g)) k (has_term_place (before_all ws s) t (term (maps_of (before_all ws s)) t) r refl k h)
 
 -- what was prepared before is so
 keep_set : (s : Stored) (n : CtxNum) (x : Setting) (o : Option ContextRecord) → KeepReady s (set_place x n s o)
 keep_set s n x None k h = h
 keep_set s n x (Some c) k h = keep-put_ctx s n (Here (with_setting x c)) k h
 
-keep_record : (s : Stored) (t : List ℕ) (r : Termination) (o : Option Termination) → KeepReady s (put_record_place r t s o)
-keep_record s t r None k h = h
-keep_record s t r (Some x) k h = keep-put_term s t (Here r) k h
-
 pub begun_ready : (ws : List Write) (s : Stored) → KeepReady s (before_all ws s)
 begun_ready [] s k h = h
 begun_ready (OfTerm t o ∷ ws) s k h = keep-put_term (before_all ws s) t (placed o) k (begun_ready ws s k h)
 begun_ready (OfCtx n o ∷ ws) s k h = keep-put_ctx (before_all ws s) n (placed o) k (begun_ready ws s k h)
 begun_ready (OfProperties n p e ∷ ws) s k h = keep_set (before_all ws s) n (Both p e) (ctx (maps_of (before_all ws s)) n) k (begun_ready ws s k h)
-begun_ready (OfRecord t r ∷ ws) s k h = keep_record (before_all ws s) t r (term (maps_of (before_all ws s)) t) k (begun_ready ws s k h)
 
--- earlier changes are gone on with
+-- earlier changes are continued
 pub gone_on : (s : Stored) (ws : List Write) → NoneIsOut s → AreReady (keys_written ws) s → IsInPlace (before_all ws s) s ws
 gone_on s ws here ready = record {
   here = here;
@@ -208,42 +184,34 @@ module _ (start now : Stored) (ws : List Write) (i : IsInPlace start now ws) whe
     kept = λ k e. keep-put_ctx now n p k (i.kept k e);
   }
 
-  -- where there was nothing to note
-  pub served_again : (t : List ℕ) (state : Service) (found : Found Termination) → IsFound (keys_written ws) (Term t) (term (maps_of now) t) found → None ≡ original_of found → IsInPlace start (with_service state t now (term (maps_of now) t)) ws
+  -- where there was nothing to log
+  pub served_again : (t : List ℕ) (state : Service) (found : Found Termination) → IsFound (keys_written ws) (Term t) (term (maps_of now) t) found → None ≡ unlogged_of found → IsInPlace start (with_service state t now (term (maps_of now) t)) ws
   served_again t state found f none = by (term (maps_of now) t) found f none
     where
-      by : (o : Option Termination) (x : Found Termination) → IsFound (keys_written ws) (Term t) o x → None ≡ original_of x → IsInPlace start (with_service state t now o) ws
+      by : (o : Option Termination) (x : Found Termination) → IsFound (keys_written ws) (Term t) o x → None ≡ unlogged_of x → IsInPlace start (with_service state t now o) ws
       by None x g e = i
-      by (Some r) Noted g e = wrote_term_again t (Here (serviced r state)) refl g
-      by (Some r) (Original o) g e = absurd (let clash : None ≡ Some r = e ∙ g in cc)
+      by (Some r) Logged g e = wrote_term_again t (Here (serviced r state)) refl g
+      by (Some r) (Unlogged o) g e = absurd (let clash : None ≡ Some r = e ∙ g in cc)
 
-  pub taken_again : (n : CtxNum) (found : Found ContextRecord) → IsFound (keys_written ws) (Ctx n) (ctx (maps_of now) n) found → None ≡ original_of found → IsInPlace start (without_ctx n now (ctx (maps_of now) n)) ws
+  pub taken_again : (n : CtxNum) (found : Found ContextRecord) → IsFound (keys_written ws) (Ctx n) (ctx (maps_of now) n) found → None ≡ unlogged_of found → IsInPlace start (without_ctx n now (ctx (maps_of now) n)) ws
   taken_again n found f none = by (ctx (maps_of now) n) found f none
     where
-      by : (o : Option ContextRecord) (x : Found ContextRecord) → IsFound (keys_written ws) (Ctx n) o x → None ≡ original_of x → IsInPlace start (without_ctx n now o) ws
+      by : (o : Option ContextRecord) (x : Found ContextRecord) → IsFound (keys_written ws) (Ctx n) o x → None ≡ unlogged_of x → IsInPlace start (without_ctx n now o) ws
       by None x g e = i
-      by (Some r) Noted g e = wrote_ctx_again n Empty refl g
-      by (Some r) (Original o) g e = absurd (let clash : None ≡ Some r = e ∙ g in cc)
+      by (Some r) Logged g e = wrote_ctx_again n Empty refl g
+      by (Some r) (Unlogged o) g e = absurd (let clash : None ≡ Some r = e ∙ g in cc)
 
--- ---- what is noted as it is, and counts for no key
+-- ---- what is logged as it is, and counts for no key
 
 whole_ready : (s : Stored) (q : Key) → same_key q Whole ≡ true → is_ready s q ≡ true
 whole_ready s (Term t) h = absurd cc
 whole_ready s (Ctx m) h = absurd cc
 whole_ready s Whole h = refl
 
-pub noted_record : (start now : Stored) (ws : List Write) → IsInPlace start now ws → (t : List ℕ) (r : Termination) → term (maps_of now) t ≡ Some r → IsInPlace start now (ws ++ OfRecord t r ∷ [])
-noted_record start now ws i t r e = record {
-  here = i.here;
-  back = undone_more ws (OfRecord t r) (maps_of now) ∙ ap (undone ws) (ap (put_record r t (maps_of now)) e ∙ put_term-same (maps_of now) t (Some r) (sym e)) ∙ i.back;
-  places = λ k h. one_more (keys_written ws) Whole now now (λ q g. g) (whole_ready now) i.places k (ap (λ (l : List Key). has l k) (sym (keys_more ws (OfRecord t r))) ∙ h);
-  kept = i.kept;
-}
+-- ---- properties that are logged as they are, and set in their place
 
--- ---- properties that are noted as they are, and set in their place
-
-pub noted_properties : (start now : Stored) (ws : List Write) → IsInPlace start now ws → (n : CtxNum) (c : ContextRecord) → ctx (maps_of now) n ≡ Some c → IsInPlace start now (ws ++ OfProperties n c.priority c.emergency ∷ [])
-noted_properties start now ws i n c e = record {
+pub logged_properties : (start now : Stored) (ws : List Write) → IsInPlace start now ws → (n : CtxNum) (c : ContextRecord) → ctx (maps_of now) n ≡ Some c → IsInPlace start now (ws ++ OfProperties n c.priority c.emergency ∷ [])
+logged_properties start now ws i n c e = record {
   here = i.here;
   back = undone_more ws (OfProperties n c.priority c.emergency) (maps_of now) ∙ ap (undone ws) as_it_is ∙ i.back;
   places = λ k h. one_more (keys_written ws) Whole now now (λ q g. g) (whole_ready now) i.places k (ap (λ (l : List Key). has l k) (sym (keys_more ws (OfProperties n c.priority c.emergency))) ∙ h);
@@ -252,6 +220,13 @@ noted_properties start now ws i n c e = record {
   where
     as_it_is : put_setting (Both c.priority c.emergency) n (maps_of now) (ctx (maps_of now) n) ≡ maps_of now
     as_it_is = ap (put_setting (Both c.priority c.emergency) n (maps_of now)) e ∙ put_ctx-same (maps_of now) n (Some c) (sym e)
+
+-- the properties of what stands in a place may be logged, whatever was before
+pub may_keep : (start now : Stored) (ws vs : List Write) (n : ℕ) (p : Place ContextRecord) → finite.get now.contexts n ≡ Some p → MayKeep n p ws vs → IsInPlace start now ws → IsInPlace start now vs
+may_keep start now ws vs n p stands (inl e) i = subst (λ (l : List Write). IsInPlace start now l) (sym e) i
+may_keep start now ws vs n p stands (inr (c, here, e)) i =
+    subst (λ (l : List Write). IsInPlace start now l) (sym e)
+    (logged_properties start now ws i (number n) c (ctx-maps_of now (number n) ∙ ap (λ o. shown o) (stands ∙ ap (λ (y : Place ContextRecord). Some y) here)))
 
 pub set_one : (start now : Stored) (ws : List Write) → IsInPlace start now ws → (n : CtxNum) (x : Setting) (p : Place ContextRecord) → finite.get now.contexts n.0 ≡ Some p → IsKept x ws n.0 p → IsInPlace start (put_ctx_place now n (set_at x p)) ws
 set_one start now ws i n x p stands kept = record {
@@ -283,7 +258,7 @@ set_one start now ws i n x p stands kept = record {
     at : (q : CtxNum) (b : Bool) → nat_eq q.0 n.0 ≡ b → (has (keys_written ws) (Ctx q) ≡ true) ⊎ (settled ws q (ctx (put_ctx (maps_of now) n new) q) ≡ settled ws q (ctx (maps_of now) q))
     at q false e = inr (ap (settled ws q) (ctx-put_ctx (maps_of now) n new q ∙ ap (λ (b : Bool). cond b new (ctx (maps_of now) q)) e))
     at q true e = elim kept [
-      | inl noted ↦ inl (ap (λ (m : CtxNum). has (keys_written ws) (Ctx m)) (same_number q n e) ∙ noted)
+      | inl logged ↦ inl (ap (λ (m : CtxNum). has (keys_written ws) (Ctx m)) (same_number q n e) ∙ logged)
       | inr (inl so) ↦ inr (ap (settled ws q) (same q e (ap (λ (y : Place ContextRecord). shown (Some y)) so ∙ was)))
       | inr (inr in_part) ↦ inr (
           ap (settled ws q) (ctx-put_ctx (maps_of now) n new q ∙ ap (λ (b : Bool). cond b new (ctx (maps_of now) q)) e ∙ shows x p ∙ ap (λ (o : Option ContextRecord). with_it x o) (was ∙ ap (ctx (maps_of now)) (sym (same_number q n e))))
@@ -292,9 +267,9 @@ set_one start now ws i n x p stands kept = record {
 
 -- ---- what was found
 
-pub found_at : {A : Type 0} (keys : List Key) (k : Key) (was : Option A) (found : Found A) (a : A) → IsFound keys k was found → Some a ≡ original_of found → Some a ≡ was
-found_at keys k was Noted a f e = absurd cc
-found_at keys k was (Original o) a f e = e ∙ f
+pub found_at : {A : Type 0} (keys : List Key) (k : Key) (was : Option A) (found : Found A) (a : A) → IsFound keys k was found → Some a ≡ unlogged_of found → Some a ≡ was
+found_at keys k was Logged a f e = absurd cc
+found_at keys k was (Unlogged o) a f e = e ∙ f
 
 pub maps-with_service : (state : Service) (t : List ℕ) (s : Stored) (o : Option Termination) → maps_of (with_service state t s o) ≡ put_service state t (maps_of s) o
 maps-with_service state t s None = refl
@@ -304,10 +279,10 @@ pub maps-without_ctx : (n : CtxNum) (s : Stored) (o : Option ContextRecord) → 
 maps-without_ctx n s None e = sym (put_ctx-same (maps_of s) n None e)
 maps-without_ctx n s (Some r) e = maps-put_ctx_place s n Empty
 
-pub noted_before : {A : Type 0} (ws vs : List Write) (k : Key) (was : Option A) (found : Found A) → vs ≡ ws → found ≡ Noted → IsFound (keys_written vs) k was found → has (keys_written ws) k ≡ true
-noted_before ws vs k was found e n f = ap (λ (l : List Write). has (keys_written l) k) (sym e) ∙ subst (λ x. IsFound (keys_written vs) k was x) n f
+pub logged_before : {A : Type 0} (ws vs : List Write) (k : Key) (was : Option A) (found : Found A) → vs ≡ ws → found ≡ Logged → IsFound (keys_written vs) k was found → has (keys_written ws) k ≡ true
+logged_before ws vs k was found e n f = ap (λ (l : List Write). has (keys_written l) k) (sym e) ∙ subst (λ x. IsFound (keys_written vs) k was x) n f
 
-pub stood_there : {A : Type 0} (keys : List Key) (k : Key) (was : Option A) (found : Found A) (before : Option A) → found ≡ Original before → IsFound keys k was found → before ≡ was
+pub stood_there : {A : Type 0} (keys : List Key) (k : Key) (was : Option A) (found : Found A) (before : Option A) → found ≡ Unlogged before → IsFound keys k was found → before ≡ was
 stood_there keys k was found before e f = subst (λ x. IsFound keys k was x) e f
 
 pub found_among : {A : Type 0} (ws vs : List Write) (k : Key) (was : Option A) (found : Found A) → vs ≡ ws → IsFound (keys_written vs) k was found → IsFound (keys_written ws) k was found

@@ -47,7 +47,7 @@ length_laid s [] cells h = refl
 length_laid s (k ∷ keys) [] h = absurd (omega arith)
 length_laid s (k ∷ keys) (c ∷ cells) h = ap (λ n. suc n) (length_laid s keys cells (omega arith))
 
--- ---- a place that is given up is not looked at again
+-- ---- a place that is freed is not looked at again
 
 off_first : (a b : Bool) → (a || b) ≡ false → a ≡ false
 off_first true b h = h

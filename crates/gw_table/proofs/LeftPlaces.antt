@@ -7,9 +7,9 @@ use Rattle.gw_ctx.specs.Contexts.{ContextRecord, left}
 use Rattle.gw_table.specs.declared.originals.Write.{Write}
 use Rattle.gw_table.specs.declared.place.Place.{Place}
 use Rattle.gw_table.specs.declared.place.Place.TheVariants.{Empty, Here, Out}
-use Rattle.gw_table.specs.declared.site.Found.{Found}
-use Rattle.gw_table.specs.declared.site.Found.TheVariants.{Noted, Original}
-use Rattle.gw_table.specs.Found.{IsFound, original_of}
+use Rattle.gw_table.specs.declared.row.Found.{Found}
+use Rattle.gw_table.specs.declared.row.Found.TheVariants.{Logged, Unlogged}
+use Rattle.gw_table.specs.Found.{IsFound, unlogged_of}
 use Rattle.gw_table.specs.Joining.{left_at, leave_place}
 use Rattle.gw_table.specs.Maps.{ctx, put_ctx, context_of}
 use Rattle.gw_table.specs.Members.{unless_empty}
@@ -29,11 +29,11 @@ maps-leave_place t n s None e = sym (put_ctx-same (maps_of s) n None e)
 maps-leave_place t n s (Some c) e =
     maps-put_ctx_place s n (placed (unless_empty (left t c))) ∙ ap (put_ctx (maps_of s) n) (shown_placed (unless_empty (left t c)))
 
--- where there was nothing to note
-pub left_again : (start now : Stored) (ws : List Write) → IsInPlace start now ws → (n : CtxNum) (t : List ℕ) (found : Found ContextRecord) → IsFound (keys_written ws) (Ctx n) (ctx (maps_of now) n) found → None ≡ original_of found → IsInPlace start (leave_place t n now (ctx (maps_of now) n)) ws
+-- where there was nothing to log
+pub left_again : (start now : Stored) (ws : List Write) → IsInPlace start now ws → (n : CtxNum) (t : List ℕ) (found : Found ContextRecord) → IsFound (keys_written ws) (Ctx n) (ctx (maps_of now) n) found → None ≡ unlogged_of found → IsInPlace start (leave_place t n now (ctx (maps_of now) n)) ws
 left_again start now ws i n t found f none = by (ctx (maps_of now) n) found f none
   where
-    by : (o : Option ContextRecord) (y : Found ContextRecord) → IsFound (keys_written ws) (Ctx n) o y → None ≡ original_of y → IsInPlace start (leave_place t n now o) ws
+    by : (o : Option ContextRecord) (y : Found ContextRecord) → IsFound (keys_written ws) (Ctx n) o y → None ≡ unlogged_of y → IsInPlace start (leave_place t n now o) ws
     by None y g e = i
-    by (Some c) Noted g e = wrote_ctx_again start now ws i n (placed (unless_empty (left t c))) (placed_here (unless_empty (left t c))) g
-    by (Some c) (Original o) g e = absurd (let clash : None ≡ Some c = e ∙ g in cc)
+    by (Some c) Logged g e = wrote_ctx_again start now ws i n (placed (unless_empty (left t c))) (placed_here (unless_empty (left t c))) g
+    by (Some c) (Unlogged o) g e = absurd (let clash : None ≡ Some c = e ∙ g in cc)

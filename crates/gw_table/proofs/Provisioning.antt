@@ -1,5 +1,5 @@
 -- Tables into which configured names are put one by one.
-use Rattle.std.proofs.Common.{◌≡◌, ℕ, ◌≤◌, Bool, true, false, cond, List, [], ◌∷◌, ◌++◌, length, Option, None, Some, inl, inr, bytes_eq, refl, sym, ap, subst, ◌∙◌, arith}
+use Rattle.std.proofs.Common.{◌≡◌, ℕ, zero, suc, ◌<◌, ◌≤◌, Bool, true, false, cond, List, [], ◌∷◌, ◌++◌, length, get_or, Option, None, Some, inl, inr, bytes_eq, refl, sym, ap, subst, ◌∙◌, arith}
 use Rattle.std.specs.Prelude.{◌||◌, ◌⊎◌}
 use Rattle.std.specs.Cmp.Lexicographic.{nat_list_cmp_total}
 use Rattle.std.specs.Ordering.{nat_cmp}
@@ -16,7 +16,7 @@ use Rattle.gw_base.proofs.Booleans.{refuted}
 use Rattle.gw_ctx.specs.Contexts.{ContextRecord}
 use Rattle.gw_ctx.specs.Fitting.{IsFit}
 use Rattle.gw_ctx.proofs.Fits.{fit_new}
-use Rattle.gw_base.proofs.NamesInLists.{in_pushed}
+use Rattle.gw_base.proofs.NamesInLists.{in_pushed, or_left, or_right, itself}
 use Rattle.gw_table.specs.Maps.{Maps, term, ctx, put_term, context_of, members_of, place_of, no_maps, new_maps}
 use Rattle.gw_table.specs.Provided.{put_missing, AreAmong}
 use Rattle.gw_table.specs.Reserved.{is_reserved}
@@ -134,3 +134,10 @@ new_maps_fit limit names free = record {
     nowhere : (b : Bool) (n : CtxNum) → place_of (if_in b) ≡ Some n → ⊥
     nowhere true n e = cc
     nowhere false n e = cc
+
+-- ---- one of a list
+
+pub in_at : (names : List (List ℕ)) (i : ℕ) (t : List ℕ) → i < length names → t ≡ get_or names i t → is_in t names ≡ true
+in_at [] i t h e = absurd (omega (arith, h))
+in_at (x ∷ xs) zero t h e = or_left (bytes_eq t x) (is_in t xs) (ap (bytes_eq t) (sym e) ∙ itself t)
+in_at (x ∷ xs) (suc i) t h e = or_right (bytes_eq t x) (is_in t xs) (in_at xs i t (omega (arith, h)) e)

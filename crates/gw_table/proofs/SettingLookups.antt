@@ -14,15 +14,6 @@ module _ (x : Setting) where
   abbrev pub with_it : Option ContextRecord → Option ContextRecord
   with_it o = option_map (with_setting x) o
 
-  again : (y : Setting) (c : ContextRecord) → with_setting y (with_setting y c) ≡ with_setting y c
-  again (Priority p) c = refl
-  again Emergency c = refl
-  again (Both p e) c = refl
-
-  pub twice : (o : Option ContextRecord) → with_it (with_it o) ≡ with_it o
-  twice None = refl
-  twice (Some c) = ap (λ (d : ContextRecord). Some d) (again x c)
-
   pub ctx-put_setting : (n : CtxNum) (m : Maps) (q : CtxNum) → ctx (put_setting x n m (ctx m n)) q ≡ cond (nat_eq q.0 n.0) (with_it (ctx m q)) (ctx m q)
   ctx-put_setting n m q = by (ctx m n) refl (nat_eq q.0 n.0) refl
     where

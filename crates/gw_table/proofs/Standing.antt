@@ -11,7 +11,7 @@ use Rattle.gw_marks.specs.Marked.{is_marked, IsBlank}
 use Rattle.gw_term.specs.declared.record.Termination.{Termination}
 use Rattle.gw_table.specs.declared.place.Place.{Place}
 use Rattle.gw_table.specs.Maps.{Maps, term, ctx, number, put_term, put_ctx}
-use Rattle.gw_table.specs.Marking.{AreMarked, IsNumberNoted, IsSlotNoted}
+use Rattle.gw_table.specs.Marking.{AreMarked, IsNumberSet, IsSlotSet}
 use Rattle.gw_table.specs.Reserved.{slot_name}
 use Rattle.gw_table.specs.Stored.{Stored, shown, maps_of, put_term_place, put_ctx_place, drop_term_place, drop_ctx_place}
 use Rattle.gw_table.proofs.Lookups.{term-put_term, ctx-put_term, term-put_ctx, ctx-put_ctx, same_maps}
@@ -28,29 +28,29 @@ none_marked numbers slots m a b = record {
 pub marked_still : (numbers slots : List ℕ) (m n : Maps) → n ≡ m → AreMarked numbers slots m → AreMarked numbers slots n
 marked_still numbers slots m n e h = subst (λ (x : Maps). AreMarked numbers slots x) (sym e) h
 
--- ---- one entry, whose mark was noted
+-- ---- one entry, whose bit was set or cleared
 
 module _ (numbers slots new : List ℕ) (m : Maps) (marked : AreMarked numbers slots m) where
-  number_stands : (n : CtxNum) (o : Option ContextRecord) → IsNumberNoted n.0 (is_some o) numbers new → (k : ℕ) → is_marked new k ≡ true → (b : Bool) → nat_eq k n.0 ≡ b → is_some (cond b o (ctx m (number k))) ≡ true
-  number_stands n o noted k h true e = noted.own (ap (λ x. is_marked new x) (sym (eqb-true k n.0 e)) ∙ h)
-  number_stands n o noted k h false e =
-      marked.contexts k (sym (noted.others k (λ same. let clash : true ≡ false = sym (eq-eqb k n.0 same) ∙ e in cc)) ∙ h)
+  number_stands : (n : CtxNum) (o : Option ContextRecord) → IsNumberSet n.0 (is_some o) numbers new → (k : ℕ) → is_marked new k ≡ true → (b : Bool) → nat_eq k n.0 ≡ b → is_some (cond b o (ctx m (number k))) ≡ true
+  number_stands n o set k h true e = set.own (ap (λ x. is_marked new x) (sym (eqb-true k n.0 e)) ∙ h)
+  number_stands n o set k h false e =
+      marked.contexts k (sym (set.others k (λ same. let clash : true ≡ false = sym (eq-eqb k n.0 same) ∙ e in cc)) ∙ h)
 
-  pub marked-put_ctx : (n : CtxNum) (o : Option ContextRecord) → IsNumberNoted n.0 (is_some o) numbers new → AreMarked new slots (put_ctx m n o)
-  marked-put_ctx n o noted = record {
-    contexts = λ k h. ap (λ x. is_some x) (ctx-put_ctx m n o (number k)) ∙ number_stands n o noted k h (nat_eq k n.0) refl;
+  pub marked-put_ctx : (n : CtxNum) (o : Option ContextRecord) → IsNumberSet n.0 (is_some o) numbers new → AreMarked new slots (put_ctx m n o)
+  marked-put_ctx n o set = record {
+    contexts = λ k h. ap (λ x. is_some x) (ctx-put_ctx m n o (number k)) ∙ number_stands n o set k h (nat_eq k n.0) refl;
     terms = λ s l h. ap (λ x. is_some x) (term-put_ctx m n o (slot_name s)) ∙ marked.terms s l h;
   }
 
-  slot_stands : (t : List ℕ) (o : Option Termination) → IsSlotNoted t (is_some o) slots new → (s : ℕ) → s < 4096 → is_marked new s ≡ true → (b : Bool) → bytes_eq (slot_name s) t ≡ b → is_some (cond b o (term m (slot_name s))) ≡ true
-  slot_stands t o noted s l h true e = noted.own s l (same_name (slot_name s) t e) h
-  slot_stands t o noted s l h false e =
-      marked.terms s l (sym (noted.others s l (λ same. let clash : true ≡ false = sym (name_itself (slot_name s) t same) ∙ e in cc)) ∙ h)
+  slot_stands : (t : List ℕ) (o : Option Termination) → IsSlotSet t (is_some o) slots new → (s : ℕ) → s < 4096 → is_marked new s ≡ true → (b : Bool) → bytes_eq (slot_name s) t ≡ b → is_some (cond b o (term m (slot_name s))) ≡ true
+  slot_stands t o set s l h true e = set.own s l (same_name (slot_name s) t e) h
+  slot_stands t o set s l h false e =
+      marked.terms s l (sym (set.others s l (λ same. let clash : true ≡ false = sym (name_itself (slot_name s) t same) ∙ e in cc)) ∙ h)
 
-  pub marked-put_term : (t : List ℕ) (o : Option Termination) → IsSlotNoted t (is_some o) slots new → AreMarked numbers new (put_term m t o)
-  marked-put_term t o noted = record {
+  pub marked-put_term : (t : List ℕ) (o : Option Termination) → IsSlotSet t (is_some o) slots new → AreMarked numbers new (put_term m t o)
+  marked-put_term t o set = record {
     contexts = λ k h. ap (λ x. is_some x) (ctx-put_term m t o (number k)) ∙ marked.contexts k h;
-    terms = λ s l h. ap (λ x. is_some x) (term-put_term m t o (slot_name s)) ∙ slot_stands t o noted s l h (bytes_eq (slot_name s) t) refl;
+    terms = λ s l h. ap (λ x. is_some x) (term-put_term m t o (slot_name s)) ∙ slot_stands t o set s l h (bytes_eq (slot_name s) t) refl;
   }
 
 -- an entry that comes to stand, or stands as before, keeps its mark
@@ -87,20 +87,20 @@ maps-drop_ctx_place s n = same_maps (maps_of (drop_ctx_place s n)) (put_ctx (map
     shown_none false o = refl
 
 module _ (numbers slots new : List ℕ) (s after : Stored) (marked : AreMarked numbers slots (maps_of s)) where
-  pub marked-put_ctx_place : (n : CtxNum) (p : Place ContextRecord) (b : Bool) → IsNumberNoted n.0 b numbers new → b ≡ is_some (shown (Some p)) → after ≡ put_ctx_place s n p → AreMarked new slots (maps_of after)
-  marked-put_ctx_place n p b noted here e =
+  pub marked-put_ctx_place : (n : CtxNum) (p : Place ContextRecord) (b : Bool) → IsNumberSet n.0 b numbers new → b ≡ is_some (shown (Some p)) → after ≡ put_ctx_place s n p → AreMarked new slots (maps_of after)
+  marked-put_ctx_place n p b set here e =
       marked_still new slots (put_ctx (maps_of s) n (shown (Some p))) (maps_of after) (ap (λ x. maps_of x) e ∙ maps-put_ctx_place s n p)
-      (marked-put_ctx numbers slots new (maps_of s) marked n (shown (Some p)) (subst (λ (x : Bool). IsNumberNoted n.0 x numbers new) here noted))
+      (marked-put_ctx numbers slots new (maps_of s) marked n (shown (Some p)) (subst (λ (x : Bool). IsNumberSet n.0 x numbers new) here set))
 
-  pub marked-put_term_place : (t : List ℕ) (p : Place Termination) (b : Bool) → IsSlotNoted t b slots new → b ≡ is_some (shown (Some p)) → after ≡ put_term_place s t p → AreMarked numbers new (maps_of after)
-  marked-put_term_place t p b noted here e =
+  pub marked-put_term_place : (t : List ℕ) (p : Place Termination) (b : Bool) → IsSlotSet t b slots new → b ≡ is_some (shown (Some p)) → after ≡ put_term_place s t p → AreMarked numbers new (maps_of after)
+  marked-put_term_place t p b set here e =
       marked_still numbers new (put_term (maps_of s) t (shown (Some p))) (maps_of after) (ap (λ x. maps_of x) e ∙ maps-put_term_place s t p)
-      (marked-put_term numbers slots new (maps_of s) marked t (shown (Some p)) (subst (λ (x : Bool). IsSlotNoted t x slots new) here noted))
+      (marked-put_term numbers slots new (maps_of s) marked t (shown (Some p)) (subst (λ (x : Bool). IsSlotSet t x slots new) here set))
 
-  pub marked-drop_ctx_place : (n : CtxNum) → IsNumberNoted n.0 false numbers new → after ≡ drop_ctx_place s n → AreMarked new slots (maps_of after)
-  marked-drop_ctx_place n noted e =
-      marked_still new slots (put_ctx (maps_of s) n None) (maps_of after) (ap (λ x. maps_of x) e ∙ maps-drop_ctx_place s n) (marked-put_ctx numbers slots new (maps_of s) marked n None noted)
+  pub marked-drop_ctx_place : (n : CtxNum) → IsNumberSet n.0 false numbers new → after ≡ drop_ctx_place s n → AreMarked new slots (maps_of after)
+  marked-drop_ctx_place n set e =
+      marked_still new slots (put_ctx (maps_of s) n None) (maps_of after) (ap (λ x. maps_of x) e ∙ maps-drop_ctx_place s n) (marked-put_ctx numbers slots new (maps_of s) marked n None set)
 
-  pub marked-drop_term_place : (t : List ℕ) → IsSlotNoted t false slots new → after ≡ drop_term_place s t → AreMarked numbers new (maps_of after)
-  marked-drop_term_place t noted e =
-      marked_still numbers new (put_term (maps_of s) t None) (maps_of after) (ap (λ x. maps_of x) e ∙ maps-drop_term_place s t) (marked-put_term numbers slots new (maps_of s) marked t None noted)
+  pub marked-drop_term_place : (t : List ℕ) → IsSlotSet t false slots new → after ≡ drop_term_place s t → AreMarked numbers new (maps_of after)
+  marked-drop_term_place t set e =
+      marked_still numbers new (put_term (maps_of s) t None) (maps_of after) (ap (λ x. maps_of x) e ∙ maps-drop_term_place s t) (marked-put_term numbers slots new (maps_of s) marked t None set)

@@ -1,4 +1,4 @@
--- Places of some keys are given up, where there is no entry.
+-- Places of some keys are freed, where there is no entry.
 use Rattle.std.proofs.Common.{◌≡◌, ℕ, Bool, true, false, cond, List, [], ◌∷◌, ◌++◌, Option, None, Some, is_some, bytes_eq, nat_eq, refl, sym, ap, ◌∙◌}
 use Rattle.std.specs.Prelude.{◌||◌}
 use Rattle.std.specs.Cmp.{nat_cmp_total}

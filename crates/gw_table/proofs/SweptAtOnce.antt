@@ -1,4 +1,4 @@
--- Places without an entry that are given up in one pass over a map, or with all that it has.
+-- Places without an entry that are freed in one pass over a map, or with all that it has.
 use Rattle.std.proofs.Common.{◌≡◌, ℕ, List, [], Option, None, Some, refl, sym, ap, ◌∙◌}
 use Rattle.std.specs.BTreeMap.{is_at}
 use Rattle.std.specs.Cmp.{nat_cmp_total}

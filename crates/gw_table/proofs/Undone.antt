@@ -1,5 +1,5 @@
 -- Writes that are taken back: what is read then, and what one more write comes to.
-use Rattle.std.proofs.Common.{nat_eq, ◌≡◌, ℕ, ◌<◌, length, get_or, Bool, true, false, cond, List, [], ◌∷◌, ◌++◌, bytes_eq, Option, is_some, inl, inr, refl, sym, ap, ◌∙◌}
+use Rattle.std.proofs.Common.{nat_eq, ◌≡◌, ℕ, ◌<◌, length, get_or, Bool, true, false, cond, List, [], ◌∷◌, ◌++◌, bytes_eq, Option, inl, inr, refl, sym, ap, ◌∙◌}
 use Rattle.std.specs.Prelude.{◌||◌, ◌⊎◌}
 use Rattle.std.specs.Bool.{OnTrue}
 use Rattle.std.specs.List.{list_any}
@@ -14,15 +14,13 @@ use Rattle.gw_base.proofs.NamesInLists.{or_left, or_right}
 use Rattle.gw_term.specs.declared.record.Termination.{Termination}
 use Rattle.gw_ctx.specs.Contexts.{ContextRecord}
 use Rattle.gw_table.specs.declared.originals.Write.{Write}
-use Rattle.gw_table.specs.declared.originals.Write.TheVariants.{OfTerm, OfCtx, OfProperties, OfRecord}
+use Rattle.gw_table.specs.declared.originals.Write.TheVariants.{OfTerm, OfCtx, OfProperties}
 use Rattle.gw_table.specs.declared.setting.Setting.{Setting}
 use Rattle.gw_table.specs.declared.setting.Setting.TheVariants.{Both}
 use Rattle.gw_table.specs.Maps.{Maps, term, ctx, put_term, put_ctx, no_maps}
-use Rattle.gw_table.specs.Originals.{key_written, keys_written, without_write, undone, notes_properties, has_properties, notes_termination, has_termination}
+use Rattle.gw_table.specs.Originals.{key_written, keys_written, without_write, undone, logs_properties, has_properties}
 use Rattle.gw_table.proofs.Leaving.{put_term-put_term, put_term-same, put_ctx-same}
 use Rattle.gw_table.proofs.Lookups.{term-put_term, ctx-put_term, term-put_ctx, ctx-put_ctx, put_ctx-put_ctx, same_maps}
-use Rattle.gw_table.proofs.Records as records
-use Rattle.gw_table.proofs.Records.{with_record, still_some, term-put_record, ctx-put_record}
 use Rattle.gw_table.proofs.SettingLookups.{with_it, hidden, ctx-put_setting, term-put_setting}
 
 pub undone_more : (ws : List Write) (w : Write) (m : Maps) → undone (ws ++ w ∷ []) m ≡ undone ws (without_write w m)
@@ -33,7 +31,7 @@ pub keys_more : (ws : List Write) (w : Write) → keys_written (ws ++ w ∷ []) 
 keys_more [] w = refl
 keys_more (v ∷ ws) w = ap (λ (l : List Key). key_written v ∷ l) (keys_more ws w)
 
--- ---- at each key what its first write found there, and else the entry of the maps, with the properties that are noted
+-- ---- at each key what its first write found there, and else the entry of the maps, with the properties that are logged
 
 first : {A : Type 0} (b h : Bool) (o x y : A) → cond b o (cond h x y) ≡ cond (b || h) (cond b o x) y
 first true h o x y = refl
@@ -43,37 +41,23 @@ on_both : {A : Type 0} (f : A → A) (b h : Bool) (x y : A) → cond b (f (cond 
 on_both f b true x y = refl
 on_both f b false x y = refl
 
--- the context of a number with the properties that are noted of it
+-- the context of a number with the properties that are logged of it
 abbrev pub settled : List Write → CtxNum → Option ContextRecord → Option ContextRecord
 settled [] q o = o
 settled (OfTerm t b ∷ ws) q o = settled ws q o
 settled (OfCtx n b ∷ ws) q o = settled ws q o
 settled (OfProperties n p e ∷ ws) q o = cond (nat_eq q.0 n.0) (with_it (Both p e) (settled ws q o)) (settled ws q o)
-settled (OfRecord t r ∷ ws) q o = settled ws q o
 
--- the termination of a name with the records that are noted of it
-abbrev pub recorded : List Write → List ℕ → Option Termination → Option Termination
-recorded [] q o = o
-recorded (OfTerm t b ∷ ws) q o = recorded ws q o
-recorded (OfCtx n b ∷ ws) q o = recorded ws q o
-recorded (OfProperties n p e ∷ ws) q o = recorded ws q o
-recorded (OfRecord t r ∷ ws) q o = cond (bytes_eq q t) (with_record r (recorded ws q o)) (recorded ws q o)
-
-term-undone : (ws : List Write) (m : Maps) (q : List ℕ) → term (undone ws m) q ≡ cond (has (keys_written ws) (Term q)) (term (undone ws no_maps) q) (recorded ws q (term m q))
+term-undone : (ws : List Write) (m : Maps) (q : List ℕ) → term (undone ws m) q ≡ cond (has (keys_written ws) (Term q)) (term (undone ws no_maps) q) (term m q)
 term-undone [] m q = refl
 term-undone (OfTerm t o ∷ ws) m q =
-    term-put_term (undone ws m) t o q ∙ ap (cond (bytes_eq q t) o) (term-undone ws m q) ∙ first (bytes_eq q t) (has (keys_written ws) (Term q)) o (term (undone ws no_maps) q) (recorded ws q (term m q))
-    ∙ ap (λ x. cond (bytes_eq q t || has (keys_written ws) (Term q)) x (recorded ws q (term m q))) (sym (term-put_term (undone ws no_maps) t o q))
+    term-put_term (undone ws m) t o q ∙ ap (cond (bytes_eq q t) o) (term-undone ws m q) ∙ first (bytes_eq q t) (has (keys_written ws) (Term q)) o (term (undone ws no_maps) q) (term m q)
+    ∙ ap (λ x. cond (bytes_eq q t || has (keys_written ws) (Term q)) x (term m q)) (sym (term-put_term (undone ws no_maps) t o q))
 term-undone (OfCtx n o ∷ ws) m q =
-    term-put_ctx (undone ws m) n o q ∙ term-undone ws m q ∙ ap (λ x. cond (has (keys_written ws) (Term q)) x (recorded ws q (term m q))) (sym (term-put_ctx (undone ws no_maps) n o q))
+    term-put_ctx (undone ws m) n o q ∙ term-undone ws m q ∙ ap (λ x. cond (has (keys_written ws) (Term q)) x (term m q)) (sym (term-put_ctx (undone ws no_maps) n o q))
 term-undone (OfProperties n p e ∷ ws) m q =
     term-put_setting (Both p e) n (undone ws m) (ctx (undone ws m) n) q ∙ term-undone ws m q
-    ∙ ap (λ x. cond (has (keys_written ws) (Term q)) x (recorded ws q (term m q))) (sym (term-put_setting (Both p e) n (undone ws no_maps) (ctx (undone ws no_maps) n) q))
-term-undone (OfRecord t r ∷ ws) m q =
-    term-put_record r t (undone ws m) q
-    ∙ ap (λ x. cond (bytes_eq q t) (with_record r x) x) (term-undone ws m q)
-    ∙ on_both (with_record r) (bytes_eq q t) (has (keys_written ws) (Term q)) (term (undone ws no_maps) q) (recorded ws q (term m q))
-    ∙ ap (λ x. cond (has (keys_written ws) (Term q)) x (recorded (OfRecord t r ∷ ws) q (term m q))) (sym (term-put_record r t (undone ws no_maps) q))
+    ∙ ap (λ x. cond (has (keys_written ws) (Term q)) x (term m q)) (sym (term-put_setting (Both p e) n (undone ws no_maps) (ctx (undone ws no_maps) n) q))
 
 ctx-undone : (ws : List Write) (m : Maps) (q : CtxNum) → ctx (undone ws m) q ≡ cond (has (keys_written ws) (Ctx q)) (ctx (undone ws no_maps) q) (settled ws q (ctx m q))
 ctx-undone [] m q = refl
@@ -87,59 +71,31 @@ ctx-undone (OfProperties n p e ∷ ws) m q =
     ∙ ap (λ x. cond (nat_eq q.0 n.0) (with_it (Both p e) x) x) (ctx-undone ws m q)
     ∙ on_both (with_it (Both p e)) (nat_eq q.0 n.0) (has (keys_written ws) (Ctx q)) (ctx (undone ws no_maps) q) (settled ws q (ctx m q))
     ∙ ap (λ x. cond (has (keys_written ws) (Ctx q)) x (settled (OfProperties n p e ∷ ws) q (ctx m q))) (sym (ctx-put_setting (Both p e) n (undone ws no_maps) q))
-ctx-undone (OfRecord t r ∷ ws) m q =
-    ctx-put_record r t (undone ws m) (term (undone ws m) t) q ∙ ctx-undone ws m q
-    ∙ ap (λ x. cond (has (keys_written ws) (Ctx q)) x (settled ws q (ctx m q))) (sym (ctx-put_record r t (undone ws no_maps) (term (undone ws no_maps) t) q))
 
 hidden_in : (p : ℕ) (e : Bool) (r : ℕ) (f : Bool) (b : Bool) (x y : Option ContextRecord) → with_it (Both p e) x ≡ with_it (Both p e) y
     → with_it (Both p e) (cond b (with_it (Both r f) x) x) ≡ with_it (Both p e) (cond b (with_it (Both r f) y) y)
 hidden_in p e r f true x y h = hidden p e (Both r f) x ∙ h ∙ sym (hidden p e (Both r f) y)
 hidden_in p e r f false x y h = h
 
--- where properties are noted, whatever was set since comes to nothing
+-- where properties are logged, whatever was set since comes to nothing
 hidden_again : (p : ℕ) (e : Bool) (ws : List Write) (q : CtxNum) (y : Setting) (o : Option ContextRecord) → with_it (Both p e) (settled ws q (with_it y o)) ≡ with_it (Both p e) (settled ws q o)
 hidden_again p e [] q y o = hidden p e y o
 hidden_again p e (OfTerm t b ∷ ws) q y o = hidden_again p e ws q y o
 hidden_again p e (OfCtx n b ∷ ws) q y o = hidden_again p e ws q y o
 hidden_again p e (OfProperties n r f ∷ ws) q y o = hidden_in p e r f (nat_eq q.0 n.0) (settled ws q (with_it y o)) (settled ws q o) (hidden_again p e ws q y o)
-hidden_again p e (OfRecord t b ∷ ws) q y o = hidden_again p e ws q y o
 
-noted_or_later : {A : Type 0} (b h : Bool) (f : A → A) (x y : A) → (b || h) ≡ true → f x ≡ f y → (h ≡ true → x ≡ y) → cond b (f x) x ≡ cond b (f y) y
-noted_or_later true h f x y g same later = same
-noted_or_later false h f x y g same later = later g
+logged_or_later : {A : Type 0} (b h : Bool) (f : A → A) (x y : A) → (b || h) ≡ true → f x ≡ f y → (h ≡ true → x ≡ y) → cond b (f x) x ≡ cond b (f y) y
+logged_or_later true h f x y g same later = same
+logged_or_later false h f x y g same later = later g
 
 pub settled_so : (ws : List Write) (q : CtxNum) (y : Setting) (o : Option ContextRecord) → has_properties q ws ≡ true → settled ws q (with_it y o) ≡ settled ws q o
 settled_so [] q y o h = absurd cc
 settled_so (OfTerm t b ∷ ws) q y o h = settled_so ws q y o h
 settled_so (OfCtx n b ∷ ws) q y o h = settled_so ws q y o h
 settled_so (OfProperties n p e ∷ ws) q y o h =
-    noted_or_later (nat_eq q.0 n.0) (has_properties q ws) (with_it (Both p e)) (settled ws q (with_it y o)) (settled ws q o) h (hidden_again p e ws q y o) (settled_so ws q y o)
-settled_so (OfRecord t b ∷ ws) q y o h = settled_so ws q y o h
+    logged_or_later (nat_eq q.0 n.0) (has_properties q ws) (with_it (Both p e)) (settled ws q (with_it y o)) (settled ws q o) h (hidden_again p e ws q y o) (settled_so ws q y o)
 
--- where a termination is noted, whole or by its record, whatever became of it comes to nothing
-recorded_stands : (ws : List Write) (q : List ℕ) (o : Option Termination) → is_some (recorded ws q o) ≡ is_some o
-recorded_stands [] q o = refl
-recorded_stands (OfTerm t b ∷ ws) q o = recorded_stands ws q o
-recorded_stands (OfCtx n b ∷ ws) q o = recorded_stands ws q o
-recorded_stands (OfProperties n p e ∷ ws) q o = recorded_stands ws q o
-recorded_stands (OfRecord t r ∷ ws) q o = still_some r (bytes_eq q t) (recorded ws q o) ∙ recorded_stands ws q o
-
-pub recorded_so : (ws : List Write) (q : List ℕ) (o p : Option Termination) → is_some o ≡ is_some p → has_termination q ws ≡ true → (has (keys_written ws) (Term q) ≡ true) ⊎ (recorded ws q o ≡ recorded ws q p)
-recorded_so [] q o p s h = absurd cc
-recorded_so (OfTerm t b ∷ ws) q o p s h = by (bytes_eq q t) h (recorded_so ws q o p s)
-  where
-    by : (b : Bool) → (b || has_termination q ws) ≡ true → (has_termination q ws ≡ true → (has (keys_written ws) (Term q) ≡ true) ⊎ (recorded ws q o ≡ recorded ws q p)) → ((b || has (keys_written ws) (Term q)) ≡ true) ⊎ (recorded ws q o ≡ recorded ws q p)
-    by true h later = inl refl
-    by false h later = later h
-recorded_so (OfCtx n b ∷ ws) q o p s h = recorded_so ws q o p s h
-recorded_so (OfProperties n r e ∷ ws) q o p s h = recorded_so ws q o p s h
-recorded_so (OfRecord t r ∷ ws) q o p s h = by (bytes_eq q t) h (recorded_so ws q o p s)
-  where
-    by : (b : Bool) → (b || has_termination q ws) ≡ true → (has_termination q ws ≡ true → (has (keys_written ws) (Term q) ≡ true) ⊎ (recorded ws q o ≡ recorded ws q p)) → (has (keys_written ws) (Term q) ≡ true) ⊎ (cond b (with_record r (recorded ws q o)) (recorded ws q o) ≡ cond b (with_record r (recorded ws q p)) (recorded ws q p))
-    by true h later = inr (records.hidden r (recorded ws q o) (recorded ws q p) (recorded_stands ws q o ∙ s ∙ sym (recorded_stands ws q p)))
-    by false h later = later h
-
--- ---- one more write, of what is noted as it stood there
+-- ---- one more write, of what is logged as it stood there
 
 pub undone_term : (ws : List Write) (m : Maps) (t : List ℕ) (o before : Option Termination) → before ≡ term m t → undone (ws ++ OfTerm t before ∷ []) (put_term m t o) ≡ undone ws m
 undone_term ws m t o before e = undone_more ws (OfTerm t before) (put_term m t o) ∙ ap (undone ws) (put_term-put_term m t o before ∙ put_term-same m t before e)
@@ -155,13 +111,13 @@ there_already g false false x o y f = refl
 
 pub undone_term_again : (ws : List Write) (m : Maps) (t : List ℕ) (o : Option Termination) → has (keys_written ws) (Term t) ≡ true → undone ws (put_term m t o) ≡ undone ws m
 undone_term_again ws m t o h = same_maps (undone ws (put_term m t o)) (undone ws m)
-    (λ q. term-undone ws (put_term m t o) q ∙ ap (λ x. cond (has (keys_written ws) (Term q)) (term (undone ws no_maps) q) (recorded ws q x)) (term-put_term m t o q)
-    ∙ there_already (recorded ws q) (has (keys_written ws) (Term q)) (bytes_eq q t) (term (undone ws no_maps) q) o (term m q) (λ e. ap (λ (x : List ℕ). has (keys_written ws) (Term x)) (same_name q t e) ∙ h) ∙ sym (term-undone ws m q))
+    (λ q. term-undone ws (put_term m t o) q ∙ ap (λ x. cond (has (keys_written ws) (Term q)) (term (undone ws no_maps) q) x) (term-put_term m t o q)
+    ∙ there_already (λ y. y) (has (keys_written ws) (Term q)) (bytes_eq q t) (term (undone ws no_maps) q) o (term m q) (λ e. ap (λ (x : List ℕ). has (keys_written ws) (Term x)) (same_name q t e) ∙ h) ∙ sym (term-undone ws m q))
     (λ q. ctx-undone ws (put_term m t o) q ∙ ap (λ x. cond (has (keys_written ws) (Ctx q)) (ctx (undone ws no_maps) q) (settled ws q x)) (ctx-put_term m t o q) ∙ sym (ctx-undone ws m q))
 
 pub undone_ctx_again : (ws : List Write) (m : Maps) (n : CtxNum) (o : Option ContextRecord) → has (keys_written ws) (Ctx n) ≡ true → undone ws (put_ctx m n o) ≡ undone ws m
 undone_ctx_again ws m n o h = same_maps (undone ws (put_ctx m n o)) (undone ws m)
-    (λ q. term-undone ws (put_ctx m n o) q ∙ ap (λ x. cond (has (keys_written ws) (Term q)) (term (undone ws no_maps) q) (recorded ws q x)) (term-put_ctx m n o q) ∙ sym (term-undone ws m q))
+    (λ q. term-undone ws (put_ctx m n o) q ∙ ap (λ x. cond (has (keys_written ws) (Term q)) (term (undone ws no_maps) q) x) (term-put_ctx m n o q) ∙ sym (term-undone ws m q))
     (λ q. ctx-undone ws (put_ctx m n o) q ∙ ap (λ x. cond (has (keys_written ws) (Ctx q)) (ctx (undone ws no_maps) q) (settled ws q x)) (ctx-put_ctx m n o q)
     ∙ there_already (settled ws q) (has (keys_written ws) (Ctx q)) (nat_eq q.0 n.0) (ctx (undone ws no_maps) q) o (ctx m q) (λ e. ap (λ (x : CtxNum). has (keys_written ws) (Ctx x)) (same_number q n e) ∙ h) ∙ sym (ctx-undone ws m q))
 
@@ -171,14 +127,9 @@ agree true x y z d = refl
 agree false x y z (inl e) = absurd cc
 agree false x y z (inr e) = e
 
-pub undone_elsewhere : (ws : List Write) (m n : Maps) → ((q : List ℕ) → (has (keys_written ws) (Term q) ≡ true) ⊎ (recorded ws q (term n q) ≡ recorded ws q (term m q))) → ((q : CtxNum) → ctx n q ≡ ctx m q) → undone ws n ≡ undone ws m
-undone_elsewhere ws m n ts cs = same_maps (undone ws n) (undone ws m)
-    (λ q. term-undone ws n q ∙ agree (has (keys_written ws) (Term q)) (term (undone ws no_maps) q) (recorded ws q (term n q)) (recorded ws q (term m q)) (ts q) ∙ sym (term-undone ws m q))
-    (λ q. ctx-undone ws n q ∙ ap (λ x. cond (has (keys_written ws) (Ctx q)) (ctx (undone ws no_maps) q) (settled ws q x)) (cs q) ∙ sym (ctx-undone ws m q))
-
 pub undone_beside : (ws : List Write) (m n : Maps) → ((q : List ℕ) → term n q ≡ term m q) → ((q : CtxNum) → (has (keys_written ws) (Ctx q) ≡ true) ⊎ (settled ws q (ctx n q) ≡ settled ws q (ctx m q))) → undone ws n ≡ undone ws m
 undone_beside ws m n ts cs = same_maps (undone ws n) (undone ws m)
-    (λ q. term-undone ws n q ∙ ap (λ x. cond (has (keys_written ws) (Term q)) (term (undone ws no_maps) q) (recorded ws q x)) (ts q) ∙ sym (term-undone ws m q))
+    (λ q. term-undone ws n q ∙ ap (λ x. cond (has (keys_written ws) (Term q)) (term (undone ws no_maps) q) x) (ts q) ∙ sym (term-undone ws m q))
     (λ q. ctx-undone ws n q ∙ agree (has (keys_written ws) (Ctx q)) (ctx (undone ws no_maps) q) (settled ws q (ctx n q)) (settled ws q (ctx m q)) (cs q) ∙ sym (ctx-undone ws m q))
 
 -- ---- a key that is found among the writes
@@ -191,11 +142,11 @@ pub one_of_them : (ws : List Write) (i : ℕ) (w : Write) (k : Key) (b : Bool) �
 one_of_them ws i w k true h is e = sym (any_mapped (same_key k) ws) ∙ list_any_at (λ x. same_key k (key_written x)) ws i w h (ap (λ (x : Write). same_key k (key_written x)) (sym is) ∙ sym e)
 one_of_them ws i w k false h is e = tt
 
+-- ---- the last write
+
 either_way : (a b c : Bool) → (a || b) ≡ true → (b ≡ true → c ≡ true) → (a || c) ≡ true
 either_way true b c h f = refl
 either_way false b c h f = f h
-
--- ---- the last write
 
 pub last_written : (ws : List Write) (w : Write) → has (keys_written (ws ++ w ∷ [])) (key_written w) ≡ true
 last_written [] w = or_left (same_key (key_written w) (key_written w)) false (same-itself (key_written w))
@@ -205,28 +156,6 @@ pub written_before : (ws : List Write) (w : Write) (k : Key) → has (keys_writt
 written_before [] w k h = absurd cc
 written_before (v ∷ ws) w k h = either_way (same_key k (key_written v)) (has (keys_written ws) k) (has (keys_written (ws ++ w ∷ [])) k) h (written_before ws w k)
 
--- properties that are noted stay so, and those that were noted last are
-pub properties_before : (ws : List Write) (w : Write) (q : CtxNum) → has_properties q ws ≡ true → has_properties q (ws ++ w ∷ []) ≡ true
-properties_before [] w q h = absurd cc
-properties_before (v ∷ ws) w q h = either_way (notes_properties q v) (has_properties q ws) (has_properties q (ws ++ w ∷ [])) h (properties_before ws w q)
-
-pub last_noted : (ws : List Write) (q : CtxNum) (p : ℕ) (e : Bool) → has_properties q (ws ++ OfProperties q p e ∷ []) ≡ true
-last_noted [] q p e = or_left (nat_eq q.0 q.0) false (same-itself (Ctx q))
-last_noted (v ∷ ws) q p e = or_right (notes_properties q v) (has_properties q (ws ++ OfProperties q p e ∷ [])) (last_noted ws q p e)
-
-pub properties_at : (ws : List Write) (i : ℕ) (w : Write) (q : CtxNum) (b : Bool) → i < length ws → w ≡ get_or ws i w → b ≡ notes_properties q w → OnTrue b (has_properties q ws ≡ true)
-properties_at ws i w q true h is e = list_any_at (notes_properties q) ws i w h (ap (notes_properties q) (sym is) ∙ sym e)
+pub properties_at : (ws : List Write) (i : ℕ) (w : Write) (q : CtxNum) (b : Bool) → i < length ws → w ≡ get_or ws i w → b ≡ logs_properties q w → OnTrue b (has_properties q ws ≡ true)
+properties_at ws i w q true h is e = list_any_at (logs_properties q) ws i w h (ap (logs_properties q) (sym is) ∙ sym e)
 properties_at ws i w q false h is e = tt
-
--- terminations that are noted stay so, and one that was noted last is
-pub termination_before : (ws : List Write) (w : Write) (q : List ℕ) → has_termination q ws ≡ true → has_termination q (ws ++ w ∷ []) ≡ true
-termination_before [] w q h = absurd cc
-termination_before (v ∷ ws) w q h = either_way (notes_termination q v) (has_termination q ws) (has_termination q (ws ++ w ∷ [])) h (termination_before ws w q)
-
-pub last_recorded : (ws : List Write) (q : List ℕ) (r : Termination) → has_termination q (ws ++ OfRecord q r ∷ []) ≡ true
-last_recorded [] q r = or_left (bytes_eq q q) false (same-itself (Term q))
-last_recorded (v ∷ ws) q r = or_right (notes_termination q v) (has_termination q (ws ++ OfRecord q r ∷ [])) (last_recorded ws q r)
-
-pub termination_at : (ws : List Write) (i : ℕ) (w : Write) (q : List ℕ) (b : Bool) → i < length ws → w ≡ get_or ws i w → b ≡ notes_termination q w → OnTrue b (has_termination q ws ≡ true)
-termination_at ws i w q true h is e = list_any_at (notes_termination q) ws i w h (ap (notes_termination q) (sym is) ∙ sym e)
-termination_at ws i w q false h is e = tt

@@ -1,4 +1,4 @@
--- What is done to the maps as single reads and writes of entries, one after another (own): what carries out transactions side
+-- What is done to the maps as single reads and writes of entries, one after another (own): what executes transactions side
 -- by side may rely on.
 use Rattle.std.specs.Prelude.{◌≡◌, ℕ, true, List, Option, Some, ◌⊎◌}
 use Rattle.gw_base.specs.declared.ids.CtxNum.{CtxNum}

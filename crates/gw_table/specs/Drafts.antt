@@ -1,4 +1,4 @@
--- Changes that are laid over a lent part (own).
+-- Changes that are laid over a borrowed part (own).
 use Rattle.std.specs.Prelude.{◌≡◌, true, List, ◌++◌, map, Option, None, Some}
 use Rattle.std.specs.Option.{option_map}
 use Rattle.std.specs.FinMap as finite

@@ -1,6 +1,5 @@
--- What is noted where a property of contexts is set (own).
-use Rattle.std.specs.Prelude.{◌≡◌, ℕ, ◌⊎◌, true, List, [], ◌∷◌, ◌++◌, Some}
-use Rattle.std.specs.FinMap as finite
+-- What is logged where a property of a context is set (own).
+use Rattle.std.specs.Prelude.{◌≡◌, ℕ, ◌⊎◌, true, List, [], ◌∷◌, ◌++◌}
 use Rattle.gw_base.specs.declared.key.Key.TheVariants.{Ctx}
 use Rattle.gw_base.specs.Keys.{has}
 use Rattle.gw_ctx.specs.Contexts.{ContextRecord}
@@ -12,16 +11,11 @@ use Rattle.gw_table.specs.declared.setting.Setting.{Setting}
 use Rattle.gw_table.specs.Maps.{number}
 use Rattle.gw_table.specs.Originals.{keys_written, has_properties}
 use Rattle.gw_table.specs.Settings.{set_at}
-use Rattle.gw_table.specs.Stored.{Stored}
 
--- the number is noted, or its context is so already, or its properties are noted
+-- the number is logged, or its context is so already, or its properties are logged
 abbrev pub IsKept : Setting → List Write → ℕ → Place ContextRecord → Type 0
 IsKept x writes n p = (has (keys_written writes) (Ctx (number n)) ≡ true) ⊎ ((set_at x p ≡ p) ⊎ (has_properties (number n) writes ≡ true))
 
--- nothing is noted more, or the properties of what stands in the place of this number
+-- nothing is logged more, or the properties of what stands in the place of this number
 abbrev pub MayKeep : ℕ → Place ContextRecord → List Write → List Write → Type 0
 MayKeep n p old new = (new ≡ old) ⊎ ((c : ContextRecord) × (p ≡ Here c) × (new ≡ old ++ OfProperties (number n) c.priority c.emergency ∷ []))
-
--- each context is noted so
-abbrev pub AreKept : Setting → List Write → Stored → Type 0
-AreKept x writes now = (n : ℕ) (p : Place ContextRecord) → finite.get now.contexts n ≡ Some p → IsKept x writes n p

@@ -1,12 +1,11 @@
 pub mod Accesses
+pub mod Backings
 pub mod Cells
-pub mod Cleared
 pub mod Drafts
 pub mod Folds
 pub mod Found
 pub mod Free
 pub mod Gone
-pub mod Grounds
 pub mod Joining
 pub mod KeptSettings
 pub mod KeyLists
@@ -14,13 +13,9 @@ pub mod Locality
 pub mod Maps
 pub mod Marking
 pub mod Members
-pub mod Merged
-pub mod Noting
 pub mod Originals
 pub mod Parts
-pub mod Records
 pub mod Reserved
-pub mod Served
 pub mod Settings
 pub mod Provided
 pub mod Stored
@@ -29,6 +24,3 @@ pub mod Unused
 pub mod WellFormed
 pub use Rattle.gw_ctx.specs.Contexts
 pub use Rattle.gw_term.specs.Record
-pub mod Room
-pub mod Slotted
-pub mod EachRoom

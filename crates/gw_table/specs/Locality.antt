@@ -1,4 +1,4 @@
--- Functions from maps to new maps and an answer that keep to some of the entries (own): what carries them out side by side may rely on.
+-- Functions from maps to new maps and an answer that keep to some of the entries (own): what executes them side by side may rely on.
 use Rattle.std.specs.Prelude.{◌≡◌, ℕ, false, List}
 use Rattle.gw_base.specs.declared.ids.CtxNum.{CtxNum}
 use Rattle.gw_base.specs.declared.key.Key.{Key}

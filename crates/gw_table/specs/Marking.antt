@@ -9,12 +9,12 @@ pub record AreMarked (numbers slots : List ℕ) (m : Maps) : Type 0 where
   pub contexts : (n : ℕ) → is_marked numbers n ≡ true → is_some (ctx m (number n)) ≡ true
   pub terms : (s : ℕ) → s < 4096 → is_marked slots s ≡ true → is_some (term m (slot_name s)) ≡ true
 
--- The mark of a number was noted: it is there only where its context stands, and of other numbers the same are marked.
-pub record IsNumberNoted (n : ℕ) (stands : Bool) (old new : List ℕ) : Type 0 where
+-- The bit of a number was set or cleared: it is set only where its context stands, and of other numbers the same are marked.
+pub record IsNumberSet (n : ℕ) (stands : Bool) (old new : List ℕ) : Type 0 where
   pub others : (k : ℕ) → k ≢ n → is_marked new k ≡ is_marked old k
   pub own : is_marked new n ≡ true → stands ≡ true
 
--- The mark of a termination was noted: it is there only where it stands, and of other names the same are marked.
-pub record IsSlotNoted (t : List ℕ) (stands : Bool) (old new : List ℕ) : Type 0 where
+-- The bit of a termination was set or cleared: it is set only where it stands, and of other names the same are marked.
+pub record IsSlotSet (t : List ℕ) (stands : Bool) (old new : List ℕ) : Type 0 where
   pub others : (s : ℕ) → s < 4096 → slot_name s ≢ t → is_marked new s ≡ is_marked old s
   pub own : (s : ℕ) → s < 4096 → slot_name s ≡ t → is_marked new s ≡ true → stands ≡ true

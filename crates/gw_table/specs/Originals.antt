@@ -1,23 +1,21 @@
--- What stood at keys before they were written, and the way back (own).
-use Rattle.std.specs.Prelude.{◌≡◌, ℕ, nat_eq, bytes_eq, Bool, false, List, [], ◌∷◌, map}
+-- What stood at keys before they were written: an undo log (own).
+use Rattle.std.specs.Prelude.{◌≡◌, nat_eq, Bool, false, List, [], ◌∷◌, map}
 use Rattle.std.specs.List.{list_any}
 use Rattle.gw_base.specs.declared.ids.CtxNum.{CtxNum}
 use Rattle.gw_base.specs.declared.key.Key.{Key}
 use Rattle.gw_base.specs.declared.key.Key.TheVariants.{Term, Ctx, Whole}
 use Rattle.gw_table.specs.declared.originals.Write.{Write}
-use Rattle.gw_table.specs.declared.originals.Write.TheVariants.{OfTerm, OfCtx, OfProperties, OfRecord}
+use Rattle.gw_table.specs.declared.originals.Write.TheVariants.{OfTerm, OfCtx, OfProperties}
 use Rattle.gw_table.specs.declared.setting.Setting.TheVariants.{Both}
-use Rattle.gw_table.specs.Maps.{Maps, term, ctx, put_term, put_ctx}
-use Rattle.gw_table.specs.Records.{put_record, put_record_place}
+use Rattle.gw_table.specs.Maps.{Maps, ctx, put_term, put_ctx}
 use Rattle.gw_table.specs.Settings.{put_setting, set_place}
 use Rattle.gw_table.specs.Stored.{Stored, placed, maps_of, put_term_place, put_ctx_place, AreReady, KeepReady, NoneIsOut}
 
--- the key that was written; where properties or a record alone were noted, none that names an entry
+-- the key that was written; where properties alone were logged, none that names an entry
 abbrev pub key_written : Write → Key
 key_written (OfTerm t o) = Term t
 key_written (OfCtx n o) = Ctx n
 key_written (OfProperties n p e) = Whole
-key_written (OfRecord t r) = Whole
 
 -- a key for each write, in their order
 abbrev pub keys_written : List Write → List Key
@@ -28,7 +26,6 @@ abbrev pub without_write : Write → Maps → Maps
 without_write (OfTerm t o) m = put_term m t o
 without_write (OfCtx n o) m = put_ctx m n o
 without_write (OfProperties n p e) m = put_setting (Both p e) n m (ctx m n)
-without_write (OfRecord t r) m = put_record r t m (term m t)
 
 -- the maps without the writes: the last one is taken back first, so that at each key stands what its first write found there
 abbrev pub undone : List Write → Maps → Maps
@@ -40,36 +37,23 @@ abbrev pub begun_by : Write → Stored → Stored
 begun_by (OfTerm t o) s = put_term_place s t (placed o)
 begun_by (OfCtx n o) s = put_ctx_place s n (placed o)
 begun_by (OfProperties n p e) s = set_place (Both p e) n s (ctx (maps_of s) n)
-begun_by (OfRecord t r) s = put_record_place r t s (term (maps_of s) t)
 
 -- the tables that writes lead back to: those in which they began
 abbrev pub before_all : List Write → Stored → Stored
 before_all [] s = s
 before_all (w ∷ later) s = begun_by w (before_all later s)
 
--- ---- properties that are noted
+-- ---- properties that are logged
 
-abbrev pub notes_properties : CtxNum → Write → Bool
-notes_properties n (OfTerm t o) = false
-notes_properties n (OfCtx k o) = false
-notes_properties n (OfProperties k p e) = nat_eq n.0 k.0
-notes_properties n (OfRecord t r) = false
+abbrev pub logs_properties : CtxNum → Write → Bool
+logs_properties n (OfTerm t o) = false
+logs_properties n (OfCtx k o) = false
+logs_properties n (OfProperties k p e) = nat_eq n.0 k.0
 
 abbrev pub has_properties : CtxNum → List Write → Bool
-has_properties n writes = list_any (notes_properties n) writes
+has_properties n writes = list_any (logs_properties n) writes
 
--- ---- terminations that are noted, whole or by their records
-
-abbrev pub notes_termination : List ℕ → Write → Bool
-notes_termination t (OfTerm k o) = bytes_eq t k
-notes_termination t (OfCtx n o) = false
-notes_termination t (OfProperties n p e) = false
-notes_termination t (OfRecord k r) = bytes_eq t k
-
-abbrev pub has_termination : List ℕ → List Write → Bool
-has_termination t writes = list_any (notes_termination t) writes
-
--- Tables that were changed in place: nothing is out, the way back leads to the maps of the start and takes no memory, and what was
+-- Tables that were changed in place: nothing is out, the undo log leads back to the maps of the start, and what was
 -- prepared at the start is so still.
 pub record IsInPlace (start now : Stored) (writes : List Write) : Type 0 where
   pub here : NoneIsOut now

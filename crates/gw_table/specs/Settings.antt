@@ -1,14 +1,12 @@
 -- A property of a context that is set in its place (RFC 3525, section 6.1.1).
-use Rattle.std.specs.Prelude.{◌≡◌, ℕ, true, List, [], ◌∷◌, Option, None, Some}
-use Rattle.std.specs.Option.{option_map}
-use Rattle.std.specs.FinMap as finite
+use Rattle.std.specs.Prelude.{true, Option, None, Some}
 use Rattle.gw_base.specs.declared.ids.CtxNum.{CtxNum}
 use Rattle.gw_ctx.specs.Contexts.{ContextRecord, prioritized, marked}
 use Rattle.gw_table.specs.declared.place.Place.{Place}
 use Rattle.gw_table.specs.declared.place.Place.TheVariants.{Empty, Here, Out}
 use Rattle.gw_table.specs.declared.setting.Setting.{Setting}
 use Rattle.gw_table.specs.declared.setting.Setting.TheVariants.{Priority, Emergency, Both}
-use Rattle.gw_table.specs.Maps.{Maps, ctx, put_ctx}
+use Rattle.gw_table.specs.Maps.{Maps, put_ctx}
 use Rattle.gw_table.specs.Stored.{Stored, put_ctx_place}
 
 abbrev pub with_setting : Setting → ContextRecord → ContextRecord
@@ -30,15 +28,3 @@ set_at x Out = Out
 abbrev pub set_place : Setting → CtxNum → Stored → Option ContextRecord → Stored
 set_place x n s None = s
 set_place x n s (Some c) = put_ctx_place s n (Here (with_setting x c))
-
--- ---- for many contexts at once
-
--- each of these is so, one after another
-abbrev pub all_set : Setting → List CtxNum → Maps → Maps
-all_set x [] m = m
-all_set x (n ∷ ns) m = all_set x ns (put_setting x n m (ctx m n))
-
--- each that stands in its place: `b` is `a` after it
-pub record AreSet (x : Setting) (a b : Stored) : Type 0 where
-  pub contexts : (n : ℕ) → finite.get b.contexts n ≡ option_map (set_at x) (finite.get a.contexts n)
-  pub terms : b.terms ≡ a.terms

@@ -225,7 +225,7 @@ pub record ArePrepared (keys : List Key) (a b : Stored) : Type 0 where
   pub out : AreAsOut a b
   pub ready : (k : Key) → is_ready b k ≡ (is_ready a k || has keys k)
 
--- The places of these keys were given up where there was no entry: `b` is `a` after it.
+-- The places of these keys were freed where there was no entry: `b` is `a` after it.
 pub record WereSwept (keys : List Key) (a b : Stored) : Type 0 where
   pub maps : maps_of b ≡ maps_of a
   pub out : AreAsOut a b

@@ -1,4 +1,4 @@
-//! What items gave that were carried out one after another.
+//! What items gave that were executed one after another.
 
 use gw_base::Items;
 

@@ -27,7 +27,8 @@ impl Tables {
         }
     }
 
-    /// A part with what stands here laid over it. The caller knows that no other key has a place here, and that nothing is out.
+    /// A part with what stands here laid over it. The caller knows that no other key has a place here, and that
+    /// nothing is out.
     pub(crate) fn over(mut self, alloc: Global, part: &Part) -> Result<Part, NoMemory>
         requires { AreChanges part.now.keys self }
         ensures { IfOk result (λ whole. whole ≡ record { keys = part.now.keys; maps = drafted self part.now.maps }) }

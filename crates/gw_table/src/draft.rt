@@ -1,6 +1,7 @@
-//! What commands work on: tables in place, or changes over a lent part.
+//! What commands work on: tables in place, or changes over a borrowed part.
 
-ghost use Rattle.std.specs.Prelude.{◌≡◌, ◌<◌, None, true, false, length, IfOk, OnOk, option_copied};
+ghost use Rattle.std.specs.Prelude.{◌≡◌, ◌<◌, None, true, false, length, IfOk, OnOk, OnErr, option_copied};
+ghost use Rattle.gw_base.specs.declared.key.Key.{Key};
 ghost use Rattle.gw_base.specs.declared.key.Key.TheVariants.{Term, Ctx};
 ghost use Rattle.gw_base.specs.NameLists.{is_in};
 ghost use Rattle.gw_table.specs.Maps.{term, ctx, put_term, put_ctx, names, numbers, members_of};
@@ -22,48 +23,48 @@ use std::marker::Model;
 
 /// What a draft works on.
 #[derive(Drop)]
-pub(crate) enum Ground<'t> {
-    /// Changes over a lent part.
+pub(crate) enum Backing<'t> {
+    /// Changes over a borrowed part.
     OfPart(OverPart<'t>),
     /// Whole tables, in place.
     OfTables(InPlace),
 }
 
-/// Whole tables that are changed in place, with a way back; or changes that are laid over a lent part, which stays as it is. What is
-/// read at a key is what was written there last. A record is moved and not copied, but where a change is one of some of it: then the
-/// original is kept, and a copy is changed.
+/// Whole tables that are changed in place, with an undo log; or changes that are laid over a borrowed part, which
+/// stays as it is. What is read at a key is what was written there last. A record is moved and not copied, but where
+/// a change is one of some of it: then what stood there is logged, and a copy is changed.
 pub struct Draft<'t> {
-    pub(crate) ground: Ground<'t>,
+    pub(crate) backing: Backing<'t>,
 }
 
-// By hand, so that a function that lets a draft go does so by one call. A derived one would stand in it field by field.
+// By hand, so that a function that drops a draft does so by one call. A derived one would stand in it field by field.
 impl<'t> Drop for Draft<'t> {
     fn drop(self) {
-        let Draft { ground: _ } = self;
+        let Draft { backing: _ } = self;
     }
 }
 
 impl<'t> Model for Draft<'t> {
-    ghost use Rattle.gw_table.specs.Grounds.{ground_part};
+    ghost use Rattle.gw_table.specs.Backings.{backing_part};
     ghost use Rattle.gw_table.specs.Parts.{Parted, coded_part};
 
     ghost Value = { Parted };
 
     ghost coded = { coded_part };
 
-    ghost view = { λ a. ground_part a.ground };
+    ghost view = { λ a. backing_part a.backing };
 }
 
 impl<'t> Draft<'t> {
-    /// Whole tables, with the originals of earlier changes, or of none. The caller knows that nothing is out, and that each key of the
-    /// originals has a place. It takes no memory.
+    /// Whole tables, with the undo log of earlier changes, or of none. The caller knows that nothing is out, and that
+    /// each key of the log has a place. It takes no memory.
     pub fn of_tables(tables: Tables, originals: Originals) -> Draft<'t>
         requires here { NoneIsOut tables }
         requires ready { AreReady (keys_written originals) tables }
         ensures { result ≡ record { keys = Over (before_all originals tables); maps = maps_of tables } }
     {
         Draft {
-            ground: Ground::OfTables(InPlace::new(tables, originals)),
+            backing: Backing::OfTables(InPlace::new(tables, originals)),
         }
     }
 
@@ -72,7 +73,7 @@ impl<'t> Draft<'t> {
         ensures { result ≡ part.now }
     {
         Draft {
-            ground: Ground::OfPart(OverPart::new(alloc, part)),
+            backing: Backing::OfPart(OverPart::new(alloc, part)),
         }
     }
 
@@ -80,9 +81,9 @@ impl<'t> Draft<'t> {
     pub fn term(&self, name: &TermName) -> Option<&Termination>
         ensures { option_copied result ≡ term self.now.maps name.now }
     {
-        match &self.ground {
-            Ground::OfPart(ground) => ground.term(name),
-            Ground::OfTables(ground) => ground.term(name),
+        match &self.backing {
+            Backing::OfPart(backing) => backing.term(name),
+            Backing::OfTables(backing) => backing.tables.find_term(name),
         }
     }
 
@@ -90,9 +91,9 @@ impl<'t> Draft<'t> {
     pub fn ctx(&self, number: CtxNum) -> Option<&Context>
         ensures { option_copied result ≡ ctx self.now.maps number }
     {
-        match &self.ground {
-            Ground::OfPart(ground) => ground.ctx(number),
-            Ground::OfTables(ground) => ground.ctx(number),
+        match &self.backing {
+            Backing::OfPart(backing) => backing.ctx(number),
+            Backing::OfTables(backing) => backing.tables.find_ctx(number),
         }
     }
 
@@ -100,7 +101,7 @@ impl<'t> Draft<'t> {
     ///
     /// # Errors
     ///
-    /// Want of memory. The draft is as it was.
+    /// Out of memory. The draft is as it was.
     pub fn set_term(
         &mut self,
         name: TermName,
@@ -108,11 +109,12 @@ impl<'t> Draft<'t> {
     ) -> Result<(), NoMemory>
         requires { holds self.old.keys (Term name) ≡ true }
         ensures maps { OnOk result (self.new.maps ≡ put_term self.old.maps name entry) }
+        ensures err { OnErr result (self.new.maps ≡ self.old.maps) }
         ensures keys { self.new.keys ≡ self.old.keys }
     {
-        match &mut self.ground {
-            Ground::OfPart(ground) => ground.set_term(name, entry),
-            Ground::OfTables(ground) => ground.set_term(&name, entry),
+        match &mut self.backing {
+            Backing::OfPart(backing) => backing.set_term(name, entry),
+            Backing::OfTables(backing) => backing.set_term(&name, entry),
         }
     }
 
@@ -120,24 +122,25 @@ impl<'t> Draft<'t> {
     ///
     /// # Errors
     ///
-    /// Want of memory. The draft is as it was.
+    /// Out of memory. The draft is as it was.
     pub fn set_ctx(&mut self, number: CtxNum, entry: Option<Held<Context>>) -> Result<(), NoMemory>
         requires { holds self.old.keys (Ctx number) ≡ true }
         ensures maps { OnOk result (self.new.maps ≡ put_ctx self.old.maps number entry) }
+        ensures err { OnErr result (self.new.maps ≡ self.old.maps) }
         ensures keys { self.new.keys ≡ self.old.keys }
     {
-        match &mut self.ground {
-            Ground::OfPart(ground) => ground.set_ctx(number, entry),
-            Ground::OfTables(ground) => ground.set_ctx(number, entry),
+        match &mut self.backing {
+            Backing::OfPart(backing) => backing.set_ctx(number, entry),
+            Backing::OfTables(backing) => backing.set_ctx(number, entry),
         }
     }
 
-    /// Takes the context with a number out of the draft, to be changed and set again: a copy, where the original is kept. The caller
-    /// knows that the number is one of the draft's keys.
+    /// Takes the context with a number out of the draft, to be changed and set again: a copy, where what stood there
+    /// is logged. The caller knows that the number is one of the draft's keys.
     ///
     /// # Errors
     ///
-    /// Want of memory. The draft is as it was.
+    /// Out of memory. The draft is as it was.
     pub fn take_ctx(
         &mut self,
         alloc: Global,
@@ -146,20 +149,21 @@ impl<'t> Draft<'t> {
         requires { holds self.old.keys (Ctx number) ≡ true }
         ensures context { IfOk result (λ context. context ≡ ctx self.old.maps number) }
         ensures maps { OnOk result (self.new.maps ≡ put_ctx self.old.maps number None) }
+        ensures err { OnErr result (self.new.maps ≡ self.old.maps) }
         ensures keys { self.new.keys ≡ self.old.keys }
     {
-        match &mut self.ground {
-            Ground::OfPart(ground) => ground.take_ctx(alloc, number),
-            Ground::OfTables(ground) => ground.take_ctx(alloc, number),
+        match &mut self.backing {
+            Backing::OfPart(backing) => backing.take_ctx(alloc, number),
+            Backing::OfTables(backing) => backing.take_ctx(number),
         }
     }
 
-    /// The termination of a name has another service state, if there is one. The caller knows that the name is one of the draft's
-    /// keys.
+    /// The termination of a name has another service state, if there is one. The caller knows that the name is one of
+    /// the draft's keys.
     ///
     /// # Errors
     ///
-    /// Want of memory. The termination may then be gone from the draft.
+    /// Out of memory. The termination may then be gone from the draft.
     pub fn set_service(
         &mut self,
         alloc: Global,
@@ -170,19 +174,20 @@ impl<'t> Draft<'t> {
         ensures maps { OnOk result (self.new.maps ≡ put_service service name.now self.old.maps (term self.old.maps name.now)) }
         ensures keys { self.new.keys ≡ self.old.keys }
     {
-        match &mut self.ground {
-            Ground::OfPart(ground) => ground.set_service(alloc, name, service),
-            Ground::OfTables(ground) => ground.set_service(alloc, name, service),
+        match &mut self.backing {
+            Backing::OfPart(backing) => backing.set_service(alloc, name, service),
+            Backing::OfTables(backing) => backing.set_service(name, service),
         }
     }
 
-    /// The name joins the context as its last member. A context comes into being with its first. The caller knows that the number
-    /// is one of the draft's keys, that the name is no member, and that there are fewer members than `limit`. In whole tables it is one
-    /// look-up, or two where the context comes into being, and a copy of a context that was not written before.
+    /// The name joins the context as its last member. A context comes into being with its first. The caller knows
+    /// that the number is one of the draft's keys, that the name is no member, and that there are fewer members than
+    /// `limit`. In whole tables it is one look-up, or two where the context comes into being, and a copy of a context
+    /// that was not written before.
     ///
     /// # Errors
     ///
-    /// Want of memory. The context may then be gone from the draft.
+    /// Out of memory. The context may then be gone from the draft.
     pub fn join(
         &mut self,
         alloc: Global,
@@ -196,61 +201,76 @@ impl<'t> Draft<'t> {
         ensures maps { OnOk result (self.new.maps ≡ with_member number name self.old.maps) }
         ensures keys { self.new.keys ≡ self.old.keys }
     {
-        match &mut self.ground {
-            Ground::OfPart(ground) => ground.join(alloc, number, name, limit),
-            Ground::OfTables(ground) => ground.join(alloc, number, name, limit),
+        match &mut self.backing {
+            Backing::OfPart(backing) => backing.join(alloc, number, name, limit),
+            Backing::OfTables(backing) => backing.join(alloc, number, name, limit),
         }
     }
 
-    /// The name leaves the context, which ends if it is empty. The caller knows that the number is one of the draft's keys. In whole
-    /// tables it is one look-up, and a copy of a context that was not written before.
+    /// The name leaves the context, which ends if it is empty. The caller knows that the number is one of the draft's
+    /// keys. In whole tables it is one look-up, and a copy of a context that was not written before.
     ///
     /// # Errors
     ///
-    /// Want of memory. The context may then be gone from the draft.
+    /// Out of memory. The context may then be gone from the draft.
     pub fn leave(&mut self, alloc: Global, number: CtxNum, name: &TermName) -> Result<(), NoMemory>
         requires { holds self.old.keys (Ctx number) ≡ true }
         ensures maps { OnOk result (self.new.maps ≡ without_member number name.now self.old.maps) }
         ensures keys { self.new.keys ≡ self.old.keys }
     {
-        match &mut self.ground {
-            Ground::OfPart(ground) => ground.leave(alloc, number, name),
-            Ground::OfTables(ground) => ground.leave(alloc, number, name),
+        match &mut self.backing {
+            Backing::OfPart(backing) => backing.leave(alloc, number, name),
+            Backing::OfTables(backing) => backing.leave(number, name),
         }
     }
 
-    /// The names of all terminations that the draft shows, in the order of their bytes. The work is one pass over the tables, or a
-    /// look-up for each key of the part.
+    /// The names of all terminations that the draft shows, in the order of their bytes. The work is one pass over the
+    /// tables, or a look-up for each key of the part.
     ///
     /// # Errors
     ///
-    /// Want of memory.
+    /// Out of memory.
     pub fn names(&self, alloc: Global) -> Result<Vec<TermName>, NoMemory>
         ensures { IfOk result (λ list. list.items ≡ names self.now.maps) }
     {
-        match &self.ground {
-            Ground::OfPart(ground) => ground.names(alloc),
-            Ground::OfTables(ground) => ground.names(alloc),
+        match &self.backing {
+            Backing::OfPart(backing) => backing.names(alloc),
+            Backing::OfTables(backing) => backing.tables.names(alloc),
         }
     }
 
-    /// The numbers of all contexts that the draft shows, rising. The work is one pass over the tables, or a look-up for each key of the
-    /// part.
+    /// The numbers of all contexts that the draft shows, rising. The work is one pass over the tables, or a look-up
+    /// for each key of the part.
     ///
     /// # Errors
     ///
-    /// Want of memory.
+    /// Out of memory.
     pub fn numbers(&self, alloc: Global) -> Result<Vec<CtxNum>, NoMemory>
         ensures { IfOk result (λ list. list.items ≡ numbers self.now.maps) }
     {
-        match &self.ground {
-            Ground::OfPart(ground) => ground.numbers(alloc),
-            Ground::OfTables(ground) => ground.numbers(alloc),
+        match &self.backing {
+            Backing::OfPart(backing) => backing.numbers(alloc),
+            Backing::OfTables(backing) => backing.tables.numbers(alloc),
         }
     }
 
-    /// A draft of whole tables as the tables that it left, with what stood there before: the writes, taken back, give the tables in which
-    /// the changes began, earlier ones that were gone on with among them. It takes no memory.
+    /// Whether it is of whole tables, which have each key: a member of a context that it shows then has its entry in
+    /// it. Of a part that is never said.
+    pub fn has_every_key(&self) -> bool
+        ensures { result ≡ true → (k : Key) → holds self.now.keys k ≡ true }
+    {
+        match &self.backing {
+            Backing::OfTables(backing) => {
+                // No effect at run time. The proof reads here that whole tables have each key.
+                let _ = &backing.tables;
+                true
+            }
+            Backing::OfPart(_) => false,
+        }
+    }
+
+    /// A draft of whole tables as the tables that it left, with what stood there before: the writes, taken back, give
+    /// the tables in which the changes began, those of the log that was continued among them. It takes no memory.
     pub fn into_tables(self) -> (Tables, Originals)
         requires { self.keys ≡ Over (start_of self.keys) }
         ensures maps { maps_of result.0 ≡ self.entry.maps }
@@ -259,30 +279,31 @@ impl<'t> Draft<'t> {
         ensures ready { AreReady (keys_written result.1) result.0 }
         ensures back { undone result.1 (maps_of result.0) ≡ maps_of (start_of self.entry.keys) }
     {
-        let Draft { ground } = self;
-        match ground {
-            Ground::OfTables(ground) => ground.into_tables(),
-            Ground::OfPart(ground) => {
+        let Draft { backing } = self;
+        match backing {
+            Backing::OfTables(backing) => backing.into_tables(),
+            Backing::OfPart(backing) => {
                 // No effect at run time. The proof reads here that it lists its keys.
-                let _ = &ground.part;
+                let _ = &backing.part;
                 unreachable!()
             }
         }
     }
 
-    /// A draft of whole tables as the tables in which the changes began, whatever was written since. It takes no memory.
+    /// A draft of whole tables as the tables in which the changes began, whatever was written since. It takes no
+    /// memory.
     pub fn undone(self) -> Tables
         requires { self.keys ≡ Over (start_of self.keys) }
         ensures maps { maps_of result ≡ maps_of (start_of self.entry.keys) }
         ensures here { NoneIsOut result }
         ensures kept { KeepReady (start_of self.entry.keys) result }
     {
-        let Draft { ground } = self;
-        match ground {
-            Ground::OfTables(ground) => ground.undone(),
-            Ground::OfPart(ground) => {
+        let Draft { backing } = self;
+        match backing {
+            Backing::OfTables(backing) => backing.undone(),
+            Backing::OfPart(backing) => {
                 // No effect at run time. The proof reads here that it lists its keys.
-                let _ = &ground.part;
+                let _ = &backing.part;
                 unreachable!()
             }
         }
@@ -292,17 +313,17 @@ impl<'t> Draft<'t> {
     ///
     /// # Errors
     ///
-    /// Want of memory.
+    /// Out of memory.
     pub fn into_part(self, alloc: Global) -> Result<Part, NoMemory>
         requires { self.keys ≡ Only (list_of self.keys) }
         ensures { IfOk result (λ part. part ≡ self.entry) }
     {
-        let Draft { ground } = self;
-        match ground {
-            Ground::OfPart(ground) => ground.into_part(alloc),
-            Ground::OfTables(ground) => {
+        let Draft { backing } = self;
+        match backing {
+            Backing::OfPart(backing) => backing.into_part(alloc),
+            Backing::OfTables(backing) => {
                 // No effect at run time. The proof reads here that its keys are those of whole tables.
-                let _ = &ground.tables;
+                let _ = &backing.tables;
                 unreachable!()
             }
         }

@@ -1,7 +1,7 @@
 //! Tables that are changed in place, with what stood there before.
 
-ghost use Rattle.std.specs.Prelude.{◌≡◌, None, IfOk, OnOk, option_copied};
-ghost use Rattle.gw_table.specs.Maps.{term, ctx, put_term, put_ctx, names, numbers};
+ghost use Rattle.std.specs.Prelude.{◌≡◌, None, IfOk, OnOk, OnErr};
+ghost use Rattle.gw_table.specs.Maps.{term, ctx, put_term, put_ctx};
 ghost use Rattle.gw_table.specs.Members.{put_service};
 ghost use Rattle.gw_table.specs.Originals.{before_all, keys_written, undone};
 ghost use Rattle.gw_table.specs.Parts.{Over, start_of};
@@ -9,7 +9,7 @@ ghost use Rattle.gw_table.specs.Stored.{maps_of, NoneIsOut, AreReady, KeepReady}
 
 use crate::originals::{Originals, Write};
 use crate::place::Place;
-use crate::site::Found;
+use crate::row::Found;
 use crate::tables::Tables;
 use gw_base::{CtxNum, Held, Key, NoMemory, Service, TermName};
 use gw_ctx::Context;
@@ -18,10 +18,10 @@ use std::alloc::Global;
 use std::marker::Model;
 use std::snapshot::Snapshot;
 
-/// Tables that are changed in place: the first write of each key is noted with what stood there, so that there is a way back, which
-/// takes no memory. A look-up is one in the tables, and a write takes one. Beside what is written only the originals are held, one for
-/// each key, however often it is written, and the properties of a context or the record of a termination, where these were changed first;
-/// those of earlier changes are gone on with, and then the way back leads to where they began.
+/// Tables that are changed in place, with an undo log: the first write of each key is logged with what stood there,
+/// and taking the log back needs no memory. A look-up is one in the tables, and a write takes one. The log has one
+/// write for each key, however often it is written, and the properties of a context that were set before. Where the
+/// log of earlier changes is continued, it leads back to where those began.
 pub(crate) struct InPlace {
     pub(crate) tables: Tables,
     pub(crate) writes: Vec<Write>,
@@ -30,7 +30,7 @@ pub(crate) struct InPlace {
     earlier: Snapshot<Originals>,
 }
 
-// By hand, so that a function that lets it go does so by one call. A derived one would stand in it field by field.
+// By hand, so that a function that drops it does so by one call. A derived one would stand in it field by field.
 impl Drop for InPlace {
     fn drop(self) {
         let InPlace {
@@ -57,8 +57,8 @@ impl Model for InPlace {
     ghost invariant = { λ a. IsInPlace (before_all a.earlier.value a.before.value) a.tables a.writes.items };
 }
 
-/// Notes a key that is left without an entry.
-pub(crate) fn note_vacated(
+/// Logs a key that is left without an entry.
+pub(crate) fn log_vacated(
     vacated: &mut Vec<Key>,
     key: Key,
     is_vacated: bool,
@@ -69,11 +69,8 @@ pub(crate) fn note_vacated(
     Ok(())
 }
 
-/// How many writes are noted before room is made for many.
-const FEW_WRITES: usize = 64;
-
 impl InPlace {
-    /// Tables, with the originals of earlier changes.
+    /// Tables, with the undo log of earlier changes.
     pub(crate) fn new(tables: Tables, originals: Originals) -> InPlace
         requires here { NoneIsOut tables }
         requires ready { AreReady (keys_written originals) tables }
@@ -91,61 +88,23 @@ impl InPlace {
         }
     }
 
-    /// Makes room in the list of writes, where it is full and no longer short, for as many more as there are terminations: a command for all
-    /// of many contexts does not move it again and again.
-    pub(crate) fn make_room(&mut self) -> Result<(), NoMemory>
-        ensures maps { self.new.maps ≡ self.old.maps }
-        ensures keys { self.new.keys ≡ self.old.keys }
-    {
-        let count = self.writes.len();
-        if count >= FEW_WRITES && count == self.writes.capacity() {
-            self.writes.reserve(self.tables.terms.len())?;
-        }
-        Ok(())
-    }
-
-    /// Makes room in the list of writes, where it is empty and all are meant, for as many as there are terminations: a command for all does
-    /// not move it again and again.
-    pub(crate) fn make_room_for_all(&mut self, prefix: &[u8]) -> Result<(), NoMemory>
-        ensures maps { self.new.maps ≡ self.old.maps }
-        ensures keys { self.new.keys ≡ self.old.keys }
-    {
-        if prefix.is_empty() && self.writes.is_empty() {
-            self.writes.reserve(self.tables.terms.len())?;
-        }
-        Ok(())
-    }
-
-    /// The termination of a name.
-    pub(crate) fn term(&self, name: &TermName) -> Option<&Termination>
-        ensures { option_copied result ≡ term self.now.maps name.now }
-    {
-        self.tables.find_term(name)
-    }
-
-    /// The context with a number.
-    pub(crate) fn ctx(&self, number: CtxNum) -> Option<&Context>
-        ensures { option_copied result ≡ ctx self.now.maps number }
-    {
-        self.tables.find_ctx(number)
-    }
-
-    /// Sets the termination of a name, or none. What stood there is moved; where it was written before it is let go, since what stood
-    /// there first is known.
+    /// Sets the termination of a name, or none. What stood there is moved to the log; where it was written before it is
+    /// dropped, since what stood there first is logged.
     pub(crate) fn set_term(
         &mut self,
         name: &TermName,
         entry: Option<Held<Termination>>,
     ) -> Result<(), NoMemory>
         ensures maps { OnOk result (self.new.maps ≡ put_term self.old.maps name.now entry) }
+        ensures err { OnErr result (self.new.maps ≡ self.old.maps) }
         ensures keys { self.new.keys ≡ self.old.keys }
     {
-        note_vacated(&mut self.vacated, Key::Term(*name), entry.is_none())?;
+        log_vacated(&mut self.vacated, Key::Term(*name), entry.is_none())?;
         self.writes.reserve(1)?;
         let found = self
             .tables
             .write_term(name, Place::of(entry), &self.writes)?;
-        let Found::Original(before) = found else {
+        let Found::Unlogged(before) = found else {
             return Ok(());
         };
         let Ok(()) = self.writes.push(Write::OfTerm(*name, before)) else {
@@ -161,14 +120,15 @@ impl InPlace {
         entry: Option<Held<Context>>,
     ) -> Result<(), NoMemory>
         ensures maps { OnOk result (self.new.maps ≡ put_ctx self.old.maps number entry) }
+        ensures err { OnErr result (self.new.maps ≡ self.old.maps) }
         ensures keys { self.new.keys ≡ self.old.keys }
     {
-        note_vacated(&mut self.vacated, Key::Ctx(number), entry.is_none())?;
+        log_vacated(&mut self.vacated, Key::Ctx(number), entry.is_none())?;
         self.writes.reserve(1)?;
         let found = self
             .tables
             .write_ctx(number, Place::of(entry), &self.writes)?;
-        let Found::Original(before) = found else {
+        let Found::Unlogged(before) = found else {
             return Ok(());
         };
         let Ok(()) = self.writes.push(Write::OfCtx(number, before)) else {
@@ -177,20 +137,17 @@ impl InPlace {
         Ok(())
     }
 
-    /// Takes the context with a number out, to be changed and set again: the context itself where it was written before, and else a
-    /// copy, since the original is kept.
-    pub(crate) fn take_ctx(
-        &mut self,
-        alloc: Global,
-        number: CtxNum,
-    ) -> Result<Option<Held<Context>>, NoMemory>
+    /// Takes the context with a number out, to be changed and set again: the context itself where it was written
+    /// before, and else a copy, since what stood there is logged.
+    pub(crate) fn take_ctx(&mut self, number: CtxNum) -> Result<Option<Held<Context>>, NoMemory>
         ensures context { IfOk result (λ context. context ≡ ctx self.old.maps number) }
         ensures maps { OnOk result (self.new.maps ≡ put_ctx self.old.maps number None) }
+        ensures err { OnErr result (self.new.maps ≡ self.old.maps) }
         ensures keys { self.new.keys ≡ self.old.keys }
     {
         self.writes.reserve(1)?;
-        let (context, found) = self.tables.take_ctx(alloc, number, &self.writes)?;
-        let Some(before) = found.into_original() else {
+        let (context, found) = self.tables.take_ctx(number, &self.writes)?;
+        let Some(before) = found.into_unlogged() else {
             return Ok(context);
         };
         let Ok(()) = self.writes.push(Write::OfCtx(number, Some(before))) else {
@@ -199,40 +156,21 @@ impl InPlace {
         Ok(context)
     }
 
-    /// The termination of a name has another service state, if there is one: in its place where it was written before, and else as a
-    /// copy, since the original is kept.
-    pub(crate) fn set_service(
-        &mut self,
-        alloc: Global,
-        name: &TermName,
-        service: Service,
-    ) -> Result<(), NoMemory>
+    /// The termination of a name has another service state, if there is one: in its place where it was written
+    /// before, and else as a copy, since what stood there is logged.
+    pub(crate) fn set_service(&mut self, name: &TermName, service: Service) -> Result<(), NoMemory>
         ensures maps { OnOk result (self.new.maps ≡ put_service service name.now self.old.maps (term self.old.maps name.now)) }
         ensures keys { self.new.keys ≡ self.old.keys }
     {
         self.writes.reserve(1)?;
-        let found = self.tables.set_service(alloc, name, service, &self.writes)?;
-        let Some(before) = found.into_original() else {
+        let found = self.tables.set_service(name, service, &self.writes)?;
+        let Some(before) = found.into_unlogged() else {
             return Ok(());
         };
         let Ok(()) = self.writes.push(Write::OfTerm(*name, Some(before))) else {
             unreachable!()
         };
         Ok(())
-    }
-
-    /// The names of all terminations, in the order of their bytes.
-    pub(crate) fn names(&self, alloc: Global) -> Result<Vec<TermName>, NoMemory>
-        ensures { IfOk result (λ list. list.items ≡ names self.now.maps) }
-    {
-        self.tables.names(alloc)
-    }
-
-    /// The numbers of all contexts, rising.
-    pub(crate) fn numbers(&self, alloc: Global) -> Result<Vec<CtxNum>, NoMemory>
-        ensures { IfOk result (λ list. list.items ≡ numbers self.now.maps) }
-    {
-        self.tables.numbers(alloc)
     }
 
     /// The tables as they are, and what stood there before.

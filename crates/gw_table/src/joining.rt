@@ -12,12 +12,12 @@ ghost use Rattle.gw_table.specs.Originals.{keys_written};
 ghost use Rattle.gw_table.specs.Parts.{holds};
 ghost use Rattle.gw_table.specs.Stored.{maps_of, shown};
 
-use crate::in_place::{InPlace, note_vacated};
-use crate::marked::note_number;
+use crate::in_place::{InPlace, log_vacated};
+use crate::marked::set_number;
 use crate::originals::Write;
 use crate::over_part::OverPart;
 use crate::place::Place;
-use crate::site::{Found, Site};
+use crate::row::{Found, Row};
 use crate::tables::Tables;
 use gw_base::{CtxNum, Held, Key, NoMemory, TermName};
 use gw_ctx::{Context, JoinFault};
@@ -47,8 +47,8 @@ fn begun(alloc: Global, name: TermName, limit: usize) -> Result<Held<Context>, N
     Ok(context)
 }
 
-/// The name joins the context that stands in a place, as its last member. Where none stands, one comes into being. The caller knows
-/// that there is room.
+/// The name joins the context that stands in a place, as its last member. Where none stands, one comes into being.
+/// The caller knows that there is room.
 pub(crate) fn join_in_place(
     place: &mut Place<Held<Context>>,
     alloc: Global,
@@ -90,9 +90,10 @@ pub(crate) fn leave_in_place(place: &mut Place<Held<Context>>, name: &TermName)
 }
 
 impl Tables {
-    /// The name joins the context with a number, which comes into being with its first member: in its place where the number is noted
-    /// in the list of writes, and else in a copy. Answers what was found there, as `write_ctx` does. It is one look-up where there is a
-    /// place. After want of memory nothing has changed. The caller knows that there is room.
+    /// The name joins the context with a number, which comes into being with its first member: in its place where the
+    /// number is logged in the list of writes, and else in a copy. Answers what was found there, as `write_ctx` does.
+    /// It is one look-up where there is a place. Out of memory nothing has changed. The caller knows that there is
+    /// room.
     fn join(
         &mut self,
         alloc: Global,
@@ -107,23 +108,22 @@ impl Tables {
         ensures after { OnOk result (self.new ≡ join_place name number self.old (ctx (maps_of self.old) number)) }
         ensures err { OnErr result (self.new ≡ self.old) }
     {
-        if let Some(site) = self.contexts.get_mut(&number.0) {
-            let found = site.join(alloc, name, limit, writes, &Key::Ctx(number))?;
-            note_number(&mut self.numbers, number, true);
+        if let Some(row) = self.contexts.get_mut(&number.0) {
+            let found = row.join(alloc, name, limit, writes, &Key::Ctx(number))?;
+            set_number(&mut self.numbers, number, true);
             return Ok(found);
         }
         let new = Place::Here(begun(alloc, name, limit)?);
-        self.contexts.insert(number.0, Site::noted_in(writes, new))?;
-        note_number(&mut self.numbers, number, true);
-        Ok(Found::Original(None))
+        self.contexts.insert(number.0, Row::logged_in(writes, new))?;
+        set_number(&mut self.numbers, number, true);
+        Ok(Found::Unlogged(None))
     }
 
-    /// The name leaves the context with a number, if there is one, which ends with its last member: in its place where the number is
-    /// noted in the list of writes, and else in a copy. Answers what was found there, as `write_ctx` does, and whether its place is left
-    /// empty. It is one look-up. After want of memory nothing has changed.
+    /// The name leaves the context with a number, if there is one, which ends with its last member: in its place
+    /// where the number is logged in the list of writes, and else in a copy. Answers what was found there, as
+    /// `write_ctx` does, and whether its place is left empty. It is one look-up. Out of memory nothing has changed.
     fn leave(
         &mut self,
-        alloc: Global,
         number: CtxNum,
         name: &TermName,
         writes: &[Write],
@@ -132,19 +132,19 @@ impl Tables {
         ensures after { OnOk result (self.new ≡ leave_place name.now number self.old (ctx (maps_of self.old) number)) }
         ensures err { OnErr result (self.new ≡ self.old) }
     {
-        let Some(site) = self.contexts.get_mut(&number.0) else {
-            return Ok((Found::Original(None), false));
+        let Some(row) = self.contexts.get_mut(&number.0) else {
+            return Ok((Found::Unlogged(None), false));
         };
-        let found = site.leave(alloc, name, writes, &Key::Ctx(number))?;
-        let stands = site.is_here();
-        note_number(&mut self.numbers, number, stands);
+        let found = row.leave(name, writes, &Key::Ctx(number))?;
+        let stands = row.is_here();
+        set_number(&mut self.numbers, number, stands);
         Ok((found, !stands))
     }
 }
 
 impl InPlace {
-    /// The name joins the context with a number, in its place where it was written before, and else in a copy, since the original is
-    /// kept.
+    /// The name joins the context with a number, in its place where it was written before, and else in a copy, since
+    /// what stood there is logged.
     pub(crate) fn join(
         &mut self,
         alloc: Global,
@@ -159,7 +159,7 @@ impl InPlace {
     {
         self.writes.reserve(1)?;
         let found = self.tables.join(alloc, number, name, limit, &self.writes)?;
-        let Found::Original(before) = found else {
+        let Found::Unlogged(before) = found else {
             return Ok(());
         };
         let Ok(()) = self.writes.push(Write::OfCtx(number, before)) else {
@@ -168,25 +168,20 @@ impl InPlace {
         Ok(())
     }
 
-    /// The name leaves the context with a number, if there is one, in its place where it was written before, and else in a copy, since
-    /// the original is kept.
-    pub(crate) fn leave(
-        &mut self,
-        alloc: Global,
-        number: CtxNum,
-        name: &TermName,
-    ) -> Result<(), NoMemory>
+    /// The name leaves the context with a number, if there is one, in its place where it was written before, and else
+    /// in a copy, since what stood there is logged.
+    pub(crate) fn leave(&mut self, number: CtxNum, name: &TermName) -> Result<(), NoMemory>
         ensures maps { OnOk result (self.new.maps ≡ without_member number name.now self.old.maps) }
         ensures keys { self.new.keys ≡ self.old.keys }
     {
         self.writes.reserve(1)?;
-        let (found, ends) = self.tables.leave(alloc, number, name, &self.writes)?;
-        if let Some(before) = found.into_original() {
+        let (found, ends) = self.tables.leave(number, name, &self.writes)?;
+        if let Some(before) = found.into_unlogged() {
             let Ok(()) = self.writes.push(Write::OfCtx(number, Some(before))) else {
                 unreachable!()
             };
         }
-        note_vacated(&mut self.vacated, Key::Ctx(number), ends)
+        log_vacated(&mut self.vacated, Key::Ctx(number), ends)
     }
 }
 

@@ -34,8 +34,8 @@ fn sort(keys: &mut Vec<Key>)
     keys.dedup();
 }
 
-/// Puts keys in rising order, and leaves each there once, without memory. Where they are in order already, but for `Whole` that may
-/// stand first, the work is linear; else it is n log n.
+/// Puts keys in rising order, and leaves each there once, without memory. Where they are in order already, but for
+/// `Whole` that may stand first, the work is linear; else it is n log n.
 pub fn put_in_order(keys: &mut Vec<Key>)
     ensures { IsListOf keys.new.items keys.old.items }
 {

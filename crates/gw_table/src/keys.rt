@@ -9,8 +9,8 @@ use gw_base::{Key, NoMemory};
 use std::alloc::Global;
 use std::marker::Model;
 
-/// Keys in order without doubles, each with an empty place for its entry: terminations by the bytes of their names, then contexts
-/// by number, then `Whole`.
+/// Keys in order without doubles, each with an empty place for its entry: terminations by the bytes of their names,
+/// then contexts by number, then `Whole`.
 #[derive(Drop)]
 pub struct Keys {
     pub(crate) list: Vec<Key>,
@@ -40,7 +40,7 @@ impl Keys {
     ///
     /// # Errors
     ///
-    /// Want of memory.
+    /// Out of memory.
     pub fn from_list(alloc: Global, list: Vec<Key>) -> Result<Keys, NoMemory>
         requires { IsInOrder list.items }
         ensures { IfOk result (λ keys. keys ≡ list.items) }
@@ -53,7 +53,7 @@ impl Keys {
     ///
     /// # Errors
     ///
-    /// Want of memory.
+    /// Out of memory.
     pub fn of(alloc: Global, given: &[Key]) -> Result<Keys, NoMemory>
         ensures { IfOk result (λ keys. IsListOf keys given.now) }
     {

@@ -2,7 +2,7 @@
 
 ghost use Rattle.std.specs.Prelude.{◌≡◌, ℕ, ◌<◌, ◌≤◌, true, is_some};
 ghost use Rattle.gw_table.specs.Maps.{term, ctx, number};
-ghost use Rattle.gw_table.specs.Marking.{IsNumberNoted, IsSlotNoted};
+ghost use Rattle.gw_table.specs.Marking.{IsNumberSet, IsSlotSet};
 ghost use Rattle.gw_table.specs.Reserved.{slot_name};
 ghost use Rattle.gw_table.specs.Stored.{maps_of};
 
@@ -11,9 +11,9 @@ use crate::tables::Tables;
 use gw_base::{CtxNum, TermName};
 use gw_marks::Marks;
 
-/// Notes whether a context stands in its place now.
-pub(crate) fn note_number(numbers: &mut Marks, number: CtxNum, stands: bool)
-    ensures { IsNumberNoted number.0 stands numbers.old numbers.new }
+/// Sets the bit of a number where its context stands now, and else clears it.
+pub(crate) fn set_number(numbers: &mut Marks, number: CtxNum, stands: bool)
+    ensures { IsNumberSet number.0 stands numbers.old numbers.new }
 {
     if stands {
         numbers.mark(number.0);
@@ -22,9 +22,9 @@ pub(crate) fn note_number(numbers: &mut Marks, number: CtxNum, stands: bool)
     }
 }
 
-/// Notes whether a termination stands in its place now. Only those of slots are marked.
-pub(crate) fn note_slot(slots: &mut Marks, name: &TermName, stands: bool)
-    ensures { IsSlotNoted name.now stands slots.old slots.new }
+/// Sets the bit of a slot where its termination stands now, and else clears it. Other names have no bit.
+pub(crate) fn set_slot(slots: &mut Marks, name: &TermName, stands: bool)
+    ensures { IsSlotSet name.now stands slots.old slots.new }
 {
     let Some(slot) = slot_of(name) else {
         return;
@@ -37,9 +37,9 @@ pub(crate) fn note_slot(slots: &mut Marks, name: &TermName, stands: bool)
 }
 
 impl Tables {
-    /// The first number that may be free, from one on to another; the other one where none before it is. There is a context with
-    /// each number that is passed by, and `find_ctx` tells whether there is one with the number that is answered. The work is a step
-    /// for each 64 numbers.
+    /// The first number that may be free, from one on to another; the other one where none before it is. There is a
+    /// context with each number that is passed by, and `find_ctx` tells whether there is one with the number that is
+    /// answered. The work is a step for each 64 numbers.
     pub fn next_number(&self, from: u32, to: u32) -> u32
         requires { from ≤ to }
         ensures behind { from ≤ result }
@@ -49,9 +49,9 @@ impl Tables {
         self.numbers.first_unmarked(from, to)
     }
 
-    /// The first slot below 4,096 that may be free, from one on to another; the other one where none before it is. There is a
-    /// termination of each slot that is passed by, and `find_term` tells whether there is one of the slot that is answered. The work
-    /// is a step for each 64 slots.
+    /// The first slot below 4,096 that may be free, from one on to another; the other one where none before it is.
+    /// There is a termination of each slot that is passed by, and `find_term` tells whether there is one of the slot
+    /// that is answered. The work is a step for each 64 slots.
     pub fn next_slot(&self, from: u32, to: u32) -> u32
         requires order { from ≤ to }
         requires small { to ≤ 4096 }

@@ -12,7 +12,7 @@ ghost use Rattle.gw_table.specs.Stored.{maps_of, is_ready, put_term_place, put_c
 
 use crate::cell::Cell;
 use crate::keys::Keys;
-use crate::marked::{note_number, note_slot};
+use crate::marked::{set_number, set_slot};
 use crate::part::Part;
 use crate::place::Place;
 use crate::tables::Tables;
@@ -32,9 +32,9 @@ impl Tables {
         ensures before { Some result ≡ finite.get self.old.terms name.now }
         ensures after { self.new ≡ put_term_place self.old name.now new }
     {
-        note_slot(&mut self.slots, name, new.is_here());
+        set_slot(&mut self.slots, name, new.is_here());
         match self.terms.get_mut(name) {
-            Some(site) => site.put(new),
+            Some(row) => row.put(new),
             None => unreachable!(),
         }
     }
@@ -49,9 +49,9 @@ impl Tables {
         ensures before { Some result ≡ finite.get self.old.contexts number.0 }
         ensures after { self.new ≡ put_ctx_place self.old number new }
     {
-        note_number(&mut self.numbers, number, new.is_here());
+        set_number(&mut self.numbers, number, new.is_here());
         match self.contexts.get_mut(&number.0) {
-            Some(site) => site.put(new),
+            Some(row) => row.put(new),
             None => unreachable!(),
         }
     }
@@ -113,8 +113,9 @@ impl Tables {
         }
     }
 
-    /// Takes the entries of the keys out, as a part. The caller knows that each key is prepared and none is out. Of `Whole` nothing
-    /// is asked but that every entry's key is listed, and then the part has every entry. A key takes one look-up.
+    /// Takes the entries of the keys out, as a part. The caller knows that each key is prepared and none is out. Of
+    /// `Whole` nothing is asked but that every entry's key is listed, and then the part has every entry. A key takes
+    /// one look-up.
     pub fn take_out(&mut self, keys: Keys) -> Part
         requires ready { AreReady keys self.old }
         requires here { AreIn keys self.old }
@@ -140,8 +141,8 @@ impl Tables {
         self.put_each(&keys, &mut cells);
     }
 
-    /// Puts the entries of a part back: each of its keys has the part's entry then, or none where the part has none. The caller
-    /// knows that its keys are out. A key takes one look-up.
+    /// Puts the entries of a part back: each of its keys has the part's entry then, or none where the part has none.
+    /// The caller knows that its keys are out. A key takes one look-up.
     pub fn put_back(&mut self, part: Part)
         requires { AreOut (list_of part.keys) self.old }
         ensures maps { maps_of self.new ≡ overlaid (list_of part.keys) part.maps (maps_of self.old) }
@@ -151,8 +152,9 @@ impl Tables {
         self.lay(part);
     }
 
-    /// Puts the entries of a part in place of those that are here: each of its keys has the part's entry then, or none where the
-    /// part has none. The caller knows that its keys are prepared and none is out. A key takes one look-up.
+    /// Puts the entries of a part in place of those that are here: each of its keys has the part's entry then, or
+    /// none where the part has none. The caller knows that its keys are prepared and none is out. A key takes one
+    /// look-up.
     pub fn replace(&mut self, part: Part)
         requires ready { AreReady (list_of part.keys) self.old }
         requires here { AreIn (list_of part.keys) self.old }

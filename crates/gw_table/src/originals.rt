@@ -1,11 +1,8 @@
-//! What stood at keys of tables before they were written, and the way back.
+//! What stood at keys of tables before they were written: an undo log.
 
 ghost use Rattle.std.specs.Prelude.{◌≡◌, true, false, []};
-ghost use Rattle.gw_base.specs.declared.key.Key.TheVariants.{Term};
 ghost use Rattle.gw_base.specs.Keys.{same_key};
-ghost use Rattle.gw_table.specs.Maps.{term};
-ghost use Rattle.gw_table.specs.Originals.{key_written, keys_written, notes_properties, notes_termination, without_write, undone};
-ghost use Rattle.gw_table.specs.Records.{put_record_place};
+ghost use Rattle.gw_table.specs.Originals.{key_written, keys_written, logs_properties, without_write, undone};
 ghost use Rattle.gw_table.specs.Stored.{maps_of, is_ready, is_out, AreReady, AreIn, AreAsReady, AreAsOut, NoneIsOut};
 
 use crate::place::Place;
@@ -17,8 +14,8 @@ use gw_term::Termination;
 use std::alloc::Global;
 use std::marker::Model;
 
-/// Of so many writes one leaves a key without an entry, mostly: a call writes two terminations and a context twice, and leaves the context
-/// and one of the terminations.
+/// Of so many writes one leaves a key without an entry, mostly: a call writes two terminations and a context twice,
+/// and leaves the context and one of the terminations.
 const WRITES_FOR_ONE_VACATED: usize = 4;
 
 /// A list of nothing, with room for so many, if there is memory for that.
@@ -38,25 +35,12 @@ pub enum Write {
     OfTerm(TermName, Option<Held<Termination>>),
     /// The context with a number, or none.
     OfCtx(CtxNum, Option<Held<Context>>),
-    /// The priority of the context with a number, if there is one, and whether it was marked as an emergency; of the rest nothing. The
-    /// context may be written still, so it counts for no key.
+    /// The priority of the context with a number, if there is one, and whether it was marked as an emergency; of the
+    /// rest nothing. The context may be written still, so it counts for no key.
     OfProperties(CtxNum, u8, bool),
-    /// The record of the termination of a name, if there is one. The termination may be written still, so it counts for no key.
-    OfRecord(TermName, Termination),
 }
 
 impl Write {
-    /// The key that was written.
-    pub(crate) fn key(&self) -> Key
-        ensures { result ≡ key_written self.now }
-    {
-        match self {
-            Write::OfTerm(name, _) => Key::Term(*name),
-            Write::OfCtx(number, _) => Key::Ctx(*number),
-            Write::OfProperties(_, _, _) | Write::OfRecord(_, _) => Key::Whole,
-        }
-    }
-
     /// Whether it is a write of this key.
     pub(crate) fn is_of(&self, key: &Key) -> bool
         ensures { result ≡ same_key key.now (key_written self.now) }
@@ -65,52 +49,28 @@ impl Write {
             (Write::OfTerm(own, _), Key::Term(name)) => own == name,
             (Write::OfCtx(own, _), Key::Ctx(number)) => own.0 == number.0,
             (Write::OfProperties(_, _, _), Key::Whole) => true,
-            (Write::OfRecord(_, _), Key::Whole) => true,
             _ => false,
         }
     }
-}
 
-impl Write {
-    /// Whether it is one of the termination of this name.
-    pub(crate) fn is_of_term(&self, name: &TermName) -> bool
-        ensures { result ≡ same_key (Term name.now) (key_written self.now) }
-    {
-        match self {
-            Write::OfTerm(own, _) => own == name,
-            Write::OfCtx(_, _) | Write::OfProperties(_, _, _) | Write::OfRecord(_, _) => false,
-        }
-    }
-
-    /// Whether it notes the termination of this name, whole or its record.
-    pub(crate) fn notes_termination(&self, name: &TermName) -> bool
-        ensures { result ≡ notes_termination name.now self.now }
-    {
-        match self {
-            Write::OfTerm(own, _) => name == own,
-            Write::OfRecord(own, _) => name == own,
-            Write::OfCtx(_, _) | Write::OfProperties(_, _, _) => false,
-        }
-    }
-
-    /// Whether it notes the properties of the context with this number.
+    /// Whether it logs the properties of the context with this number.
     pub(crate) fn is_of_properties(&self, number: CtxNum) -> bool
-        ensures { result ≡ notes_properties number self.now }
+        ensures { result ≡ logs_properties number self.now }
     {
         match self {
             Write::OfProperties(own, _, _) => number.0 == own.0,
-            Write::OfTerm(_, _) | Write::OfCtx(_, _) | Write::OfRecord(_, _) => false,
+            Write::OfTerm(_, _) | Write::OfCtx(_, _) => false,
         }
     }
 }
 
-/// What stood at keys of tables before they were written, in the order of the writes: a key for each, and of each key what its first
-/// write found there; and the properties of contexts and the records of terminations that were changed where they lie before that.
+/// What stood at keys of tables before they were written, in the order of the writes: a key for each, and of each key
+/// what its first write found there; and the properties of contexts that were set in their places before that.
 /// Contracts see the list of the writes.
 #[derive(Drop)]
 pub struct Originals {
     pub(crate) writes: Vec<Write>,
-    // Keys that were left without an entry, whose places may be given up.
+    // Keys that were left without an entry, whose places may be freed.
     pub(crate) vacated: Vec<Key>,
 }
 
@@ -136,16 +96,6 @@ impl Originals {
 }
 
 impl Tables {
-    /// The termination of a name, if there is one, has this record, where it lies. It is one look-up.
-    fn put_record(&mut self, name: &TermName, before: Termination)
-        ensures { self.new ≡ put_record_place before name.now self.old (term (maps_of self.old) name.now) }
-    {
-        let Some(site) = self.terms.get_mut(name) else {
-            return;
-        };
-        site.put_record(before);
-    }
-
     /// Puts back what stood at a key before a write of it.
     fn take_back(&mut self, write: Write)
         requires ready { is_ready self.old (key_written write) ≡ true }
@@ -160,12 +110,11 @@ impl Tables {
             Write::OfProperties(number, priority, emergency) => {
                 self.set(number, Setting::Both(priority, emergency));
             }
-            Write::OfRecord(name, before) => self.put_record(&name, before),
         }
     }
 
-    /// Puts back what stood at each key before its first write. The caller knows that each has a place, and that none is out. A write
-    /// takes one look-up, and no memory is taken.
+    /// Puts back what stood at each key before its first write. The caller knows that each has a place, and that none
+    /// is out. A write takes one look-up, and no memory is taken.
     pub(crate) fn take_all_back(&mut self, mut writes: Vec<Write>)
         requires ready { AreReady (keys_written writes.items) self.old }
         requires here { AreIn (keys_written writes.items) self.old }
@@ -178,8 +127,8 @@ impl Tables {
         }
     }
 
-    /// Takes the writes back: each of their keys has its entry then, or none where there was none. The caller knows that each has a place,
-    /// and that none is out. A write takes one look-up, and no memory is taken.
+    /// Takes the writes back: each of their keys has its entry then, or none where there was none. The caller knows
+    /// that each has a place, and that none is out. A write takes one look-up, and no memory is taken.
     pub fn restore(&mut self, originals: Originals)
         requires ready { AreReady (keys_written originals) self.old }
         requires here { AreIn (keys_written originals) self.old }
@@ -191,9 +140,9 @@ impl Tables {
         self.take_all_back(writes);
     }
 
-    /// Gives up the places of those keys that were left without an entry and still have none. The caller knows that nothing is out.
-    /// Such a key takes two look-ups; of many keys it is one pass over all places, which gives up each that has no entry. Memory is given
-    /// back and none is taken.
+    /// Frees the places of those keys that were left without an entry and still have none. The caller knows that
+    /// nothing is out. Such a key takes two look-ups; of many keys it is one pass over all places, which frees each
+    /// that has no entry. Memory is given back and none is taken.
     pub fn sweep_vacated(&mut self, originals: &Originals)
         requires { NoneIsOut self.old }
         ensures maps { maps_of self.new ≡ maps_of self.old }

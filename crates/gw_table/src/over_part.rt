@@ -1,6 +1,6 @@
-//! Changes that are laid over a lent part.
+//! Changes that are laid over a borrowed part.
 
-ghost use Rattle.std.specs.Prelude.{◌≡◌, None, true, IfOk, OnOk, option_copied};
+ghost use Rattle.std.specs.Prelude.{◌≡◌, None, true, IfOk, OnOk, OnErr, option_copied};
 ghost use Rattle.gw_base.specs.declared.key.Key.TheVariants.{Term, Ctx};
 ghost use Rattle.gw_table.specs.Maps.{term, ctx, put_term, put_ctx, names, numbers};
 ghost use Rattle.gw_table.specs.Members.{put_service};
@@ -15,15 +15,16 @@ use gw_term::Termination;
 use std::alloc::Global;
 use std::marker::Model;
 
-/// Changes that are laid over a lent part, which stays as it is: what is read at a key is what was written there last, and else the
-/// part's entry. A look-up takes log c steps in the c keys that were written, and one in the part where the key is none of them.
+/// Changes that are laid over a borrowed part, which stays as it is: what is read at a key is what was written there
+/// last, and else the part's entry. A look-up takes log c steps in the c keys that were written, and one in the part
+/// where the key is none of them.
 pub(crate) struct OverPart<'t> {
     pub(crate) part: &'t Part,
     // A place for each key that was written.
     changed: Tables,
 }
 
-// By hand, so that a function that lets it go does so by one call. A derived one would stand in it field by field.
+// By hand, so that a function that drops it does so by one call. A derived one would stand in it field by field.
 impl<'t> Drop for OverPart<'t> {
     fn drop(self) {
         let OverPart {
@@ -87,6 +88,7 @@ impl<'t> OverPart<'t> {
     ) -> Result<(), NoMemory>
         requires { holds self.old.keys (Term name) ≡ true }
         ensures maps { OnOk result (self.new.maps ≡ put_term self.old.maps name entry) }
+        ensures err { OnErr result (self.new.maps ≡ self.old.maps) }
         ensures keys { self.new.keys ≡ self.old.keys }
     {
         self.changed.put_term(name, Place::of(entry))?;
@@ -101,6 +103,7 @@ impl<'t> OverPart<'t> {
     ) -> Result<(), NoMemory>
         requires { holds self.old.keys (Ctx number) ≡ true }
         ensures maps { OnOk result (self.new.maps ≡ put_ctx self.old.maps number entry) }
+        ensures err { OnErr result (self.new.maps ≡ self.old.maps) }
         ensures keys { self.new.keys ≡ self.old.keys }
     {
         self.changed.put_ctx(number, Place::of(entry))?;
@@ -135,6 +138,7 @@ impl<'t> OverPart<'t> {
         requires { holds self.old.keys (Ctx number) ≡ true }
         ensures context { IfOk result (λ context. context ≡ ctx self.old.maps number) }
         ensures maps { OnOk result (self.new.maps ≡ put_ctx self.old.maps number None) }
+        ensures err { OnErr result (self.new.maps ≡ self.old.maps) }
         ensures keys { self.new.keys ≡ self.old.keys }
     {
         if self.changed.has_ctx(number) {
@@ -195,7 +199,8 @@ impl<'t> OverPart<'t> {
         Ok(numbers)
     }
 
-    /// The part with the changes, as a part of its own. Entries that were not changed are copied; a key takes a look-up.
+    /// The part with the changes, as a part of its own. Entries that were not changed are copied; a key takes a
+    /// look-up.
     pub(crate) fn into_part(self, alloc: Global) -> Result<Part, NoMemory>
         ensures { IfOk result (λ part. part ≡ self.entry) }
     {

@@ -81,7 +81,7 @@ impl Part {
         ensures { IfOk result (λ entry. entry ≡ term self.now.maps name.now) }
     {
         match self.term(name) {
-            Some(termination) => Ok(Some(Held::new(alloc, termination.copy(alloc)?)?)),
+            Some(termination) => Ok(Some(Held::new(alloc, termination.copy()?)?)),
             None => Ok(None),
         }
     }

@@ -1,13 +1,12 @@
 //! What stands at a prepared key.
 
-ghost use Rattle.std.specs.Prelude.{◌≡◌, Some, is_some, IfOk, OnOk, OnErr, option_copied};
-ghost use Rattle.gw_table.specs.Records.{recorded_at};
+ghost use Rattle.std.specs.Prelude.{◌≡◌, Some, is_some, IfOk, option_copied};
 ghost use Rattle.gw_table.specs.Stored.{shown, placed, served, emptied, is_vacant};
 
 use gw_base::{Held, NoMemory, Service};
 use gw_ctx::Context;
 use gw_term::Termination;
-use std::alloc::{AllocError, Global};
+use std::alloc::AllocError;
 use std::mem;
 
 /// What stands at a prepared key.
@@ -71,27 +70,8 @@ pub(crate) fn entry_at<T>(place: Option<&Place<Held<T>>>) -> Option<&T>
     }
 }
 
-/// The termination that stands in a place has another service state, if there is one, as a copy. Answers the one that stood there.
-pub(crate) fn serve(
-    place: &mut Place<Held<Termination>>,
-    alloc: Global,
-    service: Service,
-) -> Result<Option<Held<Termination>>, NoMemory>
-    ensures before { IfOk result (λ before. before ≡ shown (Some place.old)) }
-    ensures after { OnOk result (place.new ≡ served service place.old) }
-    ensures err { OnErr result (place.new ≡ place.old) }
-{
-    let Place::Here(entry) = place else {
-        return Ok(None);
-    };
-    let mut copy = entry.get().copy(alloc)?;
-    copy.set_service(service);
-    let new = Held::new(alloc, copy)?;
-    Ok(Some(mem::replace(entry, new)))
-}
-
 /// The termination that stands in a place has another service state, if there is one. It is changed in its place.
-pub(crate) fn set_in_place(place: &mut Place<Held<Termination>>, service: Service)
+pub(crate) fn serve(place: &mut Place<Held<Termination>>, service: Service)
     ensures { place.new ≡ served service place.old }
 {
     if let Place::Here(entry) = place {
@@ -99,41 +79,20 @@ pub(crate) fn set_in_place(place: &mut Place<Held<Termination>>, service: Servic
     }
 }
 
-/// The termination that stands in a place has this record, if there is one. It is changed in its place.
-pub(crate) fn put_record(place: &mut Place<Held<Termination>>, before: Termination)
-    ensures { place.new ≡ recorded_at before place.old }
-{
-    if let Place::Here(entry) = place {
-        *entry.get_mut() = before;
-    }
-}
-
-/// A copy of the context that stands in a place, if there is one.
-pub(crate) fn copied(
-    place: &Place<Held<Context>>,
-    alloc: Global,
-) -> Result<Option<Held<Context>>, NoMemory>
-    ensures { IfOk result (λ copy. copy ≡ shown (Some place.now)) }
-{
-    match place {
-        Place::Here(context) => Ok(Some(Held::new(alloc, context.get().copy()?)?)),
-        Place::Empty | Place::Out => Ok(None),
-    }
-}
-
-/// What stands in a place becomes a copy of itself, if there is something. Answers what stood there.
-pub(crate) fn renew(
-    place: &mut Place<Held<Context>>,
-    alloc: Global,
-) -> Result<Option<Held<Context>>, NoMemory>
+/// What stands in a place becomes a copy of itself, if there is something. Answers what stood there. The caller knows
+/// that copies are equal.
+pub(crate) fn renew<T: Clone + Drop>(
+    place: &mut Place<Held<T>>,
+) -> Result<Option<Held<T>>, NoMemory>
+    requires { (a b : T) → T.is_clone a b → b ≡ a }
     ensures before { IfOk result (λ before. before ≡ shown (Some place.old)) }
     ensures after { place.new ≡ place.old }
 {
-    let Place::Here(context) = place else {
+    let Place::Here(entry) = place else {
         return Ok(None);
     };
-    let copy = Held::new(alloc, context.get().copy()?)?;
-    Ok(Some(mem::replace(context, copy)))
+    let copy = entry.clone()?;
+    Ok(Some(mem::replace(entry, copy)))
 }
 
 /// Whether there is a place, and nothing that stands in it or went out of it.

@@ -8,8 +8,8 @@ ghost use Rattle.gw_table.specs.Reserved.{is_reserved, slot_name};
 use gw_base::TermName;
 use itoa::Buffer;
 
-/// Whether no termination may be configured under the name: `ROOT` in any case, and what begins with `RTP/`, are the gateway's
-/// own to give.
+/// Whether no termination may be configured under the name: `ROOT` in any case, and what begins with `RTP/`, are the
+/// gateway's own to give.
 pub fn is_reserved(name: TermName) -> bool
     ensures { result ≡ is_reserved name }
 {

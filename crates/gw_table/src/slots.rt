@@ -9,18 +9,18 @@ ghost use Rattle.gw_base.specs.declared.key.Key.TheVariants.{Term, Ctx};
 ghost use Rattle.gw_table.specs.Stored.{maps_of, is_out, shown, if_shown, ArePrepared, AreAsOut, AreIn, AreReady, KeepReady, NoOtherReady, NoneIsOut, AreSwept, AreSweptAt, WereSwept};
 
 use crate::place::{Place, is_vacant};
-use crate::site::{Site, place_at};
+use crate::row::{Row, place_at};
 use crate::tables::Tables;
 use gw_base::{CtxNum, Held, Key, NoMemory, TermName};
 use gw_ctx::Context;
 use std::collections::BTreeMap;
 
 /// Whether no context stands in any of these places.
-fn none_stands(contexts: &BTreeMap<u32, Site<Held<Context>>>) -> bool
+fn none_stands(contexts: &BTreeMap<u32, Row<Held<Context>>>) -> bool
     ensures { result ≡ true → (n : ℕ) → shown (lookup (is_at (nat_cmp n)) contexts.now.entries) ≡ None }
 {
-    for (_, site) in contexts {
-        if site.is_here() {
+    for (_, row) in contexts {
+        if row.is_here() {
             return false;
         }
     }
@@ -28,29 +28,29 @@ fn none_stands(contexts: &BTreeMap<u32, Site<Held<Context>>>) -> bool
 }
 
 impl Tables {
-    /// Makes a place for a termination. A refused growth changes nothing.
+    /// Makes a place for a termination. A refused allocation changes nothing.
     fn prepare_term(&mut self, name: TermName) -> Result<(), NoMemory>
         ensures ok { OnOk result (ArePrepared (Term name ∷ []) self.old self.new) }
         ensures err { OnErr result (self.new ≡ self.old) }
     {
         if !self.terms.contains_key(&name) {
-            self.terms.insert(name, Site::of(Place::Empty))?;
+            self.terms.insert(name, Row::of(Place::Empty))?;
         }
         Ok(())
     }
 
-    /// Makes a place for a context. A refused growth changes nothing.
+    /// Makes a place for a context. A refused allocation changes nothing.
     fn prepare_ctx(&mut self, number: CtxNum) -> Result<(), NoMemory>
         ensures ok { OnOk result (ArePrepared (Ctx number ∷ []) self.old self.new) }
         ensures err { OnErr result (self.new ≡ self.old) }
     {
         if !self.contexts.contains_key(&number.0) {
-            self.contexts.insert(number.0, Site::of(Place::Empty))?;
+            self.contexts.insert(number.0, Row::of(Place::Empty))?;
         }
         Ok(())
     }
 
-    /// Makes a place for a key. A refused growth changes nothing.
+    /// Makes a place for a key. A refused allocation changes nothing.
     fn prepare(&mut self, key: Key) -> Result<(), NoMemory>
         ensures ok { OnOk result (ArePrepared (key ∷ []) self.old self.new) }
         ensures err { OnErr result (self.new ≡ self.old) }
@@ -62,11 +62,12 @@ impl Tables {
         }
     }
 
-    /// Prepares a place for each key, which stays prepared until `sweep` or `sweep_keys`. The entries stay as they are. A key takes two look-ups.
+    /// Prepares a place for each key, which stays prepared until `sweep` or `sweep_keys`. The entries stay as they
+    /// are. A key takes two look-ups.
     ///
     /// # Errors
     ///
-    /// Want of memory. Some of the keys may then be prepared, and nothing else has changed.
+    /// Out of memory. Some of the keys may then be prepared, and nothing else has changed.
     pub fn reserve_slots(&mut self, keys: &[Key]) -> Result<(), NoMemory>
         ensures maps { maps_of self.new ≡ maps_of self.old }
         ensures out { AreAsOut self.old self.new }
@@ -112,8 +113,9 @@ impl Tables {
         }
     }
 
-    /// Ends the preparation of those of the keys that have no entry, and of no other key. The caller knows that none of them is
-    /// out. A key takes one look-up, and one more where its place is given up; memory is given back and none is taken.
+    /// Ends the preparation of those of the keys that have no entry, and of no other key. The caller knows that none
+    /// of them is out. A key takes one look-up, and one more where its place is freed; memory is given back and none
+    /// is taken.
     pub fn sweep_keys(&mut self, keys: &[Key])
         requires { AreIn keys.now self.old }
         ensures maps { maps_of self.new ≡ maps_of self.old }
@@ -130,7 +132,7 @@ impl Tables {
         ensures terms { (t : List ℕ) → finite.get self.new.terms t ≡ if_shown (finite.get self.old.terms t) }
         ensures contexts { self.new.contexts ≡ self.old.contexts }
     {
-        self.terms.retain(|_, site| site.is_here());
+        self.terms.retain(|_, row| row.is_here());
     }
 
     /// Ends the preparation of numbers without a context. Where there is no context, all places go at once.
@@ -142,10 +144,11 @@ impl Tables {
             self.contexts.clear();
             return;
         }
-        self.contexts.retain(|_, site| site.is_here());
+        self.contexts.retain(|_, row| row.is_here());
     }
 
-    /// Ends the preparation of keys without an entry. The caller knows that no key is out. The work is one pass over all places.
+    /// Ends the preparation of keys without an entry. The caller knows that no key is out. The work is one pass over
+    /// all places.
     pub fn sweep(&mut self)
         requires { NoneIsOut self.old }
         ensures maps { maps_of self.new ≡ maps_of self.old }

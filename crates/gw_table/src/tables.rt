@@ -8,7 +8,7 @@ ghost use Rattle.gw_table.specs.Stored.{maps_of, nothing_stored, NoneIsOut};
 
 use crate::place::{Place, entry_at};
 use crate::reserved::SLOTS;
-use crate::site::{Site, place_at};
+use crate::row::{Row, place_at};
 use gw_base::{Config, CtxNum, Held, NoMemory, TermName};
 use gw_ctx::Context;
 use gw_marks::Marks;
@@ -20,17 +20,17 @@ use std::marker::Model;
 /// The numbers below this one can be marked: all numbers of contexts.
 const NUMBERS: u32 = 65536;
 
-/// Terminations by name, and contexts by number, each by its handle in a place. A look-up takes log n steps. Numbers and slots of
-/// which an entry stands are marked, by a bit for each, for the search for free ones.
+/// Terminations by name, and contexts by number, each by its handle in a place. A look-up takes log n steps. Numbers
+/// and slots of which an entry stands are marked, by a bit for each, for the search for free ones.
 pub struct Tables {
-    pub(crate) terms: BTreeMap<TermName, Site<Held<Termination>>>,
-    pub(crate) contexts: BTreeMap<u32, Site<Held<Context>>>,
+    pub(crate) terms: BTreeMap<TermName, Row<Held<Termination>>>,
+    pub(crate) contexts: BTreeMap<u32, Row<Held<Context>>>,
     // Of what is marked an entry stands. One that is not marked may stand too.
     pub(crate) numbers: Marks,
     pub(crate) slots: Marks,
 }
 
-// By hand, so that a function that lets tables go does so by one call. A derived one would stand in it field by field.
+// By hand, so that a function that drops tables does so by one call. A derived one would stand in it field by field.
 impl Drop for Tables {
     fn drop(self) {
         let Tables {
@@ -86,8 +86,8 @@ impl Tables {
         ensures maps { OnOk result (maps_of self.new ≡ put_term (maps_of self.old) name (Some provisioned)) }
         ensures out { OnOk result (NoneIsOut self.old → NoneIsOut self.new) }
     {
-        let new = Held::new(alloc, Termination::provisioned(alloc))?;
-        self.terms.insert(name, Site::of(Place::Here(new)))?;
+        let new = Held::new(alloc, Termination::provisioned())?;
+        self.terms.insert(name, Row::of(Place::Here(new)))?;
         Ok(())
     }
 
@@ -130,13 +130,14 @@ impl Tables {
         Ok(())
     }
 
-    /// The configured terminations, all in the null context, and no contexts. A name that is given
-    /// twice is there once. The work is n log n in the names. Names that come in order are put in in two turns, so that the second fills
-    /// the nodes that the first left half full. There is room for the mark of each number and of each slot, 8,704 bytes.
+    /// The configured terminations, all in the null context, and no contexts. A name that is given twice is there
+    /// once. The work is n log n in the names. Names that come in order are put in in two turns, so that the second
+    /// fills the nodes that the first left half full. There is room for the mark of each number and of each slot,
+    /// 8,704 bytes.
     ///
     /// # Errors
     ///
-    /// Want of memory.
+    /// Out of memory.
     pub fn provision(alloc: Global, config: &Config) -> Result<Tables, NoMemory>
         ensures maps { IfOk result (λ tables. maps_of tables ≡ new_maps config.now.terms) }
         ensures out { IfOk result NoneIsOut }
@@ -166,13 +167,13 @@ impl Tables {
     ///
     /// # Errors
     ///
-    /// Want of memory.
+    /// Out of memory.
     pub fn names(&self, alloc: Global) -> Result<Vec<TermName>, NoMemory>
         ensures { IfOk result (λ list. list.items ≡ names (maps_of self.now)) }
     {
         let mut names = Vec::with_capacity(alloc, self.terms.len())?;
-        for (name, site) in &self.terms {
-            if site.is_here() {
+        for (name, row) in &self.terms {
+            if row.is_here() {
                 names.push(*name)?;
             }
         }
@@ -183,13 +184,13 @@ impl Tables {
     ///
     /// # Errors
     ///
-    /// Want of memory.
+    /// Out of memory.
     pub fn numbers(&self, alloc: Global) -> Result<Vec<CtxNum>, NoMemory>
         ensures { IfOk result (λ list. list.items ≡ numbers (maps_of self.now)) }
     {
         let mut numbers = Vec::with_capacity(alloc, self.contexts.len())?;
-        for (number, site) in &self.contexts {
-            if site.is_here() {
+        for (number, row) in &self.contexts {
+            if row.is_here() {
                 numbers.push(CtxNum(*number))?;
             }
         }

@@ -176,15 +176,15 @@ fn write_terms(tables: &Tables, names: &[TermName], out: &mut Vec<u8>) -> Result
 }
 
 impl Tables {
-    /// Writes a line `context <number> <members>` for each context, the numbers rising, each with lines behind it for its properties:
-    /// `priority <number> <priority>` where it is not 0, `emergency <number>` where it is marked, and
-    /// `topology <number> <name> <name> <Oneway or Isolate>` for each link. Behind the contexts stands a line
-    /// `term <name> <context or -> <service state>` for each termination, in the order of the bytes of their names. The work is
-    /// linear in the text, but for a look-up for each context and termination.
+    /// Writes a line `context <number> <members>` for each context, the numbers rising, each with lines behind it for
+    /// its properties: `priority <number> <priority>` where it is not 0, `emergency <number>` where it is marked, and
+    /// `topology <number> <name> <name> <Oneway or Isolate>` for each link. Behind the contexts stands a line `term
+    /// <name> <context or -> <service state>` for each termination, in the order of the bytes of their names. The
+    /// work is linear in the text, but for a look-up for each context and termination.
     ///
     /// # Errors
     ///
-    /// Want of memory. A front of the text may then be written.
+    /// Out of memory. A front of the text may then be written.
     pub fn write_text(&self, alloc: Global, out: &mut Vec<u8>) -> Result<(), NoMemory>
         ensures { OnOk result (out.new.items ≡ out.old.items ++ tables_text (maps_of self.now)) }
     {

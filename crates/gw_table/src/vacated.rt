@@ -1,4 +1,4 @@
-//! Places of keys that were left without an entry: given up by look-ups, or many of them in one pass.
+//! Places of keys that were left without an entry: freed by look-ups, or many of them in one pass.
 
 ghost use Rattle.std.specs.Prelude.{◌≡◌};
 ghost use Rattle.gw_table.specs.Stored.{maps_of, NoneIsOut};
@@ -29,7 +29,8 @@ fn is_passed(key: &Key, terms: bool, contexts: bool) -> bool {
 }
 
 impl Tables {
-    /// Gives up the places of names without a termination, if it is asked for, in one pass. The caller knows that nothing is out.
+    /// Frees the places of names without a termination, if it is asked for, in one pass. The caller knows that
+    /// nothing is out.
     fn sweep_terms_if(&mut self, asked: bool)
         requires { NoneIsOut self.old }
         ensures maps { maps_of self.new ≡ maps_of self.old }
@@ -51,8 +52,8 @@ impl Tables {
         }
     }
 
-    /// Gives up the places of those of the keys that have no entry, but for those of maps that were passed over. Such a key takes two
-    /// look-ups.
+    /// Frees the places of those of the keys that have no entry, but for those of maps that were passed over. Such a
+    /// key takes two look-ups.
     fn sweep_rest(&mut self, keys: &[Key], terms: bool, contexts: bool)
         requires { NoneIsOut self.old }
         ensures maps { maps_of self.new ≡ maps_of self.old }
@@ -65,8 +66,9 @@ impl Tables {
         }
     }
 
-    /// Gives up the places of those of the keys that have no entry, and, where a map has many of them, all of its places without one: then
-    /// it is one pass over that map, without a look-up, and else two look-ups for such a key. The caller knows that nothing is out.
+    /// Frees the places of those of the keys that have no entry, and, where a map has many of them, all of its places
+    /// without one: then it is one pass over that map, without a look-up, and else two look-ups for such a key. The
+    /// caller knows that nothing is out.
     pub(crate) fn sweep_vacant(&mut self, keys: &[Key])
         requires { NoneIsOut self.old }
         ensures maps { maps_of self.new ≡ maps_of self.old }

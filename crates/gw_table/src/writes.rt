@@ -1,4 +1,4 @@
-//! Single places of tables: read, written, and given up.
+//! Single places of tables: read, written, and freed.
 
 ghost use Rattle.std.specs.Prelude.{◌≡◌, IfOk, OnOk, OnErr, option_copied};
 ghost use Rattle.std.specs.FinMap as finite;
@@ -8,15 +8,14 @@ ghost use Rattle.gw_table.specs.Maps.{term, ctx};
 ghost use Rattle.gw_table.specs.Originals.{keys_written};
 ghost use Rattle.gw_table.specs.Stored.{maps_of, is_ready, put_term_place, put_ctx_place, with_service, without_ctx, drop_term_place, drop_ctx_place};
 
-use crate::marked::{note_number, note_slot};
+use crate::marked::{set_number, set_slot};
 use crate::originals::Write;
 use crate::place::Place;
-use crate::site::{Found, Site, place_at, place_in};
+use crate::row::{Found, Row, place_at, place_in};
 use crate::tables::Tables;
 use gw_base::{CtxNum, Held, Key, NoMemory, Service, TermName};
 use gw_ctx::Context;
 use gw_term::Termination;
-use std::alloc::Global;
 
 impl Tables {
     /// Whether there is a place for a termination.
@@ -47,7 +46,7 @@ impl Tables {
         place_at(self.contexts.get(&number.0))
     }
 
-    /// Sets the place of a termination. A refused growth changes nothing.
+    /// Sets the place of a termination. A refused allocation changes nothing.
     pub(crate) fn put_term(
         &mut self,
         name: TermName,
@@ -57,12 +56,12 @@ impl Tables {
         ensures err { OnErr result (self.new ≡ self.old) }
     {
         let stands = place.is_here();
-        self.terms.insert(name, Site::of(place))?;
-        note_slot(&mut self.slots, &name, stands);
+        self.terms.insert(name, Row::of(place))?;
+        set_slot(&mut self.slots, &name, stands);
         Ok(())
     }
 
-    /// Sets the place of a context. A refused growth changes nothing.
+    /// Sets the place of a context. A refused allocation changes nothing.
     pub(crate) fn put_ctx(
         &mut self,
         number: CtxNum,
@@ -72,13 +71,13 @@ impl Tables {
         ensures err { OnErr result (self.new ≡ self.old) }
     {
         let stands = place.is_here();
-        self.contexts.insert(number.0, Site::of(place))?;
-        note_number(&mut self.numbers, number, stands);
+        self.contexts.insert(number.0, Row::of(place))?;
+        set_number(&mut self.numbers, number, stands);
         Ok(())
     }
 
-    /// Sets the place of a termination, by one look-up where it has one, and answers what was found there: that the name is noted in
-    /// the list of writes, or what the caller notes next. A refused growth changes nothing.
+    /// Sets the place of a termination, by one look-up where it has one, and answers what was found there: that the
+    /// name is logged in the list of writes, or what the caller logs next. A refused allocation changes nothing.
     pub(crate) fn write_term(
         &mut self,
         name: &TermName,
@@ -90,14 +89,14 @@ impl Tables {
         ensures err { OnErr result (self.new ≡ self.old) }
     {
         let stands = place.is_here();
-        if let Some(site) = self.terms.get_mut(name) {
-            let found = site.write(place, writes, &Key::Term(*name));
-            note_slot(&mut self.slots, name, stands);
+        if let Some(row) = self.terms.get_mut(name) {
+            let found = row.write(place, writes, &Key::Term(*name));
+            set_slot(&mut self.slots, name, stands);
             return Ok(found);
         }
-        self.terms.insert(*name, Site::noted_in(writes, place))?;
-        note_slot(&mut self.slots, name, stands);
-        Ok(Found::Original(None))
+        self.terms.insert(*name, Row::logged_in(writes, place))?;
+        set_slot(&mut self.slots, name, stands);
+        Ok(Found::Unlogged(None))
     }
 
     /// Sets the place of a context, as `write_term` does.
@@ -112,22 +111,22 @@ impl Tables {
         ensures err { OnErr result (self.new ≡ self.old) }
     {
         let stands = place.is_here();
-        if let Some(site) = self.contexts.get_mut(&number.0) {
-            let found = site.write(place, writes, &Key::Ctx(number));
-            note_number(&mut self.numbers, number, stands);
+        if let Some(row) = self.contexts.get_mut(&number.0) {
+            let found = row.write(place, writes, &Key::Ctx(number));
+            set_number(&mut self.numbers, number, stands);
             return Ok(found);
         }
         self.contexts
-            .insert(number.0, Site::noted_in(writes, place))?;
-        note_number(&mut self.numbers, number, stands);
-        Ok(Found::Original(None))
+            .insert(number.0, Row::logged_in(writes, place))?;
+        set_number(&mut self.numbers, number, stands);
+        Ok(Found::Unlogged(None))
     }
 
-    /// Takes the context with a number out, if there is one: the context itself where the number is noted in the list of writes, and
-    /// else a copy. Answers also what was found there, as `write_ctx` does. It is one look-up. After want of memory nothing has changed.
+    /// Takes the context with a number out, if there is one: the context itself where the number is logged in the
+    /// list of writes, and else a copy. Answers also what was found there, as `write_ctx` does. It is one look-up.
+    /// Out of memory nothing has changed.
     pub(crate) fn take_ctx(
         &mut self,
-        alloc: Global,
         number: CtxNum,
         writes: &[Write],
     ) -> Result<(Option<Held<Context>>, Found<Held<Context>>), NoMemory>
@@ -136,20 +135,19 @@ impl Tables {
         ensures after { OnOk result (self.new ≡ without_ctx number self.old (ctx (maps_of self.old) number)) }
         ensures err { OnErr result (self.new ≡ self.old) }
     {
-        let Some(site) = self.contexts.get_mut(&number.0) else {
-            return Ok((None, Found::Original(None)));
+        let Some(row) = self.contexts.get_mut(&number.0) else {
+            return Ok((None, Found::Unlogged(None)));
         };
-        let taken = site.take(alloc, writes, &Key::Ctx(number))?;
-        note_number(&mut self.numbers, number, false);
+        let taken = row.take(writes, &Key::Ctx(number))?;
+        set_number(&mut self.numbers, number, false);
         Ok(taken)
     }
 
-    /// The termination of a name has another service state, if there is one: in its place where the name is noted in the list of
-    /// writes, and else as a copy. Answers what was found there, as `write_term` does. It is one look-up. After want of memory nothing
-    /// has changed.
+    /// The termination of a name has another service state, if there is one: in its place where the name is logged in
+    /// the list of writes, and else as a copy. Answers what was found there, as `write_term` does. It is one look-up.
+    /// Out of memory nothing has changed.
     pub(crate) fn set_service(
         &mut self,
-        alloc: Global,
         name: &TermName,
         service: Service,
         writes: &[Write],
@@ -158,27 +156,27 @@ impl Tables {
         ensures after { OnOk result (self.new ≡ with_service service name.now self.old (term (maps_of self.old) name.now)) }
         ensures err { OnErr result (self.new ≡ self.old) }
     {
-        let Some(site) = self.terms.get_mut(name) else {
-            return Ok(Found::Original(None));
+        let Some(row) = self.terms.get_mut(name) else {
+            return Ok(Found::Unlogged(None));
         };
-        site.serve(alloc, service, writes, &Key::Term(*name))
+        row.serve(service, writes, &Key::Term(*name))
     }
 
-    /// Gives up the place of a termination, and answers what stood there.
+    /// Frees the place of a termination, and answers what stood there.
     pub(crate) fn drop_term(&mut self, name: &TermName) -> Option<Place<Held<Termination>>>
         ensures place { result ≡ finite.get self.old.terms name.now }
         ensures left { self.new ≡ drop_term_place self.old name.now }
     {
-        note_slot(&mut self.slots, name, false);
+        set_slot(&mut self.slots, name, false);
         place_in(self.terms.remove(name))
     }
 
-    /// Gives up the place of a context, and answers what stood there.
+    /// Frees the place of a context, and answers what stood there.
     pub(crate) fn drop_ctx(&mut self, number: CtxNum) -> Option<Place<Held<Context>>>
         ensures place { result ≡ finite.get self.old.contexts number.0 }
         ensures left { self.new ≡ drop_ctx_place self.old number }
     {
-        note_number(&mut self.numbers, number, false);
+        set_number(&mut self.numbers, number, false);
         place_in(self.contexts.remove(&number.0))
     }
 }

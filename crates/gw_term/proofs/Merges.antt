@@ -1,6 +1,6 @@
 -- Merges, from one element to the next.
-use Rattle.std.proofs.Common.{◌≡◌, ℕ, suc, ◌+◌, ◌<◌, ◌||◌, Bool, true, false, List, [], ◌∷◌, ◌++◌, length, drop, get_or, Option, Some, None, bytes_eq, refl, ap, sym, ◌∙◌, add-one, drop-cons}
-use Rattle.std.specs.List.{flat_map, list_any}
+use Rattle.std.proofs.Common.{◌≡◌, ℕ, suc, ◌+◌, ◌<◌, true, false, List, [], ◌∷◌, ◌++◌, length, drop, get_or, Option, Some, None, bytes_eq, refl, ap, sym, ◌∙◌, add-one, drop-cons}
+use Rattle.std.specs.List.{flat_map}
 use Rattle.std.specs.Bool.{Decides}
 use Rattle.gw_text.specs.Runs.{begins, is_byte}
 use Rattle.gw_text.specs.Tokens.{is_same_word}
@@ -19,11 +19,6 @@ each-append {S} step (x ∷ xs) ys s = by (step x s) (λ t. each-append step xs 
         → and_then first (each step (xs ++ ys)) ≡ and_then (and_then first (each step xs)) (each step ys)
     by None later = refl
     by (Some t) later = later t
-
--- the next element, and those behind it
-pub each_next : {S X : Type 0} (step : X → S → Option S) (list : List X) (i : ℕ) (x : X) (s : S) → i < length list → x ≡ get_or list i x
-    → each step (drop i list) s ≡ and_then (step x s) (each step (drop (i + 1) list))
-each_next step list i x s h is = ap (λ l. each step l s) (at_place list i x h is)
 
 -- the elements that the next one stands for, and those behind it
 pub flat_next : {S X Y : Type 0} (step : Y → S → Option S) (of : X → List Y) (list : List X) (i : ℕ) (x : X) (s : S) → i < length list → x ≡ get_or list i x
@@ -46,11 +41,6 @@ place_here name list i p h is found = ap (property_place name) (at_place list i 
 pub place_later : (name : List ℕ) (list : List (Property (List ℕ))) (i : ℕ) (p : Property (List ℕ)) → i < length list → p ≡ get_or list i p
     → is_same_word p.name name ≡ false → property_place name (drop i list) ≡ 1 + property_place name (drop (i + 1) list)
 place_later name list i p h is other = ap (property_place name) (at_place list i p h is) ∙ rw other refl
-
--- whether one that is left passes
-pub any_next : (passes : Property (List ℕ) → Bool) (list : List (Property (List ℕ))) (i : ℕ) (p : Property (List ℕ)) → i < length list → p ≡ get_or list i p
-    → list_any passes (drop i list) ≡ (passes p || list_any passes (drop (i + 1) list))
-any_next passes list i p h is = ap (list_any passes) (at_place list i p h is)
 
 -- ---- the brace that closes a blank group
 

@@ -2,34 +2,20 @@
 use Rattle.std.proofs.Common.{◌≡◌, ℕ, ◌+◌, ◌<◌, ◌==◌, ◌||◌, if◌then◌else◌, Bool, true, false, List, [], ◌∷◌, length, get_or, take, Option, Some, is_some, refl, ap, sym, ◌∙◌}
 use Rattle.std.proofs.lemmas.Bool.{or_parts}
 use Rattle.std.proofs.lemmas.List.Folds.{list_any_more}
-use Rattle.std.specs.List.{flat_map, list_any}
-use Rattle.gw_desc.specs.Checks.{is_state, is_kept, same_kept}
+use Rattle.std.specs.List.{list_any}
+use Rattle.gw_desc.specs.Checks.{is_kept, same_kept}
 use Rattle.gw_desc.specs.declared.descriptor.Descriptor.{Descriptor}
 use Rattle.gw_desc.specs.declared.descriptor.Descriptor.TheVariants as descriptor
 use Rattle.gw_desc.specs.declared.descriptor.KeptKind.{KeptKind}
 use Rattle.gw_desc.specs.declared.descriptor.MediaPart.{MediaPart}
-use Rattle.gw_desc.specs.declared.descriptor.MediaPart.TheVariants as media
 use Rattle.gw_desc.specs.declared.descriptor.Tail.{Tail}
-use Rattle.gw_term.specs.Merge.{is_named_in, media_parts, merged_tail, names_stream, states_in, states_in_part}
-use Rattle.gw_term.specs.Named.{has_states, named_by, noted, with_descriptor, with_part, with_parts, with_place, with_set}
+use Rattle.gw_term.specs.Merge.{is_named_in, merged_tail, names_stream}
+use Rattle.gw_term.specs.Named.{named_by, or_named, with_descriptor, with_part, with_parts, with_place, with_set}
 use Rattle.gw_term.specs.Places.{numbered, at_number, of_kinds, at_kind}
 use Rattle.gw_term.specs.Settings.{Settings, with_setting}
 use Rattle.gw_term.specs.declared.named.Named.{Named}
 use Rattle.gw_term.specs.declared.settings.Setting.{Setting}
 use Rattle.gw_term.specs.declared.settings.Setting.TheVariants as setting
-
--- without a TerminationState no property is named
-none_in : (parts : List MediaPart) → list_any is_state parts ≡ false → flat_map states_in_part parts ≡ []
-none_in [] h = refl
-none_in (media.Outside p ∷ parts) h = none_in parts h
-none_in (media.Stream number own ∷ parts) h = none_in parts h
-none_in (media.TerminationState properties ∷ parts) h = absurd cc
-
-pub no_states : (descriptors : List Descriptor) → list_any has_states descriptors ≡ false → flat_map states_in descriptors ≡ []
-no_states [] h = refl
-no_states (d ∷ ds) h =
-    let parts = or_parts (has_states d) (list_any has_states ds) h in
-    rw (none_in (media_parts d) parts.0, no_states ds parts.1) refl
 
 -- a tail of a kind that is not named stays
 pub tail_stays : (kind : KeptKind) (descriptors : List Descriptor) (old : Option (Tail (List ℕ))) → list_any (is_kept kind) descriptors ≡ false → merged_tail kind descriptors old ≡ old
@@ -46,51 +32,49 @@ tail_stays kind (descriptor.Other word ∷ ds) old h = tail_stays kind ds old h
 one_more : {X : Type 0} (p : X → Bool) (xs : List X) (i : ℕ) (x : X) → i < length xs → x ≡ get_or xs i x → list_any p (take (i + 1) xs) ≡ (list_any p (take i xs) || p x)
 one_more p xs i x h is = list_any_more p xs i x h ∙ ap (λ y. list_any p (take i xs) || p y) (sym is)
 
-noted_one : (a b : Bool) → noted b a ≡ (a || b)
-noted_one true true = refl
-noted_one true false = refl
-noted_one false true = refl
-noted_one false false = refl
+named_one : (a b : Bool) → or_named b a ≡ (a || b)
+named_one true true = refl
+named_one true false = refl
+named_one false true = refl
+named_one false false = refl
 
-noted_more : (a b before : Bool) → noted b (noted a before) ≡ noted (a || b) before
-noted_more true true before = refl
-noted_more true false before = refl
-noted_more false true before = refl
-noted_more false false before = refl
+named_more : (a b before : Bool) → or_named b (or_named a before) ≡ or_named (a || b) before
+named_more true true before = refl
+named_more true false before = refl
+named_more false true before = refl
+named_more false false before = refl
 
-grown : {X : Type 0} (p : X → Bool) (before : Bool) (xs : List X) (i : ℕ) (x : X) → i < length xs → x ≡ get_or xs i x → noted (p x) (noted (list_any p (take i xs)) before) ≡ noted (list_any p (take (i + 1) xs)) before
-grown p before xs i x h is = noted_more (list_any p (take i xs)) (p x) before ∙ ap (λ y. noted y before) (sym (one_more p xs i x h is))
+grown : {X : Type 0} (p : X → Bool) (before : Bool) (xs : List X) (i : ℕ) (x : X) → i < length xs → x ≡ get_or xs i x → or_named (p x) (or_named (list_any p (take i xs)) before) ≡ or_named (list_any p (take (i + 1) xs)) before
+grown p before xs i x h is = named_more (list_any p (take i xs)) (p x) before ∙ ap (λ y. or_named y before) (sym (one_more p xs i x h is))
 
-found : {X : Type 0} (p : X → Bool) (xs : List X) (i : ℕ) (x : X) → i < length xs → x ≡ get_or xs i x → noted (p x) (list_any p (take i xs)) ≡ list_any p (take (i + 1) xs)
-found p xs i x h is = noted_one (list_any p (take i xs)) (p x) ∙ sym (one_more p xs i x h is)
+found : {X : Type 0} (p : X → Bool) (xs : List X) (i : ℕ) (x : X) → i < length xs → x ≡ get_or xs i x → or_named (p x) (list_any p (take i xs)) ≡ list_any p (take (i + 1) xs)
+found p xs i x h is = named_one (list_any p (take i xs)) (p x) ∙ sym (one_more p xs i x h is)
 
 -- one part more
-pub part_noted : (parts : List MediaPart) (i : ℕ) (part : MediaPart) (n : Named) → i < length parts → part ≡ get_or parts i part
+pub part_named : (parts : List MediaPart) (i : ℕ) (part : MediaPart) (n : Named) → i < length parts → part ≡ get_or parts i part
     → with_part part (with_parts (take i parts) n) ≡ with_parts (take (i + 1) parts) n
-part_noted parts i part n h is = λ j. record n {
+part_named parts i part n h is = λ j. record n {
   streams = numbered (λ number. grown (names_stream number) (at_number number n.streams) parts i part h is j);
-  states = grown is_state n.states parts i part h is j;
 }
 
 -- one descriptor more
-pub descriptor_noted : (descriptors : List Descriptor) (i : ℕ) (d : Descriptor) → i < length descriptors → d ≡ get_or descriptors i d
+pub descriptor_named : (descriptors : List Descriptor) (i : ℕ) (d : Descriptor) → i < length descriptors → d ≡ get_or descriptors i d
     → with_descriptor d (named_by (take i descriptors)) ≡ named_by (take (i + 1) descriptors)
-descriptor_noted descriptors i d h is = λ j. record {
+descriptor_named descriptors i d h is = λ j. record {
   streams = numbered (λ number. found (is_named_in number) descriptors i d h is j);
-  states = found has_states descriptors i d h is j;
   tails = of_kinds (λ kind. found (is_kept kind) descriptors i d h is j);
 }
 
 -- one setting more
-noted_put : {T : Type 0} (b : Bool) (t : T) (o : Option T) (before : Bool) → (if b then true else noted (is_some o) before) ≡ noted (is_some (if b then Some t else o)) before
-noted_put true t o before = refl
-noted_put false t o before = refl
+named_put : {T : Type 0} (b : Bool) (t : T) (o : Option T) (before : Bool) → (if b then true else or_named (is_some o) before) ≡ or_named (is_some (if b then Some t else o)) before
+named_put true t o before = refl
+named_put false t o before = refl
 
-pub setting_noted : (x : Setting) (s : Settings) (n : Named) → with_place x (with_set s n) ≡ with_set (with_setting x s) n
-setting_noted (setting.Properties list) s n = refl
-setting_noted (setting.Stream other stream) s n = λ j. record (with_set s n) {
-  streams = numbered (λ number. noted_put (other == number) stream (at_number number s.streams) (at_number number n.streams) j);
+pub setting_named : (x : Setting) (s : Settings) (n : Named) → with_place x (with_set s n) ≡ with_set (with_setting x s) n
+setting_named (setting.Properties list) s n = refl
+setting_named (setting.Stream other stream) s n = λ j. record (with_set s n) {
+  streams = numbered (λ number. named_put (other == number) stream (at_number number s.streams) (at_number number n.streams) j);
 }
-setting_noted (setting.Tail other tail) s n = λ j. record (with_set s n) {
-  tails = of_kinds (λ kind. noted_put (same_kept kind other) tail (at_kind kind s.tails) (at_kind kind n.tails) j);
+setting_named (setting.Tail other tail) s n = λ j. record (with_set s n) {
+  tails = of_kinds (λ kind. named_put (same_kept kind other) tail (at_kind kind s.tails) (at_kind kind n.tails) j);
 }

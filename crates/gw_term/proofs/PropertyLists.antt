@@ -18,30 +18,30 @@ P = Property (List ℕ)
 
 -- ---- names in any case
 
-pub same_name : (a b : List ℕ) → bytes_eq (folded a) (folded b) ≡ true → folded a ≡ folded b
+same_name : (a b : List ℕ) → bytes_eq (folded a) (folded b) ≡ true → folded a ≡ folded b
 same_name a b = (bytes_eq-Decides (folded a) (folded b)).0
 
-pub named_same : (a b : List ℕ) → folded a ≡ folded b → bytes_eq (folded a) (folded b) ≡ true
+named_same : (a b : List ℕ) → folded a ≡ folded b → bytes_eq (folded a) (folded b) ≡ true
 named_same a b = (bytes_eq-Decides (folded a) (folded b)).1
 
 -- a property of the same name in any case has the name where the other has it
-pub same_test : (name : List ℕ) (p q : P) → folded p.name ≡ folded q.name → is_of_name name p ≡ is_of_name name q
+same_test : (name : List ℕ) (p q : P) → folded p.name ≡ folded q.name → is_of_name name p ≡ is_of_name name q
 same_test name p q h = ap (λ (x : List ℕ). bytes_eq x (folded name)) h
 
 -- a name that is the same in any case finds the same
-pub same_any : (a b : List ℕ) (list : List P) → folded a ≡ folded b → list_any (is_of_name a) list ≡ list_any (is_of_name b) list
+same_any : (a b : List ℕ) (list : List P) → folded a ≡ folded b → list_any (is_of_name a) list ≡ list_any (is_of_name b) list
 same_any a b list h = ap (λ (x : List ℕ). list_any (λ (q : P). bytes_eq (folded q.name) x) list) h
 
 -- ---- where a name stands
 
 pub record Stands (p : P) (list : List P) : Type 0 where
-  pub front : List P
-  pub was : P
-  pub back : List P
-  pub split : list ≡ front ++ was ∷ back
-  pub new : slice_set list (property_place p.name list) p ≡ front ++ p ∷ back
-  pub same : is_of_name p.name was ≡ true
-  pub first : list_any (is_of_name p.name) front ≡ false
+  front : List P
+  was : P
+  back : List P
+  split : list ≡ front ++ was ∷ back
+  new : slice_set list (property_place p.name list) p ≡ front ++ p ∷ back
+  same : is_of_name p.name was ≡ true
+  first : list_any (is_of_name p.name) front ≡ false
 
 stands_here : (p q : P) (qs : List P) → is_of_name p.name q ≡ true → Stands p (q ∷ qs)
 stands_here p q qs e = record { front = []; was = q; back = qs; split = refl; new = rw e refl; same = e; first = refl }
@@ -59,8 +59,8 @@ stands_later p q qs other s = record {
 
 -- it stands nowhere
 pub record StandsNot (p : P) (list : List P) : Type 0 where
-  pub none : list_any (is_of_name p.name) list ≡ false
-  pub place : property_place p.name list ≡ length list
+  none : list_any (is_of_name p.name) list ≡ false
+  place : property_place p.name list ≡ length list
 
 stands_not : (p q : P) (qs : List P) → is_of_name p.name q ≡ false → StandsNot p qs → StandsNot p (q ∷ qs)
 stands_not p q qs other s = record { none = let rest = s.none in rw (other, rest) refl; place = rw (other, one-add) (ap suc s.place) }
@@ -78,24 +78,24 @@ where_stands p (q ∷ qs) = where_by p q qs (is_of_name p.name q) refl (where_st
 
 -- in the place of the one of its name
 pub record IsReplaced (p : P) (list new : List P) : Type 0 where
-  pub front : List P
-  pub was : P
-  pub back : List P
-  pub split : list ≡ front ++ was ∷ back
-  pub is : new ≡ front ++ p ∷ back
-  pub same : folded was.name ≡ folded p.name
-  pub first : list_any (is_of_name p.name) front ≡ false
+  front : List P
+  was : P
+  back : List P
+  split : list ≡ front ++ was ∷ back
+  is : new ≡ front ++ p ∷ back
+  same : folded was.name ≡ folded p.name
+  first : list_any (is_of_name p.name) front ≡ false
 
 -- last, since there is none
 pub record IsAdded (p : P) (list new : List P) : Type 0 where
-  pub is : new ≡ list ++ p ∷ []
-  pub none : list_any (is_of_name p.name) list ≡ false
-  pub room : length list < most_properties
+  is : new ≡ list ++ p ∷ []
+  none : list_any (is_of_name p.name) list ≡ false
+  room : length list < most_properties
 
 abbrev pub IsOnePut : P → List P → List P → Type 0
 IsOnePut p list new = IsReplaced p list new ⊎ IsAdded p list new
 
-pub place_within : (p : P) (front back : List P) (was : P) → is_of_name p.name was ≡ true → property_place p.name (front ++ was ∷ back) < length (front ++ was ∷ back)
+place_within : (p : P) (front back : List P) (was : P) → is_of_name p.name was ≡ true → property_place p.name (front ++ was ∷ back) < length (front ++ was ∷ back)
 place_within p [] back was same = rw same (omega arith)
 place_within p (q ∷ qs) back was same = by (is_of_name p.name q) (place_within p qs back was same)
   where
@@ -103,7 +103,7 @@ place_within p (q ∷ qs) back was same = by (is_of_name p.name q) (place_within
     by true h = omega arith
     by false h = omega (arith, h)
 
-pub some_of : (a b : List P) → Some a ≡ Some b → a ≡ b
+some_of : (a b : List P) → Some a ≡ Some b → a ≡ b
 some_of a b h = cc
 
 put_there : (p : P) (list : List P) (s : Stands p list) → put_property p list ≡ Some (s.front ++ p ∷ s.back)
@@ -117,40 +117,11 @@ put_there p list s =
     lt_is : (a b : ℕ) → a < b → nat_lt a b ≡ true
     lt_is a b h = grind (arith, lt-ltb)
 
-pub neither : (s t : Bool) → s || t ≡ false → (s ≡ false) × (t ≡ false)
-neither true t h = absurd cc
-neither false t h = (refl, h)
-
--- behind a front that has none of its name
-stands_at : (p was : P) (front back : List P) → is_of_name p.name was ≡ true → list_any (is_of_name p.name) front ≡ false → (s : Stands p (front ++ was ∷ back)) × (s.front ++ p ∷ s.back ≡ front ++ p ∷ back)
-unfolding stands_here stands_later
-stands_at p was [] back same first = (stands_here p was back same, refl)
-stands_at p was (q ∷ qs) back same first =
-    let n = neither (is_of_name p.name q) (list_any (is_of_name p.name) qs) first in
-    let rest = stands_at p was qs back same n.1 in
-    (stands_later p q (qs ++ was ∷ back) n.0 rest.0, ap (λ (l : List P). q ∷ l) rest.1)
-
--- one is put in the place of the first of its name
-pub put_at : (p was : P) (front back : List P) → is_of_name p.name was ≡ true → list_any (is_of_name p.name) front ≡ false → put_property p (front ++ was ∷ back) ≡ Some (front ++ p ∷ back)
-put_at p was front back same first =
-    let s = stands_at p was front back same first in
-    put_there p (front ++ was ∷ back) s.0 ∙ ap (λ (l : List P). Some l) s.1
-
 put_last : (p : P) (list : List P) → StandsNot p list → put_property p list ≡ cond (nat_lt (length list) most_properties) (Some (list ++ p ∷ [])) None
 put_last p list s = rw (s.place, not_below (length list)) refl
   where
     not_below : (n : ℕ) → nat_lt n n ≡ false
     not_below n = grind (arith, ltb-false)
-
-stands_none : (p : P) (list : List P) → list_any (is_of_name p.name) list ≡ false → StandsNot p list
-stands_none p [] h = record { none = refl; place = refl }
-stands_none p (q ∷ qs) h =
-    let n = neither (is_of_name p.name q) (list_any (is_of_name p.name) qs) h in
-    stands_not p q qs n.0 (stands_none p qs n.1)
-
--- one of a new name is put last, if there is room
-pub put_new : (p : P) (list : List P) → list_any (is_of_name p.name) list ≡ false → put_property p list ≡ cond (nat_lt (length list) most_properties) (Some (list ++ p ∷ [])) None
-put_new p list h = put_last p list (stands_none p list h)
 
 -- nothing is put where the name is new and the list is full
 pub record IsFull (p : P) (list : List P) : Type 0 where
@@ -174,7 +145,7 @@ is_put p list =
     last none true e = inr (record { is = refl; none = none; room = ltb-true (length list) most_properties e })
     last none false e = record { none = none; full = ltb-false (length list) most_properties e }
 
-pub one_put : (p : P) (list new : List P) → put_property p list ≡ Some new → IsOnePut p list new
+one_put : (p : P) (list new : List P) → put_property p list ≡ Some new → IsOnePut p list new
 one_put p list new h = subst (IsPut p list) h (is_put p list)
 
 is_full : (p : P) (list : List P) → put_property p list ≡ None → IsFull p list
@@ -182,7 +153,7 @@ is_full p list h = subst (IsPut p list) h (is_put p list)
 
 -- ---- what is found then
 
-pub find_none : (test : P → Bool) (list : List P) → list_any test list ≡ false → find test list ≡ None
+find_none : (test : P → Bool) (list : List P) → list_any test list ≡ false → find test list ≡ None
 find_none test [] h = refl
 find_none test (q ∷ qs) h = by (test q) refl h (find_none test qs)
   where
@@ -210,7 +181,7 @@ found_added p list new name s true e =
     ap (look_up name) s.is ∙ find-append (is_of_name name) list (p ∷ []) ∙ rw (none, e) refl
 found_added p list new name s false e = ap (look_up name) s.is ∙ find-append (is_of_name name) list (p ∷ []) ∙ rw e (or_none (find (is_of_name name) list))
 
-pub one_found : (p : P) (list new : List P) (name : List ℕ) → IsOnePut p list new → (t : Bool) → is_of_name name p ≡ t → look_up name new ≡ cond t (Some p) (look_up name list)
+one_found : (p : P) (list new : List P) (name : List ℕ) → IsOnePut p list new → (t : Bool) → is_of_name name p ≡ t → look_up name new ≡ cond t (Some p) (look_up name list)
 one_found p list new name (inl s) = found_replaced p list new name s
 one_found p list new name (inr s) = found_added p list new name s
 
@@ -237,19 +208,19 @@ one_stays p list new (inr s) place q h other = ap (λ (l : List P). slice_get l 
 
 -- ---- names
 
-pub names_with : (front back : List P) (a b : P) → folded a.name ≡ folded b.name → lower_names (front ++ a ∷ back) ≡ lower_names (front ++ b ∷ back)
+names_with : (front back : List P) (a b : P) → folded a.name ≡ folded b.name → lower_names (front ++ a ∷ back) ≡ lower_names (front ++ b ∷ back)
 names_with [] back a b h = ap (λ (n : List ℕ). n ∷ lower_names back) h
 names_with (x ∷ xs) back a b h = ap (λ (l : List (List ℕ)). folded x.name ∷ l) (names_with xs back a b h)
 
-pub names_both : (xs ys : List P) → lower_names (xs ++ ys) ≡ lower_names xs ++ lower_names ys
+names_both : (xs ys : List P) → lower_names (xs ++ ys) ≡ lower_names xs ++ lower_names ys
 names_both [] ys = refl
 names_both (x ∷ xs) ys = ap (λ (l : List (List ℕ)). folded x.name ∷ l) (names_both xs ys)
 
-pub is_known : (name : List ℕ) (list : List P) → list_any (λ other. bytes_eq other (folded name)) (lower_names list) ≡ list_any (is_of_name name) list
+is_known : (name : List ℕ) (list : List P) → list_any (λ other. bytes_eq other (folded name)) (lower_names list) ≡ list_any (is_of_name name) list
 is_known name [] = refl
 is_known name (q ∷ qs) = ap (λ (t : Bool). is_of_name name q || t) (is_known name qs)
 
-pub any_there : (test : P → Bool) (front back : List P) (was : P) → test was ≡ true → list_any test (front ++ was ∷ back) ≡ true
+any_there : (test : P → Bool) (front back : List P) (was : P) → test was ≡ true → list_any test (front ++ was ∷ back) ≡ true
 any_there test [] back was h = rw h refl
 any_there test (x ∷ xs) back was h = by (test x) (any_there test xs back was h)
   where
@@ -288,10 +259,14 @@ any_lower : (name : List ℕ) (names : List (List ℕ)) → list_any (λ other. 
 any_lower name [] = refl
 any_lower name (n ∷ ns) = ap (λ (t : Bool). bytes_eq (folded name) (folded n) || t) (any_lower name ns)
 
-pub twice_lower : (names : List (List ℕ)) → has_name_twice names ≡ some_same (map folded names)
+twice_lower : (names : List (List ℕ)) → has_name_twice names ≡ some_same (map folded names)
 unfolding has_name_twice
 twice_lower [] = refl
 twice_lower (n ∷ ns) = rw (any_lower n ns, twice_lower ns) refl
+
+neither : (s t : Bool) → s || t ≡ false → (s ≡ false) × (t ≡ false)
+neither true t h = absurd cc
+neither false t h = (refl, h)
 
 two_none : (s t : Bool) → s ≡ false → t ≡ false → s || t ≡ false
 two_none false t h k = k
@@ -349,7 +324,7 @@ after_puts (p ∷ ps) list new h =
 
 -- ---- where a list would be too long
 
-pub length_lower : (list : List P) → length (lower_names list) ≡ length list
+length_lower : (list : List P) → length (lower_names list) ≡ length list
 length_lower [] = refl
 length_lower (p ∷ ps) = ap suc (length_lower ps)
 

@@ -29,7 +29,7 @@ set_more list i x h is = rw (add-one, take-suc list i x) (set_last (take i list)
 
 -- ---- what stands at a stream's number
 
-pub at_put : {A : Type 0} (number other : ℕ) (a : A) (p : PerStream A) → 1 ≤ number → number ≤ 4 → at_number number (put_number other a p) ≡ (if other == number then a else at_number number p)
+at_put : {A : Type 0} (number other : ℕ) (a : A) (p : PerStream A) → 1 ≤ number → number ≤ 4 → at_number number (put_number other a p) ≡ (if other == number then a else at_number number p)
 at_put zero other a p h k = absurd (omega (arith, h))
 at_put (suc zero) other a p h k = refl
 at_put (suc (suc zero)) other a p h k = refl

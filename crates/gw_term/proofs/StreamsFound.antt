@@ -22,9 +22,8 @@ use Rattle.gw_term.specs.declared.record.Termination.{Termination}
 use Rattle.gw_term.specs.declared.streams.Merging.{Merging}
 use Rattle.gw_term.specs.Record.{tail_of}
 use Rattle.gw_term.specs.Merge.{and_then, each, put_property, put_state, put_control, put_part, local_text, is_filled, begun, unnamed, stream_in, names_stream, is_named_in, media_parts, parts_in_part, parts_in, states_in, last_service, merged_service, merged_properties, merged_stream, merged_tail, kept_tail, merged}
-use Rattle.gw_term.specs.Laid.{last_mode}
 use Rattle.gw_term.specs.Laws.{IsStreamAfter}
-use Rattle.gw_term.specs.Named.{noted}
+use Rattle.gw_term.specs.Named.{or_named}
 use Rattle.gw_term.specs.Lookups.{states_sent, service_of_property, controls_in, locals_in, remotes_in, controls_sent, mode_by, modes_sent, tails_sent, list_in, mode_in, local_in, remote_in, IsStreamFound, IsFoundAfter}
 use Rattle.gw_term.proofs.ByField.{by_field, same_unnamed}
 use Rattle.gw_term.proofs.Made.{mapped_from, between}
@@ -61,6 +60,10 @@ states_are (p ∷ ps) list = by (is_service_states p.name) refl (states_are ps)
 
 -- ---- the properties of a LocalControl
 
+abbrev last_mode : List P → Mode → Mode
+last_mode [] old = old
+last_mode (p ∷ ps) old = last_mode ps (if is_mode p.name then unwrap_or (mode_set_by p) old else old)
+
 mode_found : (ps : List P) (old : Mode) → Some (last_mode ps old) ≡ last_or (Some old) (filter_map mode_by ps)
 mode_found [] old = refl
 mode_found (p ∷ ps) old = by (is_mode p.name) (mode_found ps)
@@ -70,7 +73,7 @@ mode_found (p ∷ ps) old = by (is_mode p.name) (mode_found ps)
     by true rest = rest (unwrap_or (mode_set_by p) old) ∙ last_set (mode_set_by p) old (filter_map mode_by ps)
     by false rest = rest old
 
-pub modes_both : (xs ys : List P) (old : Mode) → last_mode (xs ++ ys) old ≡ last_mode ys (last_mode xs old)
+modes_both : (xs ys : List P) (old : Mode) → last_mode (xs ++ ys) old ≡ last_mode ys (last_mode xs old)
 modes_both [] ys old = refl
 modes_both (x ∷ xs) ys old = modes_both xs ys _
 
@@ -160,12 +163,12 @@ no_parts : (number : ℕ) (descriptors : List Descriptor) → list_any (is_named
 no_parts number = none_in (is_named_in number) (parts_in number) (λ d. none_in (names_stream number) (parts_in_part number) (no_part number) (media_parts d))
 
 -- a stream that is named or there is what its parts make of it
-pub merged_there : (rules : Rules) (slot : Option ℕ) (number : ℕ) (descriptors : List Descriptor) (old : Option Stream) → noted (is_some old) (list_any (is_named_in number) descriptors) ≡ true
+pub merged_there : (rules : Rules) (slot : Option ℕ) (number : ℕ) (descriptors : List Descriptor) (old : Option Stream) → or_named (is_some old) (list_any (is_named_in number) descriptors) ≡ true
     → merged_stream rules slot number descriptors old ≡ option_map (λ m. Some m) (each (put_part rules slot number) (flat_map (parts_in number) descriptors) (begun old))
 unfolding merged_stream
 merged_there rules slot number descriptors old there = by (list_any (is_named_in number) descriptors) refl old there
   where
-    by : (t : Bool) → list_any (is_named_in number) descriptors ≡ t → (o : Option Stream) → noted (is_some o) t ≡ true
+    by : (t : Bool) → list_any (is_named_in number) descriptors ≡ t → (o : Option Stream) → or_named (is_some o) t ≡ true
         → (if t then option_map (λ m. Some m) (each (put_part rules slot number) (flat_map (parts_in number) descriptors) (begun o)) else Some (unnamed o))
         ≡ option_map (λ m. Some m) (each (put_part rules slot number) (flat_map (parts_in number) descriptors) (begun o))
     by true named o h = refl

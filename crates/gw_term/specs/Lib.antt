@@ -1,9 +1,5 @@
 pub mod Places
-pub mod Numbers
-pub mod Prints
 pub mod Settings
-pub mod Grafts
-pub mod HeldSettings
 pub mod HeldTexts
 pub mod JoinedTexts
 pub mod Record
@@ -18,11 +14,3 @@ pub mod NameTags
 pub mod KeptRecords
 pub mod Named
 pub mod Plain
-pub mod Room
-pub mod Laid
-pub mod Aligned
-pub mod Alike
-pub mod ServicesAfter
-pub mod Sending
-pub mod Learnt
-pub mod AtLeast

@@ -10,7 +10,6 @@ use Rattle.gw_desc.specs.declared.descriptor.Property.{Property}
 use Rattle.gw_desc.specs.declared.descriptor.Tail.{Tail}
 use Rattle.gw_desc.specs.declared.values.Mode.{Mode}
 use Rattle.gw_desc.specs.declared.values.Mode.TheVariants.{SendOnly, ReceiveOnly, SendReceive, Inactive, Loopback}
-use Rattle.gw_term.specs.Numbers.{sign_number, sign_at, mode_number, mode_at}
 use Rattle.gw_term.specs.declared.record.Stream.{Stream}
 use Rattle.gw_term.specs.declared.record.Termination.{Termination}
 
@@ -32,7 +31,19 @@ same_service InService = refl
 abbrev coded_service : Coded Service
 coded_service = code_by ℕ coded_ℕ service_number service_at same_service
 
-abbrev pub same_sign : (s : Sign) → sign_at (sign_number s) ≡ s
+abbrev sign_number : Sign → ℕ
+sign_number Equal = 0
+sign_number NotEqual = 1
+sign_number Less = 2
+sign_number Greater = 3
+
+abbrev sign_at : ℕ → Sign
+sign_at zero = Equal
+sign_at (suc zero) = NotEqual
+sign_at (suc (suc zero)) = Less
+sign_at (suc (suc (suc k))) = Greater
+
+abbrev same_sign : (s : Sign) → sign_at (sign_number s) ≡ s
 same_sign Equal = refl
 same_sign NotEqual = refl
 same_sign Less = refl
@@ -41,7 +52,21 @@ same_sign Greater = refl
 abbrev coded_sign : Coded Sign
 coded_sign = code_by ℕ coded_ℕ sign_number sign_at same_sign
 
-abbrev pub same_mode : (m : Mode) → mode_at (mode_number m) ≡ m
+abbrev mode_number : Mode → ℕ
+mode_number SendOnly = 0
+mode_number ReceiveOnly = 1
+mode_number SendReceive = 2
+mode_number Inactive = 3
+mode_number Loopback = 4
+
+abbrev mode_at : ℕ → Mode
+mode_at zero = SendOnly
+mode_at (suc zero) = ReceiveOnly
+mode_at (suc (suc zero)) = SendReceive
+mode_at (suc (suc (suc zero))) = Inactive
+mode_at (suc (suc (suc (suc k)))) = Loopback
+
+abbrev same_mode : (m : Mode) → mode_at (mode_number m) ≡ m
 same_mode SendOnly = refl
 same_mode ReceiveOnly = refl
 same_mode SendReceive = refl

@@ -1,14 +1,11 @@
 -- What was set of a termination (RFC 3525, section 6.2), and how a short list of settings has it (own).
-use Rattle.std.specs.Prelude.{ℕ, Bool, true, false, List, [], ◌∷◌, Option, Some, None}
-use Rattle.std.specs.Arc.{arc_value}
+use Rattle.std.specs.Prelude.{ℕ, List, [], ◌∷◌, Option, Some, None}
 use Rattle.gw_desc.specs.declared.descriptor.Property.{Property}
 use Rattle.gw_desc.specs.declared.descriptor.Tail.{Tail}
 use Rattle.gw_term.specs.Places.{numbered, put_number, of_kinds, put_kind}
 use Rattle.gw_term.specs.declared.places.PerKind.{PerKind}
 use Rattle.gw_term.specs.declared.places.PerStream.{PerStream}
 use Rattle.gw_term.specs.declared.record.Stream.{Stream}
-use Rattle.gw_term.specs.declared.settings.Form.{Form}
-use Rattle.gw_term.specs.declared.settings.Form.TheVariants as form
 use Rattle.gw_term.specs.declared.settings.Setting.{Setting}
 use Rattle.gw_term.specs.declared.settings.Setting.TheVariants as setting
 
@@ -35,13 +32,3 @@ with_settings (one ∷ more) s = with_settings more (with_setting one s)
 -- what a list sets
 abbrev pub set_by : List Setting → Settings
 set_by list = with_settings list nothing_set
-
--- the settings of a list, wherever it lies
-abbrev pub settings_in : Form → List Setting
-settings_in (form.Own block) = block.items
-settings_in (form.Shared block) = arc_value block
-
--- no other termination has the block that it lies in
-abbrev pub is_own : Form → Bool
-is_own (form.Own block) = true
-is_own (form.Shared block) = false

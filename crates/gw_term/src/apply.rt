@@ -6,16 +6,16 @@ ghost use Rattle.gw_term.specs.Named.{named_by, with_set};
 ghost use Rattle.gw_term.specs.Places.{at_number};
 ghost use Rattle.gw_term.specs.Record.{unset};
 ghost use Rattle.gw_term.specs.Settings.{nothing_set};
-ghost use Rattle.gw_term.specs.Applies.{IsMergedInto, merging_of};
+ghost use Rattle.gw_term.specs.Applies.{IsMerged, IsMergedInto, merging_of};
 
 use crate::fault::ApplyFault;
 use crate::held::HeldProperty;
-use crate::held_settings::HeldSettings;
 use crate::named::Named;
 use crate::properties::{merged_properties, merged_service};
 use crate::record::Termination;
-use crate::settings::{Setting, Settings};
-use crate::streams::{Sent, merge_stream};
+use crate::sent::Sent;
+use crate::settings::{Setting, SettingList, Settings};
+use crate::streams::merge_stream;
 use crate::tails::merge_tails;
 use gw_base::{Held, Items, NoMemory, Rules};
 use gw_desc::Descriptor;
@@ -25,55 +25,39 @@ use std::alloc::{AllocError, Global};
 /// The streams whose Local was filled, in rising order.
 pub type Filled = Items<FilledStream>;
 
-/// The Local of the stream of this number goes last. Not inlined, since few Locals are filled.
-#[inline(never)]
+/// The Local of the stream of this number goes last, if it was filled.
 fn push_filled(
     alloc: Global,
     number: u8,
-    settings: &Settings,
-    filled: &mut Filled,
-) -> Result<(), NoMemory>
-    requires first { 1 ≤ number }
-    requires last { number ≤ 4 }
-    ensures { OnOk result (filled.new ≡ filled.old ++ filled_in number (merging_of (at_number number settings.now.streams) true)) }
-{
-    let Some(stream) = settings.stream(number) else {
-        return Ok(());
-    };
-    if let Some(local) = stream.local.told(alloc)? {
-        filled.push(FilledStream { number, local })?;
-    }
-    Ok(())
-}
-
-/// The Local of the stream of this number goes last, if it was filled.
-#[inline]
-fn tell(
-    alloc: Global,
-    number: u8,
     is_filled: bool,
-    settings: &Settings,
+    settings: &SettingList,
     filled: &mut Filled,
 ) -> Result<(), NoMemory>
     requires first { 1 ≤ number }
     requires last { number ≤ 4 }
     ensures { OnOk result (filled.new ≡ filled.old ++ filled_in number (merging_of (at_number number settings.now.streams) is_filled)) }
 {
-    if is_filled {
-        return push_filled(alloc, number, settings, filled);
+    if !is_filled {
+        return Ok(());
+    }
+    let Some(stream) = settings.stream(number) else {
+        return Ok(());
+    };
+    if let Some(local) = stream.local.to_reply(alloc)? {
+        filled.push(FilledStream { number, local })?;
     }
     Ok(())
 }
 
-/// What the descriptors make of what was set, beside its properties, is set where nothing but these is; the streams whose Local was
-/// filled are told in rising order.
+/// What the descriptors make of what was set, beside its properties, is set where nothing but these is; the streams
+/// whose Local was filled go into a list in rising order.
 #[tactic(auto, unfolding(crate::specs::Merge::merged, crate::specs::Merge::merged_media, crate::specs::Merge::filled_by))]
 fn merge_into(
     alloc: Global,
     sent: &Sent<'_, '_, '_>,
     there: &Named,
     old: &Termination,
-    set: &mut Settings,
+    set: &mut SettingList,
     filled: &mut Filled,
 ) -> Result<(), ApplyFault>
     requires there { there.now ≡ with_set old.now.settings (named_by sent.now.descriptors.now) }
@@ -89,28 +73,27 @@ fn merge_into(
     let second = merge_stream(alloc, sent, 2, streams.second, before, set)?;
     let third = merge_stream(alloc, sent, 3, streams.third, before, set)?;
     let fourth = merge_stream(alloc, sent, 4, streams.fourth, before, set)?;
-    tell(alloc, 1, first, set, filled)?;
-    tell(alloc, 2, second, set, filled)?;
-    tell(alloc, 3, third, set, filled)?;
-    tell(alloc, 4, fourth, set, filled)?;
-    merge_tails(alloc, &there.tails, sent.descriptors, before, set)?;
+    push_filled(alloc, 1, first, set, filled)?;
+    push_filled(alloc, 2, second, set, filled)?;
+    push_filled(alloc, 3, third, set, filled)?;
+    push_filled(alloc, 4, fourth, set, filled)?;
+    merge_tails(alloc, sent, &there.tails, before, set)?;
     Ok(())
 }
 
-/// What is set before streams and tails are: properties, if there are any, with room for so many more. Always inlined, since each Add begins so.
-#[inline(always)]
-pub(crate) fn begun(
+/// What is set before streams and tails are: properties, if there are any, with room for so many more.
+fn begun(
     alloc: Global,
     properties: Items<HeldProperty>,
     count: usize,
-) -> Result<Settings, AllocError>
+) -> Result<SettingList, AllocError>
     requires { count ≤ 8 }
     ensures { IfOk result (λ settings. settings ≡ record nothing_set { properties = properties }) }
 {
     if properties.is_empty() {
-        return Settings::with_capacity(alloc, count);
+        return SettingList::with_capacity(alloc, count);
     }
-    let mut settings = Settings::with_capacity(alloc, count + 1)?;
+    let mut settings = SettingList::with_capacity(alloc, count + 1)?;
     settings.push(Setting::Properties(properties))?;
     Ok(settings)
 }
@@ -124,24 +107,59 @@ pub struct Applied {
     pub filled: Filled,
 }
 
+/// The record after the descriptors, as `Termination::merged` gives it. Long texts are shared with what was made of
+/// them before.
+#[tactic(auto, unfolding(crate::specs::Merge::merged, crate::specs::Merge::merged_media))]
+pub(crate) fn merge(
+    alloc: Global,
+    rules: &Rules,
+    descriptors: &[Descriptor<'_>],
+    old: &Termination,
+    made: &Settings,
+) -> Result<Applied, ApplyFault>
+    ensures { IsMerged rules.now descriptors.now old.now result }
+{
+    let sent = Sent {
+        rules,
+        slot: old.slot,
+        descriptors,
+        made,
+    };
+    let mut there = Named::by(descriptors);
+    there.add_set(&old.settings);
+    let properties = merged_properties(alloc, &sent, old.settings.properties())?;
+    let mut settings = begun(alloc, properties, there.count())?;
+    let mut filled = Items::new(alloc);
+    merge_into(alloc, &sent, &there, old, &mut settings, &mut filled)?;
+    let record = Termination {
+        place: old.place,
+        service: merged_service(descriptors, old.service),
+        slot: old.slot,
+        settings: settings.into_settings(alloc)?,
+    };
+    Ok(Applied {
+        record: Held::new(alloc, record)?,
+        filled,
+    })
+}
+
 impl Termination {
     ghost use Rattle.gw_base.specs.declared.command_words.Verb.TheVariants.{Add as add_verb};
     ghost use Rattle.gw_desc.specs.Checks.{check_code};
     ghost use Rattle.gw_term.specs.Merge.{merged, filled_by};
     ghost use Rattle.gw_term.specs.Applies.{IsApplied, IsMerged};
 
-    /// The record after the descriptors: what they set, it keeps; what they do not name stays. A stream that is named and
-    /// missing comes with mode Inactive and nothing else; Mode, ServiceStates, Local and Remote take the place of the old ones;
-    /// a property takes the place of the one of its name, in any case, or goes last; a tail takes the place of the old one, and
-    /// one without `=` whose group is missing or blank removes it. The `$` of a Local are filled where the termination has a
-    /// slot. The streams whose Local was filled are told in rising order. It is meant for descriptors of which no code of
-    /// `check` applies, taken as those of an Add. The work is linear in the descriptors and the record.
+    /// The record after the descriptors: what they set, it keeps; what they do not name stays. A stream that is named
+    /// and missing comes with mode Inactive and nothing else; Mode, ServiceStates, Local and Remote take the place of
+    /// the old ones; a property takes the place of the one of its name, in any case, or goes last; a tail takes the
+    /// place of the old one, and one without `=` whose group is missing or blank removes it. The `$` of a Local are
+    /// filled where the termination has a slot. The streams whose Local was filled are answered in rising order. It
+    /// is meant for descriptors of which no code of `check` applies, taken as those of an Add. The work is linear in
+    /// the descriptors and the record.
     ///
     /// # Errors
     ///
     /// `Code(InsufficientResources)` where a list would hold more than 32 properties; `NoMemory`.
-    #[inline]
-    #[tactic(auto, unfolding(crate::specs::Merge::merged, crate::specs::Merge::merged_media))]
     pub fn merged(
         &self,
         alloc: Global,
@@ -150,38 +168,12 @@ impl Termination {
     ) -> Result<Applied, ApplyFault>
         ensures { IsMerged rules.now descriptors.now self.now result }
     {
-        let mut there = Named::by(descriptors);
-        let own = self.settings.properties();
-        let properties = merged_properties(alloc, there.states, descriptors, own)?;
-        let service = merged_service(there.states, descriptors, self.service);
-        there.note_set(&self.settings);
-        let mut settings = begun(alloc, properties, there.count())?;
-        let mut filled = Items::new(alloc);
-        let sent = Sent {
-            rules,
-            slot: self.slot,
-            descriptors,
-            made: None,
-        };
-        merge_into(alloc, &sent, &there, self, &mut settings, &mut filled)?;
-        if self.slot.is_none() {
-            settings.share(self.settings.common())?;
-        }
-        let record = Termination {
-            place: self.place,
-            service,
-            slot: self.slot,
-            settings: HeldSettings::whole(settings),
-        };
-        Ok(Applied {
-            record: Held::new(alloc, record)?,
-            filled,
-        })
+        merge(alloc, rules, descriptors, self, &Settings::none())
     }
 
-    /// The termination becomes its record after the descriptors, as `merged` tells it. Answers the streams whose Local was
-    /// filled, in rising order, with their Locals. The caller knows that no code of `check` applies to the descriptors, taken as
-    /// those of an Add.
+    /// The termination becomes its record after the descriptors, as `merged` gives it. Answers the streams whose
+    /// Local was filled, in rising order, with their Locals. The caller knows that no code of `check` applies to the
+    /// descriptors, taken as those of an Add.
     ///
     /// # Errors
     ///

@@ -2,61 +2,50 @@
 
 ghost use Rattle.std.specs.Prelude.{◌≡◌, ◌≤◌, ◌++◌, IfOk, OnOk};
 ghost use Rattle.gw_term.specs.Audit.{stream_told, media_told, tail_told, item_told, word_told};
-ghost use Rattle.gw_term.specs.Grafts.{over};
 ghost use Rattle.gw_term.specs.Places.{at_number, at_kind, rising};
 
-use crate::grafts::next_over;
 use crate::held::HeldProperty;
-use crate::held_settings::HeldSettings;
 use crate::record::Termination;
+use crate::settings::Settings;
 use gw_base::{Items, NoMemory};
 use gw_desc::{AuditItem, AuditItems, KeptKind, item_of};
 use gw_reply::{AuditReply, KeptProperty, MediaReply, ReplyPart, StreamReply};
 use std::alloc::Global;
 
-/// The properties of a list as they are told, with those of another in the places that are kept.
-fn properties_told(
+/// The properties as a reply has them.
+fn reply_properties(
     alloc: Global,
-    kept: &[bool],
-    own: &[HeldProperty],
-    list: &[HeldProperty],
+    properties: &[HeldProperty],
 ) -> Result<Items<KeptProperty>, NoMemory>
-    ensures { IfOk result (λ told. told ≡ over kept.now own.now list.now) }
+    ensures { IfOk result (λ reply. reply ≡ properties.now) }
 {
-    let mut told = Items::new(alloc);
-    let mut flags = kept;
-    let mut others = own;
-    for property in list {
-        let (from, flags_behind, others_behind) = next_over(flags, others, property);
-        told.push(from.told(alloc)?)?;
-        flags = flags_behind;
-        others = others_behind;
+    let mut reply = Items::new(alloc);
+    for property in properties {
+        reply.push(property.to_reply(alloc)?)?;
     }
-    Ok(told)
+    Ok(reply)
 }
 
 /// The stream of this number goes last, if it is there.
 fn push_stream(
     alloc: Global,
     number: u8,
-    settings: &HeldSettings,
+    settings: &Settings,
     streams: &mut Items<StreamReply>,
 ) -> Result<(), NoMemory>
     requires first { 1 ≤ number }
     requires last { number ≤ 4 }
     ensures { OnOk result (streams.new ≡ streams.old ++ stream_told number (at_number number settings.now.streams)) }
 {
-    let Some(seen) = settings.stream(number) else {
+    let Some(stream) = settings.stream(number) else {
         return Ok(());
     };
-    let stream = seen.stream;
-    let list = stream.properties.as_slice();
     streams.push(StreamReply {
         number,
         mode: stream.mode,
-        properties: properties_told(alloc, seen.kept, seen.own, list)?,
-        local: stream.local.told(alloc)?,
-        remote: stream.remote.told(alloc)?,
+        properties: reply_properties(alloc, stream.properties.as_slice())?,
+        local: stream.local.to_reply(alloc)?,
+        remote: stream.remote.to_reply(alloc)?,
     })?;
     Ok(())
 }
@@ -64,7 +53,7 @@ fn push_stream(
 /// The streams that are there go last.
 fn push_streams(
     alloc: Global,
-    settings: &HeldSettings,
+    settings: &Settings,
     streams: &mut Items<StreamReply>,
 ) -> Result<(), NoMemory>
     ensures { OnOk result (streams.new ≡ streams.old ++ rising stream_told settings.now.streams) }
@@ -75,11 +64,10 @@ fn push_streams(
     push_stream(alloc, 4, settings, streams)
 }
 
-fn media_told(alloc: Global, termination: &Termination) -> Result<MediaReply, NoMemory>
+fn reply_media(alloc: Global, termination: &Termination) -> Result<MediaReply, NoMemory>
     ensures { IfOk result (λ media. media ≡ media_told termination.now) }
 {
-    let over = termination.settings.properties();
-    let properties = properties_told(alloc, over.kept, over.own, over.list)?;
+    let properties = reply_properties(alloc, termination.settings.properties())?;
     let mut streams = Items::new(alloc);
     push_streams(alloc, &termination.settings, &mut streams)?;
     Ok(MediaReply {
@@ -90,16 +78,16 @@ fn media_told(alloc: Global, termination: &Termination) -> Result<MediaReply, No
 }
 
 /// The tail of this kind, or the bare word where there is none.
-fn tail_told(alloc: Global, kind: KeptKind, settings: &HeldSettings) -> Result<ReplyPart, NoMemory>
+fn reply_tail(alloc: Global, kind: KeptKind, settings: &Settings) -> Result<ReplyPart, NoMemory>
     ensures { IfOk result (λ part. part ≡ tail_told kind (at_kind kind settings.now.tails)) }
 {
     match settings.tail(kind) {
-        Some(tail) => Ok(ReplyPart::Kept(kind, tail.told(alloc)?)),
+        Some(tail) => Ok(ReplyPart::Kept(kind, tail.to_reply(alloc)?)),
         None => Ok(ReplyPart::Bare(AuditItem::Kept(kind))),
     }
 }
 
-fn item_told(
+fn reply_part(
     alloc: Global,
     termination: &Termination,
     item: AuditItem,
@@ -107,8 +95,8 @@ fn item_told(
     ensures { IfOk result (λ part. part ≡ item_told termination.now item) }
 {
     match item {
-        AuditItem::Media => Ok(ReplyPart::Media(media_told(alloc, termination)?)),
-        AuditItem::Kept(kind) => tail_told(alloc, kind, &termination.settings),
+        AuditItem::Media => Ok(ReplyPart::Media(reply_media(alloc, termination)?)),
+        AuditItem::Kept(kind) => reply_tail(alloc, kind, &termination.settings),
         AuditItem::Statistics | AuditItem::ObservedEvents | AuditItem::Packages => {
             Ok(ReplyPart::Bare(item))
         }
@@ -116,7 +104,7 @@ fn item_told(
 }
 
 /// What the word asks for goes last.
-fn push_told(
+fn push_part(
     alloc: Global,
     termination: &Termination,
     word: &[u8],
@@ -125,7 +113,7 @@ fn push_told(
     ensures { OnOk result (parts.new ≡ parts.old ++ word_told termination.now word.now) }
 {
     if let Some(item) = item_of(word) {
-        parts.push(item_told(alloc, termination, item)?)?;
+        parts.push(reply_part(alloc, termination, item)?)?;
     }
     Ok(())
 }
@@ -133,20 +121,20 @@ fn push_told(
 impl Termination {
     ghost use Rattle.gw_term.specs.Audit.{audit_parts};
 
-    /// The items that an Audit asks for, in the order asked, as the termination is now: of Media its service state, its
-    /// properties and its streams; of a descriptor that is kept as sent its tail, or the bare word; of what the gateway
-    /// does not gather the bare word. The caller knows that each word is an item, as `check` finds it.
+    /// The items that an Audit asks for, in the order asked, as the termination is now: of Media its service state,
+    /// its properties and its streams; of a descriptor that is kept as sent its tail, or the bare word; of what the
+    /// gateway does not gather the bare word. The caller knows that each word is an item, as `check` finds it.
     ///
     /// # Errors
     ///
-    /// Want of memory.
+    /// Out of memory.
     #[tactic(auto, unfolding(crate::specs::Audit::audit_parts))]
     pub fn audit(&self, alloc: Global, words: &AuditItems<'_>) -> Result<AuditReply, NoMemory>
         ensures { IfOk result (λ parts. parts ≡ audit_parts words.now self.now) }
     {
         let mut parts = Items::new(alloc);
         for word in words.as_slice() {
-            push_told(alloc, self, word.as_bytes(), &mut parts)?;
+            push_part(alloc, self, word.as_bytes(), &mut parts)?;
         }
         Ok(parts)
     }

@@ -5,51 +5,35 @@ ghost use Rattle.std.specs.Prelude.{◌≡◌, IfOk};
 use crate::held::HeldProperty;
 use crate::properties::MOST_PROPERTIES;
 use crate::record::{Stream, Termination};
-use crate::text::Copying;
 use gw_base::{Items, NoMemory};
 use std::alloc::{AllocError, Global};
 
-/// How many properties a copy of a list has room for: one more where it is going to be changed, unless it is full.
-#[inline(always)]
-fn room_of(properties: &[HeldProperty], copying: Copying) -> usize {
-    match copying {
-        Copying::Once | Copying::ForMany => properties.len(),
-        Copying::ToChange => MOST_PROPERTIES.min(properties.len() + 1),
-    }
-}
-
-/// A copy of the properties, with no room for more, or for one more where they are going to be changed. Where there are none, it takes no
-/// memory.
-#[inline(always)]
+/// A copy of the properties, with room for one more, unless they are as many as a list may hold. Where there are none, it takes no memory.
 pub(crate) fn copied_properties(
     alloc: Global,
     properties: &[HeldProperty],
-    copying: Copying,
 ) -> Result<Items<HeldProperty>, AllocError>
     ensures { IfOk result (λ copy. copy ≡ properties.now) }
 {
     if properties.is_empty() {
         return Ok(Items::new(alloc));
     }
-    let mut copy = Vec::with_capacity(alloc, room_of(properties, copying))?;
+    let room = MOST_PROPERTIES.min(properties.len() + 1);
+    let mut copy = Vec::with_capacity(alloc, room)?;
     for property in properties {
-        copy.push(property.copied(alloc, copying)?)?;
+        copy.push(property.copied(alloc)?)?;
     }
     Ok(Items::from(copy))
 }
 
 /// A copy of the stream. Always inlined, so that it is made where it goes to.
 #[inline(always)]
-pub(crate) fn copied_stream(
-    alloc: Global,
-    stream: &Stream,
-    copying: Copying,
-) -> Result<Stream, AllocError>
+pub(crate) fn copied_stream(alloc: Global, stream: &Stream) -> Result<Stream, AllocError>
     ensures { IfOk result (λ copy. copy ≡ stream.now) }
 {
-    let properties = copied_properties(alloc, stream.properties.as_slice(), copying)?;
-    let local = stream.local.copied(alloc, copying)?;
-    let remote = stream.remote.copied(alloc, copying)?;
+    let properties = copied_properties(alloc, stream.properties.as_slice())?;
+    let local = stream.local.copied(alloc)?;
+    let remote = stream.remote.copied(alloc)?;
     Ok(Stream {
         mode: stream.mode,
         properties,
@@ -58,46 +42,37 @@ pub(crate) fn copied_stream(
     })
 }
 
-/// The value takes the place of the one there, which is let go here: where that is done at a type with many fields, each of
-/// them is let go in turn.
+/// The value takes the place of the one there, which is dropped here: where that is done at a type with many fields,
+/// each of them is dropped in turn.
 pub(crate) fn put<T: Drop>(place: &mut T, value: T)
     ensures { place.new ≡ value }
 {
     *place = value;
 }
 
-/// A copy of all that is kept of a termination.
-#[inline(always)]
-fn copied_termination(alloc: Global, old: &Termination) -> Result<Termination, AllocError>
-    ensures { IfOk result (λ copy. copy ≡ old.now) }
-{
-    Ok(Termination {
-        place: old.place,
-        service: old.service,
-        slot: old.slot,
-        settings: old.settings.copied(alloc)?,
-    })
-}
-
-// As the entry of a part is copied: the copy lies where the termination does.
+// The copy shares what was set of it.
 impl Clone for Termination {
     ghost is_clone = { λ a b. b ≡ a };
 
     fn clone(&self) -> Result<Self, AllocError> {
-        copied_termination(self.settings.allocator(), self)
+        Ok(Termination {
+            place: self.place,
+            service: self.service,
+            slot: self.slot,
+            settings: self.settings.copied()?,
+        })
     }
 }
 
 impl Termination {
-    /// A copy, equal to it.
+    /// A copy, equal to it. It takes a count.
     ///
     /// # Errors
     ///
-    /// Want of memory.
-    #[inline(always)]
-    pub fn copy(&self, alloc: Global) -> Result<Termination, NoMemory>
+    /// Out of memory.
+    pub fn copy(&self) -> Result<Termination, NoMemory>
         ensures { IfOk result (λ copy. copy ≡ self.now) }
     {
-        Ok(copied_termination(alloc, self)?)
+        Ok(self.clone()?)
     }
 }

@@ -1,20 +1,14 @@
 //! What is kept of a property and of a tail, with the texts of each together.
 
-ghost use Rattle.std.specs.Prelude.{◌≡◌, ◌++◌, if◌then◌else◌, true, length, IfOk, OnOk, None, Some};
-ghost use Rattle.gw_length.specs.Rooms.{Leaves};
-ghost use Rattle.gw_reply.specs.Parts.{text_if};
+ghost use Rattle.std.specs.Prelude.{◌≡◌, ◌++◌, if◌then◌else◌, true, IfOk, None, Some};
 ghost use Rattle.gw_term.specs.HeldTexts.{text_of};
 ghost use Rattle.gw_term.specs.Lookups.{is_of_name};
-ghost use Rattle.gw_term.specs.NameTags.{name_tag};
-ghost use Rattle.gw_term.specs.Prints.{name_print, property_print, tail_print};
 
-use crate::names::{is_same_name, is_same_text};
-use crate::print::Print;
+use crate::names::{is_same_name, name_tag};
 use crate::short::Joined;
-use crate::text::Copying;
+use crate::text::LONG;
 use gw_base::{Items, Span};
 use gw_desc::{Property, Sign, Tail};
-use gw_length::{Length, behind};
 use gw_reply::{KeptProperty, KeptTail};
 use std::alloc::{AllocError, Global};
 use std::marker::Model;
@@ -23,7 +17,7 @@ use std::marker::Model;
 #[derive(Drop)]
 pub struct HeldProperty {
     sign: Sign,
-    /// That of the name.
+    /// The tag of its name.
     tag: u64,
     texts: Joined,
     /// How long the name is: where the value begins.
@@ -56,82 +50,30 @@ fn is_same_sign(a: Sign, b: Sign) -> bool
 }
 
 impl HeldProperty {
-    /// A property with copies of these texts. The caller knows the tag of the name.
+    /// The property, with copies of its texts.
     pub(crate) fn of(
         alloc: Global,
-        name: &[u8],
-        tag: u64,
-        sign: Sign,
-        value: &[u8],
+        property: &Property<Span<'_>>,
     ) -> Result<HeldProperty, AllocError>
-        requires { tag ≡ name_tag name.now }
-        ensures { IfOk result (λ held. held ≡ record { name = name.now; sign = sign; value = value.now }) }
+        ensures { IfOk result (λ held. held ≡ property.now) }
     {
+        let name = property.name.as_bytes();
         Ok(HeldProperty {
-            sign,
-            tag,
-            texts: Joined::of(alloc, name, value)?,
+            sign: property.sign,
+            tag: name_tag(name),
+            texts: Joined::of(alloc, name, property.value.as_bytes())?,
             split: name.len(),
         })
     }
 
-    /// Whether it is this property.
-    pub(crate) fn is(&self, property: &Property<Span<'_>>) -> bool
-        ensures { result ≡ true → self.now ≡ property.now }
-    {
-        let (name, value) = self.texts.as_slice().split_at(self.split);
-        is_same_sign(self.sign, property.sign)
-            && name == property.name.as_bytes()
-            && value == property.value.as_bytes()
-    }
-
-    /// Whether it is the other property.
-    #[inline]
-    pub(crate) fn is_same(&self, other: &HeldProperty) -> bool
-        ensures { result ≡ true → self.now ≡ other.now }
-    {
-        is_same_sign(self.sign, other.sign)
-            && self.split == other.split
-            && self.texts.is_same(&other.texts)
-    }
-
     /// Its name.
-    pub(crate) fn name(&self) -> &[u8]
+    fn name(&self) -> &[u8]
         ensures { result.now ≡ self.now.name }
     {
         &self.texts.as_slice()[..self.split]
     }
 
-    /// The tag of its name.
-    #[inline(always)]
-    pub(crate) fn tag(&self) -> u64
-        ensures { result ≡ name_tag self.now.name }
-    {
-        self.tag
-    }
-
-    /// Whether it is of this name, in any case. Not inlined, since it is asked where the tags are the same.
-    #[inline(never)]
-    fn has_name(&self, name: &[u8]) -> bool
-        ensures { result ≡ is_of_name name.now self.now }
-    {
-        is_same_name(self.name(), name)
-    }
-
-    /// Whether it is of this name, in any case, which has this tag. Another name mostly has another tag.
-    #[inline(always)]
-    #[tactic(auto, using(crate::proofs::NameTags::other_names))]
-    pub(crate) fn is_named(&self, tag: u64, name: &[u8]) -> bool
-        requires { tag ≡ name_tag name.now }
-        ensures { result ≡ is_of_name name.now self.now }
-    {
-        if self.tag != tag {
-            return false;
-        }
-        self.has_name(name)
-    }
-
-    /// Whether it is of the name of the other, in any case. They mostly are alike in each letter.
+    /// Whether it is of the name of the other, in any case. Other names mostly have another tag.
     #[inline]
     #[tactic(auto, using(crate::proofs::NameTags::other_names))]
     pub(crate) fn has_same_name(&self, other: &HeldProperty) -> bool
@@ -140,44 +82,62 @@ impl HeldProperty {
         if self.tag != other.tag {
             return false;
         }
-        is_same_text(self.name(), other.name())
+        is_same_name(self.name(), other.name())
+    }
+
+    /// Whether it is the other property.
+    #[inline]
+    pub(crate) fn is_same(&self, other: &HeldProperty) -> bool
+        ensures { result ≡ true → self.now ≡ other.now }
+    {
+        self.tag == other.tag
+            && is_same_sign(self.sign, other.sign)
+            && self.split == other.split
+            && self.texts.is_same(&other.texts)
     }
 
     /// A copy of the property.
-    #[inline(always)]
-    pub(crate) fn copied(&self, alloc: Global, copying: Copying) -> Result<HeldProperty, AllocError>
+    pub(crate) fn copied(&self, alloc: Global) -> Result<HeldProperty, AllocError>
         ensures { IfOk result (λ copy. copy ≡ self.now) }
     {
         Ok(HeldProperty {
             sign: self.sign,
             tag: self.tag,
-            texts: self.texts.copied(alloc, copying)?,
+            texts: self.texts.copied(alloc)?,
             split: self.split,
         })
     }
 
-    /// It goes last in a print.
-    #[tactic(auto, unfolding(crate::specs::Prints::property_print))]
-    pub(crate) fn push_to(&self, print: &mut Print) -> Result<(), AllocError>
-        ensures { OnOk result (print.new ≡ print.old ++ property_print self.now) }
+    /// Whether it is the property that is sent.
+    fn is(&self, property: &Property<Span<'_>>) -> bool
+        ensures { result ≡ true → self.now ≡ property.now }
     {
         let (name, value) = self.texts.as_slice().split_at(self.split);
-        print.push_sign(self.sign)?;
-        print.push_text(name)?;
-        print.push_text(value)
+        is_same_sign(self.sign, property.sign)
+            && name == property.name.as_bytes()
+            && value == property.value.as_bytes()
     }
 
-    /// Its name goes last in the print of a shape.
-    #[tactic(auto, unfolding(crate::specs::Prints::name_print))]
-    pub(crate) fn push_name_to(&self, print: &mut Print) -> Result<(), AllocError>
-        ensures { OnOk result (print.new ≡ print.old ++ name_print self.now) }
+    /// The property: where it is long and the same one is among these, a copy of that, which shares its block.
+    pub(crate) fn of_or(
+        alloc: Global,
+        property: &Property<Span<'_>>,
+        made: &[HeldProperty],
+    ) -> Result<HeldProperty, AllocError>
+        ensures { IfOk result (λ held. held ≡ property.now) }
     {
-        print.push_name(self.name())
+        if property.value.as_bytes().len() < LONG {
+            return HeldProperty::of(alloc, property);
+        }
+        match made.iter().find(|own| own.is(property)) {
+            Some(own) => own.copied(alloc),
+            None => HeldProperty::of(alloc, property),
+        }
     }
 
-    /// The property as it is told, with copies of its texts.
-    pub(crate) fn told(&self, alloc: Global) -> Result<KeptProperty, AllocError>
-        ensures { IfOk result (λ told. told ≡ self.now) }
+    /// The property as a reply has it, with copies of its texts.
+    pub(crate) fn to_reply(&self, alloc: Global) -> Result<KeptProperty, AllocError>
+        ensures { IfOk result (λ property. property ≡ self.now) }
     {
         let (name, value) = self.texts.as_slice().split_at(self.split);
         let name = Items::from_slice(alloc, name)?;
@@ -187,17 +147,6 @@ impl HeldProperty {
             sign: self.sign,
             value,
         })
-    }
-}
-
-impl Length for HeldProperty {
-    ghost use Rattle.gw_reply.specs.Parts.{property_text};
-
-    ghost text = { property_text };
-
-    fn room_behind(&self, room: usize) -> Option<usize> {
-        let left = behind(room, 1)?;
-        behind(left, self.texts.as_slice().len())
     }
 }
 
@@ -261,22 +210,7 @@ impl HeldTail {
         })
     }
 
-    /// A copy of the tail.
-    #[inline(always)]
-    pub(crate) fn copied(&self, alloc: Global, copying: Copying) -> Result<HeldTail, AllocError>
-        ensures { IfOk result (λ copy. copy ≡ self.now) }
-    {
-        Ok(HeldTail {
-            equals: self.equals,
-            has_word: self.has_word,
-            has_group: self.has_group,
-            texts: self.texts.copied(alloc, copying)?,
-            split: self.split,
-        })
-    }
-
     /// Whether it is the other tail.
-    #[inline]
     pub(crate) fn is_same(&self, other: &HeldTail) -> bool
         ensures { result ≡ true → self.now ≡ other.now }
     {
@@ -287,25 +221,36 @@ impl HeldTail {
             && self.texts.is_same(&other.texts)
     }
 
-    /// It goes last in a print.
-    #[tactic(auto, unfolding(crate::specs::Prints::tail_print))]
-    pub(crate) fn push_to(&self, print: &mut Print) -> Result<(), AllocError>
-        ensures { OnOk result (print.new ≡ print.old ++ tail_print self.now) }
+    /// A copy of the tail.
+    pub(crate) fn copied(&self, alloc: Global) -> Result<HeldTail, AllocError>
+        ensures { IfOk result (λ copy. copy ≡ self.now) }
     {
-        let (word, group) = self.texts.as_slice().split_at(self.split);
-        print.push_flag(self.equals)?;
-        print.push_text_if(self.has_word, word)?;
-        print.push_text_if(self.has_group, group)
+        Ok(HeldTail {
+            equals: self.equals,
+            has_word: self.has_word,
+            has_group: self.has_group,
+            texts: self.texts.copied(alloc)?,
+            split: self.split,
+        })
     }
 
-    /// Whether its texts are long.
-    pub(crate) fn is_long(&self) -> bool {
-        self.texts.is_long()
+    /// The tail, which shares its block with this one, if it is long and the same.
+    pub(crate) fn shared_with(
+        self,
+        alloc: Global,
+        made: Option<&HeldTail>,
+    ) -> Result<HeldTail, AllocError>
+        ensures { IfOk result (λ shared. shared ≡ self) }
+    {
+        match made {
+            Some(made) if self.texts.is_long() && self.is_same(made) => made.copied(alloc),
+            _ => Ok(self),
+        }
     }
 
-    /// The tail as it is told, with copies of its texts.
-    pub(crate) fn told(&self, alloc: Global) -> Result<KeptTail, AllocError>
-        ensures { IfOk result (λ told. told ≡ self.now) }
+    /// The tail as a reply has it, with copies of its texts.
+    pub(crate) fn to_reply(&self, alloc: Global) -> Result<KeptTail, AllocError>
+        ensures { IfOk result (λ tail. tail ≡ self.now) }
     {
         let (word, group) = self.texts.as_slice().split_at(self.split);
         Ok(Tail {
@@ -313,29 +258,5 @@ impl HeldTail {
             word: kept_if(alloc, self.has_word, word)?,
             group: kept_if(alloc, self.has_group, group)?,
         })
-    }
-}
-
-/// Behind the text, if it is there.
-fn behind_if(room: usize, is_there: bool, text: &[u8]) -> Option<usize>
-    ensures { Leaves result room (length (text_if (if is_there then Some text.now else None))) }
-{
-    if is_there {
-        behind(room, text.len())
-    } else {
-        Some(room)
-    }
-}
-
-impl Length for HeldTail {
-    ghost use Rattle.gw_reply.specs.Parts.{tail_text};
-
-    ghost text = { tail_text };
-
-    fn room_behind(&self, room: usize) -> Option<usize> {
-        let (word, group) = self.texts.as_slice().split_at(self.split);
-        let left = behind(room, usize::from(self.equals))?;
-        let left = behind_if(left, self.has_word, word)?;
-        behind_if(left, self.has_group, group)
     }
 }

@@ -23,16 +23,17 @@ pub fn merges_go_by_field()
     ensures stays { (rules : RulesOf) (descriptors : List DescriptorOf) (old new : Record) → merged rules descriptors old ≡ Some new → KeepsUnnamed descriptors old new }
 {}
 
-/// What is found in a record after a merge: in each place the last that the descriptors sent for it, else what was there. Properties
-/// stay in their places, and a new one goes last. There is no merge only where a list would hold more than 32.
+/// What is found in a record after a merge: in each place the last that the descriptors sent for it, else what was
+/// there. Properties stay in their places, and a new one goes last. There is no merge only where a list would hold
+/// more than 32.
 pub fn look_ups_after_a_merge()
     ensures found { (rules : RulesOf) (descriptors : List DescriptorOf) (old new : Record) → merged rules descriptors old ≡ Some new → IsFoundAfter rules descriptors old new }
     ensures none { (rules : RulesOf) (descriptors : List DescriptorOf) (old : Record) → merged rules descriptors old ≡ None → HasTooLong descriptors old }
 {}
 
-/// Texts that are kept keep their forms through a merge, filled ones too, and so do the Locals that were filled; what an Audit tells
-/// has them too. They stay where the termination is elsewhere or in another service state; a new one, and one that was reset, keeps
-/// none.
+/// Texts that are kept keep their forms through a merge, filled ones too, and so do the Locals that were filled; the
+/// answer to an Audit has them too. They stay where the termination is elsewhere or in another service state; a new
+/// one, and one that was reset, keeps none.
 pub fn merges_keep_forms()
     ensures keeps { (rules : RulesOf) (descriptors : List DescriptorOf) (old new : Record) → IsAddress rules.media → All HasKeptTexts descriptors → IsKeptRecord old → merged rules descriptors old ≡ Some new → IsKeptRecord new }
     ensures filled { (rules : RulesOf) (descriptors : List DescriptorOf) (old : Record) → IsAddress rules.media → All HasKeptTexts descriptors → IsKeptRecord old → All IsKeptFilled (filled_by rules descriptors old) }

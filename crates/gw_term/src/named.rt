@@ -1,20 +1,17 @@
 //! What descriptors name of a termination, found in one pass.
 
 ghost use Rattle.std.specs.Prelude.{◌≡◌, ◌≤◌, []};
-ghost use Rattle.gw_term.specs.Named.{named_by, has_stream, has_tail, with_descriptor, with_part, with_parts, with_place, with_set};
+ghost use Rattle.gw_term.specs.Named.{named_by, with_descriptor, with_part, with_parts, with_place, with_set};
 
-use crate::held_settings::{HeldForm, HeldSettings};
 use crate::places::{PerKind, PerStream};
 use crate::settings::{Setting, Settings};
 use gw_desc::{Descriptor, MediaPart};
 
 /// What descriptors name.
 #[derive(Clone, Copy)]
-pub struct Named {
+pub(crate) struct Named {
     /// The streams.
     pub streams: PerStream<bool>,
-    /// The properties or the service state: a TerminationState is there.
-    pub states: bool,
     /// The tails.
     pub tails: PerKind<bool>,
 }
@@ -31,7 +28,6 @@ impl Named {
                 third: false,
                 fourth: false,
             },
-            states: false,
             tails: PerKind {
                 events: false,
                 signals: false,
@@ -42,30 +38,30 @@ impl Named {
     }
 
     /// What the part of a Media names is named too.
-    fn note_part(&mut self, part: &MediaPart<'_>)
+    fn add_part(&mut self, part: &MediaPart<'_>)
         ensures { self.new ≡ with_part part.now self.old }
     {
         match part {
             MediaPart::Outside(_) => self.streams.put(1, true),
             MediaPart::Stream(number, _) => self.streams.put(*number, true),
-            MediaPart::TerminationState(_) => self.states = true,
+            MediaPart::TerminationState(_) => {}
         }
     }
 
-    fn note_parts(&mut self, parts: &[MediaPart<'_>])
+    fn add_parts(&mut self, parts: &[MediaPart<'_>])
         ensures { self.new ≡ with_parts parts.now self.old }
     {
         for part in parts {
-            self.note_part(part);
+            self.add_part(part);
         }
     }
 
     /// What the descriptor names is named too.
-    fn note(&mut self, descriptor: &Descriptor<'_>)
+    fn add(&mut self, descriptor: &Descriptor<'_>)
         ensures { self.new ≡ with_descriptor descriptor.now self.old }
     {
         match descriptor {
-            Descriptor::Media(parts) => self.note_parts(parts.as_slice()),
+            Descriptor::Media(parts) => self.add_parts(parts.as_slice()),
             Descriptor::Keep(kind, _) => self.tails.put(*kind, true),
             _ => {}
         }
@@ -77,29 +73,13 @@ impl Named {
     {
         let mut named = Named::nothing();
         for descriptor in descriptors {
-            named.note(descriptor);
+            named.add(descriptor);
         }
         named
     }
 
-    /// Whether a stream is named.
-    pub(crate) fn has_stream(&self) -> bool
-        ensures { result ≡ has_stream self.now }
-    {
-        let streams = &self.streams;
-        streams.first || streams.second || streams.third || streams.fourth
-    }
-
-    /// Whether a tail is named.
-    pub(crate) fn has_tail(&self) -> bool
-        ensures { result ≡ has_tail self.now }
-    {
-        let tails = &self.tails;
-        tails.events || tails.signals || tails.digit_map || tails.event_buffer
-    }
-
     /// A stream or a tail that was set is named too.
-    fn note_setting(&mut self, setting: &Setting)
+    fn add_setting(&mut self, setting: &Setting)
         ensures { self.new ≡ with_place setting.now self.old }
     {
         match setting {
@@ -109,22 +89,12 @@ impl Named {
         }
     }
 
-    /// The streams and tails that were set are named too.
-    fn note_settings(&mut self, set: &Settings)
+    /// The streams and tails that were set are named too: these and no others may be there after the descriptors.
+    pub(crate) fn add_set(&mut self, set: &Settings)
         ensures { self.new ≡ with_set set.now self.old }
     {
         for setting in set.list() {
-            self.note_setting(setting);
-        }
-    }
-
-    /// The same: these and no others may be there after the descriptors. Where a graft lies over them, they are those that it has in common.
-    pub(crate) fn note_set(&mut self, set: &HeldSettings)
-        ensures { self.new ≡ with_set set.now self.old }
-    {
-        match &set.form {
-            HeldForm::Whole(settings) => self.note_settings(settings),
-            HeldForm::Grafted(block) => self.note_settings(&block.graft.after),
+            self.add_setting(setting);
         }
     }
 

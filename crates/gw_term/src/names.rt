@@ -4,41 +4,20 @@ ghost use Rattle.std.specs.Prelude.{◌≡◌};
 ghost use Rattle.gw_text.specs.Tokens.{is_same_word};
 ghost use Rattle.gw_term.specs.NameTags.{name_tag, with_byte};
 
-/// Whether two texts are the same in any case. Most that are of one length are alike in each letter.
-pub(crate) fn is_same_text(text: &[u8], other: &[u8]) -> bool
-    ensures { result ≡ is_same_word text.now other.now }
-{
-    text == other || text.eq_ignore_ascii_case(other)
-}
-
-/// Whether two names are the same in any case. They mostly differ in their lengths, or else in their last bytes, if they are of one package:
-/// so these are looked at first.
-#[inline]
+/// Whether two names are the same in any case. Most that are the same are so in each letter.
 pub(crate) fn is_same_name(name: &[u8], other: &[u8]) -> bool
     ensures { result ≡ is_same_word name.now other.now }
 {
-    if name.len() != other.len() {
-        return false;
-    }
-    let (Some((last, front)), Some((other_last, other_front))) = (
-        name.split_last(),
-        other.split_last(),
-    ) else {
-        return true;
-    };
-    if !last.eq_ignore_ascii_case(other_last) {
-        return false;
-    }
-    is_same_text(front, other_front)
+    name == other || name.eq_ignore_ascii_case(other)
 }
 
 /// What a tag is multiplied with for each byte: odd, and of 64 bits.
 const FACTOR: u64 = 11_400_714_819_323_198_485;
 
-/// How many bits are carried from its upper half to its lower one.
+/// How many bits its upper half is shifted down.
 const CARRIED: u32 = 29;
 
-/// The tag with a byte behind it. Its upper bits are carried down each time, so that no sum of the bytes tells it.
+/// The tag with a byte behind it. Its upper bits are shifted down each time, so that it is no sum of the bytes.
 #[inline(always)]
 fn with_byte(tag: u64, byte: u8) -> u64
     ensures { result ≡ with_byte tag byte }

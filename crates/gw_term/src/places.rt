@@ -1,7 +1,7 @@
 //! Four places by the number of a stream, and four by the kind of a tail.
 
 ghost use Rattle.std.specs.Prelude.{◌≡◌};
-ghost use Rattle.gw_term.specs.Places.{at_number, put_number, at_kind, put_kind};
+ghost use Rattle.gw_term.specs.Places.{put_number, put_kind};
 
 use gw_desc::KeptKind;
 
@@ -56,18 +56,6 @@ impl<T: Copy + Drop> PerKind<T> {
             KeptKind::Signals => self.signals = value,
             KeptKind::DigitMap => self.digit_map = value,
             KeptKind::EventBuffer => self.event_buffer = value,
-        }
-    }
-
-    /// What stands in the place of a kind.
-    pub(crate) fn at(&self, kind: KeptKind) -> T
-        ensures { result ≡ at_kind kind self.now }
-    {
-        match kind {
-            KeptKind::Events => self.events,
-            KeptKind::Signals => self.signals,
-            KeptKind::DigitMap => self.digit_map,
-            KeptKind::EventBuffer => self.event_buffer,
         }
     }
 }

@@ -3,12 +3,10 @@
 ghost use Rattle.std.specs.Prelude.{◌≡◌};
 
 use crate::held::HeldProperty;
-use crate::held_settings::HeldSettings;
 use crate::settings::Settings;
 use crate::text::Text;
 use gw_base::{CtxNum, Items, Service};
 use gw_desc::Mode;
-use std::alloc::Global;
 
 /// A stream of a termination (RFC 3525, sections 7.1.6 and 7.1.7).
 pub struct Stream {
@@ -22,7 +20,8 @@ pub struct Stream {
     pub remote: Text,
 }
 
-// By hand, so that a function that lets a stream go does so by one call. A derived one would stand in it field by field.
+// By hand, so that a function that drops a stream does so by one call. A derived one would stand in it field by
+// field.
 impl Drop for Stream {
     fn drop(self) {
         let Stream {
@@ -43,7 +42,7 @@ pub struct Termination {
     /// Its slot, below 4,096, if it is an ephemeral one.
     pub slot: Option<u16>,
     /// What was set of it: properties, streams and tails.
-    pub settings: HeldSettings,
+    pub settings: Settings,
 }
 
 // As for a stream.
@@ -62,59 +61,29 @@ impl Termination {
     ghost use Rattle.gw_term.specs.Record.{unset, provisioned, ephemeral, placed, serviced, reset};
 
     /// A termination of which nothing was set.
-    pub(crate) fn unset(
-        alloc: Global,
-        place: Option<CtxNum>,
-        service: Service,
-        slot: Option<u16>,
-    ) -> Termination
+    fn unset(place: Option<CtxNum>, service: Service, slot: Option<u16>) -> Termination
         ensures { result ≡ unset place service slot }
     {
         Termination {
             place,
             service,
             slot,
-            settings: HeldSettings::new(alloc),
+            settings: Settings::none(),
         }
     }
 
-    /// A termination that was configured: in the null context and in service. It takes no memory.
-    pub fn provisioned(alloc: Global) -> Termination
+    /// A termination that was configured: in the null context and in service.
+    pub fn provisioned() -> Termination
         ensures { result ≡ provisioned }
     {
-        Termination::unset(alloc, None, Service::InService, None)
+        Termination::unset(None, Service::InService, None)
     }
 
-    /// A termination that was configured, of which this was set.
-    pub(crate) fn set_so(settings: Settings) -> Termination
-        ensures { result ≡ record provisioned { settings = settings } }
-    {
-        Termination {
-            place: None,
-            service: Service::InService,
-            slot: None,
-            settings: HeldSettings::whole(settings),
-        }
-    }
-
-    /// One that is made for this slot, below 4,096, in the null context and in service. It takes no memory.
-    pub fn ephemeral(alloc: Global, slot: u16) -> Termination
+    /// One that is made for this slot, below 4,096, in the null context and in service.
+    pub fn ephemeral(slot: u16) -> Termination
         ensures { result ≡ ephemeral slot }
     {
-        Termination::unset(alloc, None, Service::InService, Some(slot))
-    }
-
-    /// What was set of it.
-    pub(crate) fn into_settings(self) -> HeldSettings
-        ensures { result ≡ self.settings }
-    {
-        let Termination {
-            place: _,
-            service: _,
-            slot: _,
-            settings,
-        } = self;
-        settings
+        Termination::unset(None, Service::InService, Some(slot))
     }
 
     /// The context that it is in, or none for the null context.
@@ -149,7 +118,6 @@ impl Termination {
     pub fn reset(&mut self)
         ensures { self.new ≡ reset self.old }
     {
-        let alloc = self.settings.allocator();
-        *self = Termination::unset(alloc, None, self.service, self.slot);
+        *self = Termination::unset(None, self.service, self.slot);
     }
 }

@@ -2,11 +2,11 @@
 
 ghost use Rattle.std.specs.Prelude.{◌≡◌, ◌≤◌, ◌+◌, ◌-◌, ◌++◌, Some, true, length, take, replicate, IfOk, IfSome};
 
-use crate::text::{Copying, Text};
+use crate::text::Text;
 use std::alloc::{AllocError, Global};
 use std::marker::Model;
 
-/// How many bytes it has at most: it takes no more room than what tells where a block lies.
+/// How many bytes it has at most: it takes no more room than a handle of a block does.
 pub(crate) const MOST_SHORT: usize = 22;
 
 /// At most 22 bytes. Contracts see the list of them.
@@ -140,25 +140,24 @@ impl Joined {
 
     /// A copy.
     #[inline(always)]
-    pub(crate) fn copied(&self, alloc: Global, copying: Copying) -> Result<Joined, AllocError>
+    pub(crate) fn copied(&self, alloc: Global) -> Result<Joined, AllocError>
         ensures { IfOk result (λ copy. copy ≡ self.now) }
     {
         let place = match &self.place {
             Place::Here(short) => Place::Here(short.copied()),
-            Place::Block(text) => Place::Block(text.copied(alloc, copying)?),
+            Place::Block(text) => Place::Block(text.copied(alloc)?),
         };
         Ok(Joined { place })
     }
 
     /// Whether they are the others, wherever they lie.
-    #[inline]
     pub(crate) fn is_same(&self, other: &Joined) -> bool
         ensures { result ≡ true → self.now ≡ other.now }
     {
         self.as_slice() == other.as_slice()
     }
 
-    /// Whether they are so long that copies share their block from the start.
+    /// Whether they are so long that copies share their block.
     pub(crate) fn is_long(&self) -> bool {
         match &self.place {
             Place::Here(_) => false,

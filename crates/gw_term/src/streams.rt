@@ -1,23 +1,22 @@
 //! Streams: what the parts of a Media do to each.
 
-ghost use Rattle.std.specs.Prelude.{◌≡◌, ◌≤◌, IfOk, OnOk, None, Some, true};
-ghost use Rattle.std.specs.Option.{is_some, option_map};
-ghost use Rattle.gw_term.specs.Named.{noted};
+ghost use Rattle.std.specs.Prelude.{◌≡◌, ◌≤◌, IfOk, OnOk, None, true};
+ghost use Rattle.std.specs.Option.{is_some, option_copied};
+ghost use Rattle.gw_term.specs.Named.{or_named};
 ghost use Rattle.gw_desc.specs.declared.descriptor.StreamPart.TheVariants.{Local};
 ghost use Rattle.std.specs.List.{flat_map, list_any};
 ghost use Rattle.gw_term.specs.Merge.{put_control, local_text, is_filled, put_part, begun, parts_in, parts_in_part, is_named_in, merged_stream, each};
 ghost use Rattle.gw_term.specs.Applies.{Becomes, IsStreamMerged};
-ghost use Rattle.gw_term.specs.Grafts.{graft};
 ghost use Rattle.gw_term.specs.Places.{at_number, put_number};
 
-use crate::copies::put;
+use crate::copies::{copied_stream, put};
 use crate::fault::ApplyFault;
 use crate::held::HeldProperty;
-use crate::held_settings::{HeldSettings, Seen};
 use crate::properties::{media_parts, put_property};
 use crate::record::Stream;
-use crate::settings::{Setting, Settings};
-use crate::text::{Copying, Text};
+use crate::sent::Sent;
+use crate::settings::{Setting, SettingList, Settings};
+use crate::text::Text;
 use gw_base::{Items, NoMemory, Rules, Span};
 use gw_desc::{
     Descriptor, MediaPart, Mode, Property, StreamPart, fill_local, is_mode, mode_set_by,
@@ -43,7 +42,7 @@ impl Drop for Merging {
 }
 
 impl Merging {
-    /// The stream, without what was noted of it.
+    /// The stream alone.
     pub(crate) fn into_stream(self) -> Stream
         ensures { result ≡ self.stream }
     {
@@ -52,48 +51,11 @@ impl Merging {
     }
 }
 
-/// What is merged into a record: descriptors, under the gateway's rules, where the termination has this slot.
-#[derive(Clone, Copy)]
-pub(crate) struct Sent<'a, 'b, 'c> {
-    pub rules: &'a Rules,
-    pub slot: Option<u16>,
-    pub descriptors: &'a [Descriptor<'b>],
-    /// A stream that has texts of theirs, which copies share, if there is one.
-    pub made: Option<&'c Stream>,
-}
-
-impl<'c> Sent<'_, '_, 'c> {
-    /// A Local that may be shared.
-    fn made_local(&self) -> Option<&'c Text> {
-        match self.made {
-            Some(stream) => Some(&stream.local),
-            None => None,
-        }
-    }
-
-    /// Properties that may be shared.
-    fn made_properties(&self) -> &'c [HeldProperty] {
-        match self.made {
-            Some(stream) => stream.properties.as_slice(),
-            None => &[],
-        }
-    }
-
-    /// A Remote that may be shared.
-    fn made_remote(&self) -> Option<&'c Text> {
-        match self.made {
-            Some(stream) => Some(&stream.remote),
-            None => None,
-        }
-    }
-}
-
-/// A property of a LocalControl, which stands in this place of it: Mode, or one of the list.
+/// A property of a LocalControl: Mode, or one of the list.
 fn put_control(
     alloc: Global,
     property: &Property<Span<'_>>,
     made: &[HeldProperty],
-    sent: usize,
     stream: &mut Stream,
 ) -> Result<(), ApplyFault>
     ensures { Becomes result stream.new (put_control property.now stream.old) }
@@ -102,7 +64,7 @@ fn put_control(
         stream.mode = mode_set_by(property).unwrap_or(stream.mode);
         return Ok(());
     }
-    put_property(alloc, property, made, sent, &mut stream.properties)
+    put_property(alloc, property, made, &mut stream.properties)
 }
 
 fn put_controls(
@@ -113,34 +75,36 @@ fn put_controls(
 ) -> Result<(), ApplyFault>
     ensures { Becomes result stream.new (each put_control properties.now stream.old) }
 {
-    for (place, property) in properties.iter().enumerate() {
-        put_control(alloc, property, made, place, stream)?;
+    for property in properties {
+        put_control(alloc, property, made, stream)?;
     }
     Ok(())
 }
 
-/// A Local, filled where the termination has a slot. Inlined it would have each part of a stream clear a larger frame.
+/// A Local, filled where the termination has a slot. Inlined it would have each part of a stream clear a larger
+/// frame.
 #[inline(never)]
 fn put_local(
     alloc: Global,
     sent: &Sent<'_, '_, '_>,
     number: u8,
     text: &[u8],
-    stream: &mut Stream,
-    filled: &mut bool,
+    merging: &mut Merging,
 ) -> Result<(), ApplyFault>
     requires first { 1 ≤ number }
     requires last { number ≤ 4 }
-    ensures { Becomes result (record { stream = stream.new; filled = filled.new }) (put_part sent.now.rules.now sent.now.slot number (Local text.now) (record { stream = stream.old; filled = filled.old })) }
+    ensures { Becomes result merging.new (put_part sent.now.rules.now sent.now.slot number (Local text.now) merging.old) }
 {
-    let Some(slot) = sent.slot else {
-        stream.local.put(alloc, text, sent.made_local())?;
-        *filled = false;
-        return Ok(());
+    let made = sent.made_local(number);
+    let (local, filled) = match sent.slot {
+        Some(slot) => {
+            let (local, filled) = fill_local(alloc, text, &sent.rules.media, slot, number)?;
+            (Text::from_vec(local)?.shared_with(alloc, made)?, filled)
+        }
+        None => (Text::of_or(alloc, text, made)?, false),
     };
-    let (local, is_filled) = fill_local(alloc, text, &sent.rules.media, slot, number)?;
-    put(&mut stream.local, Text::from_vec(local)?);
-    *filled = is_filled;
+    put(&mut merging.stream.local, local);
+    merging.filled = filled;
     Ok(())
 }
 
@@ -150,22 +114,22 @@ fn put_part(
     sent: &Sent<'_, '_, '_>,
     number: u8,
     part: &StreamPart<'_>,
-    stream: &mut Stream,
-    filled: &mut bool,
+    merging: &mut Merging,
 ) -> Result<(), ApplyFault>
     requires first { 1 ≤ number }
     requires last { number ≤ 4 }
-    ensures { Becomes result (record { stream = stream.new; filled = filled.new }) (put_part sent.now.rules.now sent.now.slot number part.now (record { stream = stream.old; filled = filled.old })) }
+    ensures { Becomes result merging.new (put_part sent.now.rules.now sent.now.slot number part.now merging.old) }
 {
     match part {
-        StreamPart::Local(text) => put_local(alloc, sent, number, text.as_bytes(), stream, filled),
+        StreamPart::Local(text) => put_local(alloc, sent, number, text.as_bytes(), merging),
         StreamPart::Remote(text) => {
-            let made = sent.made_remote();
-            stream.remote.put(alloc, text.as_bytes(), made)?;
+            let remote = Text::of_or(alloc, text.as_bytes(), sent.made_remote(number))?;
+            put(&mut merging.stream.remote, remote);
             Ok(())
         }
         StreamPart::LocalControl(properties) => {
-            put_controls(alloc, properties.as_slice(), sent.made_properties(), stream)
+            let made = sent.made_controls(number);
+            put_controls(alloc, properties.as_slice(), made, &mut merging.stream)
         }
     }
 }
@@ -175,15 +139,14 @@ fn put_parts(
     sent: &Sent<'_, '_, '_>,
     number: u8,
     parts: &[StreamPart<'_>],
-    stream: &mut Stream,
-    filled: &mut bool,
+    merging: &mut Merging,
 ) -> Result<(), ApplyFault>
     requires first { 1 ≤ number }
     requires last { number ≤ 4 }
-    ensures { Becomes result (record { stream = stream.new; filled = filled.new }) (each (put_part sent.now.rules.now sent.now.slot number) parts.now (record { stream = stream.old; filled = filled.old })) }
+    ensures { Becomes result merging.new (each (put_part sent.now.rules.now sent.now.slot number) parts.now merging.old) }
 {
     for part in parts {
-        put_part(alloc, sent, number, part, stream, filled)?;
+        put_part(alloc, sent, number, part, merging)?;
     }
     Ok(())
 }
@@ -194,17 +157,16 @@ fn put_part_of(
     sent: &Sent<'_, '_, '_>,
     number: u8,
     part: &MediaPart<'_>,
-    stream: &mut Stream,
-    filled: &mut bool,
+    merging: &mut Merging,
 ) -> Result<(), ApplyFault>
     requires first { 1 ≤ number }
     requires last { number ≤ 4 }
-    ensures { Becomes result (record { stream = stream.new; filled = filled.new }) (each (put_part sent.now.rules.now sent.now.slot number) (parts_in_part number part.now) (record { stream = stream.old; filled = filled.old })) }
+    ensures { Becomes result merging.new (each (put_part sent.now.rules.now sent.now.slot number) (parts_in_part number part.now) merging.old) }
 {
     match part {
-        MediaPart::Outside(p) if number == 1 => put_part(alloc, sent, number, p, stream, filled),
+        MediaPart::Outside(p) if number == 1 => put_part(alloc, sent, number, p, merging),
         MediaPart::Stream(other, parts) if *other == u16::from(number) => {
-            put_parts(alloc, sent, number, parts.as_slice(), stream, filled)
+            put_parts(alloc, sent, number, parts.as_slice(), merging)
         }
         _ => Ok(()),
     }
@@ -215,42 +177,40 @@ fn put_media(
     sent: &Sent<'_, '_, '_>,
     number: u8,
     parts: &[MediaPart<'_>],
-    stream: &mut Stream,
-    filled: &mut bool,
+    merging: &mut Merging,
 ) -> Result<(), ApplyFault>
     requires first { 1 ≤ number }
     requires last { number ≤ 4 }
-    ensures { Becomes result (record { stream = stream.new; filled = filled.new }) (each (put_part sent.now.rules.now sent.now.slot number) (flat_map (parts_in_part number) parts.now) (record { stream = stream.old; filled = filled.old })) }
+    ensures { Becomes result merging.new (each (put_part sent.now.rules.now sent.now.slot number) (flat_map (parts_in_part number) parts.now) merging.old) }
 {
     for part in parts {
-        put_part_of(alloc, sent, number, part, stream, filled)?;
+        put_part_of(alloc, sent, number, part, merging)?;
     }
     Ok(())
 }
 
-pub(crate) fn put_all(
+fn put_all(
     alloc: Global,
     sent: &Sent<'_, '_, '_>,
     number: u8,
-    stream: &mut Stream,
-    filled: &mut bool,
+    merging: &mut Merging,
 ) -> Result<(), ApplyFault>
     requires first { 1 ≤ number }
     requires last { number ≤ 4 }
-    ensures { Becomes result (record { stream = stream.new; filled = filled.new }) (each (put_part sent.now.rules.now sent.now.slot number) (flat_map (parts_in number) sent.now.descriptors.now) (record { stream = stream.old; filled = filled.old })) }
+    ensures { Becomes result merging.new (each (put_part sent.now.rules.now sent.now.slot number) (flat_map (parts_in number) sent.now.descriptors.now) merging.old) }
 {
     for descriptor in sent.descriptors {
-        put_media(alloc, sent, number, media_parts(descriptor), stream, filled)?;
+        put_media(alloc, sent, number, media_parts(descriptor), merging)?;
     }
     Ok(())
 }
 
 /// A copy of the stream, or a new one where there was none: in mode Inactive, and nothing else.
-fn begun(alloc: Global, old: Option<Seen<'_>>) -> Result<Merging, NoMemory>
-    ensures { IfOk result (λ merging. merging ≡ begun (option_map (λ s. graft s.kept.now s.own.now s.stream.now) old.entry)) }
+fn begun(alloc: Global, old: Option<&Stream>) -> Result<Merging, NoMemory>
+    ensures { IfOk result (λ merging. merging ≡ begun (option_copied old.entry)) }
 {
     let stream = match old {
-        Some(seen) => seen.copied(alloc)?,
+        Some(stream) => copied_stream(alloc, stream)?,
         None => Stream {
             mode: Mode::Inactive,
             properties: Items::new(alloc),
@@ -264,31 +224,25 @@ fn begun(alloc: Global, old: Option<Seen<'_>>) -> Result<Merging, NoMemory>
     })
 }
 
-/// The stream of this number, which is named or there, after the descriptors is set; whether its Local was filled. Not inlined,
-/// since most streams are neither.
+/// The stream of this number, which is named or there, after the descriptors is set; whether its Local was filled.
+/// Not inlined, since most streams are neither.
 #[inline(never)]
 #[tactic(auto, using(crate::proofs::StreamsFound::merged_there))]
 fn merge_there(
     alloc: Global,
     sent: &Sent<'_, '_, '_>,
     number: u8,
-    old: &HeldSettings,
-    new: &mut Settings,
+    old: &Settings,
+    new: &mut SettingList,
 ) -> Result<bool, ApplyFault>
     requires first { 1 ≤ number }
     requires last { number ≤ 4 }
-    requires there { noted (is_some (at_number number old.now.streams)) (list_any (is_named_in number) sent.now.descriptors.now) ≡ true }
+    requires there { or_named (is_some (at_number number old.now.streams)) (list_any (is_named_in number) sent.now.descriptors.now) ≡ true }
     ensures merged { IsStreamMerged result (at_number number new.new.streams) (merged_stream sent.now.rules.now sent.now.slot number sent.now.descriptors.now (at_number number old.now.streams)) }
     ensures rest { OnOk result (new.new ≡ record new.old { streams = put_number number (at_number number new.new.streams) new.old.streams }) }
 {
     let mut merging = begun(alloc, old.stream(number))?;
-    put_all(
-        alloc,
-        sent,
-        number,
-        &mut merging.stream,
-        &mut merging.filled,
-    )?;
+    put_all(alloc, sent, number, &mut merging)?;
     let filled = merging.filled;
     new.push(Setting::Stream(number, merging.into_stream()))?;
     Ok(filled)
@@ -302,12 +256,12 @@ pub(crate) fn merge_stream(
     sent: &Sent<'_, '_, '_>,
     number: u8,
     is_there: bool,
-    old: &HeldSettings,
-    new: &mut Settings,
+    old: &Settings,
+    new: &mut SettingList,
 ) -> Result<bool, ApplyFault>
     requires first { 1 ≤ number }
     requires last { number ≤ 4 }
-    requires there { is_there ≡ noted (is_some (at_number number old.now.streams)) (list_any (is_named_in number) sent.now.descriptors.now) }
+    requires there { is_there ≡ or_named (is_some (at_number number old.now.streams)) (list_any (is_named_in number) sent.now.descriptors.now) }
     requires empty { at_number number new.old.streams ≡ None }
     ensures merged { IsStreamMerged result (at_number number new.new.streams) (merged_stream sent.now.rules.now sent.now.slot number sent.now.descriptors.now (at_number number old.now.streams)) }
     ensures rest { OnOk result (new.new ≡ record new.old { streams = put_number number (at_number number new.new.streams) new.old.streams }) }

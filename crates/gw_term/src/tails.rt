@@ -3,18 +3,17 @@
 ghost use Rattle.std.specs.Prelude.{◌≡◌, bytes_eq, codes, IfOk, OnOk, None};
 ghost use Rattle.gw_text.specs.SpaceScan.{skip};
 ghost use Rattle.std.specs.List.{list_any};
-ghost use Rattle.std.specs.Option.{is_some, option_copied};
-ghost use Rattle.gw_term.specs.Named.{noted};
+ghost use Rattle.std.specs.Option.{is_some};
+ghost use Rattle.gw_term.specs.Named.{or_named};
 ghost use Rattle.gw_desc.specs.Checks.{is_kept};
 ghost use Rattle.gw_term.specs.Places.{at_kind, put_kind, of_kinds};
 ghost use Rattle.gw_term.specs.Merge.{has_blank_inside, is_blank_group, kept_tail, merged_tail, tail_after};
 
 use crate::copies::put;
 use crate::held::HeldTail;
-use crate::held_settings::HeldSettings;
 use crate::places::PerKind;
-use crate::settings::{Setting, Settings};
-use crate::text::Copying;
+use crate::sent::Sent;
+use crate::settings::{Setting, SettingList, Settings};
 use gw_base::Span;
 use gw_desc::{Descriptor, KeptKind, Tail, same_kept};
 use gw_text::Cursor;
@@ -49,24 +48,19 @@ fn is_blank_group(group: &Option<Span<'_>>) -> bool
     }
 }
 
-/// The tail, if it is kept: none without `=` that has no group, or a blank one.
-fn if_kept<'a, 'b>(tail: &'b Tail<Span<'a>>) -> Option<&'b Tail<Span<'a>>>
-    ensures { option_copied result ≡ kept_tail tail.now }
-{
-    if !tail.equals && is_blank_group(&tail.group) {
-        return None;
-    }
-    Some(tail)
-}
-
-/// What is kept of a tail.
-fn kept_tail(alloc: Global, tail: &Tail<Span<'_>>) -> Result<Option<HeldTail>, AllocError>
+/// What is kept of a tail: nothing of one without `=` that has no group, or a blank one. It shares its block with
+/// what was made of it before, if it is long.
+fn kept_tail(
+    alloc: Global,
+    tail: &Tail<Span<'_>>,
+    made: Option<&HeldTail>,
+) -> Result<Option<HeldTail>, AllocError>
     ensures { IfOk result (λ kept. kept ≡ kept_tail tail.now) }
 {
-    match if_kept(tail) {
-        Some(tail) => Ok(Some(HeldTail::of(alloc, tail)?)),
-        None => Ok(None),
+    if !tail.equals && is_blank_group(&tail.group) {
+        return Ok(None);
     }
+    Ok(Some(HeldTail::of(alloc, tail)?.shared_with(alloc, made)?))
 }
 
 /// The tail after a descriptor.
@@ -74,13 +68,14 @@ fn put_tail(
     alloc: Global,
     kind: KeptKind,
     descriptor: &Descriptor<'_>,
+    made: Option<&HeldTail>,
     tail: &mut Option<HeldTail>,
 ) -> Result<(), AllocError>
     ensures { OnOk result (tail.new ≡ tail_after kind descriptor.now tail.old) }
 {
     if let Descriptor::Keep(other, sent) = descriptor {
         if same_kept(kind, *other) {
-            put(tail, kept_tail(alloc, sent)?);
+            put(tail, kept_tail(alloc, sent, made)?);
         }
     }
     Ok(())
@@ -89,36 +84,37 @@ fn put_tail(
 /// The tail after descriptors.
 fn put_tails(
     alloc: Global,
+    sent: &Sent<'_, '_, '_>,
     kind: KeptKind,
-    descriptors: &[Descriptor<'_>],
     tail: &mut Option<HeldTail>,
 ) -> Result<(), AllocError>
-    ensures { OnOk result (tail.new ≡ merged_tail kind descriptors.now tail.old) }
+    ensures { OnOk result (tail.new ≡ merged_tail kind sent.now.descriptors.now tail.old) }
 {
-    for descriptor in descriptors {
-        put_tail(alloc, kind, descriptor, tail)?;
+    let made = sent.made.tail(kind);
+    for descriptor in sent.descriptors {
+        put_tail(alloc, kind, descriptor, made, tail)?;
     }
     Ok(())
 }
 
-/// The tail of this kind after the descriptors is set, if there is one then. Not inlined, since most tails are neither named nor
-/// there.
+/// The tail of this kind after the descriptors is set, if there is one then. Not inlined, since most tails are
+/// neither named nor there.
 #[inline(never)]
 fn merge_there(
     alloc: Global,
+    sent: &Sent<'_, '_, '_>,
     kind: KeptKind,
-    descriptors: &[Descriptor<'_>],
-    old: &HeldSettings,
-    new: &mut Settings,
+    old: &Settings,
+    new: &mut SettingList,
 ) -> Result<(), AllocError>
     requires { at_kind kind new.old.tails ≡ None }
-    ensures { OnOk result (new.new ≡ record new.old { tails = put_kind kind (merged_tail kind descriptors.now (at_kind kind old.now.tails)) new.old.tails }) }
+    ensures { OnOk result (new.new ≡ record new.old { tails = put_kind kind (merged_tail kind sent.now.descriptors.now (at_kind kind old.now.tails)) new.old.tails }) }
 {
     let mut tail = match old.tail(kind) {
-        Some(tail) => Some(tail.copied(alloc, Copying::Once)?),
+        Some(tail) => Some(tail.copied(alloc)?),
         None => None,
     };
-    put_tails(alloc, kind, descriptors, &mut tail)?;
+    put_tails(alloc, sent, kind, &mut tail)?;
     if let Some(tail) = tail {
         new.push(Setting::Tail(kind, tail))?;
     }
@@ -130,18 +126,18 @@ fn merge_there(
 #[tactic(auto, using(crate::proofs::Naming::tail_stays))]
 fn merge_tail(
     alloc: Global,
+    sent: &Sent<'_, '_, '_>,
     kind: KeptKind,
     is_there: bool,
-    descriptors: &[Descriptor<'_>],
-    old: &HeldSettings,
-    new: &mut Settings,
+    old: &Settings,
+    new: &mut SettingList,
 ) -> Result<(), AllocError>
-    requires there { is_there ≡ noted (is_some (at_kind kind old.now.tails)) (list_any (is_kept kind) descriptors.now) }
+    requires there { is_there ≡ or_named (is_some (at_kind kind old.now.tails)) (list_any (is_kept kind) sent.now.descriptors.now) }
     requires empty { at_kind kind new.old.tails ≡ None }
-    ensures { OnOk result (new.new ≡ record new.old { tails = put_kind kind (merged_tail kind descriptors.now (at_kind kind old.now.tails)) new.old.tails }) }
+    ensures { OnOk result (new.new ≡ record new.old { tails = put_kind kind (merged_tail kind sent.now.descriptors.now (at_kind kind old.now.tails)) new.old.tails }) }
 {
     if is_there {
-        return merge_there(alloc, kind, descriptors, old, new);
+        return merge_there(alloc, sent, kind, old, new);
     }
     Ok(())
 }
@@ -149,18 +145,24 @@ fn merge_tail(
 /// The tails after the descriptors are set, where none are.
 pub(crate) fn merge_tails(
     alloc: Global,
+    sent: &Sent<'_, '_, '_>,
     there: &PerKind<bool>,
-    descriptors: &[Descriptor<'_>],
-    old: &HeldSettings,
-    new: &mut Settings,
+    old: &Settings,
+    new: &mut SettingList,
 ) -> Result<(), AllocError>
-    requires there { there.now ≡ of_kinds (λ kind. noted (is_some (at_kind kind old.now.tails)) (list_any (is_kept kind) descriptors.now)) }
+    requires there { there.now ≡ of_kinds (λ kind. or_named (is_some (at_kind kind old.now.tails)) (list_any (is_kept kind) sent.now.descriptors.now)) }
     requires empty { new.old.tails ≡ of_kinds (λ _. None) }
-    ensures { OnOk result (new.new ≡ record new.old { tails = of_kinds (λ kind. merged_tail kind descriptors.now (at_kind kind old.now.tails)) }) }
+    ensures { OnOk result (new.new ≡ record new.old { tails = of_kinds (λ kind. merged_tail kind sent.now.descriptors.now (at_kind kind old.now.tails)) }) }
 {
-    let (t, d) = (there, descriptors);
-    merge_tail(alloc, KeptKind::Events, t.events, d, old, new)?;
-    merge_tail(alloc, KeptKind::Signals, t.signals, d, old, new)?;
-    merge_tail(alloc, KeptKind::DigitMap, t.digit_map, d, old, new)?;
-    merge_tail(alloc, KeptKind::EventBuffer, t.event_buffer, d, old, new)
+    merge_tail(alloc, sent, KeptKind::Events, there.events, old, new)?;
+    merge_tail(alloc, sent, KeptKind::Signals, there.signals, old, new)?;
+    merge_tail(alloc, sent, KeptKind::DigitMap, there.digit_map, old, new)?;
+    merge_tail(
+        alloc,
+        sent,
+        KeptKind::EventBuffer,
+        there.event_buffer,
+        old,
+        new,
+    )
 }

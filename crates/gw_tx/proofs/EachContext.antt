@@ -1,4 +1,4 @@
--- Under * no Add of $ is carried out, so it does not matter which slot is owned there.
+-- Under * no Add of $ is executed out, so it does not matter which slot is owned there.
 use Rattle.std.proofs.Common.{◌≡◌, ℕ, Bool, true, false, Option, None, Some, refl, sym, ap, ◌∙◌}
 use Rattle.std.specs.Prelude.{if◌then◌else◌, not}
 use Rattle.gw_base.specs.declared.code.Code.{Code}
@@ -17,7 +17,7 @@ use Rattle.gw_refusal.specs.Places.{made}
 use Rattle.gw_refusal.specs.Forms.{is_left_out, is_misplaced, refusal_by_form}
 use Rattle.gw_cmd.specs.declared.outcome.CmdOutcome.{CmdOutcome}
 use Rattle.gw_cmd.specs.Refusals.{has_ended, code_if, missing, refusal_by_tables, first_code}
-use Rattle.gw_cmd.specs.Commands.{carried, unless_refused, command}
+use Rattle.gw_cmd.specs.Commands.{executed, unless_refused, command}
 
 left_out : (n : CtxNum) (c : Command) → c.term ≡ Choose → is_left_out (Each n) c ≡ true
 left_out n c e = or_right _ _ (ap (λ (r : TermRef). not (is_wildcard r)) e)
@@ -26,17 +26,17 @@ left_out n c e = or_right _ _ (ap (λ (r : TermRef). not (is_wildcard r)) e)
 refused_alike : (rules : Rules) (n : CtxNum) (slot : Option ℕ) (c : Command) (m : Maps) (code : Code) → refusal_by_form (Each n) c ≡ Some code → command rules (Each n) slot c m ≡ command rules (Each n) None c m
 unfolding command
 refused_alike rules n slot c m code e =
-    ap (λ (r : Option Code). unless_refused (first_code r (refusal_by_tables (Each n) slot c m)) (Each n) c m (carried rules (Each n) slot c m c.term)) e
-    ∙ sym (ap (λ (r : Option Code). unless_refused (first_code r (refusal_by_tables (Each n) None c m)) (Each n) c m (carried rules (Each n) None c m c.term)) e)
+    ap (λ (r : Option Code). unless_refused (first_code r (refusal_by_tables (Each n) slot c m)) (Each n) c m (executed rules (Each n) slot c m c.term)) e
+    ∙ sym (ap (λ (r : Option Code). unless_refused (first_code r (refusal_by_tables (Each n) None c m)) (Each n) c m (executed rules (Each n) None c m c.term)) e)
 
 -- a command that is not for $ does not look at what it owns
-other_alike : (rules : Rules) (n : CtxNum) (slot : Option ℕ) (c : Command) (m : Maps) (r : TermRef) → c.term ≡ r → missing (Each n) slot c m r ≡ missing (Each n) None c m r → carried rules (Each n) slot c m r ≡ carried rules (Each n) None c m r → command rules (Each n) slot c m ≡ command rules (Each n) None c m
+other_alike : (rules : Rules) (n : CtxNum) (slot : Option ℕ) (c : Command) (m : Maps) (r : TermRef) → c.term ≡ r → missing (Each n) slot c m r ≡ missing (Each n) None c m r → executed rules (Each n) slot c m r ≡ executed rules (Each n) None c m r → command rules (Each n) slot c m ≡ command rules (Each n) None c m
 unfolding command refusal_by_tables
 other_alike rules n slot c m r e p q =
     let whole : Option Code → Outcome CmdOutcome → Outcome CmdOutcome = λ x o. unless_refused (first_code (refusal_by_form (Each n) c) (first_code (code_if UnknownContext (has_ended (Each n) m)) (first_code x (check_code c.verb c.descriptors)))) (Each n) c m o in
-    ap (λ (t : TermRef). whole (missing (Each n) slot c m t) (carried rules (Each n) slot c m t)) e
-    ∙ ap (λ (x : Option Code). whole x (carried rules (Each n) slot c m r)) p ∙ ap (λ (o : Outcome CmdOutcome). whole (missing (Each n) None c m r) o) q
-    ∙ sym (ap (λ (t : TermRef). whole (missing (Each n) None c m t) (carried rules (Each n) None c m t)) e)
+    ap (λ (t : TermRef). whole (missing (Each n) slot c m t) (executed rules (Each n) slot c m t)) e
+    ∙ ap (λ (x : Option Code). whole x (executed rules (Each n) slot c m r)) p ∙ ap (λ (o : Outcome CmdOutcome). whole (missing (Each n) None c m r) o) q
+    ∙ sym (ap (λ (t : TermRef). whole (missing (Each n) None c m t) (executed rules (Each n) None c m t)) e)
 
 by_form : (n : CtxNum) (c : Command) → c.term ≡ Choose → (u : Bool) → is_unsupported c.verb ≡ u → (code : Code) × (refusal_by_form (Each n) c ≡ Some code)
 unfolding refusal_by_form

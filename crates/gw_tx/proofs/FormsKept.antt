@@ -43,7 +43,7 @@ use Rattle.gw_cmd.proofs.FormsKept.{command_kept, put_ctx_kept}
 use Rattle.gw_cmd.specs.Commands.{command}
 use Rattle.gw_tx.specs.KeptForms.{HasForms, IsAskedProperty, AreAsked, IsAskedRequest, AreSlots}
 use Rattle.gw_reserve.specs.Owned.{OwnedAction, first_owned, later_owned, is_adding, with_slots, slots_behind, owning, with_owned}
-use Rattle.gw_tx.specs.Properties.{name_of, linked_names, is_nothing, refusal_of_properties, refusal_of_links, link_of, linked_if, linked_by, with_property_if, set_property, set_properties, told_items, links_told, emergency_told, told_of_item, at_least_priority, context_parts_if}
+use Rattle.gw_tx.specs.Properties.{name_of, linked_names, is_nothing, refusal_of_properties, refusal_of_links, link_of, linked_if, linked_by, with_property_if, set_property, set_properties, reply_items, link_parts, emergency_parts, item_parts, at_least_priority, context_parts_if}
 use Rattle.gw_tx.proofs.SetProperties.{members-if}
 use Rattle.gw_tx.specs.Transactions.{set_when_made, attempt, commands, action_reply, refused_action, unless_refused, carried_action, in_context, in_each, in_all, action_for_each, action_in, action_for, action_on, action, paired_transaction, transaction}
 
@@ -163,27 +163,27 @@ made_kept true (Live n) late m f k = k
 made_kept true (Each n) late m f k = k
 made_kept false at late m f k = k
 
--- ---- what is told of contexts
+-- ---- the properties of contexts in replies
 
-links_part : (links : List Link) → All HasNames links → All IsKeptPart (links_told links)
+links_part : (links : List Link) → All HasNames links → All IsKeptPart (link_parts links)
 links_part [] h = All-nil IsKeptPart
 links_part (link ∷ links) h = All-cons IsKeptPart (part.Topology (link ∷ links)) [] h (All-nil IsKeptPart)
 
-emergency_part : (b : Bool) → All IsKeptPart (emergency_told b)
+emergency_part : (b : Bool) → All IsKeptPart (emergency_parts b)
 emergency_part true = All-cons IsKeptPart part.Emergency [] tt (All-nil IsKeptPart)
 emergency_part false = All-nil IsKeptPart
 
 priority_part : (q : ℕ) → All IsKeptPart (part.Priority q ∷ [])
 priority_part q = All-cons IsKeptPart (part.Priority q) [] tt (All-nil IsKeptPart)
 
-item_part : (c : ContextRecord) (i : ContextItem) → All HasNames c.links → All IsKeptPart (told_of_item c i)
+item_part : (c : ContextRecord) (i : ContextItem) → All HasNames c.links → All IsKeptPart (item_parts c i)
 item_part c item.Priority h = priority_part c.priority
 item_part c item.Emergency h = emergency_part c.emergency
 item_part c item.Topology h = links_part c.links h
 
-items_parts : (c : ContextRecord) (items : List ContextItem) → All HasNames c.links → All IsKeptPart (flat_map (told_of_item c) items)
+items_parts : (c : ContextRecord) (items : List ContextItem) → All HasNames c.links → All IsKeptPart (flat_map (item_parts c) items)
 items_parts c [] h = All-nil IsKeptPart
-items_parts c (i ∷ is) h = All-append IsKeptPart (told_of_item c i) (flat_map (told_of_item c) is) (item_part c i h) (items_parts c is h)
+items_parts c (i ∷ is) h = All-append IsKeptPart (item_parts c i) (flat_map (item_parts c) is) (item_part c i h) (items_parts c is h)
 
 some_part : (c : ContextRecord) (b : Bool) (parts : List ContextPart) → All IsKeptPart parts → All IsKeptPart (at_least_priority c b parts)
 some_part c true [] h = priority_part c.priority
@@ -192,7 +192,7 @@ some_part c false parts h = h
 
 parts_kept : (a : Action) (o : Option ContextRecord) → All HasNames (context_of o).links → All IsKeptPart (context_parts_if a o)
 parts_kept a None h = All-nil IsKeptPart
-parts_kept a (Some c) h = some_part c (is_nothing a.commands) (flat_map (told_of_item c) (told_items a)) (items_parts c (told_items a) h)
+parts_kept a (Some c) h = some_part c (is_nothing a.commands) (flat_map (item_parts c) (reply_items a)) (items_parts c (reply_items a) h)
 
 -- ---- actions
 

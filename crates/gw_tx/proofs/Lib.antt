@@ -1,6 +1,5 @@
-pub mod AllContexts
 pub mod Asked
-pub mod ContextRoom
+pub mod CommandsSoFar
 pub mod EachContext
 pub mod Entries
 pub mod Facts
@@ -8,15 +7,10 @@ pub mod FormsKept
 pub mod FreeSlots
 pub mod HeldKeys
 pub mod Kept
-pub mod OneCommand
+pub mod Limits
 pub mod Parts
-pub mod NoEffect
+pub mod Prepared
 pub mod RequestKeys
-pub mod RoomCounted
 pub mod SetProperties
 pub mod Steps
-pub mod Limits
-pub mod TooMany
 pub mod Unowned
-pub mod EachLeast
-pub mod Totals

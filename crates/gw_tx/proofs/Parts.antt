@@ -4,7 +4,6 @@ use Rattle.gw_base.specs.declared.ids.CtxNum.{CtxNum}
 use Rattle.gw_base.specs.declared.command_words.CtxRef.{CtxRef}
 use Rattle.gw_base.specs.declared.command_words.CtxRef.TheVariants as ref
 use Rattle.gw_base.specs.declared.key.Key.{Key}
-use Rattle.gw_msg.specs.declared.message.Action.{Action}
 use Rattle.gw_msg.specs.declared.message.Command.{Command}
 use Rattle.gw_table.specs.Maps.{Maps}
 use Rattle.gw_table.specs.Parts.{Parted, PartKeys, IsPart, Holds}
@@ -14,7 +13,7 @@ use Rattle.gw_refusal.specs.declared.at.At.{At}
 use Rattle.gw_refusal.specs.declared.at.At.TheVariants.{Null, Live, Unmade, Each}
 use Rattle.gw_cmd.specs.Keys.{command_keys}
 use Rattle.gw_cmd.proofs.Parted.{StaysPart}
-use Rattle.gw_reserve.specs.Owned.{OwnedAction, AreFreeSlots, paired_commands, paired_action}
+use Rattle.gw_reserve.specs.Owned.{OwnedAction, AreFreeSlots, paired_commands}
 use Rattle.gw_tx.specs.Footprints.{action_footprint, list_keys, Covers}
 use Rattle.gw_tx.proofs.Facts.{IsHeld}
 use Rattle.gw_tx.proofs.FreeSlots.{AnySlot, free_on}
@@ -30,7 +29,7 @@ pub starts : (part : Parted) (slots : List (Option ℕ)) (needed : List Key) →
 starts part slots needed c u = record { kept = record { sound = c.sound; entries = c.entries; grown = grows_not part.keys part.maps }; free = u; kind = λ k d h. tt }
 
 -- when the properties of a context were set
-pub starts_set : (part : Parted) (slots : List (Option ℕ)) (needed : List Key) (n : CtxNum) (ps : List ContextProp) → Covers part needed → AreFreeSlots part.maps slots → With AnySlot (StaysPart part.keys part.maps) slots (set_properties n ps part.maps)
+starts_set : (part : Parted) (slots : List (Option ℕ)) (needed : List Key) (n : CtxNum) (ps : List ContextProp) → Covers part needed → AreFreeSlots part.maps slots → With AnySlot (StaysPart part.keys part.maps) slots (set_properties n ps part.maps)
 starts_set part slots needed n ps c u = record {
   kept = stays_part_all part.keys part.maps n ps part.maps (starts part slots needed c u).kept;
   free = free_on part.maps (set_properties n ps part.maps) None slots (λ k d h. tt) (λ t o none. term-all n ps part.maps (slot_name t) ∙ none) u;
@@ -60,6 +59,17 @@ module _ (start now : Parted) (slots : List (Option ℕ)) (w : With AnySlot (Sta
       covers (list_keys at ps now.maps)
       (each_held start.keys (λ p. command_keys at p.0 p.1 start.maps) (λ p. command_keys at p.0 p.1 now.maps) (λ p k. command_stays start.keys start.maps now.maps (λ _. w.kept.entries) w.kept.grown at p.0 p.1 k) ps h)
 
+-- commands in a context whose properties were set
+module _ (start now : Parted) (slots : List (Option ℕ)) (n : CtxNum) (ps : List ContextProp) (at : At) (cs : List Command) (c : Covers start (list_keys at (paired_commands slots cs) start.maps)) (u : AreFreeSlots start.maps slots) (set : now.maps ≡ set_properties n ps start.maps) (same : now.keys ≡ start.keys) where
+  set_with : With AnySlot (StaysPart start.keys start.maps) slots now.maps
+  set_with = subst (λ (m : Maps). With AnySlot (StaysPart start.keys start.maps) slots m) (sym set) (starts_set start slots (list_keys at (paired_commands slots cs) start.maps) n ps c u)
+
+  pub covers_set : Covers now (list_keys at (paired_commands slots cs) now.maps)
+  covers_set = covers_list start now slots set_with same at (paired_commands slots cs) c.held
+
+  pub unused_set : AreFreeSlots now.maps slots
+  unused_set = set_with.free
+
 -- ---- each command has its keys
 
 pub listed : (keys : PartKeys) (m : Maps) (at : At) (ps : List (Option ℕ × Command)) → Holds keys (list_keys at ps m) → Oks (IsHeld keys m) at ps
@@ -77,10 +87,5 @@ listed_in keys m a h = by a.sent.ctx a.number (without_links keys a m h)
     by ref.All owned k = λ n. listed keys m (Each n) a.commands (in_each keys m a.commands ref.All owned n refl k)
 
 -- commands, in the context that their action is for
-pub covers_in : (part : Parted) (number : Option CtxNum) (slots : List (Option ℕ)) (sent : Action) (asked : List Command) → asked ≡ sent.commands → Covers part (action_footprint (paired_action number slots sent) part.maps) → (at : At)
-    → (Holds part.keys (action_footprint (paired_action number slots sent) part.maps) → Holds part.keys (list_keys at (paired_commands slots sent.commands) part.maps)) → Covers part (list_keys at (paired_commands slots asked) part.maps)
-covers_in part number slots sent asked e c at f = record {
-  sound = c.sound;
-  entries = c.entries;
-  held = subst (λ (l : List Command). Holds part.keys (list_keys at (paired_commands slots l) part.maps)) (sym e) (f c.held);
-}
+pub covers_in : (part : Parted) (a : OwnedAction) → Covers part (action_footprint a part.maps) → (at : At) → (Holds part.keys (footprint_in part.maps a.commands a.sent.ctx a.number) → Holds part.keys (list_keys at a.commands part.maps)) → Covers part (list_keys at a.commands part.maps)
+covers_in part a c at f = record { sound = c.sound; entries = c.entries; held = f (without_links part.keys a part.maps c.held) }

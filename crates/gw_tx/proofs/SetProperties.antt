@@ -13,7 +13,7 @@ use Rattle.gw_base.specs.declared.term_ref.TermRef.{TermRef}
 use Rattle.gw_base.specs.declared.term_ref.TermRef.TheVariants as term_ref
 use Rattle.gw_base.specs.NameLists.{is_in, NoDoubles}
 use Rattle.gw_base.proofs.Booleans.{neither}
-use Rattle.gw_base.proofs.NameTests.{same_number, number_itself}
+use Rattle.gw_base.proofs.NameTests.{same_number}
 use Rattle.gw_ctx.specs.Contexts.{ContextRecord}
 use Rattle.gw_ctx.specs.Fitting.{priority_max, IsFit}
 use Rattle.gw_ctx.proofs.Fits.{fit_new, fit_prioritized, fit_marked, fit_linked}
@@ -28,10 +28,10 @@ use Rattle.gw_table.specs.Settings.{with_setting, put_setting}
 use Rattle.gw_table.specs.declared.setting.Setting.{Setting}
 use Rattle.gw_table.specs.WellFormed.{IsSound, AreWellFormed}
 use Rattle.gw_table.proofs.Growth.{Grows, grows_on}
-use Rattle.gw_table.proofs.Lookups.{term-put_ctx, ctx-put_ctx, put_ctx-put_ctx, same_maps}
+use Rattle.gw_table.proofs.Lookups.{term-put_ctx, ctx-put_ctx, same_maps}
 use Rattle.gw_refusal.specs.Places.{same_place}
 use Rattle.gw_cmd.proofs.Parted.{StaysPart}
-use Rattle.gw_tx.specs.Properties.{is_topology, triples_in, triples_of, any_triple, name_of, name_in, names_in, linked_names, is_chosen_or_each, has_no_name, is_left_out, is_with_itself, are_same, is_asked_wrongly, is_misplaced, has_twice, is_too_high, refusal_of_properties, ArePlain, is_absent, is_elsewhere, refusal_of_links, link_of, linked_if, linked_by, with_property, with_property_if, set_property, set_properties, with_wanted, put_wanted}
+use Rattle.gw_tx.specs.Properties.{is_topology, triples_in, triples_of, any_triple, name_of, name_in, names_in, linked_names, is_chosen_or_each, has_no_name, is_left_out, is_with_itself, are_same, is_for_wrong_context, is_misplaced, has_twice, is_too_high, refusal_of_properties, ArePlain, is_absent, is_elsewhere, refusal_of_links, link_of, linked_if, linked_by, with_property, with_property_if, set_property, set_properties}
 
 -- ---- what may be set
 
@@ -283,7 +283,7 @@ module _ (n : CtxNum) (m : Maps) where
 -- by number
 pub can_set_in : (a : Action) (n : CtxNum) (m : Maps) → IsAllowed a → refusal_of_links n (linked_names a.props) m ≡ None → AllCanSet n a.props m
 unfolding is_misplaced
-can_set_in a n m h e = props_between n m a.props (linked_here n (linked_names a.props) m e) (neither (is_asked_wrongly a.ctx a) (any_triple is_with_itself a.props) h.placed).1 h.low
+can_set_in a n m h e = props_between n m a.props (linked_here n (linked_names a.props) m e) (neither (is_for_wrong_context a.ctx a) (any_triple is_with_itself a.props) h.placed).1 h.low
 
 -- without a Topology
 pub unlinked : (ps : List ContextProp) → list_any is_topology ps ≡ false → list_any is_too_high ps ≡ false → CanAlwaysSet ps
@@ -322,7 +322,7 @@ pub stays_part_all : (keys : PartKeys) (start : Maps) (n : CtxNum) (ps : List Co
 stays_part_all keys start n [] m s = s
 stays_part_all keys start n (p ∷ ps) m s = stays_part_all keys start n ps (set_property n p m) (stays_part_set n p m keys start s)
 
--- ---- what only asks
+-- ---- what is set in its place, and what sets nothing
 
 -- the context that is there, put where it is
 put_ctx-same : (m : Maps) (n : CtxNum) (o : Option ContextRecord) → o ≡ ctx m n → put_ctx m n o ≡ m
@@ -340,26 +340,9 @@ set_in_place n p x m same = by (ctx m n) refl
     by None e = sym (put_ctx-same m n None e)
     by (Some c) e = ap (λ (d : ContextRecord). put_ctx m n (Some d)) (same c)
 
--- a property behind another, both set in their place at once
-put_both : (n : CtxNum) (p : ContextProp) (x y : Setting) (m : Maps) → ((c : ContextRecord) → with_setting y c ≡ with_property p (with_setting x c)) → put_setting y n m (ctx m n) ≡ set_property n p (put_setting x n m (ctx m n))
-put_both n p x y m same = by (ctx m n) refl
-  where
-    by : (o : Option ContextRecord) → o ≡ ctx m n → put_setting y n m o ≡ set_property n p (put_setting x n m o)
-    by None e = sym (ap (λ (o : Option ContextRecord). put_ctx m n (with_property_if p o)) (sym e) ∙ put_ctx-same m n None e)
-    by (Some c) e =
-        let d : ContextRecord = with_setting x c in
-        let here : ctx (put_ctx m n (Some d)) n ≡ Some d = ctx-put_ctx m n (Some d) n ∙ ap (λ (b : Bool). cond b (Some d) (ctx m n)) (number_itself n n refl) in
-        ap (λ (r : ContextRecord). put_ctx m n (Some r)) (same c)
-        ∙ sym (put_ctx-put_ctx m n (Some d) (Some (with_property p d)))
-        ∙ sym (ap (λ (o : Option ContextRecord). put_ctx (put_ctx m n (Some d)) n (with_property_if p o)) here)
-
-pub put_behind : (n : CtxNum) (p : ContextProp) (w : Option Setting) (y : Setting) (m : Maps) → ((c : ContextRecord) → with_setting y c ≡ with_property p (with_wanted w c)) → put_wanted (Some y) n m ≡ set_property n p (put_wanted w n m)
-put_behind n p None y m same = set_in_place n p y m same
-put_behind n p (Some x) y m same = put_both n p x y m same
-
 -- a ContextAudit sets nothing
-pub set_asked : (n : CtxNum) (p : ContextProp) (items : List ContextItem) (m : Maps) → p ≡ ContextAudit items → m ≡ set_property n p m
-set_asked n p items m is = sym (ap (λ (x : ContextProp). set_property n x m) is ∙ put_ctx-same m n (with_property_if (ContextAudit items) (ctx m n)) (stays (ctx m n)))
+pub set_audited : (n : CtxNum) (p : ContextProp) (items : List ContextItem) (m : Maps) → p ≡ ContextAudit items → m ≡ set_property n p m
+set_audited n p items m is = sym (ap (λ (x : ContextProp). set_property n x m) is ∙ put_ctx-same m n (with_property_if (ContextAudit items) (ctx m n)) (stays (ctx m n)))
   where
     stays : (o : Option ContextRecord) → with_property_if (ContextAudit items) o ≡ o
     stays None = refl

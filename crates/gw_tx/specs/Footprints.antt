@@ -85,7 +85,7 @@ footprint_of actions m = flat_map (λ a. action_footprint a m) actions
 abbrev pub is_meant_for_all : OwnedAction → Bool
 is_meant_for_all a = is_for_each a.sent.ctx || list_any (λ p. stands_for_all a.sent.ctx p.1) a.commands
 
--- the keys of commands that are carried out in one context
+-- the keys of commands that are executed in one context
 abbrev pub list_keys : At → List (Option ℕ × Command) → Maps → List Key
 list_keys at ps m = flat_map (λ p. command_keys at p.0 p.1 m) ps
 

@@ -1,4 +1,4 @@
--- The forms of what a request asks, and of what it owns (own).
+-- The forms of what a request has, and of what it owns (own).
 use Rattle.std.specs.List.{All}
 use Rattle.gw_msg.specs.declared.message.Action.{Action}
 use Rattle.gw_msg.specs.declared.message.ContextProp.{ContextProp}

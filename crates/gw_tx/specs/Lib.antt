@@ -8,4 +8,3 @@ pub use Rattle.gw_table.specs.Maps
 pub use Rattle.gw_table.specs.Parts
 pub use Rattle.gw_table.specs.WellFormed
 pub mod KeptForms
-pub mod Least

@@ -1,5 +1,5 @@
--- What an action asks of its context itself: what is refused, what becomes of the context, and what is told of it (RFC 3525, sections
--- 6.1.1, 7.1.18 and 8.1.2; the order of errors, and what is told where nothing is asked for, are own).
+-- The properties of its context in an action: what is refused, what becomes of the context, and what the reply has of it (RFC 3525,
+-- sections 6.1.1, 7.1.18 and 8.1.2; the order of errors, and what the reply has where nothing is audited, are own).
 use Rattle.std.specs.Prelude.{◌≡◌, ℕ, nat_lt, Bool, true, false, ◌&&◌, ◌||◌, ◌==◌, not, if◌then◌else◌, List, [], ◌∷◌, ◌++◌, length, bytes_eq, count_by, flat_map, Option, None, Some, is_none}
 use Rattle.std.specs.List.{list_any}
 use Rattle.gw_base.specs.declared.code.Code.{Code}
@@ -22,11 +22,9 @@ use Rattle.gw_msg.specs.declared.message.ContextItem.TheVariants as item
 use Rattle.gw_reply.specs.declared.context_parts.ContextPart.{ContextPart}
 use Rattle.gw_reply.specs.declared.context_parts.ContextPart.TheVariants as part
 use Rattle.gw_table.specs.Maps.{Maps, term, ctx, put_ctx, place_of}
-use Rattle.gw_table.specs.Settings.{with_setting, put_setting}
-use Rattle.gw_table.specs.declared.setting.Setting.{Setting}
 use Rattle.gw_refusal.specs.Places.{same_place}
 
--- ---- the kinds of what is asked
+-- ---- the kinds of properties
 
 abbrev pub is_priority : ContextProp → Bool
 is_priority (Priority p) = true
@@ -151,15 +149,15 @@ is_with_itself t = are_same (name_of t.a) (name_of t.b)
 abbrev pub is_nothing : {X : Type 0} → List X → Bool
 is_nothing xs = length xs == 0
 
--- the null context has no properties; one that is to be made has none to tell of, and is made by a command
-abbrev pub is_asked_wrongly : CtxRef → Action → Bool
-is_asked_wrongly ref.Null a = not (is_nothing a.props)
-is_asked_wrongly ref.Choose a = list_any is_audit a.props || (not (is_nothing a.props) && is_nothing a.commands)
-is_asked_wrongly ref.All a = false
-is_asked_wrongly (ref.Num n) a = false
+-- the null context has no properties; one that is to be made has none to be audited, and is made by a command
+abbrev pub is_for_wrong_context : CtxRef → Action → Bool
+is_for_wrong_context ref.Null a = not (is_nothing a.props)
+is_for_wrong_context ref.Choose a = list_any is_audit a.props || (not (is_nothing a.props) && is_nothing a.commands)
+is_for_wrong_context ref.All a = false
+is_for_wrong_context (ref.Num n) a = false
 
 unfoldable pub is_misplaced : Action → Bool
-is_misplaced a = is_asked_wrongly a.ctx a || any_triple is_with_itself a.props
+is_misplaced a = is_for_wrong_context a.ctx a || any_triple is_with_itself a.props
 
 abbrev pub is_twice : {X : Type 0} → (X → Bool) → List X → Bool
 is_twice test xs = nat_lt 1 (count_by test xs)
@@ -246,56 +244,37 @@ abbrev pub set_properties : CtxNum → List ContextProp → Maps → Maps
 set_properties n [] m = m
 set_properties n (p ∷ ps) m = set_properties n ps (set_property n p m)
 
--- what waits to be set in its place: a priority, an emergency or both
-abbrev pub with_wanted : Option Setting → ContextRecord → ContextRecord
-with_wanted None c = c
-with_wanted (Some x) c = with_setting x c
+-- ---- the context in the reply
 
-abbrev pub put_wanted : Option Setting → CtxNum → Maps → Maps
-put_wanted None n m = m
-put_wanted (Some x) n m = put_setting x n m (ctx m n)
-
--- the same of what stands under a number
-abbrev pub with_properties : List ContextProp → Option ContextRecord → Option ContextRecord
-with_properties [] o = o
-with_properties (p ∷ ps) o = with_properties ps (with_property_if p o)
-
--- in every context, and nothing else is changed
-pub record AreSetInAll (props : List ContextProp) (before after : Maps) : Type 0 where
-  pub contexts : (n : CtxNum) → ctx after n ≡ with_properties props (ctx before n)
-  pub terms : (t : List ℕ) → term after t ≡ term before t
-
--- ---- what is told of the context
-
--- the items of the ContextAudit in the order asked; where there is neither that nor a command, the kinds that were set
-unfoldable pub told_items : Action → List ContextItem
-told_items a =
+-- the items of the ContextAudit in the order sent; where there is neither that nor a command, the kinds that were set
+unfoldable pub reply_items : Action → List ContextItem
+reply_items a =
     if list_any is_audit a.props then items_of a.props
     else if is_nothing a.commands then flat_map kind_in a.props
     else []
 
-abbrev pub links_told : List Link → List ContextPart
-links_told [] = []
-links_told (link ∷ links) = part.Topology (link ∷ links) ∷ []
+abbrev pub link_parts : List Link → List ContextPart
+link_parts [] = []
+link_parts (link ∷ links) = part.Topology (link ∷ links) ∷ []
 
-abbrev pub emergency_told : Bool → List ContextPart
-emergency_told true = part.Emergency ∷ []
-emergency_told false = []
+abbrev pub emergency_parts : Bool → List ContextPart
+emergency_parts true = part.Emergency ∷ []
+emergency_parts false = []
 
--- no mark and no link is told by nothing
-abbrev pub told_of_item : ContextRecord → ContextItem → List ContextPart
-told_of_item c item.Priority = part.Priority c.priority ∷ []
-told_of_item c item.Emergency = emergency_told c.emergency
-told_of_item c item.Topology = links_told c.links
+-- no emergency and no link stands as nothing
+abbrev pub item_parts : ContextRecord → ContextItem → List ContextPart
+item_parts c item.Priority = part.Priority c.priority ∷ []
+item_parts c item.Emergency = emergency_parts c.emergency
+item_parts c item.Topology = link_parts c.links
 
--- an action without commands is told something: the priority
+-- in the reply to an action without commands something stands: the priority
 abbrev pub at_least_priority : ContextRecord → Bool → List ContextPart → List ContextPart
 at_least_priority c true [] = part.Priority c.priority ∷ []
 at_least_priority c true (p ∷ ps) = p ∷ ps
 at_least_priority c false parts = parts
 
 abbrev pub context_parts : Action → ContextRecord → List ContextPart
-context_parts a c = at_least_priority c (is_nothing a.commands) (flat_map (told_of_item c) (told_items a))
+context_parts a c = at_least_priority c (is_nothing a.commands) (flat_map (item_parts c) (reply_items a))
 
 abbrev pub context_parts_if : Action → Option ContextRecord → List ContextPart
 context_parts_if a None = []

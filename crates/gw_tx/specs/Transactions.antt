@@ -1,6 +1,6 @@
 -- What an action and a transaction do: left folds with the stop rule (RFC 3525, sections 8.1 and 8.2; the order of errors, and
 -- what a stop under * ends, are own).
-use Rattle.std.specs.Prelude.{◌≡◌, ℕ, Bool, true, false, ◌&&◌, ◌||◌, not, if◌then◌else◌, List, [], ◌∷◌, All, Option, None, Some, is_some, Ok, Err}
+use Rattle.std.specs.Prelude.{ℕ, Bool, true, false, ◌&&◌, ◌||◌, not, if◌then◌else◌, List, [], ◌∷◌, Option, None, Some, Ok, Err}
 use Rattle.gw_base.specs.declared.code.Code.{Code}
 use Rattle.gw_base.specs.declared.code.Code.TheVariants.{UnknownContext, NoContextLeft, NoWildcardMatch}
 use Rattle.gw_base.specs.declared.ids.CtxNum.{CtxNum}
@@ -9,7 +9,6 @@ use Rattle.gw_base.specs.declared.command_words.Rules.{Rules}
 use Rattle.gw_base.specs.declared.command_words.CtxRef.{CtxRef}
 use Rattle.gw_base.specs.declared.command_words.CtxRef.TheVariants as ref
 use Rattle.gw_ctx.specs.Contexts.{ContextRecord}
-use Rattle.gw_msg.specs.declared.message.Action.{Action}
 use Rattle.gw_msg.specs.declared.message.Command.{Command}
 use Rattle.gw_msg.specs.declared.message.ContextProp.{ContextProp}
 use Rattle.gw_msg.specs.declared.message.Request.{Request}
@@ -78,7 +77,7 @@ abbrev pub unless_refused : Option Code → CtxRef → Maps → Outcome (Attempt
 unless_refused (Some code) sent m o = refused_action sent code m
 unless_refused None sent m o = o
 
--- the reply of an action whose commands were attempted, with what is told of its context
+-- the reply of an action whose commands were attempted, with the properties of its context
 abbrev pub replied : List ContextPart → Attempts At CommandReply → Attempts Unit ActionReply
 replied parts done = one_action_reply tt (action_reply parts done) done.stopped
 
@@ -87,21 +86,13 @@ carried_action parts o = record { maps = o.maps; answer = replied parts o.answer
 
 -- ---- an action in one context
 
--- in a context that is there, its properties are set, what it then is is told, and the commands are carried out
+-- in a context that is there its properties are set, the reply has what it then is, and the commands are executed
 abbrev pub in_context : Rules → OwnedAction → At → CtxNum → Maps → Outcome (Attempts Unit ActionReply)
 in_context rules a at n m =
     let ready = set_properties n a.sent.props m in
     carried_action (context_parts_if a.sent (ctx ready n)) (commands rules [] at a.commands ready)
 
 -- ---- an action for each context
-
--- these are numbers of contexts
-abbrev pub AreThere : Maps → List CtxNum → Type 0
-AreThere m ns = All (λ n. is_some (ctx m n) ≡ true) ns
-
--- the reply of an action without commands in one of the contexts
-abbrev pub reply_alone : Action → Maps → CtxNum → ActionReply
-reply_alone a m n = action_reply (context_parts_if a (ctx m n)) (record { next = Each n; answers = []; stopped = false })
 
 -- in one of the contexts: a stop ends the commands of this context alone, and is remembered
 abbrev pub remembered : Bool → Attempts Unit ActionReply → Attempts Bool ActionReply

@@ -2,22 +2,17 @@
 #![tactic(auto)]
 
 mod actions;
-mod alone;
 mod commands;
+mod context_parts;
 mod contexts;
-mod counting;
-mod foretold;
 mod laws;
-mod least;
 mod links;
 mod owned;
 mod properties;
 mod replies;
 mod requests;
 mod setting;
-mod telling;
 mod told;
-mod untold;
 
 pub use laws::{
     answers_can_be_read, keys_of_requests, later_slots_stay_free,

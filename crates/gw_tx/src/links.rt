@@ -45,7 +45,7 @@ fn add_property(prop: &ContextProp, names: &mut Vec<TermName>) -> Result<(), NoM
 ///
 /// # Errors
 ///
-/// Want of memory.
+/// Out of memory.
 pub fn linked_names(alloc: Global, props: &[ContextProp]) -> Result<Vec<TermName>, NoMemory>
     ensures { IfOk result (λ names. names.items ≡ linked_names props.now) }
 {

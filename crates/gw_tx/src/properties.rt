@@ -1,8 +1,8 @@
-//! What an action asks of its context itself, and what of it is refused whatever the tables hold.
+//! The properties of its context in an action, and which of them are refused whatever the tables hold.
 
 ghost use Rattle.std.specs.Prelude.{◌≡◌};
 ghost use Rattle.std.specs.List.{list_any};
-ghost use Rattle.gw_tx.specs.Properties.{is_priority, is_emergency, is_topology, is_audit, triples_in, items_in, any_triple, is_topology_item, is_priority_item, is_emergency_item, name_of, is_chosen_or_each, has_no_name, is_left_out, is_with_itself, is_asked_wrongly, is_misplaced, has_item_twice, has_kind_twice, has_twice, is_twice, is_too_high, refusal_of_properties};
+ghost use Rattle.gw_tx.specs.Properties.{is_priority, is_emergency, is_topology, is_audit, triples_in, items_in, any_triple, is_topology_item, is_priority_item, is_emergency_item, name_of, is_chosen_or_each, has_no_name, is_left_out, is_with_itself, is_for_wrong_context, is_misplaced, has_item_twice, has_kind_twice, has_twice, is_twice, is_too_high, refusal_of_properties};
 
 use gw_base::{Code, CtxRef, TermName, TermRef};
 use gw_msg::{Action, ContextItem, ContextProp, Triple};
@@ -138,10 +138,9 @@ fn is_left_out(sent: &Action<'_>) -> bool
     is_any_unnamed(props) || (has_topology(props) && is_chosen_or_each(sent.ctx))
 }
 
-/// Whether the null context is asked for anything, or one that is to be made for what it is, or for properties with no command to
-/// make it.
-fn is_asked_wrongly(sent: &Action<'_>) -> bool
-    ensures { result ≡ is_asked_wrongly sent.now.ctx sent.now }
+/// Whether properties stand for the null context, or for one that is to be made with a ContextAudit, or with no command that makes it.
+fn is_for_wrong_context(sent: &Action<'_>) -> bool
+    ensures { result ≡ is_for_wrong_context sent.now.ctx sent.now }
 {
     let props = sent.props.as_slice();
     match sent.ctx {
@@ -155,7 +154,7 @@ fn is_asked_wrongly(sent: &Action<'_>) -> bool
 fn is_misplaced(sent: &Action<'_>) -> bool
     ensures { result ≡ is_misplaced sent.now }
 {
-    is_asked_wrongly(sent) || is_any_with_itself(sent.props.as_slice())
+    is_for_wrong_context(sent) || is_any_with_itself(sent.props.as_slice())
 }
 
 fn are_topology_items(items: &[ContextItem]) -> bool
@@ -176,7 +175,7 @@ fn are_emergency_items(items: &[ContextItem]) -> bool
     items.iter().filter(|one| is_emergency_item(one)).count() > 1
 }
 
-/// Whether an item is asked for twice.
+/// Whether an item stands twice.
 fn has_item_twice(items: &[ContextItem]) -> bool
     ensures { result ≡ has_item_twice items.now }
 {
@@ -184,7 +183,7 @@ fn has_item_twice(items: &[ContextItem]) -> bool
 }
 
 /// Whether an item of the ContextAudit stands twice.
-fn asks_twice(prop: &ContextProp) -> bool
+fn audits_twice(prop: &ContextProp) -> bool
     ensures { result ≡ has_item_twice (items_in prop.now) }
 {
     match prop {
@@ -193,10 +192,10 @@ fn asks_twice(prop: &ContextProp) -> bool
     }
 }
 
-fn is_any_asked_twice(props: &[ContextProp]) -> bool
+fn is_any_audited_twice(props: &[ContextProp]) -> bool
     ensures { result ≡ list_any (λ p. has_item_twice (items_in p)) props.now }
 {
-    props.iter().any(asks_twice)
+    props.iter().any(audits_twice)
 }
 
 fn are_priorities(props: &[ContextProp]) -> bool
@@ -234,10 +233,10 @@ fn has_kind_twice(props: &[ContextProp]) -> bool
 fn has_twice(props: &[ContextProp]) -> bool
     ensures { result ≡ has_twice props.now }
 {
-    has_kind_twice(props) || is_any_asked_twice(props)
+    has_kind_twice(props) || is_any_audited_twice(props)
 }
 
-/// Whether a priority is asked for that there is not.
+/// Whether it is a priority that there is not.
 fn is_too_high(prop: &ContextProp) -> bool
     ensures { result ≡ is_too_high prop.now }
 {
@@ -253,8 +252,8 @@ fn is_any_too_high(props: &[ContextProp]) -> bool
     props.iter().any(is_too_high)
 }
 
-/// The first code that applies to what is asked of the context, whatever the tables hold. Where nothing is asked, none does. The work
-/// is one pass of what is asked for each kind.
+/// The first code that applies to the properties, whatever the tables hold. Where there are none, none does. The work is one pass of them
+/// for each kind.
 #[tactic(auto, unfolding(crate::specs::Properties::refusal_of_properties))]
 pub(crate) fn refusal_of_properties(sent: &Action<'_>) -> Option<Code>
     ensures { result ≡ refusal_of_properties sent.now }

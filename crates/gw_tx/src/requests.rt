@@ -7,22 +7,21 @@ ghost use Rattle.gw_tx.specs.Told.{within};
 ghost use Rattle.gw_tx.specs.Transactions.{paired_transaction};
 
 use crate::actions::actions;
-use crate::told::{Told, told_of, told_within};
+use crate::told::{Told, told_of, writer_within};
 use gw_base::{Items, NoMemory, Rules};
-use gw_length::Telling;
 use gw_msg::Request;
-use gw_reply::TxReply;
+use gw_reply::{ReplyWriter, TxReply};
 use gw_reserve::Owned;
 use gw_table::Draft;
 use std::alloc::Global;
 
-/// Carries a request out, with what it owns: its actions in order, and the commands of each in order, up to the first that
+/// Executes a request, with what it owns: its actions in order, and the commands of each in order, up to the first that
 /// stops. The caller knows that the draft covers the request, and that the slots that are owned are unused there. The work is that
 /// of the commands, in each context for an action with `*`.
 ///
 /// # Errors
 ///
-/// Want of memory. The draft is then spent: nothing is known of it but its keys.
+/// Out of memory. The draft is then spent: nothing is known of it but its keys.
 pub fn transaction(
     alloc: Global,
     rules: &Rules,
@@ -36,16 +35,16 @@ pub fn transaction(
     ensures answer { IfOk result (λ reply. reply ≡ (paired_transaction rules.now request.now (paired request.now owned.now) draft.old.maps).answer) }
     ensures keys { draft.new.keys ≡ draft.old.keys }
 {
-    let told = actions(
+    let written = actions(
         alloc,
         rules,
         draft,
         owned.contexts.as_slice(),
         owned.slots.as_slice(),
         request.actions.as_slice(),
-        Telling::All(Items::new(alloc)),
+        ReplyWriter::All(Items::new(alloc)),
     )?;
-    let Telling::All(replies) = told else {
+    let ReplyWriter::All(replies) = written else {
         unreachable!()
     };
     Ok(TxReply {
@@ -54,13 +53,13 @@ pub fn transaction(
     })
 }
 
-/// Carries a request out as [`transaction`] does, and tells its reply only where its text has at most `limit` bytes: the bytes from
-/// `Reply=` to the last brace, as they stand in a message. Texts are counted as the replies come, and go into the block, of
-/// which nothing else is kept. Once they are too long no reply is kept, and what is left to do is done all the same.
+/// Executes a request as [`transaction`] does, and answers with the text of its reply only where that has at most `limit` bytes: those from
+/// `Reply=` to the last brace, as they stand in a message. Replies are written as they come, into the block, of which nothing else is
+/// kept. Once they are too long none is kept or written, and what is left to do is done all the same.
 ///
 /// # Errors
 ///
-/// Want of memory. The draft is then spent: nothing is known of it but its keys.
+/// Out of memory. The draft is then spent: nothing is known of it but its keys.
 pub fn transaction_within(
     alloc: Global,
     rules: &Rules,
@@ -76,14 +75,14 @@ pub fn transaction_within(
     ensures answer { IfOk result (λ told. told ≡ within limit (paired_transaction rules.now request.now (paired request.now owned.now) draft.old.maps).answer) }
     ensures keys { draft.new.keys ≡ draft.old.keys }
 {
-    let told = actions(
+    let written = actions(
         alloc,
         rules,
         draft,
         owned.contexts.as_slice(),
         owned.slots.as_slice(),
         request.actions.as_slice(),
-        told_within(block, request.id, limit),
+        writer_within(block, request.id, limit),
     )?;
-    Ok(told_of(told))
+    Ok(told_of(written))
 }

@@ -1,30 +1,29 @@
-//! What is told of a transaction: its replies as they come, within a limit or without.
+//! What is written of a transaction: its replies as they come, within a limit or without.
 
-ghost use Rattle.std.specs.Prelude.{◌≡◌, ◌+◌, [], List, length, decimal, Ok as Replies};
-ghost use Rattle.gw_length.specs.Rooms.{Leaves};
-ghost use Rattle.gw_length.specs.Tellings.{told_behind};
+ghost use Rattle.std.specs.Prelude.{◌≡◌, ◌+◌, ◌<◌, [], List, IfSome, IsNone, length, decimal, Ok as Replies};
 ghost use Rattle.gw_reply.specs.declared.reply.ActionReply.{ActionReply};
 ghost use Rattle.gw_reply.specs.Replies.{action_reply_text};
-ghost use Rattle.gw_tx.specs.Told.{inside, told_of, within, IsLimited};
+ghost use Rattle.gw_reply.specs.Writers.{inside, written_behind};
+ghost use Rattle.gw_tx.specs.Told.{told_of, within, IsLimited};
 
 use gw_base::{Items, TxId};
-use gw_length::{Telling, behind, behind_number};
-use gw_reply::ActionReply;
+use gw_reply::{ActionReply, ReplyWriter};
+use itoa::Buffer;
 use std::alloc::Global;
 use std::mem;
 
-/// What attempts came to that are told as they come.
+/// What attempts came to whose replies are written as they come.
 #[derive(Drop)]
-pub(crate) struct Counted<S, A> {
+pub(crate) struct Progress<S, A> {
     /// From where later items go on.
     pub next: S,
-    /// What is told.
-    pub told: Telling<A>,
+    /// What is written by now.
+    pub writer: ReplyWriter<A>,
     /// Whether nothing more is attempted.
     pub stopped: bool,
 }
 
-/// What is told of a transaction within a limit.
+/// The reply to a transaction within a limit.
 #[derive(Drop)]
 pub enum Told {
     /// The text of its action replies, each behind a comma: that of its whole reply is not longer than the limit.
@@ -49,62 +48,63 @@ impl Told {
     }
 }
 
-/// What may be told of the parts of an action, before the first of them: no more than of the action.
-pub(crate) fn inside<T: Drop>(alloc: Global, told: &Telling<ActionReply>) -> Telling<T>
-    ensures { result ≡ inside told.now }
+/// The writer of the parts of an action, before the first of them: it has no more room than that of the action.
+pub(crate) fn inside<T: Drop>(alloc: Global, writer: &ReplyWriter<ActionReply>) -> ReplyWriter<T>
+    ensures { result ≡ inside writer.now }
 {
-    match told {
-        Telling::All(_) => Telling::All(Items::new(alloc)),
-        Telling::Within(_, room) => Telling::Within(Items::new(alloc), *room),
-        Telling::TooLong => Telling::TooLong,
+    match writer {
+        ReplyWriter::All(_) => ReplyWriter::All(Items::new(alloc)),
+        ReplyWriter::Within(_, room) => ReplyWriter::Within(Items::new(alloc), *room),
+        ReplyWriter::TooLong => ReplyWriter::TooLong,
     }
 }
 
-/// What may be told of the commands of an action, before the first of them, as [`inside`] says. Where nothing is told before the action,
-/// it goes into the block that this would lie in.
-pub(crate) fn begun<T: Drop>(alloc: Global, told: &mut Telling<ActionReply>) -> Telling<T>
-    ensures begun { result ≡ inside told.old }
-    ensures same { told.new ≡ told.old }
+/// The writer of the commands of an action, before the first of them, as [`inside`] says. Where nothing is written before the action, it
+/// takes over the block.
+pub(crate) fn begun<T: Drop>(alloc: Global, writer: &mut ReplyWriter<ActionReply>) -> ReplyWriter<T>
+    ensures begun { result ≡ inside writer.old }
+    ensures same { writer.new ≡ writer.old }
 {
-    if let Telling::Within(text, room) = told {
+    if let ReplyWriter::Within(text, room) = writer {
         if text.is_empty() {
             let block = mem::replace(text, Items::new(alloc));
-            return Telling::Within(block, *room);
+            return ReplyWriter::Within(block, *room);
         }
     }
-    inside(alloc, told)
+    inside(alloc, writer)
 }
 
-/// The room between the braces of a reply of this number, whose text has so many bytes at most.
+/// The room between the braces of a reply of this number, whose text has so many bytes at most: `Reply=<number>{}` stands around it.
 fn room_in_braces(id: TxId, limit: usize) -> Option<usize>
-    ensures { Leaves result limit (length (decimal id.0) + 8) }
+    ensures room { IfSome result (λ left. left + (length (decimal id.0) + 8) ≡ limit) }
+    ensures none { IsNone result → limit < length (decimal id.0) + 8 }
 {
-    let left = behind(limit, b"Reply={}".len())?;
-    behind_number(left, id.0)
+    let behind_frame = limit.checked_sub(b"Reply={}".len())?;
+    behind_frame.checked_sub(Buffer::new().format(id.0).len())
 }
 
-/// What is told of a transaction before its first action, where its text has so many bytes at most; it goes into the block, of which
-/// nothing else is kept. The first action has no comma before it, so there is room for one more.
-pub(crate) fn told_within(block: Items<u8>, id: TxId, limit: usize) -> Telling<ActionReply>
-    ensures told { (replies : List ActionReply) → told_of (told_behind action_reply_text result replies) ≡ within limit (record { id = id; result = Replies replies }) }
+/// The writer of a transaction whose text has so many bytes at most, before its first action. It writes into the block, of which nothing
+/// else is kept. The first action has no comma before it, so there is room for one more.
+pub(crate) fn writer_within(block: Items<u8>, id: TxId, limit: usize) -> ReplyWriter<ActionReply>
+    ensures written { (replies : List ActionReply) → told_of (written_behind action_reply_text result replies) ≡ within limit (record { id = id; result = Replies replies }) }
     ensures limited { IsLimited result }
 {
     let mut text = block;
     text.clear();
     match room_in_braces(id, limit) {
-        Some(left) => Telling::Within(text, left + 1),
-        None => Telling::TooLong,
+        Some(left) => ReplyWriter::Within(text, left + 1),
+        None => ReplyWriter::TooLong,
     }
 }
 
-/// What is told of a transaction behind its last action, within a limit.
-pub(crate) fn told_of(told: Telling<ActionReply>) -> Told
-    requires { IsLimited told }
-    ensures { result ≡ told_of told }
+/// The reply to a transaction within a limit, behind its last action.
+pub(crate) fn told_of(writer: ReplyWriter<ActionReply>) -> Told
+    requires { IsLimited writer }
+    ensures { result ≡ told_of writer }
 {
-    match told {
-        Telling::Within(text, _) => Told::Whole(text),
-        Telling::TooLong => Told::TooLong,
-        Telling::All(_) => unreachable!(),
+    match writer {
+        ReplyWriter::Within(text, _) => Told::Whole(text),
+        ReplyWriter::TooLong => Told::TooLong,
+        ReplyWriter::All(_) => unreachable!(),
     }
 }

@@ -1,53 +1,39 @@
-use Rattle.std.proofs.Common.{◌≡◌, ◌<◌, ◌+◌, None, length, cond, is_some, take, set, get_or, sym, ap, ◌∙◌, arith}
+use Rattle.std.proofs.Common.{◌≡◌, ◌<◌, ◌++◌, ◌∷◌, [], None, Some, length, drop, get_or, sym, ap, ◌∙◌, arith}
+use Rattle.std.proofs.lemmas.List.{append-nil}
 use Rattle.circular_buffer.specs.Buffer.{buffer}
-use Rattle.gw_kept.proofs.Settled.{rank, rank_more, few_before, closing, closing_at, close_over, close_here, closing_all}
+use Rattle.gw_kept.proofs.Settled.{turned, turned_front, turn_gap, turn_pair, turned_short, turned_all}
 use Rattle.gw_kept.proofs.ring.close_gaps.Goals as goal
 use Rattle.gw_kept.proofs.ring.close_gaps.Goals.{in-Some, in_default}
+
+pub loop-at-init : goal.loop-at-init
+loop-at-init c = ap (λ xs. buffer xs c.args.ring.now.capacity) (sym (append-nil c.args.ring.now.items))
 
 pub loop-at-preserved : goal.loop-at-preserved
 loop-at-preserved c =
     let xs = c.args.ring.now.items in
     let cap = c.args.ring.now.capacity in
-    let i = c.loop-at.at in
-    let inv = c.loop-at.invariant in
+    let i = c.loop-at._at in
     let l : i < length xs = omega (arith, c.len-at-end.ensures.len, c.loop-at-test.true) in
-    let more = rank_more xs i l in
-    let items : c.loop-at.ring.items ≡ closing xs i = ap (λ b. b.items) inv.closing_is in
-    let there : get_or c.loop-at.ring.items i None ≡ get_or xs i None = ap (λ ys. get_or ys i None) items ∙ closing_at xs i in
-    elim c.match-pair_at.branch [
+    let front : get_or c.loop-at.ring.items 0 None ≡ get_or xs i None = ap (λ b. get_or b.items 0 None) c.loop-at.invariant ∙ turned_front xs i l in
+    let popped : c.pop.new.ring ≡ buffer (drop 1 (turned xs i)) cap = c.pop.ensures.items ∙ ap (λ b. buffer (drop 1 b.items) b.capacity) c.loop-at.invariant in
+    elim c.match-pop.branch [
       | in-Some w ↦
-          let at = w.in-Some.ensures ∙ there in
-          let one : rank xs (i + 1) ≡ rank xs i + 1 = more ∙ ap (λ o. rank xs i + cond (is_some o) 1 0) (sym at) in
-          record {
-            so_far = w.left-is ∙ ap (λ n. n + 1) inv.so_far ∙ sym one;
-            closing_is =
-                w.ring-is
-                ∙ w.bring.ensures
-                ∙ ap (λ n. buffer (set (set c.loop-at.ring.items i None) n (get_or c.loop-at.ring.items i None)) c.loop-at.ring.capacity) inv.so_far
-                ∙ ap (λ b. buffer (set (set b.items i None) (rank xs i) (get_or b.items i None)) b.capacity) inv.closing_is
-                ∙ ap (λ ys. buffer ys cap) (close_here xs i _ l at);
-          }
-      | in_default w ↦
-          let at = w.in_default.ensures ∙ there in
-          let none : rank xs (i + 1) ≡ rank xs i + 0 = more ∙ ap (λ o. rank xs i + cond (is_some o) 1 0) (sym at) in
-          record {
-            so_far = omega (arith, w.left-is, inv.so_far, none);
-            closing_is = w.ring-is ∙ inv.closing_is ∙ ap (λ ys. buffer ys cap) (close_over xs i l at);
-          }
+          w.ring-is
+          ∙ w.put_last.ensures
+          ∙ ap (λ b. buffer (b.items ++ Some w.in-Some.pair ∷ []) b.capacity) popped
+          ∙ ap (λ ys. buffer ys cap) (turn_pair xs i w.in-Some.pair l (w.in-Some.ensures.pair ∙ front))
+      | in_default w ↦ w.ring-is ∙ popped ∙ ap (λ ys. buffer ys cap) (turn_gap xs i l (w.in_default.ensures.pair ∙ front))
     ]
 
-pub bring-requires : goal.bring-requires
-bring-requires c = omega (arith, c.loop-at.invariant.so_far, few_before c.args.ring.now.items c.loop-at.at)
-
-pub overflow_add-left : goal.overflow_add-left
-overflow_add-left c = omega (arith, c.loop-at.invariant.so_far, few_before c.args.ring.now.items c.loop-at.at, c.len-at-end.ensures.within, c.len-at-end.ensures.len, c.loop-at-test.true)
+pub put_last-requires : goal.put_last-requires
+put_last-requires c =
+    let xs = c.args.ring.now.items in
+    let i = c.loop-at._at in
+    let same = ap (λ b. b.capacity) c.pop.ensures.items ∙ ap (λ b. b.capacity) c.loop-at.invariant in
+    let items = ap (λ b. length b.items) c.pop.ensures.items ∙ ap (λ b. length (drop 1 b.items)) c.loop-at.invariant in
+    omega (arith, same, items, turned_short xs i (omega (arith, c.len-at-end.ensures.len, c.loop-at-test.true)), c.len-at-end.ensures.len, c.len-at-end.ensures.within)
 
 pub returns : goal.returns
 returns c =
-    let xs = c.args.ring.now.items in
-    let i = c.loop-at.at in
-    let inv = c.loop-at.invariant in
-    c.truncate_back.ensures
-    ∙ ap (λ n. buffer (take n c.loop-at.ring.items) c.loop-at.ring.capacity) inv.so_far
-    ∙ ap (λ b. buffer (take (rank xs i) b.items) b.capacity) inv.closing_is
-    ∙ ap (λ ys. buffer ys c.args.ring.now.capacity) (closing_all xs i (omega (arith, c.len-at-end.ensures.len, c.loop-at-test.false)))
+    c.loop-at.invariant
+    ∙ ap (λ ys. buffer ys c.args.ring.now.capacity) (turned_all c.args.ring.now.items c.loop-at._at (omega (arith, c.len-at-end.ensures.len, c.loop-at-test.false)))

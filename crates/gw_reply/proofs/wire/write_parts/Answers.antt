@@ -6,7 +6,7 @@ use Rattle.gw_reply.proofs.wire.write_parts.Goals.{then-behind+in_ok-push, then-
 
 pub loop-place-preserved : goal.loop-place-preserved
 loop-place-preserved g c =
-    let text = g.T.WireText.text in
+    let text = g.T.Written.text in
     let parts = c.args.parts.now in
     let i = c.loop-place.place in
     let part = c.index-parts-place.result in

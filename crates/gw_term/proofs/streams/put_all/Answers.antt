@@ -6,10 +6,10 @@ use Rattle.gw_term.proofs.streams.put_all.Goals as goal
 
 pub returns-in_err-put_media : goal.returns-in_err-put_media
 returns-in_err-put_media c =
-    let e = flat_next (put_part c.args.sent.now.rules.now c.args.sent.now.slot c.args.number) (parts_in c.args.number) c.args.sent.now.descriptors.now c.loop-descriptor.descriptor-index c.descriptor-item.result (record { stream = c.loop-descriptor.stream; filled = c.loop-descriptor.filled }) c.loop-descriptor-test.true c.descriptor-item.is in
+    let e = flat_next (put_part c.args.sent.now.rules.now c.args.sent.now.slot c.args.number) (parts_in c.args.number) c.args.sent.now.descriptors.now c.loop-descriptor.descriptor-index c.descriptor-item.result c.loop-descriptor.merging c.loop-descriptor-test.true c.descriptor-item.is in
     grind (arith, common_steps, e)
 
 pub loop-descriptor-preserved : goal.loop-descriptor-preserved
 loop-descriptor-preserved c =
-    let e = flat_next (put_part c.args.sent.now.rules.now c.args.sent.now.slot c.args.number) (parts_in c.args.number) c.args.sent.now.descriptors.now c.loop-descriptor.descriptor-index c.descriptor-item.result (record { stream = c.loop-descriptor.stream; filled = c.loop-descriptor.filled }) c.loop-descriptor-test.true c.descriptor-item.is in
+    let e = flat_next (put_part c.args.sent.now.rules.now c.args.sent.now.slot c.args.number) (parts_in c.args.number) c.args.sent.now.descriptors.now c.loop-descriptor.descriptor-index c.descriptor-item.result c.loop-descriptor.merging c.loop-descriptor-test.true c.descriptor-item.is in
     grind (arith, common_steps, e)

@@ -5,4 +5,4 @@ use Rattle.gw_term.proofs.streams.put_all.Given as goal
 
 -- what is left does the rest
 abbrev pub invariant-loop-descriptor : goal.invariant-loop-descriptor
-invariant-loop-descriptor l = each (put_part l.sent.rules.now l.sent.slot l.number) (flat_map (parts_in l.number) l.sent.descriptors.now) (record { stream = l.fn.stream; filled = l.fn.filled }) ≡ each (put_part l.sent.rules.now l.sent.slot l.number) (flat_map (parts_in l.number) (drop l.descriptor-index l.sent.descriptors.now)) (record { stream = l.stream; filled = l.filled })
+invariant-loop-descriptor l = each (put_part l.sent.rules.now l.sent.slot l.number) (flat_map (parts_in l.number) l.sent.descriptors.now) l.fn.merging ≡ each (put_part l.sent.rules.now l.sent.slot l.number) (flat_map (parts_in l.number) (drop l.descriptor-index l.sent.descriptors.now)) l.merging

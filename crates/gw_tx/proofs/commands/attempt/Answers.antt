@@ -12,4 +12,4 @@ pub set_when_made-requires-clause-key : goal.set_when_made-requires-clause-key
 set_when_made-requires-clause-key c = λ n e.
     let there : has (action_keys c.args.at) (Ctx n) ≡ true = ap (λ (a : At). has (action_keys a) (Ctx n)) e ∙ has-head (Ctx n) [] in
     ap (λ (k : PartKeys). holds k (Ctx n)) c.in_ok-done.ensures.keys
-    ∙ c.requires.covered.held (Ctx n) (among_action c.args.at c.args.slot c.args.sent.now c.args.draft.now.maps (Ctx n) there)
+    ∙ c.requires.covered.held (Ctx n) (among_action c.args.at c.args.slot c.args.prepared.now.command.now c.args.draft.now.maps (Ctx n) there)

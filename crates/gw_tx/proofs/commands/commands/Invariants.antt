@@ -1,24 +1,8 @@
-use Rattle.std.proofs.Common.{◌≡◌, List, drop}
-use Rattle.gw_length.specs.Tellings.{told_behind}
-use Rattle.gw_reply.specs.declared.reply.CommandReply.{CommandReply}
-use Rattle.gw_reply.specs.Replies.{command_reply_text}
-use Rattle.gw_table.specs.Folds.{attempts_behind}
+use Rattle.std.proofs.Common.{drop}
 use Rattle.gw_reserve.specs.Owned.{paired_commands}
-use Rattle.gw_cmd.proofs.Parted.{StaysPart}
-use Rattle.gw_cmd.specs.Prepared.{ArePrepared}
 use Rattle.gw_tx.specs.Transactions.{commands}
-use Rattle.gw_tx.proofs.Facts.{IsHeld}
-use Rattle.gw_tx.proofs.FreeSlots.{AnySlot}
-use Rattle.gw_tx.proofs.Kept.{With, Oks}
+use Rattle.gw_tx.proofs.CommandsSoFar.{AreSoFar}
 use Rattle.gw_tx.proofs.commands.commands.Given as goal
 
--- what is told is that of some answers, which, and then the rest, are those of all; the draft has the keys of what is left; what is known is
--- of what is left
-abbrev pub invariant-loop-sent : goal.invariant-loop-sent
-invariant-loop-sent l = record {
-  told : (front : List CommandReply) × (l.told ≡ told_behind command_reply_text l.fn.told front) × (attempts_behind front (commands l.rules l.late l.at (paired_commands l.left (drop l.sent-index l.asked)) l.draft.maps) ≡ commands l.rules l.late l.fn.at (paired_commands l.slots l.asked) l.fn.draft.maps);
-  held : Oks (IsHeld l.fn.draft.keys l.fn.draft.maps) l.at (paired_commands l.left (drop l.sent-index l.asked));
-  known : ArePrepared l.rules l.behind (drop l.sent-index l.asked);
-  kept : With AnySlot (StaysPart l.fn.draft.keys l.fn.draft.maps) l.left l.draft.maps;
-  keys : l.draft.keys ≡ l.fn.draft.keys;
-}
+abbrev pub invariant-loop-command : goal.invariant-loop-command
+invariant-loop-command l = AreSoFar l.task.rules.now l.late l.fn.draft l.fn.writer (commands l.task.rules.now l.late l.fn.at (paired_commands l.task.slots.now l.sent) l.fn.draft.maps) l.writer l.at l.left (drop l.command-index l.sent) l.draft

@@ -10,10 +10,4 @@ use Rattle.gw_tx.proofs.contexts.action_for_each.Goals as goal
 pub in_all-requires-clause-key : goal.in_all-requires-clause-key
 in_all-requires-clause-key c =
     let draft : Parted = c.args.draft.now in
-    subst (λ (l : List CtxNum). All (λ n. holds draft.keys (Ctx n) ≡ true) l) (sym (c.deref-else-is_empty-2-4.ensures.value ∙ c.in_ok-numbers.ensures)) (numbers_held draft.keys draft.maps (c.requires.covered (number 0)).entries)
-
-pub action_alone-requires-clause-part : goal.action_alone-requires-clause-part
-action_alone-requires-clause-part c = (c.requires.covered (number 0)).entries
-
-pub told_before-told-requires-clause-once : goal.told_before-told-requires-clause-once
-told_before-told-requires-clause-once c = (c.requires.covered (number 0)).sound.once
+    subst (λ (l : List CtxNum). All (λ n. holds draft.keys (Ctx n) ≡ true) l) (sym (c.deref.ensures.value ∙ c.in_ok-numbers.ensures)) (numbers_held draft.keys draft.maps (c.requires.covered (number 0)).entries)

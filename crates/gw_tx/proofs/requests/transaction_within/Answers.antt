@@ -1,6 +1,6 @@
 use Rattle.std.proofs.Common.{◌≡◌, ℕ, List, Option, Ok, sym, ap, subst, ◌∙◌}
 use Rattle.gw_base.specs.declared.ids.CtxNum.{CtxNum}
-use Rattle.gw_length.specs.declared.telling.Telling.{Telling}
+use Rattle.gw_reply.specs.declared.writer.ReplyWriter.{ReplyWriter}
 use Rattle.gw_msg.specs.declared.message.Action.{Action}
 use Rattle.gw_reply.specs.declared.reply.ActionReply.{ActionReply}
 use Rattle.gw_reply.specs.declared.reply.TxReply.{TxReply}
@@ -13,7 +13,7 @@ use Rattle.gw_tx.specs.Transactions.{actions, paired_transaction}
 use Rattle.gw_tx.proofs.requests.transaction_within.Goals as goal
 
 pub told_of-requires : goal.told_of-requires
-told_of-requires c = subst IsLimited (sym c.in_ok-told.ensures.answer) (still_limited c.told_within.result (actions c.args.rules.now (paired_actions c.as_slice.result.now c.as_slice-2.result.now c.as_slice-3.result.now) c.args.draft.now.maps).answer.answers c.told_within.ensures.limited)
+told_of-requires c = subst IsLimited (sym c.in_ok-written.ensures.answer) (still_limited c.writer_within.result (actions c.args.rules.now (paired_actions c.as_slice.result.now c.as_slice-2.result.now c.as_slice-3.result.now) c.args.draft.now.maps).answer.answers c.writer_within.ensures.limited)
 
 pub returns : goal.returns
 unfolding paired_transaction
@@ -26,8 +26,8 @@ returns c =
     let reply : List ActionReply → TxReply = λ l. record { id = c.args.request.now.id; result = Ok l } in
     let all : List ActionReply = (on c.as_slice.result.now c.as_slice-2.result.now c.as_slice-3.result.now).answer.answers in
     record {
-      maps = c.in_ok-told.ensures.maps ∙ ap (λ (o : Outcome (Attempts Unit ActionReply)). o.maps) same;
-      answer = c.told_of.ensures ∙ ap (λ (t : Telling ActionReply). told_of t) c.in_ok-told.ensures.answer ∙ c.told_within.ensures.told all
+      maps = c.in_ok-written.ensures.maps ∙ ap (λ (o : Outcome (Attempts Unit ActionReply)). o.maps) same;
+      answer = c.told_of.ensures ∙ ap (λ (t : ReplyWriter ActionReply). told_of t) c.in_ok-written.ensures.answer ∙ c.writer_within.ensures.written all
           ∙ ap (λ (o : Outcome (Attempts Unit ActionReply)). within c.args.limit (reply o.answer.answers)) same;
-      keys = c.in_ok-told.ensures.keys;
+      keys = c.in_ok-written.ensures.keys;
     }

@@ -13,9 +13,9 @@ returns-in-New c =
     let k = c.args.self.now in
     let key = c.in-Request.key in
     let turn : IsTurn k s (point.Request key ∷ rest) c.args.total = subst (λ (x : Point). IsTurn k s (x ∷ rest) c.args.total) c.in-Request.is h in
-    let told : New ≡ class_of (length k.pairs) s.pairs (kept_place key s) = sym c.in-New.is ∙ c.class_among.ensures s (now_apart k s key rest c.args.total turn) h.size in
+    let found : New ≡ class_of (length k.pairs) s.pairs (kept_place key s) = sym c.in-New.is ∙ c.class_among.ensures s (now_apart k s key rest c.args.total turn) h.size in
     let more : c.saturating_add.result ≡ c.args.total + 1 = omega (arith, h.size, h.few, h.bounded.few, h.bounded.limit, c.saturating_add.ensures) in
-    passes_new k s c.args.point.now key rest c.args.total c.saturating_add.result c.in-Request.is told more h
+    passes_new k s c.args.point.now key rest c.args.total c.saturating_add.result c.in-Request.is found more h
 
 pub returns-in_default-class_among : goal.returns-in_default-class_among
 returns-in_default-class_among c =
@@ -23,5 +23,5 @@ returns-in_default-class_among c =
     let k = c.args.self.now in
     let key = c.in-Request.key in
     let turn : IsTurn k s (point.Request key ∷ rest) c.args.total = subst (λ (x : Point). IsTurn k s (x ∷ rest) c.args.total) c.in-Request.is h in
-    let told : c.class_among.result ≡ class_of (length k.pairs) s.pairs (kept_place key s) = c.class_among.ensures s (now_apart k s key rest c.args.total turn) h.size in
-    passes_old k s c.args.point.now key rest c.args.total c.class_among.result c.in-Request.is c.in_default-class_among.not-New told h
+    let found : c.class_among.result ≡ class_of (length k.pairs) s.pairs (kept_place key s) = c.class_among.ensures s (now_apart k s key rest c.args.total turn) h.size in
+    passes_old k s c.args.point.now key rest c.args.total c.class_among.result c.in-Request.is c.in_default-class_among.not-New found h

@@ -3,7 +3,7 @@ use Rattle.std.specs.Option.{is_some}
 use Rattle.gw_kept.specs.Classes.{Standing, class_at, behind, classes_of, standing_of}
 use Rattle.gw_kept.specs.Index.{IsIndex, seen}
 use Rattle.gw_kept.proofs.Bursts.{as_seen, goes_on}
-use Rattle.gw_kept.proofs.Indexes.{asked_here}
+use Rattle.gw_kept.proofs.Indexes.{requested_here}
 use Rattle.gw_kept.proofs.kept.Kept.classify.Goals as goal
 
 pub loop-point-init : goal.loop-point-init
@@ -18,7 +18,7 @@ loop-point-init c =
       left = refl;
       so_far =
           ap (λ classes. classes ++ classes_of k (map (seen (is_some c.in_ok-index.index.left)) c.args.points.now)) c.new-classes.ensures
-          ∙ sym (as_seen (is_some c.in_ok-index.index.left) k c.args.points.now (made.left ∙ c.asks_behind-acknowledged.ensures));
+          ∙ sym (as_seen (is_some c.in_ok-index.index.left) k c.args.points.now (made.left ∙ c.requests_behind-acknowledged.ensures));
     }
 
 pub loop-point-preserved : goal.loop-point-preserved
@@ -30,14 +30,14 @@ loop-point-preserved c =
     let i = c.loop-point.point-index in
     let x = c.point-item.result in
     let b = is_some c.in_ok-index.index.left in
-    let told = c.class-class.ensures.exact points s inv.index (asked_here points i x c.loop-point-test.true c.point-item.is) in
+    let found = c.class-class.ensures.exact points s inv.index (requested_here points i x c.loop-point-test.true c.point-item.is) in
     record {
       standing = behind k.most (length k.pairs) (seen b x) s;
-      index = subst (λ (t : Standing). IsIndex points c.class-class.new.self t) (λ j. behind (inv.most j) (inv.before j) (seen (inv.left j) x) s) told.1;
+      index = subst (λ (t : Standing). IsIndex points c.class-class.new.self t) (λ j. behind (inv.most j) (inv.before j) (seen (inv.left j) x) s) found.1;
       most = c.class-class.ensures.most ∙ inv.most;
       before = c.class-class.ensures.before ∙ inv.before;
       left = c.class-class.ensures.left ∙ inv.left;
       so_far = rw c.in_ok-push.ensures.ok
           (goes_on k.most (length k.pairs) b points i x c.loop-point.classes c.class-class.result s (classes_of k points) c.loop-point-test.true c.point-item.is inv.so_far
-          (told.0 ∙ (λ j. class_at (inv.before j) (seen (inv.left j) x) s)));
+          (found.0 ∙ (λ j. class_at (inv.before j) (seen (inv.left j) x) s)));
     }

@@ -22,10 +22,10 @@ loop-point-preserved c =
     let s = inv.standing in
     let i = c.loop-point.point-index in
     let x = c.point-item.result in
-    let told = c.class_in_turn-class.ensures s _ (turn_at k s points i x c.loop-point.total c.loop-point-test.true c.point-item.is inv.turn) in
+    let found = c.class_in_turn-class.ensures s _ (turn_at k s points i x c.loop-point.total c.loop-point-test.true c.point-item.is inv.turn) in
     record {
       standing = behind k.most (length k.pairs) (seen false x) s;
-      turn = told.1;
+      turn = found.1;
       so_far = rw c.in_ok-push.ensures.ok
-          (goes_on k.most (length k.pairs) false points i x c.loop-point.classes c.class_in_turn-class.result.0 s (classes_of k points) c.loop-point-test.true c.point-item.is inv.so_far told.0);
+          (goes_on k.most (length k.pairs) false points i x c.loop-point.classes c.class_in_turn-class.result.0 s (classes_of k points) c.loop-point-test.true c.point-item.is inv.so_far found.0);
     }

@@ -4,7 +4,7 @@ use Rattle.gw_kept.specs.Index.{seen}
 use Rattle.gw_kept.specs.Rises.{IsTurn}
 use Rattle.gw_kept.proofs.kept.Kept.classify_rising.Given as goal
 
--- where the burst stands, and what the rest will be told
+-- where the burst stands, and the classes of the rest
 abbrev pub invariant-loop-point : goal.invariant-loop-point
 invariant-loop-point l = record {
   standing : Standing;

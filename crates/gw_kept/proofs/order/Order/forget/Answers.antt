@@ -1,59 +1,62 @@
-use Rattle.std.proofs.Common.{◌≡◌, ◌+◌, ◌-◌, ◌∷◌, ℕ, List, [], Option, map, get_or, sym, ap, subst, ◌∙◌, arith}
+use Rattle.std.proofs.Common.{◌≡◌, ◌∷◌, ◌<◌, [], ℕ, List, length, map, get_or, refl, ap, sym, subst, ◌∙◌, arith}
+use Rattle.std.proofs.lemmas.List.{get_or_default}
 use Rattle.circular_buffer.specs.Buffer.{buffer}
-use Rattle.gw_kept.specs.declared.entry.RequestKey.{RequestKey}
-use Rattle.gw_kept.specs.Arrival.{IsArrival}
-use Rattle.gw_kept.specs.Order.{place_of, IsMarked}
+use Rattle.gw_kept.specs.Order.{place_of, IsOrder}
 use Rattle.gw_kept.specs.Rows.{keys_in, left_of}
-use Rattle.gw_kept.proofs.Forgetting.{IsClearing, clear_more, clear_taken, clear_all, keys_set}
+use Rattle.gw_kept.proofs.Freed.{IsFreed, freed_none, freed_next, freed_left, freed_keys, order_cut}
+use Rattle.gw_kept.proofs.Orders.{numbers_are}
+use Rattle.gw_kept.proofs.Rows.{keys_count}
 use Rattle.gw_kept.proofs.order.Order.forget.Goals as goal
 
-pub loop-until-preserved : goal.loop-until-preserved
-loop-until-preserved c =
-    let mid = c.args.mid.now in
-    let range = c.args.range.now in
-    let before = c.args.ring.now.items in
-    let start = c.span-start.result.0 in
-    let i : ℕ = c.loop-until.until - 1 in
-    let now = c.loop-until.self in
-    let next = c.take_out.new.self in
-    let row = c.loop-until.ring.items in
-    let inv = c.loop-until.invariant in
-    let until : c.loop-until.until ≡ i + 1 = omega (arith, c.loop-until-test.true) in
-    let clearing = subst (λ (n : ℕ). IsClearing mid range before row now.first now.numbers.items start n) until inv.clearing in
+pub loop-at-init : goal.loop-at-init
+loop-at-init c = record {
+  freed = λ o. (freed_none c.args.ring.now.items o.places c.span-start.result.0 c.span-start.result.0 (omega arith), refl);
+  capacity = refl;
+}
+
+pub loop-at-preserved : goal.loop-at-preserved
+loop-at-preserved c =
+    let now = c.args.self.now in
+    let inv = c.loop-at.invariant in
+    let at : ℕ = c.loop-at.at in
+    let within : at < length now.numbers.items = omega (arith, c.loop-at-test.true, c.span-start.ensures.bound.1, now.numbers.ok.0) in
+    let is : c.place.result ≡ place_of now.first (get_or now.numbers.items at 0) = c.place.ensures ∙ ap (place_of now.first) (c.index.ensures ∙ get_or_default now.numbers.items at c.index.result.now 0 within) in
     record {
-      clearing =
-          subst (λ (f : ℕ). IsClearing mid range before c.take_out.new.ring.items f next.numbers.items start i) (sym c.take_out.ensures.first)
-          (subst (λ (ns : List ℕ). IsClearing mid range before c.take_out.new.ring.items now.first ns start i) (sym c.take_out.ensures.numbers)
-          (clear_more mid range before row c.take_out.new.ring.items now.first now.numbers.items start i clearing (omega (arith, c.loop-until-test.true)) (ap (λ b. b.items) c.take_out.ensures.gap)));
-      capacity = ap (λ b. b.capacity) c.take_out.ensures.gap ∙ inv.capacity;
-      arrival =
-          subst (λ (ks : List (Option RequestKey)). IsArrival ks c.take_out.new.arrival.first c.take_out.new.arrival.numbers.items) (sym (ap (λ b. keys_in b.items) c.take_out.ensures.gap ∙ keys_set row (place_of now.first (get_or now.numbers.items i 0))))
-          (c.take_out.ensures.arrival (keys_in row) inv.arrival (clear_taken mid range before row now.first now.numbers.items start i clearing));
-      room = c.take_out.ensures.room.0 ∙ inv.room;
-      arrival_room = c.take_out.ensures.room.1 ∙ inv.arrival_room;
+      freed = λ o. freed_next c.args.ring.now.items c.loop-at.ring.items c.free.new.ring.items now.first now.numbers.items c.span-start.result.0 at c.place.result o (inv.freed o) c.loop-at.auto.at within is (ap (λ b. b.items) c.free.ensures);
+      capacity = ap (λ b. b.capacity) c.free.ensures ∙ inv.capacity;
     }
 
-pub returns-clause-left : goal.returns-clause-left
-returns-clause-left c =
-    let mid = c.args.mid.now in
-    let range = c.args.range.now in
-    let before = c.args.ring.now.items in
-    let now = c.loop-until.self in
-    let inv = c.loop-until.invariant in
-    ap (λ xs. buffer xs c.loop-until.ring.capacity) (clear_all mid range before c.loop-until.ring.items now.first now.numbers.items c.span-start.result.0 c.loop-until.until inv.clearing c.loop-until-test.false)
-    ∙ ap (λ n. buffer (map (left_of mid (range ∷ [])) before) n) inv.capacity
+pub returns-after-loop-at-clause-left : goal.returns-after-loop-at-clause-left
+returns-after-loop-at-clause-left c =
+    let now = c.args.self.now in
+    let row = c.args.ring.now.items in
+    let o : IsOrder (keys_in row) now.first now.numbers.items = c.requires in
+    let end : c.loop-at.at ≡ c.span-start.result.1 = omega (arith, c.loop-at-test.false, c.loop-at.auto.at-end, c.if-start-end.true) in
+    ap (λ xs. buffer xs c.loop-at.ring.capacity)
+    (freed_left c.args.mid.now c.args.range.now row c.loop-at.ring.items o.places c.span-start.result.0 c.span-start.result.1 o.sorted (c.span-start.ensures.span o)
+    (omega (arith, c.span-start.ensures.bound.1, now.numbers.ok.0, numbers_are (keys_in row) now.first now.numbers.items o))
+    (subst (λ (n : ℕ). IsFreed row c.loop-at.ring.items o.places c.span-start.result.0 n) end (c.loop-at.invariant.freed o).0))
+    ∙ ap (λ n. buffer (map (left_of c.args.mid.now (c.args.range.now ∷ [])) row) n) c.loop-at.invariant.capacity
 
-pub returns-then-saturating_sub-gt-FEW-clause-left : goal.returns-then-saturating_sub-gt-FEW-clause-left
-returns-then-saturating_sub-gt-FEW-clause-left c =
-    let marked : IsMarked c.args.ring.now.items c.args.self.now.first c.args.self.now.numbers.items c.args.mid.now c.args.range.now (c.span-start.result.0, c.span-start.result.1) =
-    record { order = c.requires.order; span = c.span-start.ensures.span c.requires.order } in
-    ap (λ xs. buffer xs c.take_out_all.new.ring.capacity) (c.take_out_all.ensures.left c.args.mid.now c.args.range.now marked)
-    ∙ ap (λ n. buffer (map (left_of c.args.mid.now (c.args.range.now ∷ [])) c.args.ring.now.items) n) c.take_out_all.ensures.capacity
+pub returns-after-loop-at-clause-order : goal.returns-after-loop-at-clause-order
+returns-after-loop-at-clause-order c =
+    let now = c.args.self.now in
+    let row = c.args.ring.now.items in
+    let next = c.loop-at.ring.items in
+    let o : IsOrder (keys_in row) now.first now.numbers.items = c.requires in
+    let end : c.loop-at.at ≡ c.span-start.result.1 = omega (arith, c.loop-at-test.false, c.loop-at.auto.at-end, c.if-start-end.true) in
+    let f = c.loop-at.invariant.freed o in
+    let whole : IsFreed row next o.places c.span-start.result.0 c.span-start.result.1 = subst (λ (n : ℕ). IsFreed row next o.places c.span-start.result.0 n) end f.0 in
+    subst (λ (ns : List ℕ). IsOrder (keys_in next) now.first ns) (sym (c.drop-drain.ensures.items ∙ c.drain.ensures.kept))
+    (order_cut (keys_in row) (keys_in next) now.first now.numbers.items c.span-start.result.0 c.span-start.result.1 o (omega (arith, c.if-start-end.true)) (omega (arith, c.span-start.ensures.bound.1, now.numbers.ok.0))
+    (freed_keys row next o.places c.span-start.result.0 c.span-start.result.1 whole) (omega (arith, keys_count row, keys_count next, f.1, end)))
 
-pub returns-then-saturating_sub-gt-FEW-clause-order : goal.returns-then-saturating_sub-gt-FEW-clause-order
-returns-then-saturating_sub-gt-FEW-clause-order c =
-    c.take_out_all.ensures.order c.args.mid.now c.args.range.now (record { order = c.requires.order; span = c.span-start.ensures.span c.requires.order })
-
-pub returns-then-saturating_sub-gt-FEW-clause-arrival : goal.returns-then-saturating_sub-gt-FEW-clause-arrival
-returns-then-saturating_sub-gt-FEW-clause-arrival c =
-    c.take_out_all.ensures.arrival c.args.mid.now c.args.range.now (record { order = c.requires.order; span = c.span-start.ensures.span c.requires.order }) c.requires.arrival
+pub returns-else-start-end-clause-left : goal.returns-else-start-end-clause-left
+returns-else-start-end-clause-left c =
+    let now = c.args.self.now in
+    let row = c.args.ring.now.items in
+    let o : IsOrder (keys_in row) now.first now.numbers.items = c.requires in
+    ap (λ xs. buffer xs c.args.ring.now.capacity)
+    (freed_left c.args.mid.now c.args.range.now row row o.places c.span-start.result.0 c.span-start.result.1 o.sorted (c.span-start.ensures.span o)
+    (omega (arith, c.span-start.ensures.bound.1, now.numbers.ok.0, numbers_are (keys_in row) now.first now.numbers.items o))
+    (freed_none row o.places c.span-start.result.0 c.span-start.result.1 (omega (arith, c.if-start-end.false))))

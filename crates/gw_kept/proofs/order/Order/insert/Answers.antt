@@ -1,22 +1,24 @@
-use Rattle.std.proofs.Common.{◌≡◌, ℕ, Err, length, sym, ap, subst, ◌∙◌, arith}
+use Rattle.std.proofs.Common.{◌≡◌, length, sym, ap, ◌∙◌, arith}
 use Rattle.std.proofs.lemmas.List.{length-map}
 use Rattle.std.specs.Option.{option_map}
 use Rattle.gw_kept.specs.Pairs.{key_of}
 use Rattle.gw_kept.specs.Rows.{keys_in}
-use Rattle.gw_kept.specs.Order.{number_at, IsStand}
-use Rattle.gw_kept.proofs.Lists.{insert_last}
-use Rattle.gw_kept.proofs.Orders.{one_more_order}
+use Rattle.gw_kept.specs.Order.{number_at}
+use Rattle.gw_kept.proofs.Lists.{of_ok}
+use Rattle.gw_kept.proofs.Orders.{one_more_order, found_none}
 use Rattle.gw_kept.proofs.order.Order.insert.Goals as goal
 
--- behind all others, it goes last in the order too
-pub returns-then-is_behind-clause-order : goal.returns-then-is_behind-clause-order
-returns-then-is_behind-clause-order c =
+pub returns-in-Err-clause-order : goal.returns-in-Err-clause-order
+returns-in-Err-clause-order c =
     let row = c.args.ring.now.items in
     let old = c.args.self.now in
     let o = c.requires.order in
     let keys : length (keys_in row) ≡ length row = length-map row (option_map key_of) in
-    one_more_order (keys_in row) old.first old.numbers.items c.push_back_reserved.new.self.items (key_of c.args.entry.now) (length old.numbers.items) (number_at old.first c.len.result) o
-    (subst (λ (n : ℕ). IsStand (keys_in row) o.places (key_of c.args.entry.now) (Err n)) old.numbers.ok.0 (c.is_behind.ensures o c.if-is_behind.true))
-    (omega (arith, keys, c.requires.few))
+    one_more_order (keys_in row) old.first old.numbers.items c.insert.new.self.items (key_of c.args.entry.now) c.in-Err.at (number_at old.first c.len.result) o (c.in-Err.ensures.stand o) (omega (arith, keys, c.requires.few))
     (ap (number_at old.first) (c.len.ensures.len ∙ sym keys))
-    (c.push_back_reserved.ensures.items ∙ sym (insert_last old.numbers.items (number_at old.first c.len.result)))
+    (of_ok c.insert.result c.insert.ensures.items c.insert.ensures.full (λ full. omega (arith, full, c.requires.room)))
+
+pub returns-in_default-clause-order : goal.returns-in_default-clause-order
+returns-in_default-clause-order c =
+    let o = c.requires.order in
+    absurd (found_none (keys_in c.args.ring.now.items) o.places (key_of c.args.entry.now) c.in_default.field-0 o.sorted (c.in_default.ensures.stand o) c.requires.new)

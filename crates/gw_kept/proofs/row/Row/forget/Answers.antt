@@ -16,8 +16,6 @@ loop-range-init c =
       most = ap (λ g. g.most) c.self.view_is;
       capacity = c.self.invariant.2;
       room = c.self.invariant.3;
-      arrival = c.self.invariant.4;
-      arrival_room = c.self.invariant.5;
       bounded = subst (λ (g : Gapped). IsBounded (kept_in g)) c.self.view_is c.self.invariant.0;
     }
 
@@ -35,9 +33,7 @@ loop-range-preserved c =
       order = c.forget.ensures.order;
       most = inv.most;
       capacity = ap (λ b. b.capacity) c.forget.ensures.left ∙ inv.capacity;
-      room = omega (arith, ap (λ b. b.capacity) c.forget.ensures.left, c.forget.ensures.room.0, inv.room);
-      arrival = c.forget.ensures.arrival;
-      arrival_room = omega (arith, ap (λ b. b.capacity) c.forget.ensures.left, c.forget.ensures.room.1, inv.arrival_room);
+      room = omega (arith, ap (λ b. b.capacity) c.forget.ensures.left, c.forget.ensures.room, inv.room);
       bounded = inv.bounded;
     }
 
@@ -51,8 +47,6 @@ invariant_of-self c =
       inv.order,
       inv.capacity,
       inv.room,
-      inv.arrival,
-      inv.arrival_room,
     )
 
 pub returns : goal.returns

@@ -2,7 +2,6 @@ use Rattle.std.proofs.Common.{◌≡◌, ◌≤◌, map, take}
 use Rattle.std.specs.VecDeque.{deque_capacity}
 use Rattle.gw_kept.specs.Pairs.{IsBounded}
 use Rattle.gw_kept.specs.Rows.{kept_in, keys_in, left_of, places_for}
-use Rattle.gw_kept.specs.Arrival.{IsArrival}
 use Rattle.gw_kept.specs.Order.{IsOrder}
 use Rattle.gw_kept.proofs.row.Row.forget.Given as goal
 
@@ -13,7 +12,5 @@ invariant-loop-range l = record {
   most : l.self-inside.most ≡ l.fn.self.most;
   capacity : l.self-inside.ring.capacity ≡ places_for l.self-inside.most;
   room : l.self-inside.ring.capacity ≤ deque_capacity l.self-inside.order.numbers;
-  arrival : IsArrival (keys_in l.self-inside.ring.items) l.self-inside.arrival.first l.self-inside.arrival.numbers.items;
-  arrival_room : l.self-inside.ring.capacity ≤ deque_capacity l.self-inside.arrival.numbers;
   bounded : IsBounded (kept_in l.fn.self);
 }

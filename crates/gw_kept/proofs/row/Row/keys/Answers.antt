@@ -4,7 +4,6 @@ use Rattle.std.specs.Option.{option_map}
 use Rattle.gw_kept.specs.declared.entry.RequestKey.{RequestKey}
 use Rattle.gw_kept.specs.Pairs.{key_of}
 use Rattle.gw_kept.specs.Rows.{gapped, present, keys_in}
-use Rattle.gw_kept.specs.Arrival.{IsArrival}
 use Rattle.gw_kept.specs.Order.{IsOrder}
 use Rattle.gw_kept.proofs.Copied.{copied}
 use Rattle.gw_kept.proofs.Rows.{bounded_few, keys_count}
@@ -30,7 +29,6 @@ invariant_of-result c =
     let row = si.ring.items in
     let made = c.loop-at.ring.items in
     let order = c.in_ok-order.order in
-    let arrival = c.in_ok-arrival.arrival in
     let inv = c.loop-at.invariant in
     let same : keys_in made ≡ keys_in row = inv.copied ∙ take_all c.loop-at.at (keys_in row) (omega (arith, length-map row (option_map key_of), c.len-at-end.ensures.len, c.loop-at-test.false)) in (
       bounded_few (gapped row si.most) made si.most c.self.invariant.0 (omega (arith, keys_count made, keys_count row, ap (λ (ks : List (Option RequestKey)). length (present ks)) same)) (λ i. si.most),
@@ -38,7 +36,4 @@ invariant_of-result c =
           (subst (λ (f : ℕ). IsOrder (keys_in row) f order.numbers.items) (sym c.in_ok-order.ensures.first) (subst (λ (ns : List ℕ). IsOrder (keys_in row) si.order.first ns) (sym c.in_ok-order.ensures.numbers) c.self.invariant.1)),
       inv.capacity ∙ c.capacity-places.ensures.capacity ∙ c.self.invariant.2,
       omega (arith, inv.capacity, c.in_ok-order.ensures.room),
-      subst (λ (ks : List (Option RequestKey)). IsArrival ks arrival.first arrival.numbers.items) (sym same)
-          (subst (λ (f : ℕ). IsArrival (keys_in row) f arrival.numbers.items) (sym c.in_ok-arrival.ensures.first) (subst (λ (ns : List ℕ). IsArrival (keys_in row) si.arrival.first ns) (sym c.in_ok-arrival.ensures.numbers) c.self.invariant.4)),
-      omega (arith, inv.capacity, c.in_ok-arrival.ensures.room),
     )

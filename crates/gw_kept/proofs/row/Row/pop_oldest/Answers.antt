@@ -5,7 +5,6 @@ use Rattle.gw_kept.specs.declared.entry.Entry.{Entry}
 use Rattle.gw_kept.specs.declared.entry.RequestKey.{RequestKey}
 use Rattle.gw_kept.specs.Pairs.{key_of}
 use Rattle.gw_kept.specs.Rows.{present, keys_in}
-use Rattle.gw_kept.specs.Arrival.{IsArrival}
 use Rattle.gw_kept.specs.Order.{IsOrder}
 use Rattle.gw_kept.proofs.Rows.{present_behind}
 use Rattle.gw_kept.proofs.row.Row.pop_oldest.Goals as goal
@@ -15,8 +14,7 @@ loop-at-preserved c =
     let si = c.loop-at.self-inside in
     let row = si.ring.items in
     let inv = c.loop-at.invariant in
-    let next = c.leave_front.new.self in
-    let arrival = c.leave_front-in-loop-at.new.self in
+    let next = c.remove_front.new.self in
     let popped : c.pop.new.ring.items ≡ drop 1 row = ap (λ b. b.items) c.pop.ensures.items in
     let same : c.pop.new.ring.capacity ≡ si.ring.capacity = ap (λ b. b.capacity) c.pop.ensures.items in
     let gap : get_or row 0 None ≡ None = sym c.in_default.ensures.pair in
@@ -25,10 +23,8 @@ loop-at-preserved c =
     record {
       pairs = ap (λ (r : List (Option Entry)). present r) popped ∙ present_behind row gap ∙ inv.pairs;
       shorter = omega (arith, ap (λ (r : List (Option Entry)). length r) popped, length-drop 1 row, inv.shorter, c.len-at-end.ensures.len, c.loop-at-test.true, count);
-      order = subst (λ (ks : List (Option RequestKey)). IsOrder ks next.first next.numbers.items) keys c.leave_front.ensures.order;
+      order = subst (λ (ks : List (Option RequestKey)). IsOrder ks next.first next.numbers.items) keys c.remove_front.ensures.order;
       most = inv.most;
       capacity = same ∙ inv.capacity;
-      room = omega (arith, same, inv.room, c.leave_front.ensures.room);
-      arrival = subst (λ (ks : List (Option RequestKey)). IsArrival ks arrival.first arrival.numbers.items) keys c.leave_front-in-loop-at.ensures.arrival;
-      arrival_room = omega (arith, same, inv.arrival_room, c.leave_front-in-loop-at.ensures.room);
+      room = omega (arith, same, inv.room, c.remove_front.ensures.room);
     }

@@ -1,7 +1,6 @@
 use Rattle.std.proofs.Common.{◌≡◌, ◌≤◌, ◌+◌, length}
 use Rattle.std.specs.VecDeque.{deque_capacity}
 use Rattle.gw_kept.specs.Rows.{present, keys_in, places_for}
-use Rattle.gw_kept.specs.Arrival.{IsArrival}
 use Rattle.gw_kept.specs.Order.{IsOrder}
 use Rattle.gw_kept.proofs.row.Row.pop_oldest.Given as goal
 
@@ -13,6 +12,4 @@ invariant-loop-at l = record {
   most : l.self-inside.most ≡ l.fn.self.most;
   capacity : l.self-inside.ring.capacity ≡ places_for l.self-inside.most;
   room : l.self-inside.ring.capacity ≤ deque_capacity l.self-inside.order.numbers;
-  arrival : IsArrival (keys_in l.self-inside.ring.items) l.self-inside.arrival.first l.self-inside.arrival.numbers.items;
-  arrival_room : l.self-inside.ring.capacity ≤ deque_capacity l.self-inside.arrival.numbers;
 }

@@ -1,20 +1,17 @@
-use Rattle.std.proofs.Common.{◌≡◌, ◌<◌, ◌-◌, ◌++◌, ◌∷◌, [], ℕ, List, Option, Some, Result, OnOk, is_ok, true, nat_lt, length, refl, sym, ap, subst, ◌∙◌, length-append, arith}
-use Rattle.std.proofs.lemmas.List.{length-map, map-append}
+use Rattle.std.proofs.Common.{◌≡◌, ◌<◌, ◌-◌, ◌++◌, ◌∷◌, [], ℕ, List, Option, Some, nat_lt, length, refl, sym, ap, subst, ◌∙◌, length-append, arith}
+use Rattle.std.proofs.lemmas.List.{map-append}
 use Rattle.std.specs.Option.{option_map}
-use Rattle.circular_buffer.specs.Buffer.{Buffer, buffer, keep_last}
+use Rattle.circular_buffer.specs.Buffer.{keep_last}
 use Rattle.gw_kept.specs.declared.entry.Entry.{Entry}
 use Rattle.gw_kept.specs.declared.entry.RequestKey.{RequestKey}
 use Rattle.gw_kept.specs.Pairs.{KeptList, key_of, kept_list, bytes_for}
 use Rattle.gw_kept.specs.Rows.{Gapped, gapped, present, kept_in, keys_in, places_for}
-use Rattle.gw_kept.specs.Arrival.{IsArrival}
 use Rattle.gw_kept.specs.Order.{IsOrder}
-use Rattle.gw_kept.proofs.Arrivals.{arrived}
-use Rattle.gw_kept.proofs.Lists.{of_is_ok}
 use Rattle.gw_kept.proofs.Last.{few_last, last_kept, last_dropped}
 use Rattle.gw_kept.proofs.Rows.{absent_drop, none_nowhere, keys_count, few_present, present_append}
 use Rattle.gw_kept.proofs.row.Row.push.Goals as goal
 
--- the row when room was made, as its fields tell it
+-- the row when room was made, by its fields
 record IsRoomy (now : Gapped) (row : List (Option Entry)) (most cap : ℕ) : Type 0 where
   pub pairs : present row ≡ keep_last (now.most - 1) (present now.row)
   pub same : most ≡ now.most
@@ -26,11 +23,6 @@ roomy now g row most cap view kept room places = record {
   same = ap (λ (h : Gapped). h.most) view ∙ ap (λ (k : KeptList). k.most) kept;
   free = omega (arith, room, places, ap (λ (h : Gapped). length h.row) view, ap (λ (h : Gapped). h.most) view);
 }
-
--- the pair goes last
-pushed : {T : Type 0} (now : Gapped) (row : List (Option Entry)) (most cap : ℕ) (e : Entry) (next : Buffer (Option Entry)) (done : Result T (Option Entry)) → IsRoomy now row most cap
-    → OnOk done (next ≡ buffer (row ++ Some e ∷ []) cap) → (length row < cap → is_ok done ≡ true) → next ≡ buffer (row ++ Some e ∷ []) cap
-pushed now row most cap e next done r push ok = of_is_ok done push (ok r.free)
 
 pub insert-requires-clause-new : goal.insert-requires-clause-new
 insert-requires-clause-new c =
@@ -58,11 +50,10 @@ invariant_of-self c =
     let inv = c.self.invariant in
     let made = c.make_room-dropped in
     let r = roomy now made.new.self row si.most si.ring.capacity c.self.view_is made.ensures.pairs made.ensures.room inv.2 in
-    let next = pushed now row si.most si.ring.capacity e c.try_push_back.new.self c.try_push_back.result r c.try_push_back.ensures.ok c.try_push_back.ensures.variant.1 in
-    let items : c.try_push_back.new.self.items ≡ row ++ Some e ∷ [] = ap (λ (b : Buffer (Option Entry)). b.items) next in
-    let same : c.try_push_back.new.self.capacity ≡ si.ring.capacity = ap (λ b. b.capacity) next in
-    let more : present c.try_push_back.new.self.items ≡ present row ++ e ∷ [] = ap (λ (l : List (Option Entry)). present l) items ∙ present_append row (Some e ∷ []) in
-    let keys : keys_in row ++ Some (key_of e) ∷ [] ≡ keys_in c.try_push_back.new.self.items =
+    let items : c.put_last.new.ring.items ≡ row ++ Some e ∷ [] = ap (λ b. b.items) c.put_last.ensures in
+    let same : c.put_last.new.ring.capacity ≡ si.ring.capacity = ap (λ b. b.capacity) c.put_last.ensures in
+    let more : present c.put_last.new.ring.items ≡ present row ++ e ∷ [] = ap (λ (l : List (Option Entry)). present l) items ∙ present_append row (Some e ∷ []) in
+    let keys : keys_in row ++ Some (key_of e) ∷ [] ≡ keys_in c.put_last.new.ring.items =
     sym (map-append (option_map key_of) row (Some e ∷ [])) ∙ ap keys_in (sym items)
     in (
       record {
@@ -73,16 +64,13 @@ invariant_of-self c =
       subst (λ (ks : List (Option RequestKey)). IsOrder ks order.first order.numbers.items) keys c.insert.ensures.order,
       same ∙ inv.2,
       omega (arith, same, inv.3, c.insert.ensures.room),
-      subst (λ (ks : List (Option RequestKey)). IsArrival ks c.push.new.self.first c.push.new.self.numbers.items) keys (c.push.ensures.arrival (keys_in row) (key_of e) inv.4 (c.len.ensures.len ∙ sym (length-map row (option_map key_of)))),
-      omega (arith, same, inv.5, c.push.ensures.room),
     )
 
-pub push-requires-clause-room : goal.push-requires-clause-room
-push-requires-clause-room c =
+pub put_last-requires : goal.put_last-requires
+put_last-requires c =
     let si = c.self.inside in
     let made = c.make_room-dropped in
-    let r = roomy c.args.self.now made.new.self si.ring.items si.most si.ring.capacity c.self.view_is made.ensures.pairs made.ensures.room c.self.invariant.2 in
-    omega (arith, si.arrival.numbers.ok.0, arrived (keys_in si.ring.items) si.arrival.first si.arrival.numbers.items c.self.invariant.4, keys_count si.ring.items, few_present si.ring.items, r.free, c.self.invariant.5)
+    (roomy c.args.self.now made.new.self si.ring.items si.most si.ring.capacity c.self.view_is made.ensures.pairs made.ensures.room c.self.invariant.2).free
 
 pub returns-clause-pairs : goal.returns-clause-pairs
 returns-clause-pairs c =
@@ -92,9 +80,8 @@ returns-clause-pairs c =
     let e = c.args.entry in
     let made = c.make_room-dropped in
     let r = roomy now made.new.self row si.most si.ring.capacity c.self.view_is made.ensures.pairs made.ensures.room c.self.invariant.2 in
-    let items : c.try_push_back.new.self.items ≡ row ++ Some e ∷ [] =
-    ap (λ (b : Buffer (Option Entry)). b.items) (pushed now row si.most si.ring.capacity e c.try_push_back.new.self c.try_push_back.result r c.try_push_back.ensures.ok c.try_push_back.ensures.variant.1) in
-    ap (λ (m : ℕ). kept_list (present c.try_push_back.new.self.items) m) r.same
+    let items : c.put_last.new.ring.items ≡ row ++ Some e ∷ [] = ap (λ b. b.items) c.put_last.ensures in
+    ap (λ (m : ℕ). kept_list (present c.put_last.new.ring.items) m) r.same
     ∙ ap (λ (es : List Entry). kept_list es now.most)
     (ap (λ (l : List (Option Entry)). present l) items
     ∙ present_append row (Some e ∷ [])

@@ -3,10 +3,8 @@ use Rattle.gw_kept.specs.declared.entry.Entry.{Entry}
 use Rattle.gw_kept.specs.declared.entry.RequestKey.{RequestKey}
 use Rattle.gw_kept.specs.Pairs.{kept_list}
 use Rattle.gw_kept.specs.Rows.{gapped, present, kept_in, keys_in}
-use Rattle.gw_kept.specs.Arrival.{IsArrival}
 use Rattle.gw_kept.specs.Order.{IsOrder}
-use Rattle.gw_kept.proofs.Arrivals.{arrived}
-use Rattle.gw_kept.proofs.Rows.{bounded_few, few_present, keys_present, keys_some, present_some, whole_if, whole_some}
+use Rattle.gw_kept.proofs.Rows.{bounded_few, keys_present, keys_some, present_some, whole_if, whole_some}
 use Rattle.gw_kept.proofs.row.Row.settle.Goals as goal
 
 pub invariant_of-self : goal.invariant_of-self
@@ -14,7 +12,6 @@ invariant_of-self c =
     let si = c.self.inside in
     let row = si.ring.items in
     let order = c.number_anew.new.self in
-    let arrival = c.number_anew-then-len.new.self in
     let items : c.close_gaps.new.ring.items ≡ map (λ e. Some e) (present row) = ap (λ b. b.items) c.close_gaps.ensures in
     let same : c.close_gaps.new.ring.capacity ≡ si.ring.capacity = ap (λ b. b.capacity) c.close_gaps.ensures in
     let pairs : present c.close_gaps.new.ring.items ≡ present row = ap (λ (r : List (Option Entry)). present r) items ∙ present_some (present row) in
@@ -23,14 +20,7 @@ invariant_of-self c =
       subst (λ (ks : List (Option RequestKey)). IsOrder ks order.first order.numbers.items) keys c.number_anew.ensures.order,
       same ∙ c.self.invariant.2,
       omega (arith, same, c.number_anew.ensures.room, c.self.invariant.3),
-      subst (λ (ks : List (Option RequestKey)). IsArrival ks arrival.first arrival.numbers.items) keys (c.number_anew-then-len.ensures.arrival (keys_in row) c.self.invariant.4),
-      omega (arith, same, c.number_anew-then-len.ensures.room, c.self.invariant.5),
     )
-
-pub number_anew-requires-then-len : goal.number_anew-requires-then-len
-number_anew-requires-then-len c =
-    let si = c.self.inside in
-    omega (arith, si.arrival.numbers.ok.0, arrived (keys_in si.ring.items) si.arrival.first si.arrival.numbers.items c.self.invariant.4, few_present (keys_in si.ring.items), c.self.invariant.4.few)
 
 pub returns-then-len-clause-kept : goal.returns-then-len-clause-kept
 returns-then-len-clause-kept c =

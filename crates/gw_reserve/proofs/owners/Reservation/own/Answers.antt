@@ -1,5 +1,12 @@
+use Rattle.gw_base.specs.Choose.{is_choose}
+use Rattle.gw_base.specs.declared.ids.CtxNum.{CtxNum}
+use Rattle.gw_msg.specs.declared.message.Action.{Action}
+use Rattle.gw_msg.specs.declared.message.Command.{Command}
 use Rattle.gw_table.specs.Stored.{maps_of}
-use Rattle.std.proofs.Common.{refl}
+use Rattle.gw_reserve.specs.Owned.{is_adding}
+use Rattle.gw_reserve.specs.Owners.{all_commands}
+use Rattle.gw_reserve.proofs.Taken.{taken_length}
+use Rattle.std.proofs.Common.{List, length, refl, ap, ◌∙◌}
 use Rattle.gw_reserve.specs.ReservationView.{value_of}
 use Rattle.gw_reserve.proofs.Owning.{if_both, own_paired, own_contexts, own_slots, own_cursors}
 use Rattle.std.proofs.lemmas.Result.{IfOk-weaker}
@@ -7,6 +14,16 @@ use Rattle.gw_reserve.proofs.owners.Reservation.own.Goals as goal
 
 pub invariant_of-self : goal.invariant_of-self
 invariant_of-self c = record { numbers = c.own_all.ensures.number_search; slots = c.own_all.ensures.slot_search }
+
+pub returns-clause-entry_for_action : goal.returns-clause-entry_for_action
+returns-clause-entry_for_action c =
+    IfOk-weaker c.own_all.result _ _
+    (λ o p. ap (λ l. length l) p ∙ taken_length (λ a. is_choose a.ctx) c.as_slice.result.now _ ∙ ap (λ (l : List Action). length l) c.as_slice.ensures) c.own_all.ensures.contexts
+
+pub returns-clause-entry_for_command : goal.returns-clause-entry_for_command
+returns-clause-entry_for_command c =
+    IfOk-weaker c.own_all.result _ _
+    (λ o p. ap (λ l. length l) p ∙ taken_length is_adding (all_commands c.as_slice.result.now) _ ∙ ap (λ (l : List Action). length (all_commands l)) c.as_slice.ensures) c.own_all.ensures.slots
 
 pub returns-clause-paired : goal.returns-clause-paired
 returns-clause-paired c =

@@ -10,7 +10,7 @@ use Rattle.gw_table.specs.Members.{with_member}
 use Rattle.gw_table.specs.Originals.{keys_written, before_all}
 use Rattle.gw_table.specs.Parts.{Parted}
 use Rattle.gw_table.specs.Stored.{Stored, maps_of, put_ctx_place}
-use Rattle.gw_table.proofs.InPlace.{same_in_place, wrote_ctx, wrote_ctx_again, noted_before, stood_there}
+use Rattle.gw_table.proofs.InPlace.{same_in_place, wrote_ctx, wrote_ctx_again, logged_before, stood_there}
 use Rattle.gw_table.proofs.Places.{maps-put_ctx_place}
 use Rattle.gw_table.proofs.in_place.InPlace.join.Goals as goal
 
@@ -25,7 +25,7 @@ invariant_of-self-in_default c =
     same_in_place start (put_ctx_place old c.args.number new) c.join.new.self c.self.inside.writes.items c.reserve.new.self.items
     c.in_ok-found.ensures.after c.in_ok-reserve.ensures.items
     (wrote_ctx_again start old c.self.inside.writes.items c.self.invariant c.args.number new refl
-    (noted_before c.self.inside.writes.items c.deref.result.now (Ctx c.args.number) at c.in_ok-found.found (c.deref.ensures.value ∙ c.in_ok-reserve.ensures.items) c.in_default.is c.in_ok-found.ensures.found))
+    (logged_before c.self.inside.writes.items c.deref.result.now (Ctx c.args.number) at c.in_ok-found.found (c.deref.ensures.value ∙ c.in_ok-reserve.ensures.items) c.in_default.is c.in_ok-found.ensures.found))
 
 pub returns-in_default-clause-maps : goal.returns-in_default-clause-maps
 returns-in_default-clause-maps c =
@@ -41,11 +41,11 @@ invariant_of-self-2 c =
     let start : Stored = before_all c.self.inside.earlier.value c.self.inside.before.value in
     let at : Option ContextRecord = ctx (maps_of old) c.args.number in
     let new : Place ContextRecord = Here (joined c.args.name (context_of at)) in
-    same_in_place start (put_ctx_place old c.args.number new) c.join.new.self (c.self.inside.writes.items ++ OfCtx c.args.number c.in-Original.before ∷ []) c.push.new.self.items
+    same_in_place start (put_ctx_place old c.args.number new) c.join.new.self (c.self.inside.writes.items ++ OfCtx c.args.number c.in-Unlogged.before ∷ []) c.push.new.self.items
     c.in_ok-found.ensures.after
-    (c.in-Ok.ensures.items ∙ ap (λ (l : List Write). l ++ OfCtx c.args.number c.in-Original.before ∷ []) c.in_ok-reserve.ensures.items)
-    (wrote_ctx start old c.self.inside.writes.items c.self.invariant c.args.number new c.in-Original.before refl
-    (stood_there (keys_written c.deref.result.now) (Ctx c.args.number) at c.in_ok-found.found c.in-Original.before c.in-Original.is c.in_ok-found.ensures.found))
+    (c.in-Ok.ensures.items ∙ ap (λ (l : List Write). l ++ OfCtx c.args.number c.in-Unlogged.before ∷ []) c.in_ok-reserve.ensures.items)
+    (wrote_ctx start old c.self.inside.writes.items c.self.invariant c.args.number new c.in-Unlogged.before refl
+    (stood_there (keys_written c.deref.result.now) (Ctx c.args.number) at c.in_ok-found.found c.in-Unlogged.before c.in-Unlogged.is c.in_ok-found.ensures.found))
 
 pub returns-clause-maps : goal.returns-clause-maps
 returns-clause-maps c =

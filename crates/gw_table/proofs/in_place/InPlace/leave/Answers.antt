@@ -23,10 +23,10 @@ invariant_of-self-2 c =
     let old : Stored = c.self.inside.tables in
     let start : Stored = before_all c.self.inside.earlier.value c.self.inside.before.value in
     let at : Option ContextRecord = ctx (maps_of old) c.args.number in
-    elim c.match-into_original.branch [
+    elim c.match-into_unlogged.branch [
       | in-Some+in-Ok w ↦
           let was : Some w.in-Some.before ≡ at =
-          found_at (keys_written c.deref.result.now) (Ctx c.args.number) at c.in_ok-found.found w.in-Some.before c.in_ok-found.ensures.found (sym w.in-Some.is ∙ c.into_original.ensures) in
+          found_at (keys_written c.deref.result.now) (Ctx c.args.number) at c.in_ok-found.found w.in-Some.before c.in_ok-found.ensures.found (sym w.in-Some.is ∙ c.into_unlogged.ensures) in
           let new : Place ContextRecord = placed (unless_empty (left c.args.name.now w.in-Some.before)) in
           subst (λ (x : Inside). IsInPlace (before_all x.earlier.value x.before.value) x.tables x.writes.items) (sym w.self-inside-is)
           (same_in_place start (put_ctx_place old c.args.number new) c.leave.new.self (c.self.inside.writes.items ++ OfCtx c.args.number (Some w.in-Some.before) ∷ []) w.push.new.self.items
@@ -38,7 +38,7 @@ invariant_of-self-2 c =
           (same_in_place start (leave_place c.args.name.now c.args.number old at) c.leave.new.self c.self.inside.writes.items c.reserve.new.self.items c.in_ok-found.ensures.after c.in_ok-reserve.ensures.items
           (left_again start old c.self.inside.writes.items c.self.invariant c.args.number c.args.name.now c.in_ok-found.found
           (found_among c.self.inside.writes.items c.deref.result.now (Ctx c.args.number) at c.in_ok-found.found (c.deref.ensures.value ∙ c.in_ok-reserve.ensures.items) c.in_ok-found.ensures.found)
-          (sym w.in_default.is ∙ c.into_original.ensures)))
+          (sym w.in_default.is ∙ c.into_unlogged.ensures)))
     ]
 
 at_ok : {T E P : Type 0} (r : Result T E) → P → OnOk r P
@@ -48,10 +48,10 @@ at_ok (Err e) p = tt
 pub returns-clause-maps : goal.returns-clause-maps
 returns-clause-maps c =
     let old : Stored = c.self.inside.tables in
-    let tables : c.match-into_original.self-inside.tables ≡ c.leave.new.self = elim c.match-into_original.branch [
+    let tables : c.match-into_unlogged.self-inside.tables ≡ c.leave.new.self = elim c.match-into_unlogged.branch [
       | in-Some+in-Ok w ↦ ap (λ (x : Inside). x.tables) w.self-inside-is
       | in_default w ↦ ap (λ (x : Inside). x.tables) w.self-inside-is
     ] in
-    at_ok c.note_vacated.result
+    at_ok c.log_vacated.result
     (ap (λ s. maps_of s) (tables ∙ c.in_ok-found.ensures.after) ∙ maps-leave_place c.args.name.now c.args.number old (ctx (maps_of old) c.args.number) refl
     ∙ ap (λ (p : Parted). without_member c.args.number c.args.name.now p.maps) c.self.view_is)

@@ -13,7 +13,7 @@ use Rattle.gw_table.specs.Stored.{Stored, maps_of, put_term_place, with_service}
 use Rattle.gw_table.proofs.InPlace.{same_in_place, wrote_term, served_again, found_among, found_at, maps-with_service}
 use Rattle.gw_table.proofs.in_place.InPlace.set_service.Goals as goal
 
--- ---- where there is nothing to note
+-- ---- where there is nothing to log
 
 pub invariant_of-self-in_default : goal.invariant_of-self-in_default
 invariant_of-self-in_default c =
@@ -23,7 +23,7 @@ invariant_of-self-in_default c =
     same_in_place start (with_service c.args.service c.args.name.now old at) c.set_service.new.self c.self.inside.writes.items c.reserve.new.self.items c.in_ok-found.ensures.after c.in_ok-reserve.ensures.items
     (served_again start old c.self.inside.writes.items c.self.invariant c.args.name.now c.args.service c.in_ok-found.found
     (found_among c.self.inside.writes.items c.deref.result.now (Term c.args.name.now) at c.in_ok-found.found (c.deref.ensures.value ∙ c.in_ok-reserve.ensures.items) c.in_ok-found.ensures.found)
-    (sym c.in_default.is ∙ c.into_original.ensures))
+    (sym c.in_default.is ∙ c.into_unlogged.ensures))
 
 pub returns-in_default-clause-maps : goal.returns-in_default-clause-maps
 returns-in_default-clause-maps c =
@@ -38,7 +38,7 @@ invariant_of-self-2 c =
     let old : Stored = c.self.inside.tables in
     let start : Stored = before_all c.self.inside.earlier.value c.self.inside.before.value in
     let was : Some c.in-Some.before ≡ term (maps_of old) c.args.name.now =
-    found_at (keys_written c.deref.result.now) (Term c.args.name.now) (term (maps_of old) c.args.name.now) c.in_ok-found.found c.in-Some.before c.in_ok-found.ensures.found (sym c.in-Some.is ∙ c.into_original.ensures) in
+    found_at (keys_written c.deref.result.now) (Term c.args.name.now) (term (maps_of old) c.args.name.now) c.in_ok-found.found c.in-Some.before c.in_ok-found.ensures.found (sym c.in-Some.is ∙ c.into_unlogged.ensures) in
     same_in_place start (put_term_place old c.args.name.now (Here (serviced c.in-Some.before c.args.service))) c.set_service.new.self (c.self.inside.writes.items ++ OfTerm c.args.name.now (Some c.in-Some.before) ∷ []) c.push.new.self.items
     (c.in_ok-found.ensures.after ∙ ap (λ (o : Option Termination). with_service c.args.service c.args.name.now old o) (sym was))
     (c.in-Ok.ensures.items ∙ ap (λ (l : List Write). l ++ OfTerm c.args.name.now (Some c.in-Some.before) ∷ []) c.in_ok-reserve.ensures.items)

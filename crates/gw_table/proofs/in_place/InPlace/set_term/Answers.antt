@@ -6,7 +6,7 @@ use Rattle.gw_table.specs.Maps.{term, put_term}
 use Rattle.gw_table.specs.Originals.{keys_written, before_all}
 use Rattle.gw_table.specs.Parts.{Parted}
 use Rattle.gw_table.specs.Stored.{Stored, placed, maps_of, put_term_place}
-use Rattle.gw_table.proofs.InPlace.{same_in_place, wrote_term, wrote_term_again, noted_before, stood_there}
+use Rattle.gw_table.proofs.InPlace.{same_in_place, wrote_term, wrote_term_again, logged_before, stood_there}
 use Rattle.gw_table.proofs.Places.{maps-put_term_place, shown_placed, placed_here}
 use Rattle.gw_table.proofs.in_place.InPlace.set_term.Goals as goal
 
@@ -19,7 +19,7 @@ invariant_of-self-in_default c =
     same_in_place start (put_term_place old c.args.name.now (placed c.args.entry)) c.write_term.new.self c.self.inside.writes.items c.reserve.new.self.items
     (c.in_ok-found.ensures.ok ∙ ap (λ p. put_term_place old c.args.name.now p) c.of.ensures) c.in_ok-reserve.ensures.items
     (wrote_term_again start old c.self.inside.writes.items c.self.invariant c.args.name.now (placed c.args.entry) (placed_here c.args.entry)
-    (noted_before c.self.inside.writes.items c.deref.result.now (Term c.args.name.now) (term (maps_of old) c.args.name.now) c.in_ok-found.found (c.deref.ensures.value ∙ c.in_ok-reserve.ensures.items) c.in_default.is c.in_ok-found.ensures.found))
+    (logged_before c.self.inside.writes.items c.deref.result.now (Term c.args.name.now) (term (maps_of old) c.args.name.now) c.in_ok-found.found (c.deref.ensures.value ∙ c.in_ok-reserve.ensures.items) c.in_default.is c.in_ok-found.ensures.found))
 
 pub returns-in_default-clause-maps : goal.returns-in_default-clause-maps
 returns-in_default-clause-maps c =
@@ -32,11 +32,11 @@ pub invariant_of-self-2 : goal.invariant_of-self-2
 invariant_of-self-2 c =
     let old : Stored = c.self.inside.tables in
     let start : Stored = before_all c.self.inside.earlier.value c.self.inside.before.value in
-    same_in_place start (put_term_place old c.args.name.now (placed c.args.entry)) c.write_term.new.self (c.self.inside.writes.items ++ OfTerm c.args.name.now c.in-Original.before ∷ []) c.push.new.self.items
+    same_in_place start (put_term_place old c.args.name.now (placed c.args.entry)) c.write_term.new.self (c.self.inside.writes.items ++ OfTerm c.args.name.now c.in-Unlogged.before ∷ []) c.push.new.self.items
     (c.in_ok-found.ensures.ok ∙ ap (λ p. put_term_place old c.args.name.now p) c.of.ensures)
-    (c.in-Ok.ensures.items ∙ ap (λ (l : List Write). l ++ OfTerm c.args.name.now c.in-Original.before ∷ []) c.in_ok-reserve.ensures.items)
-    (wrote_term start old c.self.inside.writes.items c.self.invariant c.args.name.now (placed c.args.entry) c.in-Original.before (placed_here c.args.entry)
-    (stood_there (keys_written c.deref.result.now) (Term c.args.name.now) (term (maps_of old) c.args.name.now) c.in_ok-found.found c.in-Original.before c.in-Original.is c.in_ok-found.ensures.found))
+    (c.in-Ok.ensures.items ∙ ap (λ (l : List Write). l ++ OfTerm c.args.name.now c.in-Unlogged.before ∷ []) c.in_ok-reserve.ensures.items)
+    (wrote_term start old c.self.inside.writes.items c.self.invariant c.args.name.now (placed c.args.entry) c.in-Unlogged.before (placed_here c.args.entry)
+    (stood_there (keys_written c.deref.result.now) (Term c.args.name.now) (term (maps_of old) c.args.name.now) c.in_ok-found.found c.in-Unlogged.before c.in-Unlogged.is c.in_ok-found.ensures.found))
 
 pub returns-clause-maps : goal.returns-clause-maps
 returns-clause-maps c =

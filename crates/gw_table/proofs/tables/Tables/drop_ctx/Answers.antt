@@ -15,5 +15,5 @@ returns-clause-left c =
 
 pub invariant_of-self : goal.invariant_of-self
 invariant_of-self c =
-    marked-drop_ctx_place c.self.inside.numbers c.self.inside.slots c.note_number.new.numbers (stored c.self.inside.terms.entries c.self.inside.contexts.entries) (stored c.self.inside.terms.entries c.remove.new.self.entries) c.self.invariant
-    c.args.number c.note_number.ensures (ctx_dropped c.self.inside.terms.entries c.self.inside.contexts.entries c.remove.new.self.entries c.args.number c.remove.ensures.updates.0)
+    marked-drop_ctx_place c.self.inside.numbers c.self.inside.slots c.set_number.new.numbers (stored c.self.inside.terms.entries c.self.inside.contexts.entries) (stored c.self.inside.terms.entries c.remove.new.self.entries) c.self.invariant
+    c.args.number c.set_number.ensures (ctx_dropped c.self.inside.terms.entries c.self.inside.contexts.entries c.remove.new.self.entries c.args.number c.remove.ensures.updates.0)

@@ -15,5 +15,5 @@ returns-clause-left c =
 
 pub invariant_of-self : goal.invariant_of-self
 invariant_of-self c =
-    marked-drop_term_place c.self.inside.numbers c.self.inside.slots c.note_slot.new.slots (stored c.self.inside.terms.entries c.self.inside.contexts.entries) (stored c.remove.new.self.entries c.self.inside.contexts.entries) c.self.invariant
-    c.args.name.now c.note_slot.ensures (term_dropped c.self.inside.terms.entries c.remove.new.self.entries c.self.inside.contexts.entries c.args.name.now c.remove.ensures.updates.0)
+    marked-drop_term_place c.self.inside.numbers c.self.inside.slots c.set_slot.new.slots (stored c.self.inside.terms.entries c.self.inside.contexts.entries) (stored c.remove.new.self.entries c.self.inside.contexts.entries) c.self.invariant
+    c.args.name.now c.set_slot.ensures (term_dropped c.self.inside.terms.entries c.remove.new.self.entries c.self.inside.contexts.entries c.args.name.now c.remove.ensures.updates.0)

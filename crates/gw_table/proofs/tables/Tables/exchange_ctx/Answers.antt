@@ -29,8 +29,8 @@ pub invariant_of-self : goal.invariant_of-self
 invariant_of-self c =
     let now : Stored = stored c.self.inside.terms.entries c.self.inside.contexts.entries in
     let w : Place ContextRecord = c.put.new.self in
-    marked-put_ctx_place c.self.inside.numbers c.self.inside.slots c.note_number.new.numbers now (stored c.self.inside.terms.entries (c.get_mut.follows.lender w).entries) c.self.invariant
-    c.args.number c.args.new c.is_here.result c.note_number.ensures c.is_here.ensures
+    marked-put_ctx_place c.self.inside.numbers c.self.inside.slots c.set_number.new.numbers now (stored c.self.inside.terms.entries (c.get_mut.follows.lender w).entries) c.self.invariant
+    c.args.number c.args.new c.is_here.result c.set_number.ensures c.is_here.ensures
     (ctx_written c.self.inside.terms.entries c.self.inside.contexts.entries (c.get_mut.follows.lender w).entries c.args.number w
     ((c.get_mut.follows.holds w).3 (ap (λ o. is_some o) (sym c.get_mut.ensures.value) ∙ ap (λ o. is_some (option_copied_mut o)) c.in-Some.is)).0
     ∙ ap (λ (p : Place ContextRecord). put_ctx_place now c.args.number p) c.put.ensures.after)

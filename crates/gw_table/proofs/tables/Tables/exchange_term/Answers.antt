@@ -29,8 +29,8 @@ pub invariant_of-self : goal.invariant_of-self
 invariant_of-self c =
     let now : Stored = stored c.self.inside.terms.entries c.self.inside.contexts.entries in
     let w : Place Termination = c.put.new.self in
-    marked-put_term_place c.self.inside.numbers c.self.inside.slots c.note_slot.new.slots now (stored (c.get_mut.follows.lender w).entries c.self.inside.contexts.entries) c.self.invariant
-    c.args.name.now c.args.new c.is_here.result c.note_slot.ensures c.is_here.ensures
+    marked-put_term_place c.self.inside.numbers c.self.inside.slots c.set_slot.new.slots now (stored (c.get_mut.follows.lender w).entries c.self.inside.contexts.entries) c.self.invariant
+    c.args.name.now c.args.new c.is_here.result c.set_slot.ensures c.is_here.ensures
     (term_written c.self.inside.terms.entries (c.get_mut.follows.lender w).entries c.self.inside.contexts.entries c.args.name.now w
     ((c.get_mut.follows.holds w).3 (ap (λ o. is_some o) (sym c.get_mut.ensures.value) ∙ ap (λ o. is_some (option_copied_mut o)) c.in-Some.is)).0
     ∙ ap (λ (p : Place Termination). put_term_place now c.args.name.now p) c.put.ensures.after)

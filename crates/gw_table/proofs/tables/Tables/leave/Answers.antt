@@ -43,29 +43,29 @@ invariant_of-self-in_err-found c =
     let before : Stored = stored c.self.inside.terms.entries c.self.inside.contexts.entries in
     let new : Place ContextRecord = c.leave.new.self in
     let after : Stored = stored c.self.inside.terms.entries (c.get_mut.follows.lender new).entries in
-    let was : Some c.in-Some.site.now ≡ finite.get before.contexts c.args.number.0 = ap (λ o. option_copied_mut o) (sym c.in-Some.is) ∙ c.get_mut.ensures.value ∙ ctx_seen c.self.inside.terms.entries c.self.inside.contexts.entries before c.args.number refl in
+    let was : Some c.in-Some.row.now ≡ finite.get before.contexts c.args.number.0 = ap (λ o. option_copied_mut o) (sym c.in-Some.is) ∙ c.get_mut.ensures.value ∙ ctx_seen c.self.inside.terms.entries c.self.inside.contexts.entries before c.args.number refl in
     let written : after ≡ put_ctx_place before c.args.number new = ctx_written c.self.inside.terms.entries c.self.inside.contexts.entries (c.get_mut.follows.lender new).entries c.args.number new
     ((c.get_mut.follows.holds new).3 (ap (λ o. is_some o) (sym c.get_mut.ensures.value) ∙ ap (λ o. is_some (option_copied_mut o)) c.in-Some.is)).0 in
     marked_still c.self.inside.numbers c.self.inside.slots (maps_of before) (maps_of after)
-    (ap (λ s. maps_of s) (written ∙ ap (λ (p : Place ContextRecord). put_ctx_place before c.args.number p) c.in_err-found.ensures.err ∙ same_ctx_place before c.args.number c.in-Some.site.now (sym was))) c.self.invariant
+    (ap (λ s. maps_of s) (written ∙ ap (λ (p : Place ContextRecord). put_ctx_place before c.args.number p) c.in_err-found.ensures.err ∙ same_ctx_place before c.args.number c.in-Some.row.now (sym was))) c.self.invariant
 
 pub returns-in_err-found-clause-err : goal.returns-in_err-found-clause-err
 returns-in_err-found-clause-err c =
     let now : Stored = c.args.self.now in
     let new : Place ContextRecord = c.leave.new.self in
-    let was : Some c.in-Some.site.now ≡ finite.get now.contexts c.args.number.0 = ap (λ o. option_copied_mut o) (sym c.in-Some.is) ∙ c.get_mut.ensures.value ∙ ctx_seen c.self.inside.terms.entries c.self.inside.contexts.entries now c.args.number c.self.view_is in
+    let was : Some c.in-Some.row.now ≡ finite.get now.contexts c.args.number.0 = ap (λ o. option_copied_mut o) (sym c.in-Some.is) ∙ c.get_mut.ensures.value ∙ ctx_seen c.self.inside.terms.entries c.self.inside.contexts.entries now c.args.number c.self.view_is in
     at_err c.from_residual.result
     (ctx_written c.self.inside.terms.entries c.self.inside.contexts.entries (c.get_mut.follows.lender new).entries c.args.number new
     ((c.get_mut.follows.holds new).3 (ap (λ o. is_some o) (sym c.get_mut.ensures.value) ∙ ap (λ o. is_some (option_copied_mut o)) c.in-Some.is)).0
     ∙ ap (λ (s : Stored). put_ctx_place s c.args.number new) c.self.view_is ∙ ap (λ (p : Place ContextRecord). put_ctx_place now c.args.number p) c.in_err-found.ensures.err
-    ∙ same_ctx_place now c.args.number c.in-Some.site.now (sym was))
+    ∙ same_ctx_place now c.args.number c.in-Some.row.now (sym was))
 
 pub invariant_of-self-2 : goal.invariant_of-self-2
 invariant_of-self-2 c =
     let before : Stored = stored c.self.inside.terms.entries c.self.inside.contexts.entries in
     let new : Place ContextRecord = c.leave.new.self in
     let after : Stored = stored c.self.inside.terms.entries (c.get_mut.follows.lender new).entries in
-    marked-put_ctx_place c.self.inside.numbers c.self.inside.slots c.note_number.new.numbers before after c.self.invariant c.args.number new c.is_here-stands.result c.note_number.ensures c.is_here-stands.ensures
+    marked-put_ctx_place c.self.inside.numbers c.self.inside.slots c.set_number.new.numbers before after c.self.invariant c.args.number new c.is_here-stands.result c.set_number.ensures c.is_here-stands.ensures
     (ctx_written c.self.inside.terms.entries c.self.inside.contexts.entries (c.get_mut.follows.lender new).entries c.args.number new
     ((c.get_mut.follows.holds new).3 (ap (λ o. is_some o) (sym c.get_mut.ensures.value) ∙ ap (λ o. is_some (option_copied_mut o)) c.in-Some.is)).0)
 
@@ -80,9 +80,9 @@ pub returns-clause-after : goal.returns-clause-after
 returns-clause-after c =
     let now : Stored = c.args.self.now in
     let new : Place ContextRecord = c.leave.new.self in
-    let was : Some c.in-Some.site.now ≡ finite.get now.contexts c.args.number.0 = ap (λ o. option_copied_mut o) (sym c.in-Some.is) ∙ c.get_mut.ensures.value ∙ ctx_seen c.self.inside.terms.entries c.self.inside.contexts.entries now c.args.number c.self.view_is in
+    let was : Some c.in-Some.row.now ≡ finite.get now.contexts c.args.number.0 = ap (λ o. option_copied_mut o) (sym c.in-Some.is) ∙ c.get_mut.ensures.value ∙ ctx_seen c.self.inside.terms.entries c.self.inside.contexts.entries now c.args.number c.self.view_is in
     ctx_written c.self.inside.terms.entries c.self.inside.contexts.entries (c.get_mut.follows.lender new).entries c.args.number new
     ((c.get_mut.follows.holds new).3 (ap (λ o. is_some o) (sym c.get_mut.ensures.value) ∙ ap (λ o. is_some (option_copied_mut o)) c.in-Some.is)).0
     ∙ ap (λ (s : Stored). put_ctx_place s c.args.number new) c.self.view_is ∙ ap (λ (p : Place ContextRecord). put_ctx_place now c.args.number p) c.in_ok-found.ensures.after
-    ∙ left_here c.args.name.now now c.args.number c.in-Some.site.now (sym was)
+    ∙ left_here c.args.name.now now c.args.number c.in-Some.row.now (sym was)
     ∙ ap (λ (o : Option ContextRecord). leave_place c.args.name.now c.args.number now o) (ap (λ o. shown o) was ∙ sym (ctx-maps_of now c.args.number))

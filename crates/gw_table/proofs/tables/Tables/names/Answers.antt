@@ -13,12 +13,12 @@ loop-name-init c = ap (λ (l : List (List ℕ)). l ++ keys_here c.into_iter-name
 pub loop-name-preserved-in-Continue-branch-2 : goal.loop-name-preserved-in-Continue-branch-2
 loop-name-preserved-in-Continue-branch-2 c =
     ap (λ (l : List (List ℕ)). l ++ keys_here c.next.new.self) c.in_ok-push.ensures.items
-    ∙ here_more c.loop-name.names.items c.in-Some.name.now c.in-Some.site.now c.next.new.self (sym c.is_here.ensures ∙ c.if-is_here.true)
+    ∙ here_more c.loop-name.names.items c.in-Some.name.now c.in-Some.row.now c.next.new.self (sym c.is_here.ensures ∙ c.if-is_here.true)
     ∙ ap (λ (l : List (List ℕ × Place Termination)). c.loop-name.names.items ++ keys_here l) (sym c.in-Some.ensures.steps) ∙ c.loop-name.invariant
 
 pub loop-name-preserved : goal.loop-name-preserved
 loop-name-preserved c =
-    ap (λ (l : List (List ℕ)). c.loop-name.names.items ++ l) (not_here c.in-Some.name.now c.in-Some.site.now c.next.new.self (sym c.is_here.ensures ∙ c.if-is_here.false))
+    ap (λ (l : List (List ℕ)). c.loop-name.names.items ++ l) (not_here c.in-Some.name.now c.in-Some.row.now c.next.new.self (sym c.is_here.ensures ∙ c.if-is_here.false))
     ∙ ap (λ (l : List (List ℕ × Place Termination)). c.loop-name.names.items ++ keys_here l) (sym c.in-Some.ensures.steps) ∙ c.loop-name.invariant
 
 pub returns : goal.returns

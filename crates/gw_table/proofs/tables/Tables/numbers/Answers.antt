@@ -14,12 +14,12 @@ loop-number-init c = ap (λ (l : List CtxNum). l ++ map number (keys_here c.into
 pub loop-number-preserved-in-Continue-branch-2 : goal.loop-number-preserved-in-Continue-branch-2
 loop-number-preserved-in-Continue-branch-2 c =
     ap (λ (l : List CtxNum). l ++ map number (keys_here c.next.new.self)) c.in_ok-push.ensures.items
-    ∙ numbered_more number c.loop-number.numbers.items c.in-Some.number.now c.in-Some.site.now c.next.new.self (sym c.is_here.ensures ∙ c.if-is_here.true)
+    ∙ numbered_more number c.loop-number.numbers.items c.in-Some.number.now c.in-Some.row.now c.next.new.self (sym c.is_here.ensures ∙ c.if-is_here.true)
     ∙ ap (λ (l : List (ℕ × Place ContextRecord)). c.loop-number.numbers.items ++ map number (keys_here l)) (sym c.in-Some.ensures.steps) ∙ c.loop-number.invariant
 
 pub loop-number-preserved : goal.loop-number-preserved
 loop-number-preserved c =
-    ap (λ (l : List ℕ). c.loop-number.numbers.items ++ map number l) (not_here c.in-Some.number.now c.in-Some.site.now c.next.new.self (sym c.is_here.ensures ∙ c.if-is_here.false))
+    ap (λ (l : List ℕ). c.loop-number.numbers.items ++ map number l) (not_here c.in-Some.number.now c.in-Some.row.now c.next.new.self (sym c.is_here.ensures ∙ c.if-is_here.false))
     ∙ ap (λ (l : List (ℕ × Place ContextRecord)). c.loop-number.numbers.items ++ map number (keys_here l)) (sym c.in-Some.ensures.steps) ∙ c.loop-number.invariant
 
 pub returns : goal.returns

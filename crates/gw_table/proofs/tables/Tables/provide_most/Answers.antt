@@ -4,7 +4,7 @@ use Rattle.gw_table.specs.Maps.{Maps}
 use Rattle.gw_table.specs.Provided.{AreAmong}
 use Rattle.gw_table.specs.Stored.{Stored, maps_of, NoneIsOut}
 use Rattle.gw_table.proofs.Provisioning.{among_put}
-use Rattle.gw_table.proofs.Served.{in_at}
+use Rattle.gw_table.proofs.Provisioning.{in_at}
 use Rattle.gw_table.proofs.tables.Tables.provide_most.Goals.{then-i-lt3+in_ok-provide, else-i-lt3}
 use Rattle.gw_table.proofs.tables.Tables.provide_most.Goals as goal
 

@@ -5,7 +5,7 @@ use Rattle.gw_table.specs.Maps.{Maps, term}
 use Rattle.gw_table.specs.Provided.{put_missing, AreAmong}
 use Rattle.gw_table.specs.Stored.{maps_of}
 use Rattle.gw_table.proofs.Provisioning.{AreThere, none_there, among_missing, there_missing, there_all}
-use Rattle.gw_table.proofs.Served.{in_at}
+use Rattle.gw_table.proofs.Provisioning.{in_at}
 use Rattle.gw_table.proofs.tables.Tables.provide_others.Goals as goal
 
 pub loop-name-init : goal.loop-name-init

@@ -21,13 +21,13 @@ returns-in_default c =
 
 pub returns : goal.returns
 returns c =
-    place_set c.self.inside.terms.entries c.self.inside.contexts.entries (c.get_mut.follows.lender c.set.new.self).entries c.args.self.now c.args.number c.in-Some.site.now c.set.new.self
+    place_set c.self.inside.terms.entries c.self.inside.contexts.entries (c.get_mut.follows.lender c.set.new.self).entries c.args.self.now c.args.number c.in-Some.row.now c.set.new.self
     c.self.view_is (ap (λ o. option_copied_mut o) (sym c.in-Some.is) ∙ c.get_mut.ensures.value)
     ((c.get_mut.follows.holds c.set.new.self).3 (ap (λ o. is_some o) (sym c.get_mut.ensures.value) ∙ ap (λ o. is_some (option_copied_mut o)) c.in-Some.is)).0 c.args.setting c.set.ensures
 
 pub invariant_of-self-2 : goal.invariant_of-self-2
 invariant_of-self-2 c =
-    marks_set c.self.inside.terms.entries c.self.inside.contexts.entries (c.get_mut.follows.lender c.set.new.self).entries c.args.self.now c.args.number c.in-Some.site.now c.set.new.self
+    marks_set c.self.inside.terms.entries c.self.inside.contexts.entries (c.get_mut.follows.lender c.set.new.self).entries c.args.self.now c.args.number c.in-Some.row.now c.set.new.self
     c.self.view_is (ap (λ o. option_copied_mut o) (sym c.in-Some.is) ∙ c.get_mut.ensures.value)
     ((c.get_mut.follows.holds c.set.new.self).3 (ap (λ o. is_some o) (sym c.get_mut.ensures.value) ∙ ap (λ o. is_some (option_copied_mut o)) c.in-Some.is)).0 c.args.setting c.set.ensures
     c.self.inside.numbers c.self.inside.slots c.self.invariant

@@ -42,7 +42,7 @@ module _ (c : goal.After-self-2-1) where
   abbrev new : Place Termination
   new = c.serve.new.self
 
-  was : Some c.in-Some.site.now ≡ finite.get now.terms c.args.name.now
+  was : Some c.in-Some.row.now ≡ finite.get now.terms c.args.name.now
   was = ap (λ o. option_copied_mut o) (sym c.in-Some.is) ∙ c.get_mut.ensures.value ∙ term_seen c.self.inside.terms.entries c.self.inside.contexts.entries now c.args.name.now c.self.view_is
 
   written : stored (c.get_mut.follows.lender new).entries c.self.inside.contexts.entries ≡ put_term_place now c.args.name.now new
@@ -51,7 +51,7 @@ module _ (c : goal.After-self-2-1) where
       ((c.get_mut.follows.holds new).3 (ap (λ o. is_some o) (sym c.get_mut.ensures.value) ∙ ap (λ o. is_some (option_copied_mut o)) c.in-Some.is)).0
       ∙ ap (λ (s : Stored). put_term_place s c.args.name.now new) c.self.view_is
 
-  seen_here : shown (Some c.in-Some.site.now) ≡ term (maps_of c.args.self.now) c.args.name.now
+  seen_here : shown (Some c.in-Some.row.now) ≡ term (maps_of c.args.self.now) c.args.name.now
   seen_here = ap (λ p. shown p) was ∙ sym (term-maps_of c.args.self.now c.args.name.now)
 
 on_ok : {T E P Q : Type 0} (r : Result T E) → (P → Q) → OnOk r P → OnOk r Q
@@ -64,17 +64,17 @@ on_err (Err e) f p = f p
 
 pub returns-clause-found : goal.returns-clause-found
 returns-clause-found c =
-    IfOk-weaker c.serve.result (λ f. IsFound (keys_written c.args.writes.now) (Term c.args.name.now) (shown (Some c.in-Some.site.now)) f) (λ f. IsFound (keys_written c.args.writes.now) (Term c.args.name.now) (term (maps_of c.args.self.now) c.args.name.now) f)
+    IfOk-weaker c.serve.result (λ f. IsFound (keys_written c.args.writes.now) (Term c.args.name.now) (shown (Some c.in-Some.row.now)) f) (λ f. IsFound (keys_written c.args.writes.now) (Term c.args.name.now) (term (maps_of c.args.self.now) c.args.name.now) f)
     (λ f h. subst (λ (o : Option Termination). IsFound (keys_written c.args.writes.now) (Term c.args.name.now) o f) (seen_here c) h) c.serve.ensures.found
 
 pub returns-clause-after : goal.returns-clause-after
 returns-clause-after c =
-    on_ok c.serve.result (λ e. written c ∙ ap (λ p. put_term_place c.args.self.now c.args.name.now p) e ∙ served_here c.args.self.now c.args.name.now c.args.service c.in-Some.site.now (sym (was c))
+    on_ok c.serve.result (λ e. written c ∙ ap (λ p. put_term_place c.args.self.now c.args.name.now p) e ∙ served_here c.args.self.now c.args.name.now c.args.service c.in-Some.row.now (sym (was c))
     ∙ ap (λ (x : Option Termination). with_service c.args.service c.args.name.now c.args.self.now x) (seen_here c)) c.serve.ensures.after
 
 pub returns-clause-err : goal.returns-clause-err
 returns-clause-err c =
-    on_err c.serve.result (λ e. written c ∙ ap (λ p. put_term_place c.args.self.now c.args.name.now p) e ∙ same_term_place c.args.self.now c.args.name.now c.in-Some.site.now (sym (was c))) c.serve.ensures.err
+    on_err c.serve.result (λ e. written c ∙ ap (λ p. put_term_place c.args.self.now c.args.name.now p) e ∙ same_term_place c.args.self.now c.args.name.now c.in-Some.row.now (sym (was c))) c.serve.ensures.err
 
 stands_still : (state : Service) (p : Place Termination) → is_some (shown (Some p)) ≡ is_some (shown (Some (served state p)))
 stands_still state Empty = refl
@@ -93,6 +93,6 @@ invariant_of-self-2 c =
     marked_still c.self.inside.numbers c.self.inside.slots (put_term (maps_of before) name (shown (Some (new c)))) (maps_of after)
     (ap (λ s. maps_of s) (written c ∙ ap (λ (s : Stored). put_term_place s name (new c)) (sym c.self.view_is)) ∙ maps-put_term_place before name (new c))
     (marked-put_still c.self.inside.numbers c.self.inside.slots (maps_of before) name (shown (Some (new c)))
-    (λ h. sym (stays c.serve.result c.args.service c.in-Some.site.now (new c) c.serve.ensures.after c.serve.ensures.err)
+    (λ h. sym (stays c.serve.result c.args.service c.in-Some.row.now (new c) c.serve.ensures.after c.serve.ensures.err)
     ∙ ap (λ o. is_some (shown o)) (was c ∙ ap (λ (s : Stored). finite.get s.terms name) (sym c.self.view_is)) ∙ sym (ap (λ o. is_some o) (term-maps_of before name)) ∙ h)
     c.self.invariant)

@@ -1,11 +1,10 @@
 use Rattle.std.proofs.Common.{ap, sym, ◌∙◌}
 use Rattle.gw_table.specs.declared.originals.Write.{Write}
 use Rattle.gw_table.specs.declared.setting.Setting.TheVariants.{Both}
-use Rattle.gw_table.specs.Maps.{term, ctx, put_term, put_ctx}
+use Rattle.gw_table.specs.Maps.{ctx, put_term, put_ctx}
 use Rattle.gw_table.specs.Originals.{key_written, without_write}
 use Rattle.gw_table.specs.Stored.{Stored, placed, maps_of, is_ready, is_out, put_term_place, put_ctx_place}
 use Rattle.gw_table.proofs.Places.{maps-put_term_place, maps-put_ctx_place, shown_placed, placed_here, ready-put_term, ready-put_ctx, out-put_term, out-put_ctx}
-use Rattle.gw_table.proofs.Records.{maps-put_record_place, ready-put_record_place, out-put_record_place}
 use Rattle.gw_table.proofs.Settings.{maps-set_place, ready-set_place, out-set_place}
 use Rattle.gw_table.proofs.tables.Tables.take_back.Goals as goal
 
@@ -59,17 +58,3 @@ returns-in-OfProperties-clause-out c = λ k.
 pub returns-in-OfProperties-clause-ready : goal.returns-in-OfProperties-clause-ready
 returns-in-OfProperties-clause-ready c = λ k.
     ap (λ (x : Stored). is_ready x k) c.set.ensures ∙ ready-set_place (Both c.in-OfProperties.priority c.in-OfProperties.emergency) c.in-OfProperties.number c.args.self.now k
-
-pub returns-in-OfRecord-clause-maps : goal.returns-in-OfRecord-clause-maps
-returns-in-OfRecord-clause-maps c =
-    let s : Stored = c.args.self.now in
-    let t = c.in-OfRecord.name in
-    ap (λ x. maps_of x) c.put_record.ensures ∙ maps-put_record_place c.in-OfRecord.before t s (term (maps_of s) t) ∙ ap (λ (w : Write). without_write w (maps_of s)) (sym c.in-OfRecord.is)
-
-pub returns-in-OfRecord-clause-out : goal.returns-in-OfRecord-clause-out
-returns-in-OfRecord-clause-out c = λ k.
-    ap (λ (x : Stored). is_out x k) c.put_record.ensures ∙ out-put_record_place c.in-OfRecord.before c.in-OfRecord.name c.args.self.now k
-
-pub returns-in-OfRecord-clause-ready : goal.returns-in-OfRecord-clause-ready
-returns-in-OfRecord-clause-ready c = λ k.
-    ap (λ (x : Stored). is_ready x k) c.put_record.ensures ∙ ready-put_record_place c.in-OfRecord.before c.in-OfRecord.name c.args.self.now k

@@ -32,8 +32,8 @@ pub invariant_of-self : goal.invariant_of-self
 invariant_of-self c =
     let now : Stored = stored c.self.inside.terms.entries c.self.inside.contexts.entries in
     let w : Place Termination = c.write-found.new.self in
-    marked-put_term_place c.self.inside.numbers c.self.inside.slots c.note_slot.new.slots now (stored (c.get_mut.follows.lender w).entries c.self.inside.contexts.entries) c.self.invariant
-    c.args.name.now c.args.place c.is_here-stands.result c.note_slot.ensures c.is_here-stands.ensures
+    marked-put_term_place c.self.inside.numbers c.self.inside.slots c.set_slot.new.slots now (stored (c.get_mut.follows.lender w).entries c.self.inside.contexts.entries) c.self.invariant
+    c.args.name.now c.args.place c.is_here-stands.result c.set_slot.ensures c.is_here-stands.ensures
     (term_written c.self.inside.terms.entries (c.get_mut.follows.lender w).entries c.self.inside.contexts.entries c.args.name.now w
     ((c.get_mut.follows.holds w).3 (ap (λ o. is_some o) (sym c.get_mut.ensures.value) ∙ ap (λ o. is_some (option_copied_mut o)) c.in-Some.is)).0
     ∙ ap (λ (p : Place Termination). put_term_place now c.args.name.now p) c.write-found.ensures.after)
@@ -47,17 +47,17 @@ returns-clause-found c =
 
 pub returns-clause-ok : goal.returns-clause-ok
 returns-clause-ok c =
-    term_written c.get_mut.follows.lender-at-none.entries c.insert.new.self.entries c.self.inside.contexts.entries c.args.name.now c.noted_in.result
+    term_written c.get_mut.follows.lender-at-none.entries c.insert.new.self.entries c.self.inside.contexts.entries c.args.name.now c.logged_in.result
     c.in_ok-insert.ensures.updates.0
-    ∙ ap (λ (s : Stored). put_term_place s c.args.name.now c.noted_in.result) (ap (λ (m : BTreeMap (List ℕ) (Place Termination)). stored m.entries c.self.inside.contexts.entries) c.get_mut.follows.holds-at-none ∙ c.self.view_is)
-    ∙ ap (λ (p : Place Termination). put_term_place c.args.self.now c.args.name.now p) c.noted_in.ensures
+    ∙ ap (λ (s : Stored). put_term_place s c.args.name.now c.logged_in.result) (ap (λ (m : BTreeMap (List ℕ) (Place Termination)). stored m.entries c.self.inside.contexts.entries) c.get_mut.follows.holds-at-none ∙ c.self.view_is)
+    ∙ ap (λ (p : Place Termination). put_term_place c.args.self.now c.args.name.now p) c.logged_in.ensures
 
 pub invariant_of-self-2 : goal.invariant_of-self-2
 invariant_of-self-2 c =
     let now : Stored = stored c.self.inside.terms.entries c.self.inside.contexts.entries in
-    marked-put_term_place c.self.inside.numbers c.self.inside.slots c.note_slot-2.new.slots now (stored c.insert.new.self.entries c.self.inside.contexts.entries) c.self.invariant
-    c.args.name.now c.args.place c.is_here-stands.result c.note_slot-2.ensures c.is_here-stands.ensures
-    (term_written c.get_mut.follows.lender-at-none.entries c.insert.new.self.entries c.self.inside.contexts.entries c.args.name.now c.noted_in.result
+    marked-put_term_place c.self.inside.numbers c.self.inside.slots c.set_slot-2.new.slots now (stored c.insert.new.self.entries c.self.inside.contexts.entries) c.self.invariant
+    c.args.name.now c.args.place c.is_here-stands.result c.set_slot-2.ensures c.is_here-stands.ensures
+    (term_written c.get_mut.follows.lender-at-none.entries c.insert.new.self.entries c.self.inside.contexts.entries c.args.name.now c.logged_in.result
     c.in_ok-insert.ensures.updates.0
-    ∙ ap (λ (s : Stored). put_term_place s c.args.name.now c.noted_in.result) (ap (λ (m : BTreeMap (List ℕ) (Place Termination)). stored m.entries c.self.inside.contexts.entries) c.get_mut.follows.holds-at-none)
-    ∙ ap (λ (p : Place Termination). put_term_place now c.args.name.now p) c.noted_in.ensures)
+    ∙ ap (λ (s : Stored). put_term_place s c.args.name.now c.logged_in.result) (ap (λ (m : BTreeMap (List ℕ) (Place Termination)). stored m.entries c.self.inside.contexts.entries) c.get_mut.follows.holds-at-none)
+    ∙ ap (λ (p : Place Termination). put_term_place now c.args.name.now p) c.logged_in.ensures)

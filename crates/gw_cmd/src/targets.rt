@@ -1,0 +1,89 @@
+//! What a command does to its targets, and their replies.
+
+ghost use Rattle.std.specs.Prelude.{◌≡◌, ◌∷◌, [], ℕ, true, false, List, IfOk, OnOk};
+ghost use Rattle.gw_base.specs.declared.term_ref.TermRef.TheVariants.{Name};
+ghost use Rattle.gw_base.specs.NameLists.{is_in};
+ghost use Rattle.gw_table.specs.Maps.{term, place_of};
+ghost use Rattle.gw_table.specs.Parts.{HoldsPlace};
+ghost use Rattle.gw_table.specs.WellFormed.{IsSound};
+ghost use Rattle.gw_refusal.specs.Asked.{is_move};
+ghost use Rattle.gw_cmd.specs.Commands.{reply};
+ghost use Rattle.gw_cmd.specs.Effects.{on_name};
+ghost use Rattle.gw_cmd.specs.Prepared.{IsSameCommand};
+ghost use Rattle.gw_cmd.specs.Suits.{HoldsMoved, HoldsFound};
+ghost use Rattle.gw_cmd.specs.Tasks.{task_place, task_verb, targets_in, Does};
+ghost use Rattle.gw_cmd.specs.Written.{seen};
+
+use crate::effects::on_name;
+use crate::outcome::Seen;
+use crate::prepared::Prepared;
+use crate::refusal::Refusal;
+use crate::replies::{writes_none, written};
+use crate::task::Task;
+use gw_base::{NoMemory, TermName, TermRef};
+use gw_reply::{CommandReply, ReplyWriter};
+use gw_table::Draft;
+use std::alloc::Global;
+
+/// Does the task to the termination of a name, and writes the reply. Once the writer is full, nothing is audited.
+pub(crate) fn on_target(
+    alloc: Global,
+    draft: &mut Draft<'_>,
+    task: Task,
+    prepared: &mut Prepared<'_, '_>,
+    name: &TermName,
+    writer: ReplyWriter<CommandReply>,
+) -> Result<Seen, NoMemory>
+    requires sound { IsSound draft.old.keys draft.old.maps }
+    requires term_key { HoldsFound draft.old.keys name.now draft.old.maps }
+    requires ctx_key { HoldsPlace draft.old.keys (task_place task) }
+    requires moved_key { HoldsMoved draft.old.keys (task_verb task) (place_of (term draft.old.maps name.now)) }
+    requires does { Does task prepared.old.command.now }
+    ensures maps { OnOk result (draft.new.maps ≡ (on_name prepared.old.rules.now (task_place task) prepared.old.command.now name.now draft.old.maps).maps) }
+    ensures answer { IfOk result (λ done. done ≡ seen writer (reply prepared.old.command.now (Name name.now) (on_name prepared.old.rules.now (task_place task) prepared.old.command.now name.now draft.old.maps).answer ∷ [])) }
+    ensures keys { draft.new.keys ≡ draft.old.keys }
+    ensures same { IsSameCommand prepared.old prepared.new }
+{
+    let wanted = !writes_none(&writer);
+    let answer = match on_name(alloc, draft, task, prepared, name, wanted) {
+        Ok(parts) => Ok(parts),
+        Err(Refusal::Code(code)) => Err(code),
+        Err(Refusal::NoMemory) => return Err(NoMemory),
+    };
+    written(writer, prepared.command, TermRef::Name(*name), answer)
+}
+
+/// Does the task to the terminations of these names, one after another; none stops the others.
+pub(crate) fn on_targets(
+    alloc: Global,
+    draft: &mut Draft<'_>,
+    task: Task,
+    prepared: &mut Prepared<'_, '_>,
+    named: &[TermName],
+    writer: ReplyWriter<CommandReply>,
+) -> Result<Seen, NoMemory>
+    requires sound { IsSound draft.old.keys draft.old.maps }
+    requires term_keys { (t : List ℕ) → is_in t named.now ≡ true → HoldsFound draft.old.keys t draft.old.maps }
+    requires ctx_key { HoldsPlace draft.old.keys (task_place task) }
+    requires stays { is_move (task_verb task) ≡ false }
+    requires does { Does task prepared.old.command.now }
+    ensures maps { OnOk result (draft.new.maps ≡ (targets_in prepared.old.rules.now (task_place task) prepared.old.command.now named.now draft.old.maps).maps) }
+    ensures answer { IfOk result (λ done. done ≡ seen writer (targets_in prepared.old.rules.now (task_place task) prepared.old.command.now named.now draft.old.maps).answer.answers) }
+    ensures keys { draft.new.keys ≡ draft.old.keys }
+    ensures same { IsSameCommand prepared.old prepared.new }
+{
+    let mut written = writer;
+    let mut first_error = None;
+    let mut any_done = false;
+    for name in named {
+        let one = on_target(alloc, draft, task, prepared, name, written)?;
+        written = one.written;
+        any_done = any_done || one.any_done;
+        first_error = first_error.or(one.first_error);
+    }
+    Ok(Seen {
+        written,
+        first_error,
+        any_done,
+    })
+}

@@ -1,0 +1,6 @@
+use Rattle.std.proofs.Common.{◌≡◌, take}
+use Rattle.gw_term.proofs.audit.reply_properties.Given as goal
+
+-- those so far are copied
+abbrev pub invariant-loop-property : goal.invariant-loop-property
+invariant-loop-property l = l.reply ≡ take l.property-index l.properties

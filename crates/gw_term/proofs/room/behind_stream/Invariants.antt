@@ -1,7 +1,0 @@
-use Rattle.std.proofs.Common.{◌≡◌, ◌+◌, length, take}
-use Rattle.gw_term.specs.Room.{new_to, stream_sent}
-use Rattle.gw_term.proofs.room.behind_stream.Given as goal
-
--- what is left, and those so far, are the room
-abbrev pub invariant-loop-descriptor : goal.invariant-loop-descriptor
-invariant-loop-descriptor l = l.left + length (new_to l.list (stream_sent l.number (take l.descriptor-index l.descriptors))) ≡ l.room

@@ -1,7 +1,0 @@
-use Rattle.std.proofs.Common.{◌≡◌, ◌++◌, flat_map, length, take}
-use Rattle.gw_term.specs.Prints.{number_print, setting_print}
-use Rattle.gw_term.proofs.shared.print_of.Given as goal
-
--- those so far are printed
-abbrev pub invariant-loop-setting : goal.invariant-loop-setting
-invariant-loop-setting l = l.print ≡ number_print (length l.list) ++ flat_map setting_print (take l.setting-index l.list)

@@ -1,7 +1,0 @@
-use Rattle.std.proofs.Common.{◌≡◌, ◌++◌, flat_map, length, take}
-use Rattle.gw_term.specs.Prints.{number_print, property_print}
-use Rattle.gw_term.proofs.shared.push_properties.Given as goal
-
--- those so far are printed
-abbrev pub invariant-loop-property : goal.invariant-loop-property
-invariant-loop-property l = l.print ≡ (l.fn.print ++ number_print (length l.properties)) ++ flat_map property_print (take l.property-index l.properties)

@@ -1,0 +1,129 @@
+//! Descriptors that are merged into one record after another.
+
+ghost use Rattle.std.specs.Prelude.{◌≡◌, true, IfOk, IfSome, Some};
+ghost use Rattle.std.specs.Option.{ForSome};
+ghost use Rattle.gw_term.specs.Applies.{IsMerged};
+ghost use Rattle.gw_term.specs.Merge.{merged};
+ghost use Rattle.gw_term.specs.Plain.{are_plain, fill_none, IsMadeOf};
+
+use crate::apply::{Applied, merge};
+use crate::fault::ApplyFault;
+use crate::plain::are_plain;
+use crate::properties::merged_service;
+use crate::record::Termination;
+use crate::settings::Settings;
+use gw_base::{Held, Items, NoMemory, Rules};
+use gw_desc::Descriptor;
+use std::alloc::{AllocError, Global};
+
+/// Descriptors that are merged into one record after another, under the gateway's rules. What they made of the
+/// settings met last is kept: the next record with the same settings shares that block, if they fill nothing of it,
+/// and any other the long texts in it.
+#[derive(Drop)]
+pub struct Merger<'a, 'b> {
+    /// The rules.
+    pub rules: &'a Rules,
+    /// The descriptors, of which no code of `check` applies, taken as those of an Add.
+    pub descriptors: &'a [Descriptor<'b>],
+    is_plain: bool,
+    /// The settings met last, if nothing of them was filled.
+    before: Option<Settings>,
+    /// What was made of the settings met last.
+    after: Settings,
+    ghost plain: { is_plain ≡ are_plain descriptors.now },
+    ghost made: { ForSome before (λ before. IsMadeOf rules.now descriptors.now before after) },
+}
+
+impl<'a, 'b> Merger<'a, 'b> {
+    /// Nothing was merged yet. It takes no memory; the work is a pass over the descriptors.
+    pub fn new(rules: &'a Rules, descriptors: &'a [Descriptor<'b>]) -> Merger<'a, 'b>
+        ensures rules { result.rules.now ≡ rules.now }
+        ensures descriptors { result.descriptors.now ≡ descriptors.now }
+    {
+        Merger {
+            rules,
+            descriptors,
+            is_plain: are_plain(descriptors),
+            before: None,
+            after: Settings::none(),
+        }
+    }
+
+    /// Whether the descriptors fill nothing of a termination with this slot, or with none.
+    fn fills_none(&self, slot: Option<u16>) -> bool
+        ensures { result ≡ fill_none self.now.descriptors.now slot }
+    {
+        self.is_plain || slot.is_none()
+    }
+
+    /// What is made of these settings where nothing is filled, if they are those that were met last.
+    fn known(&self, settings: &Settings) -> Result<Option<Settings>, AllocError>
+        ensures { IfOk result (λ known. IfSome known (IsMadeOf self.now.rules.now self.now.descriptors.now settings.now)) }
+    {
+        match &self.before {
+            Some(before) if settings.is_same(before) => Ok(Some(self.after.copied()?)),
+            _ => Ok(None),
+        }
+    }
+
+    /// The record after the descriptors, where nothing is filled and it is known what was set of it then.
+    #[tactic(auto, using(crate::proofs::MadeOnce::made_again, crate::proofs::MadeOnce::fills_none))]
+    fn applied(
+        &self,
+        alloc: Global,
+        old: &Termination,
+        settings: Settings,
+    ) -> Result<Applied, ApplyFault>
+        requires none { fill_none self.now.descriptors.now old.now.slot ≡ true }
+        requires made { IsMadeOf self.now.rules.now self.now.descriptors.now old.now.settings settings }
+        ensures { IsMerged self.now.rules.now self.now.descriptors.now old.now result }
+    {
+        let record = Termination {
+            place: old.place,
+            service: merged_service(self.descriptors, old.service),
+            slot: old.slot,
+            settings,
+        };
+        Ok(Applied {
+            record: Held::new(alloc, record)?,
+            filled: Items::new(alloc),
+        })
+    }
+
+    /// What was made of a record is kept.
+    #[tactic(auto, using(crate::proofs::MadeOnce::made_of))]
+    fn keep(&mut self, old: &Termination, new: &Termination) -> Result<(), NoMemory>
+        requires { merged self.old.rules.now self.old.descriptors.now old.now ≡ Some new.now }
+        ensures rules { self.new.rules.now ≡ self.old.rules.now }
+        ensures descriptors { self.new.descriptors.now ≡ self.old.descriptors.now }
+    {
+        let before = if self.fills_none(old.slot) {
+            Some(old.settings.copied()?)
+        } else {
+            None
+        };
+        self.after = new.settings.copied()?;
+        self.before = before;
+        Ok(())
+    }
+
+    /// The record after the descriptors, as [`Termination::merged`] gives it.
+    ///
+    /// # Errors
+    ///
+    /// Those of [`Termination::merged`].
+    pub fn merged(&mut self, alloc: Global, old: &Termination) -> Result<Applied, ApplyFault>
+        ensures merged { IsMerged self.old.rules.now self.old.descriptors.now old.now result }
+        ensures rules { self.new.rules.now ≡ self.old.rules.now }
+        ensures descriptors { self.new.descriptors.now ≡ self.old.descriptors.now }
+    {
+        if self.fills_none(old.slot) {
+            if let Some(settings) = self.known(&old.settings)? {
+                return self.applied(alloc, old, settings);
+            }
+        }
+        let applied = merge(alloc, self.rules, self.descriptors, old, &self.after)?;
+        self.keep(old, applied.record.get())?;
+        Ok(applied)
+    }
+}

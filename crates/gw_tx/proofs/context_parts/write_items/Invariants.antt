@@ -1,0 +1,10 @@
+use Rattle.std.proofs.Common.{◌≡◌, take}
+use Rattle.std.specs.List.{flat_map}
+use Rattle.gw_reply.specs.Writers.{written_behind}
+use Rattle.gw_reply.specs.ContextParts.{context_part_text}
+use Rattle.gw_tx.specs.Properties.{item_parts}
+use Rattle.gw_tx.proofs.context_parts.write_items.Given as goal
+
+-- what is written so far
+abbrev pub invariant-loop-item : goal.invariant-loop-item
+invariant-loop-item l = l.writer ≡ written_behind context_part_text l.fn.writer (flat_map (item_parts l.context) (take l.item-index l.items))
