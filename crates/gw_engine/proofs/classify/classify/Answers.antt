@@ -6,6 +6,7 @@ use Rattle.gw_kept.specs.Classes.{classes_of}
 use Rattle.gw_kept.specs.declared.class.Class.{Class}
 use Rattle.gw_kept.specs.declared.point.Point.{Point}
 use Rattle.gw_engine.specs.declared.asked.Ask.{Ask}
+use Rattle.gw_engine.specs.Counts.{counts_in}
 use Rattle.gw_engine.specs.Phases.{told, points_of, new_for, new_in, tasks_in, turns_for, turns_in}
 use Rattle.gw_engine.proofs.Classifying.{tasks_go_on, tasks_end}
 use Rattle.gw_engine.proofs.Zipped.{left_of, at_start, one_left, none_left, goes_on, ends}
@@ -28,6 +29,7 @@ loop-ask-init c =
       tasks = λ i. no_tasks i ++ tasks_in (length (no_requests i)) (all i);
       requests = λ i. no_requests i ++ new_in (all i);
       turns = λ i. no_turns i ++ turns_in (all i);
+      counts = c.of.ensures ∙ ap (λ (l : List Class). counts_in asks l) classes;
     }
 
 pub loop-ask-preserved : goal.loop-ask-preserved
@@ -41,6 +43,7 @@ loop-ask-preserved c =
       tasks = tasks_go_on now.tasks now.requests (left_of c.loop-ask.ask-iterator) (left_of c.next.new.self) (tasks_in 0 asked) inv.tasks a c.push.new.self.tasks c.push.new.self.requests split c.in_ok-push.ensures.tasks c.in_ok-push.ensures.requests;
       requests = goes_on (λ (b : Ask × Class). new_for b.0.said b.1) now.requests (left_of c.loop-ask.ask-iterator) (left_of c.next.new.self) (new_in asked) inv.requests a c.push.new.self.requests split c.in_ok-push.ensures.requests;
       turns = goes_on (λ (b : Ask × Class). turns_for b.0.said b.1) now.turns (left_of c.loop-ask.ask-iterator) (left_of c.next.new.self) (turns_in asked) inv.turns a c.push.new.self.turns split c.in_ok-push.ensures.turns;
+      counts = c.push.ensures.counts ∙ inv.counts;
     }
 
 pub returns-clause-tasks : goal.returns-clause-tasks
