@@ -18,10 +18,11 @@ loop-ask-init c =
     let same = c.into_iter-ask-iterator.ensures.into_iter_gives in
     let asks : List Ask = c.args.asks.now in
     let first : iter_rest (zip_first it) ≡ asks = ap (λ z. iter_rest (zip_first z)) same ∙ ap iter_rest c.zip-ask-items.ensures.first ∙ c.iter.ensures.rest in
-    let second : iter_rest (zip_second it) ≡ c.as_slice-2.result.now = ap (λ z. iter_rest (zip_second z)) same ∙ c.zip-ask-items.ensures.second.0 in
+    let second : iter_rest (zip_second it) ≡ c.as_slice-3.result.now = ap (λ z. iter_rest (zip_second z)) same ∙ c.zip-ask-items.ensures.second.0 in
     let points : c.as_slice.result.now ≡ points_of asks = c.as_slice.ensures ∙ c.in_ok-points.ensures in
-    let classes : c.as_slice-2.result.now ≡ classes_of c.args.kept.now (points_of asks) = c.as_slice-2.ensures ∙ c.in_ok-classes.ensures.classes ∙ ap (λ (l : List Point). classes_of c.args.kept.now l) points in
-    let all : left_of it ≡ told c.args.kept.now asks = at_start asks c.as_slice-2.result.now it first second ∙ ap (λ (l : List Class). zip asks l) classes in
+    let counted : c.as_slice-2.result.now ≡ classes_of c.args.kept.now (points_of asks) = c.as_slice-2.ensures ∙ c.in_ok-classes.ensures.classes ∙ ap (λ (l : List Point). classes_of c.args.kept.now l) points in
+    let classes : c.as_slice-3.result.now ≡ classes_of c.args.kept.now (points_of asks) = c.as_slice-3.ensures ∙ c.in_ok-classes.ensures.classes ∙ ap (λ (l : List Point). classes_of c.args.kept.now l) points in
+    let all : left_of it ≡ told c.args.kept.now asks = at_start asks c.as_slice-3.result.now it first second ∙ ap (λ (l : List Class). zip asks l) classes in
     let no_tasks : c.from.result ≡ [] = c.from.ensures ∙ c.in_ok-with_capacity.ensures.items in
     let no_requests : c.from-2.result ≡ [] = c.from-2.ensures ∙ c.in_ok-with_capacity-2.ensures.items in
     let no_turns : c.from-3.result ≡ [] = c.from-3.ensures ∙ c.in_ok-with_capacity-3.ensures.items in
@@ -29,7 +30,7 @@ loop-ask-init c =
       tasks = λ i. no_tasks i ++ tasks_in (length (no_requests i)) (all i);
       requests = λ i. no_requests i ++ new_in (all i);
       turns = λ i. no_turns i ++ turns_in (all i);
-      counts = c.of.ensures ∙ ap (λ (l : List Class). counts_in asks l) classes;
+      counts = c.of.ensures ∙ ap (λ (l : List Class). counts_in asks l) counted;
     }
 
 pub loop-ask-preserved : goal.loop-ask-preserved
