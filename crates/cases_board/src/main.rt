@@ -8,7 +8,6 @@ mod held;
 mod play;
 mod steps;
 mod tell;
-mod tree;
 mod waves;
 
 use cases::Cases;

@@ -5,7 +5,6 @@
 mod answers;
 mod bursts;
 mod cases;
-mod clocks;
 mod configurations;
 mod crews;
 mod gates;

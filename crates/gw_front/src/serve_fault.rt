@@ -15,15 +15,12 @@ pub enum ServeFault {
     /// The system refused to wait for datagrams.
     #[error("the socket cannot be waited for")]
     Poll,
-    /// A datagram could not be received. The burst in hand was not executed.
+    /// A datagram could not be received. The burst in hand was not carried out.
     #[error("a datagram cannot be received")]
     Receive,
-    /// Memory was refused before the first burst.
+    /// A growth was refused before the first burst.
     #[error("no memory")]
     NoMemory,
-    /// As many bursts in a row were dropped for memory as may be.
-    #[error("no memory for burst after burst")]
-    Full,
 }
 
 impl From<AllocError> for ServeFault {

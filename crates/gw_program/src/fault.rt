@@ -40,7 +40,7 @@ pub enum Fault<'a> {
     ServePoll,
     /// A datagram could not be received.
     ServeReceive,
-    /// Memory was refused.
+    /// A growth was refused.
     NoMemory,
 }
 
@@ -127,7 +127,7 @@ impl<'a> From<ServeFault> for Fault<'a> {
             ServeFault::Bind => Fault::ServeBind,
             ServeFault::Poll => Fault::ServePoll,
             ServeFault::Receive => Fault::ServeReceive,
-            ServeFault::NoMemory | ServeFault::Full => Fault::NoMemory,
+            ServeFault::NoMemory => Fault::NoMemory,
         }
     }
 }

@@ -1,0 +1,13 @@
+use Rattle.std.proofs.Common.{◌≡◌, []}
+use Rattle.gw_front.specs.Inboxes.{Holds}
+use Rattle.gw_front.proofs.Served.{IsPartway}
+use Rattle.gw_front.proofs.server.serve_bursts.Given as goal
+
+abbrev pub invariant-loop : goal.invariant-loop
+invariant-loop g l = record {
+  can_next : (goal.iterator-loop g).can_next l.iterator';
+  is_finite : (goal.iterator-loop g).is_finite l.iterator';
+  partway : IsPartway l.fn.bursts l.left (g.S.Exchange.course l.initial.exchange) (g.S.Exchange.course l.exchange) l.initial.gateway l.gateway;
+  holds : Holds l.desk.inbox [];
+  senders : l.desk.inbox.senders.items ≡ [];
+}
