@@ -1,0 +1,57 @@
+#!/usr/bin/env python3
+"""Writes the tables of docs/BENCHMARKS.md anew: each is what a bench prints.
+
+    python3 bench/figures.py [WORD]
+
+Above a table stands `<!-- bench/NAME.py WORDS -->`. That command is run, and the lines of its output that begin with `|` take the table's place. The
+page's second line says on which machine and day. With a word, only the commands that have it are run. Run it at the top of the repository on the program
+that `rt run` in crates/h248gw has built, with nothing beside it. It fails where a bench fails, and goes on with the others.
+"""
+import datetime
+import os
+import pathlib
+import re
+import subprocess
+import sys
+
+PAGE = pathlib.Path("docs/BENCHMARKS.md")
+MARK = re.compile(r"<!-- (bench/\S+\.py.*?) -->")
+
+
+def machine():
+    model = re.search(r"model name\s*: (.*)", pathlib.Path("/proc/cpuinfo").read_text())[1]
+    kit = subprocess.run(["rt", "version"], capture_output=True, text=True, check=False).stdout.strip() or "no kit"
+    return f"Measured on {datetime.date.today():%Y-%m-%d} on {os.cpu_count()} cores of an {model}, with `{kit}`."
+
+
+def table_of(words):
+    """The lines of the tables that a bench prints, and whether it passed."""
+    run = subprocess.run([sys.executable, *words], stdout=subprocess.PIPE, text=True, check=False)
+    return [line for line in run.stdout.splitlines() if line.startswith("|")], run.returncode == 0
+
+
+def main():
+    chosen = sys.argv[1] if sys.argv[1:] else ""
+    lines, out, failed = PAGE.read_text().splitlines(), [], []
+    place = 0
+    while place < len(lines):
+        line = lines[place]
+        place += 1
+        out.append(machine() if line.startswith("Measured on ") else line)
+        mark = MARK.fullmatch(line)
+        if not mark or chosen not in mark[1]:
+            continue
+        table, passed = table_of(mark[1].split())
+        if not passed:
+            failed.append(mark[1])
+        while place < len(lines) and (lines[place].startswith("|") or not lines[place]):
+            place += 1
+        out += ["", *table, ""]
+    PAGE.write_text("\n".join(out) + "\n")
+    for words in failed:
+        print(f"failed: {words}", file=sys.stderr)
+    return 1 if failed else 0
+
+
+if __name__ == "__main__":
+    sys.exit(main())
