@@ -1,13 +1,17 @@
 #!/usr/bin/env python3
 """Loads `h248gw serve` over the loopback, and says whether it kept its promises.
 
-    bench/serving.py [--program PATH] [--workers N]
+    bench/serving.py [--program PATH] [--workers N] [--senders N] [--window N] [--requests N] [PART..]
 
 Run it at the top of the repository, after `rt run` in crates/h248gw has built the program; `--program` names another one. Each part
 starts the program anew on a free port, with so many workers (1 by default), and ends it by SIGTERM. It fails at the first promise
 that is not kept.
 
-  load    four senders, each with at most 64 datagrams on the way, 20,000 in all: calls are set up and ended. Every request is
+  rate    three senders, each a process (bench/load.c) with 64 requests of AuditValue on the way, 200,000 in all: how many are answered a
+          second, how many are lost, and how long each waits for its answer, median and 99th percentile; then the same for an echo of
+          the same datagrams through the same kind of socket, and the two rates as a ratio. What the gateway reports of itself is what
+          the senders saw.
+  calls   four senders, each with at most 64 datagrams on the way, 20,000 in all: calls are set up and ended. Every request is
           answered once, and at the end the tables hold the calls that were left standing and no other.
   flood   100,000 datagrams of random bytes, as fast as they can be sent; then a good one, which is answered.
   memory  VmRSS after 20,000 and after 200,000 transactions, which set up a call and end it: within 5 percent; within 20 with
@@ -23,6 +27,7 @@ import re
 import selectors
 import signal
 import socket
+import struct
 import subprocess
 import sys
 import tempfile
@@ -42,14 +47,14 @@ SILENCE = 2
 class Gateway:
     """The program, serving on a port of the loopback."""
 
-    def __init__(self, program, config, family=socket.AF_INET, workers=1):
+    def __init__(self, program, config, family=socket.AF_INET, workers=1, more=()):
         self.family, self.workers = family, workers
         host, form = ("127.0.0.1", "%s:%d") if family == socket.AF_INET else ("::1", "[%s]:%d")
         with socket.socket(family, socket.SOCK_DGRAM) as probe:
             probe.bind((host, 0))
             self.address = probe.getsockname()
         listen = form % self.address[:2]
-        self.process = subprocess.Popen([program, "serve", config, "--listen", listen, "--workers", str(workers)], stdout=subprocess.PIPE)
+        self.process = subprocess.Popen([program, "serve", config, "--listen", listen, "--workers", str(workers), *more], stdout=subprocess.PIPE)
         wanted(self.process.stdout.readline() == b"listening\n", "it listens")
 
     def socket(self):
@@ -165,7 +170,48 @@ def audited(gateway, number, context):
     return tables
 
 
-def load(gateway):
+class Rate:
+    """What several senders saw of a server on a port: how much a second, how much was lost, and delays in microseconds."""
+
+    def __init__(self, given, port):
+        share = given.requests // given.senders
+        words = [[given.load, "send", str(port), str(sender), str(share), str(given.window), str(LINES)] for sender in range(1, given.senders + 1)]
+        senders = [subprocess.Popen(each, stdout=subprocess.PIPE) for each in words]
+        seen = [struct.unpack("=%dQ" % (len(out) // 8), out) for out in (sender.communicate()[0] for sender in senders)]
+        wanted(all(sender.returncode == 0 for sender in senders), "each sender ends well")
+        delays = sorted(delay for each in seen for delay in each[3:])
+        self.requests, self.answers = share * given.senders, len(delays)
+        self.lost = sum(each[0] for each in seen)
+        self.rate = self.answers / (max(each[2] for each in seen) - min(each[1] for each in seen)) * 1e9
+        self.median, self.late = (delays[self.answers * part // 100] / 1000 for part in (50, 99))
+
+    def __str__(self):
+        return "%.0f a second, %d of %d lost, delay %.0f us, 99th percentile %.0f us" % (self.rate, self.lost, self.requests, self.median, self.late)
+
+
+def rate(gateway, given):
+    seen = Rate(given, gateway.address[1])
+    # A second behind the last report one more request draws another.
+    time.sleep(1.1)
+    wanted(gateway.ask(gateway.socket(), b"MEGACO/1 [10.0.2.1]:2944 Transaction=1{Context=-{AuditValue=L/1{Audit{}}}}"), "an answer at the end")
+    time.sleep(0.1)
+    os.set_blocking(gateway.process.stdout.fileno(), False)
+    last = [line for line in (gateway.process.stdout.read() or b"").splitlines() if line.startswith(b"report ")][-1]
+    told = {name.decode(): int(number) for name, number in re.findall(rb"(\w+)=(\d+)", last)}
+    wanted(told["executed"] + told["repeats"] == told["answers"] == told["datagrams"], "each datagram is answered: %r" % told)
+    wanted(seen.answers <= told["answers"] - 1 <= seen.requests, "what the gateway reports is what the senders saw: %r" % told)
+    echo = subprocess.Popen([given.load, "echo"], stdout=subprocess.PIPE)
+    try:
+        beside = Rate(given, int(echo.stdout.readline()))
+    finally:
+        echo.kill()
+    print("rate: %d senders, %d on the way each" % (given.senders, given.window))
+    print("  gateway  %s; %.1f datagrams in a burst" % (seen, told["datagrams"] / told["bursts"]))
+    print("  echo     %s" % beside)
+    print("  the gateway answers %.2f of what the echo does" % (seen.rate / beside.rate))
+
+
+def calls(gateway, given):
     count, left = TRANSACTIONS // SENDERS, 10
     senders = [Sender(gateway, number, count, left) for number in range(SENDERS)]
     seconds = driven(senders)
@@ -180,10 +226,10 @@ def load(gateway):
     wanted({number: names[0] for number, names in tables.items()} == standing, "the calls that were left standing")
     wanted(all(len(names) == 2 and names[1].startswith(b"RTP/") for names in tables.values()), "two ends of each call")
     wanted(len(audited(gateway, 2, b"-")[b"-"]) == LINES - len(standing), "every other line in the null context")
-    print("load: %d datagrams answered once each, %.0f a second, %d calls left" % (TRANSACTIONS, TRANSACTIONS / seconds, len(standing)))
+    print("calls: %d datagrams answered once each, %.0f a second, %d calls left" % (TRANSACTIONS, TRANSACTIONS / seconds, len(standing)))
 
 
-def flood(gateway):
+def flood(gateway, given):
     chance = random.Random(1)
     client = gateway.socket()
     client.setblocking(False)
@@ -199,7 +245,7 @@ def flood(gateway):
     print("flood: 100,000 random datagrams, and then an answer")
 
 
-def memory(gateway):
+def memory(gateway, given):
     sender = Sender(gateway, 0, 0, 0)
     resident = []
     for count in (TRANSACTIONS, 10 * TRANSACTIONS):
@@ -221,7 +267,7 @@ def of_length(length):
     return head + b"c" * (length - len(head) - len(body) - 1) + b"\n" + body
 
 
-def longest(gateway):
+def longest(gateway, given):
     answer = gateway.ask(gateway.socket(), of_length(LONGEST))
     wanted(answer == HEAD + b"Reply=1{Context=-{AuditValue=L/1}}", "an answer to 65,507 bytes: %r" % answer)
     print("longest: 65,507 bytes answered over IPv%d" % (4 if gateway.family == socket.AF_INET else 6))
@@ -241,23 +287,36 @@ def families():
         pass
 
 
-def main():
-    words = argparse.ArgumentParser()
+PARTS = {part.__name__: part for part in (rate, calls, flood, memory, longest)}
+
+
+def words():
+    words = argparse.ArgumentParser(description=__doc__, formatter_class=argparse.RawDescriptionHelpFormatter)
     words.add_argument("--program", default="crates/h248gw/out/h248gw")
     words.add_argument("--workers", type=int, default=1)
-    given = words.parse_args()
+    words.add_argument("--senders", type=int, default=3)
+    words.add_argument("--window", type=int, default=64)
+    words.add_argument("--requests", type=int, default=200_000)
+    words.add_argument("parts", metavar="PART", nargs="*", choices=[[], *PARTS], default=[])
+    return words.parse_args()
+
+
+def main():
+    given = words()
     program = os.path.abspath(given.program)
     with tempfile.TemporaryDirectory() as folder:
         config = os.path.join(folder, "bench.conf")
         pathlib.Path(config).write_text(CONFIG)
-        parts = [(part, socket.AF_INET) for part in (load, flood, memory)] + [(longest, family) for family in families()]
-        for part, family in parts:
-            gateway = Gateway(program, config, family, given.workers)
-            try:
-                part(gateway)
-                gateway.end()
-            finally:
-                gateway.process.kill()
+        given.load = os.path.join(folder, "load")
+        subprocess.run(["cc", "-O2", "-o", given.load, pathlib.Path(__file__).with_name("load.c")], check=True)
+        for name in given.parts or PARTS:
+            for family in families() if name == "longest" else [socket.AF_INET]:
+                gateway = Gateway(program, config, family, given.workers, ("--report", "1") if name == "rate" else ())
+                try:
+                    PARTS[name](gateway, given)
+                    gateway.end()
+                finally:
+                    gateway.process.kill()
     print("SIGTERM ended it each time")
 
 

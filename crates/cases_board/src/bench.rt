@@ -9,6 +9,7 @@ ghost use Rattle.gw_table.specs.WellFormed.{AreWellFormed};
 use crate::asking::{Limits, asks_in};
 use crate::play::play;
 use crate::tell::write_keys;
+use crate::tree::write_tree;
 use crate::waves::carried_out;
 use bumpalo::Bump;
 use cases_text::{CaseFault, Page};
@@ -113,6 +114,35 @@ fn play_in(
     play(tables, manner, &asked, steps, out)
 }
 
+/// Executes the only request of a message on these tables, and writes its reply. The caller knows that they are well-formed, and that
+/// nothing is out.
+fn write_only(
+    manner: &Manner,
+    limits: Limits,
+    tables: Tables,
+    text: &[u8],
+    out: &mut Page,
+) -> Result<(), CaseFault>
+    requires whole { AreWellFormed manner.now.rules.members (maps_of tables) }
+    requires here { NoneIsOut tables }
+{
+    let alloc = out.alloc();
+    let bump = Bump::new(alloc);
+    let Ok(message) = read_message(&bump, text) else {
+        return Err(CaseFault::Form);
+    };
+    let Ok(asked) = asks_in(alloc, &tables, limits, &message) else {
+        return Err(CaseFault::NoMemory);
+    };
+    let [one] = asked.as_slice() else {
+        return Err(CaseFault::Form);
+    };
+    let Ok(request) = one.request.tree(&bump) else {
+        return Err(CaseFault::NoMemory);
+    };
+    write_tree(&manner.rules, tables, request, &one.owned, out)
+}
+
 impl Bench {
     /// The tables of a gateway that was just configured.
     ///
@@ -167,6 +197,20 @@ impl Bench {
             tables,
         } = self;
         play_in(manner, limits, tables, text, steps, out)
+    }
+
+    /// Executes the only request of a message by itself on the tables, which end with it, and writes its reply.
+    ///
+    /// # Errors
+    ///
+    /// `Form` where the text is no message of one request; `NoMemory` where a growth was refused.
+    pub fn write_tree(self, text: &[u8], out: &mut Page) -> Result<(), CaseFault> {
+        let Bench {
+            manner,
+            limits,
+            tables,
+        } = self;
+        write_only(&manner, limits, tables, text, out)
     }
 
     /// Writes the footprint of a request of a message.

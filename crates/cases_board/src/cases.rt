@@ -121,6 +121,11 @@ impl Cases {
         bench.write_footprint(self.burst.whole()?, place as usize, out)
     }
 
+    fn write_tree(&self, out: &mut Page) -> Result<(), CaseFault> {
+        let bench = self.bench(out.alloc())?;
+        bench.write_tree(self.burst.whole()?, out)
+    }
+
     fn take(&self, steps: &[u8], out: &mut Page) -> Result<(), CaseFault> {
         let bench = self.bench(out.alloc())?;
         bench.play(self.burst.whole()?, steps, out)
@@ -136,6 +141,7 @@ impl Desk for Cases {
             "and" => put_times(&mut self.burst, asked, 1),
             "times" => self.repeat(asked),
             "footprint" => self.write_footprint(asked, out),
+            "tree" => self.write_tree(out),
             "steps" => self.take(asked, out),
             _ => Err(CaseFault::Call),
         }

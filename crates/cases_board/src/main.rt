@@ -8,6 +8,7 @@ mod held;
 mod play;
 mod steps;
 mod tell;
+mod tree;
 mod waves;
 
 use cases::Cases;

@@ -1,4 +1,4 @@
-//! A network that stands in for a socket: what comes is told beforehand, what goes is written down.
+//! A network that stands in for a socket: what comes is known beforehand, what goes is written down.
 
 use cases_text::Page;
 use gw_base::Items;
@@ -10,8 +10,11 @@ use std::net::{IpAddr, Ipv4Addr, SocketAddr};
 /// What comes next.
 #[derive(Drop)]
 enum Coming {
-    /// A datagram from the sender of that number.
-    Datagram { sender: u16, bytes: Items<u8> },
+    /// A datagram from that sender.
+    Datagram {
+        sender: SocketAddr,
+        bytes: Items<u8>,
+    },
     /// Nothing, until it was waited for.
     Nothing,
     /// A datagram that cannot be received.
@@ -23,15 +26,30 @@ enum Coming {
 pub struct Line {
     coming: Vec<Coming>,
     next: usize,
-    deaf: u16,
+    deaf: Option<SocketAddr>,
     last: Page,
     count: u64,
-    told: Page,
+    written: Page,
 }
 
-/// The address of a sender: his number is its port.
-fn address_of(sender: u16) -> SocketAddr {
-    SocketAddr::from((IpAddr::V4(Ipv4Addr::LOCALHOST), sender))
+/// The host of senders that have a number alone, which is their port.
+const HOST: IpAddr = IpAddr::V4(Ipv4Addr::LOCALHOST);
+
+/// The sender that a word names: by a number, or by an address and a port.
+pub fn sender_of(word: &str) -> Option<SocketAddr> {
+    match word.parse::<u16>() {
+        Ok(port) => Some(SocketAddr::new(HOST, port)),
+        Err(_) => word.parse::<SocketAddr>().ok(),
+    }
+}
+
+/// Writes who a sender is, as a case names him.
+fn write_sender(out: &mut Page, sender: SocketAddr) {
+    if sender.ip() == HOST {
+        out.number(u64::from(sender.port()));
+    } else {
+        out.shown(&sender);
+    }
 }
 
 impl Line {
@@ -40,18 +58,18 @@ impl Line {
         Line {
             coming: Vec::new(alloc),
             next: 0,
-            deaf: 0,
+            deaf: None,
             last: Page::new(alloc),
             count: 0,
-            told: Page::new(alloc),
+            written: Page::new(alloc),
         }
     }
 
-    /// A datagram comes from the sender of that number.
+    /// A datagram comes from that sender.
     pub fn add_datagram(
         &mut self,
         alloc: Global,
-        sender: u16,
+        sender: SocketAddr,
         bytes: &[u8],
     ) -> Result<(), AllocError> {
         let bytes = Items::from_slice(alloc, bytes)?;
@@ -71,20 +89,20 @@ impl Line {
         Ok(())
     }
 
-    /// Nothing can be sent to the sender of that number.
-    pub fn set_deaf(&mut self, sender: u16) {
-        self.deaf = sender;
+    /// Nothing can be sent to that sender.
+    pub fn set_deaf(&mut self, sender: SocketAddr) {
+        self.deaf = Some(sender);
     }
 
     /// Writes down what happened last, with how often it did.
     fn settle(&mut self) {
         if self.count > 1 {
-            self.told.number(self.count);
-            self.told.put(b" times ");
+            self.written.number(self.count);
+            self.written.put(b" times ");
         }
         if self.count > 0 {
-            self.told.put(self.last.as_bytes());
-            self.told.put(b"\n");
+            self.written.put(self.last.as_bytes());
+            self.written.put(b"\n");
         }
         self.count = 0;
     }
@@ -101,7 +119,7 @@ impl Line {
     /// What happened, and how many of those who wait were not taken.
     pub fn write(&mut self, out: &mut Page) {
         self.settle();
-        out.put(self.told.as_bytes());
+        out.put(self.written.as_bytes());
         let left = self.coming.len().saturating_sub(self.next);
         if left > 0 {
             out.number(left as u64);
@@ -121,7 +139,7 @@ impl Exchange for Line {
                 let count = bytes.len().min(buffer.len());
                 buffer[..count].copy_from_slice(&bytes[..count]);
                 self.next = self.next.saturating_add(1);
-                Ok((count, address_of(*sender)))
+                Ok((count, *sender))
             }
             Coming::Nothing => Err(Error::from(ErrorKind::WouldBlock)),
             Coming::Broken => {
@@ -132,10 +150,10 @@ impl Exchange for Line {
     }
 
     fn send(&mut self, bytes: &[u8], address: SocketAddr) -> io::Result<()> {
-        let mut what = Page::new(self.told.alloc());
-        let is_deaf = address.port() == self.deaf;
+        let mut what = Page::new(self.written.alloc());
+        let is_deaf = self.deaf == Some(address);
         what.put(if is_deaf { b"not to " } else { b"to " });
-        what.number(u64::from(address.port()));
+        write_sender(&mut what, address);
         what.put(b": ");
         what.message(bytes);
         self.happens(what);
@@ -146,7 +164,7 @@ impl Exchange for Line {
     }
 
     fn wait(&mut self) -> io::Result<()> {
-        let mut what = Page::new(self.told.alloc());
+        let mut what = Page::new(self.written.alloc());
         what.put(b"waits");
         self.happens(what);
         match self.coming.get(self.next) {

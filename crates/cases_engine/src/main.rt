@@ -5,6 +5,7 @@
 mod answers;
 mod bursts;
 mod cases;
+mod clocks;
 mod configurations;
 mod crews;
 mod gates;

@@ -1,37 +1,39 @@
 //! Serving over a network that stands in for a socket: what comes, and below it what goes, how serving ends and what it says.
 
-use crate::line::Line;
+use crate::clocks::{Clocked, Readings};
+use crate::line::{Line, sender_of};
 use crate::streams::Output;
 use cases_text::{CaseFault, Page, as_text, config_of, decoded, number_of, split_word};
 use gw_engine::Gateway;
-use gw_front::{ServeFault, serve_over};
+use gw_front::{Controller, ServeFault, ServeOptions, Totals, serve_over};
 use std::alloc::Global;
+use std::net::SocketAddr;
 use std::sync::Wait;
 use std::thread::Threads;
 
 /// How many workers the gateway has.
 const WORKERS: u32 = 2;
 
-/// What comes in the next case of serving.
+/// What comes in the next case of serving, and how it is served.
 #[derive(Drop)]
 pub struct Networks {
     line: Line,
+    controllers: Vec<Controller>,
+    report: Option<u64>,
+    readings: Readings,
 }
 
 /// How serving ended.
-fn write_ended(out: &mut Page, ended: Result<(), ServeFault>) {
+fn write_ended(out: &mut Page, ended: Result<Totals, ServeFault>) {
     match ended {
-        Ok(()) => out.put(b"done"),
+        Ok(_) => out.put(b"done"),
         Err(fault) => out.shown(&fault),
     }
 }
 
-/// A sender by his number.
-fn sender_of(word: &[u8]) -> Result<u16, CaseFault> {
-    match as_text(word).parse() {
-        Ok(sender) => Ok(sender),
-        Err(_) => Err(CaseFault::Form),
-    }
+/// A sender by a word.
+fn sender_in(word: &[u8]) -> Result<SocketAddr, CaseFault> {
+    sender_of(as_text(word)).ok_or(CaseFault::Form)
 }
 
 /// The gateway of cases.
@@ -43,18 +45,48 @@ fn gateway(alloc: Global) -> Result<Gateway, CaseFault> {
     }
 }
 
+/// A reading of the clock: milliseconds, or `-` where it fails.
+fn reading_of(word: &[u8]) -> Result<Option<u64>, CaseFault> {
+    if word == b"-".as_slice() {
+        return Ok(None);
+    }
+    let time = number_of(word).ok_or(CaseFault::Form)?;
+    Ok(Some(u64::from(time)))
+}
+
+/// Readings of the clock.
+fn readings_of(alloc: Global, words: &[u8]) -> Result<Readings, CaseFault> {
+    let mut times = Vec::new(alloc);
+    let mut rest = words;
+    // Each step takes a byte at least.
+    for _step in words {
+        if rest.is_empty() {
+            break;
+        }
+        let (word, behind) = split_word(rest);
+        times.push(reading_of(word)?)?;
+        rest = behind;
+    }
+    Ok(Readings { times })
+}
+
 impl Networks {
-    /// Nothing comes yet.
+    /// Nothing comes yet, everybody is answered, and there is no report.
     pub fn new(alloc: Global) -> Networks {
         Networks {
             line: Line::new(alloc),
+            controllers: Vec::new(alloc),
+            report: None,
+            readings: Readings {
+                times: Vec::new(alloc),
+            },
         }
     }
 
-    /// Datagrams come, so many, all from one sender and all alike.
+    /// Datagrams come, so many, all from one sender and all the same.
     fn add(&mut self, alloc: Global, count: u32, words: &[u8]) -> Result<(), CaseFault> {
         let (sender, text) = split_word(words);
-        let sender = sender_of(sender)?;
+        let sender = sender_in(sender)?;
         let text = decoded(alloc, text)?;
         for _ in 0..count {
             self.line.add_datagram(alloc, sender, text.as_slice())?;
@@ -62,31 +94,50 @@ impl Networks {
         Ok(())
     }
 
-    /// What comes, of which nothing is left here.
-    fn take(&mut self, alloc: Global) -> Line {
-        let mut line = Line::new(alloc);
-        std::mem::swap(&mut line, &mut self.line);
-        line
+    /// One controller more.
+    fn add_controller(&mut self, word: &[u8]) -> Result<(), CaseFault> {
+        match as_text(word).parse() {
+            Ok(controller) => self.controllers.push(controller)?,
+            Err(_) => return Err(CaseFault::Form),
+        }
+        Ok(())
+    }
+
+    /// What comes and how it is served, of which nothing is left here.
+    fn take(&mut self, alloc: Global) -> Networks {
+        std::mem::replace(self, Networks::new(alloc))
     }
 }
 
 /// Serves a new gateway for so many bursts, or without end where the words name no number.
 fn serve<R: Wait + Threads + Sync>(
     rt: &R,
-    mut line: Line,
+    networks: Networks,
     words: &[u8],
     out: &mut Page,
 ) -> Result<(), CaseFault> {
-    let bursts = number_of(words).map(u64::from);
+    let Networks {
+        mut line,
+        controllers,
+        report,
+        readings,
+    } = networks;
+    let rt = Clocked::new(rt, &readings);
+    let options = ServeOptions {
+        workers: WORKERS,
+        bursts: number_of(words).map(u64::from),
+        controllers: controllers.as_slice(),
+        report,
+        give_up: None,
+    };
     let mut gateway = gateway(out.alloc())?;
     let mut said = Output::new(Vec::new(out.alloc()), usize::MAX);
     let ended = serve_over(
-        rt,
+        &rt,
         out.alloc(),
         &mut line,
         &mut gateway,
-        WORKERS,
-        bursts,
+        options,
         &mut said,
     );
     out.encoded(said.as_bytes());
@@ -114,7 +165,10 @@ pub fn answer<R: Wait + Threads + Sync>(
         }
         "pause" => networks.line.add_nothing()?,
         "broken" => networks.line.add_broken()?,
-        "deaf" => networks.line.set_deaf(sender_of(asked)?),
+        "deaf" => networks.line.set_deaf(sender_in(asked)?),
+        "controller" => networks.add_controller(asked)?,
+        "report" => networks.report = number_of(asked).map(u64::from),
+        "clock" => networks.readings = readings_of(out.alloc(), asked)?,
         "serve" => return serve(rt, networks.take(out.alloc()), asked, out),
         _ => return Err(CaseFault::Call),
     }

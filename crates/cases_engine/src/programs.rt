@@ -11,6 +11,7 @@ use std::net::Net;
 use std::rt::Files;
 use std::sync::Wait;
 use std::thread::Threads;
+use std::time::Clock;
 
 /// The standard input of the runs below, which was told last.
 #[derive(Drop)]
@@ -82,7 +83,7 @@ impl Programs {
 }
 
 /// Runs the program on the words: its status, and what each stream got.
-fn run<R: Files + Net + Wait + Threads + AllocGlobal + Sync>(
+fn run<R: Files + Net + Wait + Threads + Clock + AllocGlobal + Sync>(
     rt: &R,
     input: &[u8],
     line: &[u8],
@@ -104,7 +105,7 @@ fn run<R: Files + Net + Wait + Threads + AllocGlobal + Sync>(
 }
 
 /// Runs the program with an output that has room for so many bytes: the number comes before the words.
-fn run_short<R: Files + Net + Wait + Threads + AllocGlobal + Sync>(
+fn run_short<R: Files + Net + Wait + Threads + Clock + AllocGlobal + Sync>(
     rt: &R,
     input: &[u8],
     line: &[u8],
@@ -130,7 +131,7 @@ fn write_file<R: Files>(rt: &R, line: &[u8], out: &mut Page) -> Result<(), CaseF
 }
 
 /// The answer to a case of runs.
-pub fn answer<R: Files + Net + Wait + Threads + AllocGlobal + Sync>(
+pub fn answer<R: Files + Net + Wait + Threads + Clock + AllocGlobal + Sync>(
     rt: &R,
     programs: &mut Programs,
     call: &str,

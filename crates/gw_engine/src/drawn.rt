@@ -1,6 +1,6 @@
 //! What workers answered, each in its job's place.
 
-ghost use Rattle.std.specs.Prelude.{◌≡◌, IfOk, map, Ok as Answered};
+ghost use Rattle.std.specs.Prelude.{◌≡◌, IfOk, map, Ok as BurstAnswers};
 
 use gw_base::{Items, NoMemory};
 use std::alloc::Global;
@@ -17,7 +17,7 @@ pub(crate) fn all_of<X: Drop>(
     alloc: Global,
     answers: Vec<Result<X, NoMemory>>,
 ) -> Result<Items<X>, NoMemory>
-    ensures { IfOk result (λ all. map (λ x. Answered x) all ≡ answers.items) }
+    ensures { IfOk result (λ all. map (λ x. BurstAnswers x) all ≡ answers.items) }
 {
     let mut all = Items::from(Vec::with_capacity(alloc, answers.len())?);
     for answer in answers {

@@ -6,6 +6,7 @@ ghost use Rattle.gw_kept.specs.Changes.{changes_of, AreNew};
 ghost use Rattle.gw_reserve.specs.Owners.{AreWithin};
 ghost use Rattle.gw_table.specs.Unused.{AreUnused};
 ghost use Rattle.gw_engine.specs.Bursts.{AnswersBurst};
+ghost use Rattle.gw_engine.specs.Counts.{counts_of, CountsBurst};
 ghost use Rattle.gw_engine.specs.Phases.{asks_of, told, new_of, ids_in, tasks_in, turns_of, AreJobs, cursors_behind, done_by, kept_of, answers_of, adopted};
 ghost use Rattle.gw_engine.specs.Readable.{CanBeRead};
 ghost use Rattle.gw_engine.specs.State.{IsWellFormed};
@@ -13,6 +14,7 @@ ghost use Rattle.gw_engine.specs.State.{IsWellFormed};
 use crate::asked::asks_of;
 use crate::carry::{Done, carried_out};
 use crate::classify::{Task, classify};
+use crate::counts::BurstCounts;
 use crate::crew::Crew;
 use crate::datagram::Datagram;
 use crate::gateway::Gateway;
@@ -34,6 +36,16 @@ struct Plan<'h, 'a> {
     jobs: Items<Asked<'h, 'a>>,
     cursors: Cursors,
     turns: Items<Turn<'h>>,
+    counts: BurstCounts,
+}
+
+/// The answers to a burst, and how many of its requests there are of each class.
+#[derive(Drop)]
+pub struct BurstAnswers {
+    /// In order of arrival, each for the peer of the datagram that it answers.
+    pub answers: Items<Datagram>,
+    /// Of the classes of the burst.
+    pub counts: BurstCounts,
 }
 
 impl Gateway {
@@ -44,6 +56,7 @@ impl Gateway {
         ensures cursors { IfOk result (λ plan. plan.cursors ≡ cursors_behind self.now heard.now) }
         ensures within { IfOk result (λ plan. AreWithin self.now.settings.contexts self.now.settings.slots plan.cursors) }
         ensures turns { IfOk result (λ plan. plan.turns ≡ turns_of self.now heard.now) }
+        ensures counts { IfOk result (λ plan. plan.counts ≡ counts_of self.now heard.now) }
     {
         let asks = asks_of(alloc, heard)?;
         let asked = classify(alloc, &self.kept, asks.as_slice())?;
@@ -53,6 +66,7 @@ impl Gateway {
             jobs: reserved.jobs,
             cursors: reserved.cursors,
             turns: asked.turns,
+            counts: asked.counts,
         })
     }
 
@@ -87,6 +101,7 @@ impl Gateway {
             jobs,
             cursors,
             turns,
+            counts: _,
         } = plan;
         let tables = mem::replace(&mut self.tables, Tables::new(alloc));
         match carried_out(
@@ -156,6 +171,30 @@ impl Gateway {
         ensures err { OnErr result (self.new ≡ self.old) }
         ensures fits { IsWellFormed self.new.settings self.new.state }
     {
+        Ok(self.run_counted(rt, alloc, workers, burst, gate)?.answers)
+    }
+
+    /// Answers a burst as `run` does, and counts its requests by their classes.
+    ///
+    /// # Errors
+    ///
+    /// Those of `run`.
+    pub fn run_counted<R: Threads + Sync, G: Gate>(
+        &mut self,
+        rt: &R,
+        alloc: Global,
+        workers: u32,
+        burst: &[Datagram],
+        gate: &G,
+    ) -> Result<BurstAnswers, NoMemory>
+        requires some { 1 ≤ workers }
+        requires limit { workers ≤ 64 }
+        ensures ok { IfOk result (λ done. AnswersBurst self.old burst.now done.answers self.new) }
+        ensures counts { IfOk result (λ done. CountsBurst self.old burst.now done.counts) }
+        ensures readable { IfOk result (λ done. CanBeRead self.old.settings.mid burst.now done.answers) }
+        ensures err { OnErr result (self.new ≡ self.old) }
+        ensures fits { IsWellFormed self.new.settings self.new.state }
+    {
         // No effect at run time. The proof reads here that the state is well-formed.
         let _ = &self.tables;
         let crew = Crew::new(rt, workers, gate);
@@ -163,6 +202,8 @@ impl Gateway {
         let bump = arena_for(alloc, burst, keeps_trees)?;
         let heard = hear(alloc, &bump, burst, keeps_trees)?;
         let plan = self.plan(alloc, heard.as_slice())?;
-        self.perform(&crew.alone_unless(keeps_trees), alloc, plan)
+        let counts = plan.counts;
+        let answers = self.perform(&crew.alone_unless(keeps_trees), alloc, plan)?;
+        Ok(BurstAnswers { answers, counts })
     }
 }

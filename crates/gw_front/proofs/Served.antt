@@ -1,18 +1,25 @@
 -- How far serving has come.
 use Rattle.std.proofs.Common.{◌≡◌, ℕ, ◌+◌, ◌-◌, ◌≤◌, ◌<◌, List, [], ◌∷◌, ◌++◌, length, flat_map, refl, arith, length-append, inl, inr, subst, sym, ap, ◌∙◌}
-use Rattle.std.specs.Prelude.{◌≢◌, Option, Some, None, Result, Ok, Err, IsErr, IfSome, ⊤, false}
+use Rattle.std.specs.Prelude.{◌≢◌, Option, Some, None, Ok, Err, IfSome, ⊤, false, suc}
 use Rattle.std.specs.declared.net.socket_addr.SocketAddr.{SocketAddr}
+use Rattle.gw_engine.specs.declared.counts.BurstCounts.{BurstCounts}
 use Rattle.gw_engine.specs.declared.datagram.Datagram.{Datagram}
 use Rattle.gw_engine.specs.Bursts.{AnswersBurst}
-use Rattle.std.proofs.lemmas.Bool.{false≢true}
+use Rattle.gw_engine.specs.Counts.{CountsBurst}
 use Rattle.std.proofs.lemmas.Grind.{flat_map-append}
 use Rattle.std.proofs.lemmas.List.{append-nil}
 use Rattle.gw_engine.specs.State.{GatewayValue}
-use Rattle.gw_front.specs.Events.{Letter, Event, sent_all, Happens}
+use Rattle.gw_front.specs.Events.{Packet, Event, sent_all, Happens}
 use Rattle.gw_front.specs.Inboxes.{Holds, Gathers}
-use Rattle.gw_front.specs.Serving.{Turn, IsTurn, IsAnswered, IsWithinLimits, GoesBy, Serves, taken, events_of, letters_to, senders_of}
+use Rattle.gw_front.specs.Serving.{Turn, IsTurn, IsAnswered, IsWithinLimits, GoesBy, Serves, IsForDropped, burst_from, burst_of, taken, events_of, packets_to, senders_of}
+use Rattle.gw_front.specs.TotalNumbers.{IsFull, no_totals, with_burst, with_dropped}
 use Rattle.gw_front.specs.declared.inbox.Inbox.{Inbox}
 use Rattle.gw_front.specs.declared.serve_fault.ServeFault.{ServeFault}
+use Rattle.gw_front.specs.declared.serve_fault.ServeFault.TheVariants.{Bind, Poll, Receive, NoMemory, Full}
+use Rattle.gw_front.specs.declared.serve_options.ServeOptions.{ServeOptions}
+use Rattle.gw_front.specs.declared.server.Server.{Server}
+use Rattle.gw_front.specs.declared.totals.Totals.{Totals}
+use Rattle.gw_front.specs.Servers.{HasSame}
 use Rattle.gw_front.proofs.Happening.{Happens-trans, Happens-refl}
 
 -- so many turns are still to come, of as many as were done
@@ -23,18 +30,30 @@ AreLeft (Some most) done None = ⊥
 AreLeft (Some most) done (Some left) = most ≡ done + left
 
 -- some turns were done, and `left` are still to come
-pub record IsPartway (most left : Option ℕ) (before now : Option (List Event)) (old new : GatewayValue) : Type 0 where
+pub record IsPartway (options : ServeOptions) (left : Option ℕ) (before now : Option (List Event)) (old new : GatewayValue) (totals : Totals) : Type 0 where
   pub turns : List Turn
-  pub goes : GoesBy turns old new
+  pub goes : GoesBy options turns old new no_totals totals
   pub happened : Happens before now (flat_map events_of turns)
-  pub are_left : AreLeft most (length turns) left
+  pub are_left : AreLeft options.bursts (length turns) left
+  pub goes_on : ¬ IsFull options.give_up totals
 
 at_start : (most : Option ℕ) → AreLeft most 0 most
 at_start None = tt
 at_start (Some most) = omega arith
 
-pub partway_at_start : (most : Option ℕ) (before : Option (List Event)) (gateway : GatewayValue) → IsPartway most most before before gateway gateway
-partway_at_start most before gateway = record { turns = []; goes = refl; happened = Happens-refl before; are_left = at_start most }
+-- nothing was dropped yet
+none_dropped : (give_up : Option ℕ) → ¬ IsFull give_up no_totals
+none_dropped None h = h
+none_dropped (Some most) h = omega (arith, h.1)
+
+pub partway_at_start : (options : ServeOptions) (before : Option (List Event)) (gateway : GatewayValue) (totals : Totals) → totals ≡ no_totals → IsPartway options options.bursts before before gateway gateway totals
+partway_at_start options before gateway totals none = record {
+  turns = [];
+  goes = (refl, none);
+  happened = Happens-refl before;
+  are_left = at_start options.bursts;
+  goes_on = subst (λ (t : Totals). ¬ IsFull options.give_up t) (sym none) (none_dropped options.give_up);
+}
 
 -- ---- the end
 
@@ -42,13 +61,15 @@ all_done : (most : Option ℕ) (n : ℕ) → AreLeft most n (Some 0) → most �
 all_done None n h = absurd h
 all_done (Some most) n h = let e : most ≡ n = omega (arith, h) in ap (λ (k : ℕ). Some k) e
 
-pub ended : (most left : Option ℕ) (before after : Option (List Event)) (old new : GatewayValue) → left ≡ Some 0 → IsPartway most left before after old new → Serves most before after old new (Ok tt)
-ended most left before after old new e h = record {
+pub ended : (options : ServeOptions) (left : Option ℕ) (before after : Option (List Event)) (old new : GatewayValue) (totals executed : Totals) → left ≡ Some 0 → executed ≡ totals → IsPartway options left before after old new totals
+    → Serves options before after old new (Ok executed)
+ended options left before after old new totals executed e same h = record {
   turns = h.turns;
   rest = [];
+  totals = totals;
   goes = h.goes;
   happened = subst (λ (l : List Event). Happens before after l) (sym (append-nil (flat_map events_of h.turns))) h.happened;
-  counted = all_done most (length h.turns) (subst (λ (l : Option ℕ). AreLeft most (length h.turns) l) e h.are_left);
+  end = (all_done options.bursts (length h.turns) (subst (λ (l : Option ℕ). AreLeft options.bursts (length h.turns) l) e h.are_left), same, h.goes_on);
   last = refl;
 }
 
@@ -57,21 +78,32 @@ no_more None left n h = tt
 no_more (Some most) None n h = absurd h
 no_more (Some most) (Some left) n h = omega (arith, h)
 
-pub stopped : (most left : Option ℕ) (before now after : Option (List Event)) (old new : GatewayValue) (i j : Inbox) (fault : ServeFault) → IsPartway most left before now old new → Gathers now after i j → Serves most before after old new (Err fault)
-stopped most left before now after old new i j fault h more = record {
+-- a fault for another reason
+for_other : (give_up : Option ℕ) (totals : Totals) (fault : ServeFault) → ¬ IsFull give_up totals → ¬ (fault ≡ Full) → IsForDropped give_up totals fault
+for_other give_up totals Bind h other = h
+for_other give_up totals Poll h other = h
+for_other give_up totals Receive h other = h
+for_other give_up totals NoMemory h other = h
+for_other give_up totals Full h other = absurd (other refl)
+
+pub stopped : (options : ServeOptions) (left : Option ℕ) (before now after : Option (List Event)) (old new : GatewayValue) (totals : Totals) (i j : Inbox) (fault : ServeFault) → ¬ (fault ≡ Full) → IsPartway options left before now old new totals
+    → Gathers options.controllers.now now after i j → Serves options before after old new (Err fault)
+stopped options left before now after old new totals i j fault other h more = record {
   turns = h.turns;
-  rest = more.letters;
+  rest = more.packets;
+  totals = totals;
   goes = h.goes;
   happened = Happens-trans before now after _ _ h.happened more.happened;
-  counted = no_more most left (length h.turns) h.are_left;
+  end = (no_more options.bursts left (length h.turns) h.are_left, for_other options.give_up totals fault h.goes_on other);
   last = tt;
 }
 
 -- ---- one turn more
 
-goes_more : (turns : List Turn) (turn : Turn) (old middle new : GatewayValue) → GoesBy turns old middle → IsTurn turn middle new → GoesBy (turns ++ turn ∷ []) old new
-goes_more [] turn old middle new e h = (new, subst (λ g. IsTurn turn g new) e h, refl)
-goes_more (first ∷ later) turn old middle new goes h = (goes.0, goes.1, goes_more later turn goes.0 middle new goes.2 h)
+goes_more : (options : ServeOptions) (turns : List Turn) (turn : Turn) (old middle new : GatewayValue) (before between after : Totals) → GoesBy options turns old middle before between → IsTurn options turn middle new between after
+    → GoesBy options (turns ++ turn ∷ []) old new before after
+goes_more options [] turn old middle new before between after (e, f) h = (new, after, subst (λ t. IsTurn options turn old new t after) f (subst (λ g. IsTurn options turn g new between after) e h), (refl, refl))
+goes_more options (first ∷ later) turn old middle new before between after goes h = (goes.0, goes.1, goes.2, goes_more options later turn goes.0 middle new goes.1 between after goes.3 h)
 
 fewer : (most : Option ℕ) (turns : List Turn) (turn : Turn) (left : ℕ) → left ≢ 0 → AreLeft most (length turns) (Some left) → AreLeft most (length (turns ++ turn ∷ [])) (Some (left - 1))
 fewer None turns turn left some h = absurd h
@@ -96,45 +128,110 @@ after_one : (most left next : Option ℕ) (turns : List Turn) (turn : Turn) → 
 after_one most left next turns turn (endless) h = still_none most (length turns) (length (turns ++ turn ∷ [])) h
 after_one most left next turns turn (counted k some) h = fewer most turns turn k some h
 
--- what happened in a turn
-turn_of : (a b c : Option (List Event)) (i j : Inbox) (old new : GatewayValue) (more : Gathers a b i j)
-    → 0 < length (taken more.letters)
-    → ((sent : List Letter) × Happens b c (sent_all sent) × IsAnswered (taken more.letters) sent old new)
-    → (turn : Turn) × Happens a c (events_of turn) × IsTurn turn old new
-turn_of a b c i j old new more some (sent, happened, answered) =
-    let turn : Turn = record { came = more.letters; sent = sent } in
-    (turn, Happens-trans a b c _ _ more.happened happened, record { some = some; answered = answered })
+-- what became of a burst
+abbrev pub IsAnsweredBy : Inbox → (a b : Option (List Event)) → (old new : GatewayValue) → (before after : Totals) → Type 0
+IsAnsweredBy inbox a b old new before after = (packets : List Packet) → Holds inbox packets → (sent : List Packet) × Happens a b (sent_all sent) × IsAnswered packets sent old new before after
 
-pub stepped : (most left next : Option ℕ) (before now between after : Option (List Event)) (old middle new : GatewayValue) (i j : Inbox)
-    → IsPartway most left before now old middle → IsNext left next → Holds i [] → Gathers now between i j
-    → ((letters : List Letter) → Holds j letters → 0 < length letters)
-    → ((letters : List Letter) → Holds j letters → (sent : List Letter) × Happens between after (sent_all sent) × IsAnswered letters sent middle new)
-    → IsPartway most next before after old new
-stepped most left next before now between after old middle new i j h is_next empty more some answered =
-    let holds : Holds j (taken more.letters) = more.holds [] empty in
-    let t = turn_of now between after i j middle new more (some (taken more.letters) holds) (answered (taken more.letters) holds) in
-    record {
-      turns = h.turns ++ t.0 ∷ [];
-      goes = goes_more h.turns t.0 old middle new h.goes t.2;
-      happened = subst (λ (l : List Event). Happens before after l) (sym (flat_map-append events_of h.turns (t.0 ∷ []) ∙ ap (λ (l : List Event). flat_map events_of h.turns ++ l) (append-nil (events_of t.0)))) (Happens-trans before now after _ _ h.happened t.1);
-      are_left = after_one most left next h.turns t.0 is_next h.are_left;
-    }
+-- Some turns were done, the last of them just now.
+record IsTurned (options : ServeOptions) (next : Option ℕ) (before after : Option (List Event)) (old new : GatewayValue) (totals : Totals) : Type 0 where
+  turns : List Turn
+  goes : GoesBy options turns old new no_totals totals
+  happened : Happens before after (flat_map events_of turns)
+  are_left : AreLeft options.bursts (length turns) next
+
+module _ (options : ServeOptions) (left next : Option ℕ) (before now between after : Option (List Event)) (old middle new : GatewayValue) (done more : Totals) (i j : Inbox)
+    (h : IsPartway options left before now old middle done) (is_next : IsNext left next) (empty : Holds i []) (gathered : Gathers options.controllers.now now between i j)
+    (some : (packets : List Packet) → Holds j packets → 0 < length packets) (answered : IsAnsweredBy j between after middle new done more) where
+  turned : IsTurned options next before after old new more
+  turned =
+      let came = taken options.controllers.now gathered.packets in
+      let holds : Holds j came = gathered.holds [] empty in
+      let burst = answered came holds in
+      let turn : Turn = record { came = gathered.packets; sent = burst.0 } in
+      let is_turn : IsTurn options turn middle new done more = record { goes_on = h.goes_on; some = some came holds; answered = burst.2 } in
+      record {
+        turns = h.turns ++ turn ∷ [];
+        goes = goes_more options h.turns turn old middle new no_totals done more h.goes is_turn;
+        happened = subst (λ (l : List Event). Happens before after l)
+            (sym (flat_map-append events_of h.turns (turn ∷ []) ∙ ap (λ (l : List Event). flat_map events_of h.turns ++ l) (append-nil (events_of turn))))
+            (Happens-trans before now after _ _ h.happened (Happens-trans now between after _ _ gathered.happened burst.1));
+        are_left = after_one options.bursts left next h.turns turn is_next h.are_left;
+      }
+
+  pub stepped : ¬ IsFull options.give_up more → IsPartway options next before after old new more
+  stepped goes_on = record { turns = turned.turns; goes = turned.goes; happened = turned.happened; are_left = turned.are_left; goes_on = goes_on }
+
+  -- too many were dropped
+  pub overfull : (fault : ServeFault) → fault ≡ Full → IsFull options.give_up more → Serves options before after old new (Err fault)
+  overfull fault is full = record {
+    turns = turned.turns;
+    rest = [];
+    totals = more;
+    goes = turned.goes;
+    happened = subst (λ (l : List Event). Happens before after l) (sym (append-nil (flat_map events_of turned.turns))) turned.happened;
+    end = (no_more options.bursts next (length turned.turns) turned.are_left, subst (λ (f : ServeFault). IsForDropped options.give_up more f) (sym is) full);
+    last = tt;
+  }
+
+-- the same, by what a server had at the start, before the turn, with its burst and behind it
+module _ (first before_turn with_burst_in_hand behind : Server) (same_options : before_turn.options ≡ first.options) (same : HasSame before_turn with_burst_in_hand) (kept : behind.options ≡ with_burst_in_hand.options)
+    (left next : Option ℕ) (before now between after : Option (List Event)) (old middle new : GatewayValue)
+    (h : IsPartway first.options left before now old middle before_turn.totals) (is_next : IsNext left next) (empty : Holds before_turn.inbox [])
+    (gathered : Gathers before_turn.options.controllers.now now between before_turn.inbox with_burst_in_hand.inbox)
+    (some : (packets : List Packet) → Holds with_burst_in_hand.inbox packets → 0 < length packets)
+    (answered : IsAnsweredBy with_burst_in_hand.inbox between after middle new with_burst_in_hand.totals behind.totals) where
+  all_kept : behind.options ≡ first.options
+  all_kept = kept ∙ same.options ∙ same_options
+
+  gathered_for : Gathers first.options.controllers.now now between before_turn.inbox with_burst_in_hand.inbox
+  gathered_for = subst (λ (o : ServeOptions). Gathers o.controllers.now now between before_turn.inbox with_burst_in_hand.inbox) same_options gathered
+
+  answered_from : IsAnsweredBy with_burst_in_hand.inbox between after middle new before_turn.totals behind.totals
+  answered_from = subst (λ (t : Totals). IsAnsweredBy with_burst_in_hand.inbox between after middle new t behind.totals) same.totals answered
+
+  pub server_stepped : ¬ IsFull behind.options.give_up behind.totals → IsPartway first.options next before after old new behind.totals
+  server_stepped goes_on =
+      stepped first.options left next before now between after old middle new before_turn.totals behind.totals before_turn.inbox with_burst_in_hand.inbox h is_next empty gathered_for some answered_from
+      (subst (λ (o : ServeOptions). ¬ IsFull o.give_up behind.totals) all_kept goes_on)
+
+  pub server_overfull : (fault : ServeFault) → fault ≡ Full → IsFull behind.options.give_up behind.totals → Serves first.options before after old new (Err fault)
+  server_overfull fault is full =
+      overfull first.options left next before now between after old middle new before_turn.totals behind.totals before_turn.inbox with_burst_in_hand.inbox h is_next empty gathered_for some answered_from
+      fault is (subst (λ (o : ServeOptions). IsFull o.give_up behind.totals) all_kept full)
 
 -- ---- one burst
 
--- the burst was carried out, and its answers sent
-pub carried_out : (inbox : Inbox) (letters : List Letter) (answers : List Datagram) (a b : Option (List Event)) (old new : GatewayValue) → Holds inbox letters → inbox.is_refused ≡ false → IsWithinLimits inbox.datagrams.items
-    → AnswersBurst old inbox.datagrams.items answers new → Happens a b (sent_all (letters_to inbox.senders.items answers))
-    → (sent : List Letter) × Happens a b (sent_all sent) × IsAnswered letters sent old new
-carried_out inbox letters answers a b old new h whole limits answered happened = (
-  letters_to (senders_of letters) answers,
-  subst (λ (l : List SocketAddr). Happens a b (sent_all (letters_to l answers))) (h.senders whole) happened,
-  inl (answers, subst (λ (l : List Datagram). IsWithinLimits l) (h.datagrams whole) limits, subst (λ (l : List Datagram). AnswersBurst old l answers new) (h.datagrams whole) answered, refl),
-)
+length-burst_from : (place : ℕ) (packets : List Packet) → length (burst_from place packets) ≡ length packets
+length-burst_from place [] = refl
+length-burst_from place (packet ∷ packets) = ap suc (length-burst_from (place + 1) packets)
 
--- it was let go
-pub let_go : (letters : List Letter) (a : Option (List Event)) (old new : GatewayValue) → new ≡ old → (sent : List Letter) × Happens a a (sent_all sent) × IsAnswered letters sent old new
-let_go letters a old new same = ([], Happens-refl a, inr (refl, same))
+length-burst : (packets : List Packet) → length (burst_of packets) ≡ length packets
+length-burst packets = length-burst_from 0 packets
+
+-- the burst was executed, and its answers sent
+pub executed : (inbox : Inbox) (packets : List Packet) (answers : List Datagram) (counts : BurstCounts) (a b : Option (List Event)) (old new : GatewayValue) (before after : Totals) → Holds inbox packets → inbox.is_refused ≡ false
+    → IsWithinLimits inbox.datagrams.items → AnswersBurst old inbox.datagrams.items answers new → CountsBurst old inbox.datagrams.items counts → Happens a b (sent_all (packets_to inbox.senders.items answers))
+    → after ≡ with_burst before (length inbox.datagrams.items) counts (length answers)
+    → (sent : List Packet) × Happens a b (sent_all sent) × IsAnswered packets sent old new before after
+executed inbox packets answers counts a b old new before after h whole limits answered numbers happened total =
+    let same : inbox.datagrams.items ≡ burst_of packets = h.datagrams whole in (
+      packets_to (senders_of packets) answers,
+      subst (λ (l : List SocketAddr). Happens a b (sent_all (packets_to l answers))) (h.senders whole) happened,
+      inl (
+        answers,
+        counts,
+        subst (λ (l : List Datagram). IsWithinLimits l) same limits,
+        subst (λ (l : List Datagram). AnswersBurst old l answers new) same answered,
+        subst (λ (l : List Datagram). CountsBurst old l counts) same numbers,
+        refl,
+        total ∙ ap (λ (n : ℕ). with_burst before n counts (length answers)) (ap (λ (l : List Datagram). length l) same ∙ length-burst packets),
+      ),
+    )
+
+-- it was dropped
+pub dropped : (packets : List Packet) (a : Option (List Event)) (old new : GatewayValue) (before after : Totals) → new ≡ old → after ≡ with_dropped before
+    → (sent : List Packet) × Happens a a (sent_all sent) × IsAnswered packets sent old new before after
+dropped packets a old new before after same total = ([], Happens-refl a, inr (refl, same, total))
 
 -- ---- before the first turn
 
@@ -142,6 +239,13 @@ some_turns : (most : Option ℕ) → IfSome most (λ m. 0 ≤ m)
 some_turns None = tt
 some_turns (Some m) = omega arith
 
-pub not_begun : (most : Option ℕ) (a : Option (List Event)) (gateway : GatewayValue) (r : Result Unit ServeFault) → IsErr r → Serves most a a gateway gateway r
-not_begun most a gateway (Ok done) h = absurd (false≢true h)
-not_begun most a gateway (Err fault) h = record { turns = []; rest = []; goes = refl; happened = Happens-refl a; counted = some_turns most; last = tt }
+pub not_begun : (options : ServeOptions) (a : Option (List Event)) (gateway : GatewayValue) (fault : ServeFault) → ¬ (fault ≡ Full) → Serves options a a gateway gateway (Err fault)
+not_begun options a gateway fault other = record {
+  turns = [];
+  rest = [];
+  totals = no_totals;
+  goes = (refl, refl);
+  happened = Happens-refl a;
+  end = (some_turns options.bursts, for_other options.give_up no_totals fault (none_dropped options.give_up) other);
+  last = tt;
+}

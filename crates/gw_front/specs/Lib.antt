@@ -1,7 +1,10 @@
 pub mod Answering
+pub mod Controllers
 pub mod Events
 pub mod Inboxes
 pub mod Serving
+pub mod Servers
+pub mod TotalNumbers
 pub mod Records
 pub mod RecordFaults
 pub mod Headers

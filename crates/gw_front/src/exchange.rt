@@ -1,7 +1,8 @@
-//! What serving asks of a network: the next datagram, to send one, to wait for one.
+//! What serving needs of a network: the next datagram, to send one, to wait for one.
 
-ghost use Rattle.std.specs.Prelude.{List, [], ◌∷◌, Option, None, ◌≤◌, length, take, IfOk, OnErr};
-ghost use Rattle.gw_front.specs.Events.{Letter, Event, came_all, sent_all, Happens};
+ghost use Rattle.std.specs.Prelude.{◌≡◌, List, [], ◌∷◌, Option, None, ◌≤◌, length, take, IfOk, IfErr, OnErr};
+ghost use Rattle.gw_front.specs.Events.{Packet, Event, came_all, sent_all, Happens};
+ghost use Rattle.gw_front.specs.declared.serve_fault.ServeFault.TheVariants.{Full};
 
 use crate::serve_fault::ServeFault;
 use mio::net::UdpSocket;
@@ -55,11 +56,9 @@ pub(crate) struct Bound {
 
 impl Bound {
     /// A socket bound to the address, under a poll that waits for its datagrams.
-    pub(crate) fn bind(
-        rt: &impl Net,
-        alloc: Global,
-        addr: SocketAddr,
-    ) -> Result<Bound, ServeFault> {
+    pub(crate) fn bind(rt: &impl Net, alloc: Global, addr: SocketAddr) -> Result<Bound, ServeFault>
+        ensures { IfErr result (λ fault. ¬ (fault ≡ Full)) }
+    {
         let events = Events::with_capacity(alloc, 1)?;
         let Ok(mut socket) = UdpSocket::bind(rt, addr) else {
             return Err(ServeFault::Bind);

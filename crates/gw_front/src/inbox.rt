@@ -2,13 +2,15 @@
 
 ghost use Rattle.std.specs.Prelude.{◌≡◌, ◌==◌, ◌+◌, ◌<◌, ◌≤◌, ◌++◌, ◌∷◌, [], false, List, length, slice_get, IfOk, OnOk, OnErr, IsTrue};
 ghost use Rattle.gw_engine.specs.Bursts.{AnswersBurst};
-ghost use Rattle.gw_front.specs.Events.{Letter};
+ghost use Rattle.gw_engine.specs.Counts.{CountsBurst};
+ghost use Rattle.gw_front.specs.Events.{Packet};
 ghost use Rattle.gw_front.specs.Serving.{IsWithinLimits, burst_of};
 
-use crate::crew::Crew;
+use crate::controllers::{Controller, is_admitted};
 use crate::exchange::Exchange;
+use crate::workers::Workers;
 use gw_base::{Items, NoMemory};
-use gw_engine::{Datagram, Gate, Gateway, Octets};
+use gw_engine::{BurstAnswers, Datagram, Gate, Gateway, Octets};
 use std::alloc::{AllocError, Global};
 use std::io;
 use std::net::SocketAddr;
@@ -19,6 +21,17 @@ pub(crate) const LARGEST_BURST: u32 = 256;
 
 /// How many bytes a datagram may have: what fits a UDP datagram over IPv4.
 pub(crate) const LONGEST_DATAGRAM: usize = 65_507;
+
+/// What became of a datagram that came.
+#[derive(Clone, Copy)]
+pub(crate) enum Receipt {
+    /// It is one of the burst.
+    Taken,
+    /// It was dropped: it is from no controller.
+    Stranger,
+    /// It was dropped: it is too long.
+    TooLong,
+}
 
 /// The burst in hand. A datagram's peer is the place of its sender.
 #[derive(Drop)]
@@ -49,7 +62,7 @@ impl Inbox {
 
     /// Whether nothing came.
     pub(crate) fn is_empty(&self) -> bool
-        ensures none { (letters : List Letter) → Holds self.now letters → result ≡ (length letters == 0) }
+        ensures none { (packets : List Packet) → Holds self.now packets → result ≡ (length packets == 0) }
         ensures senders { IsTrue result → self.now.senders.items ≡ [] }
     {
         !self.is_refused && self.senders.is_empty()
@@ -85,7 +98,7 @@ impl Inbox {
     pub(crate) fn take(&mut self, alloc: Global, bytes: &[u8], sender: SocketAddr)
         requires short { length bytes.now ≤ 65507 }
         requires room { length self.old.senders.items < 256 }
-        ensures taken { (letters : List Letter) → Holds self.old letters → Holds self.new (letters ++ record { bytes = bytes.now; address = sender } ∷ []) }
+        ensures taken { (packets : List Packet) → Holds self.old packets → Holds self.new (packets ++ record { bytes = bytes.now; address = sender } ∷ []) }
         ensures grown { length self.new.senders.items ≤ length self.old.senders.items + 1 }
     {
         if self.push(alloc, bytes, sender).is_err() {
@@ -93,7 +106,7 @@ impl Inbox {
         }
     }
 
-    /// Takes the next datagram of a network, unless it is too long; whether it was taken.
+    /// Takes the next datagram of a network, if it is one of a controller and not too long; what became of it.
     ///
     /// # Errors
     ///
@@ -101,20 +114,25 @@ impl Inbox {
     pub(crate) fn receive<S: Exchange>(
         &mut self,
         alloc: Global,
+        controllers: &[Controller],
         exchange: &mut S,
         buffer: &mut [u8],
-    ) -> io::Result<bool>
+    ) -> io::Result<Receipt>
         requires { length self.old.senders.items < 256 }
-        ensures gathered { Gathers (S.course exchange.old) (S.course exchange.new) self.old self.new }
+        ensures gathered { Gathers controllers.now (S.course exchange.old) (S.course exchange.new) self.old self.new }
         ensures grown { length self.new.senders.items ≤ length self.old.senders.items + 1 }
+        ensures stranger { IfOk result (λ receipt. receipt ≡ Receipt.Stranger → self.new ≡ self.old) }
     {
         match exchange.receive(buffer) {
             Ok((count, sender)) => {
+                if !is_admitted(controllers, sender) {
+                    return Ok(Receipt::Stranger);
+                }
                 if count > LONGEST_DATAGRAM {
-                    return Ok(false);
+                    return Ok(Receipt::TooLong);
                 }
                 self.take(alloc, &buffer[..count], sender);
-                Ok(true)
+                Ok(Receipt::Taken)
             }
             Err(e) => Err(e),
         }
@@ -127,25 +145,33 @@ impl Inbox {
         self.senders.get(peer as usize).copied()
     }
 
+    /// How many datagrams the burst has.
+    pub(crate) fn len(&self) -> usize
+        ensures { result ≡ length self.now.datagrams.items }
+    {
+        self.datagrams.len()
+    }
+
     /// The gateway's answers to the burst.
     ///
     /// # Errors
     ///
-    /// Want of memory, also where it was refused to a datagram of the burst. The gateway is then as it was.
+    /// Out of memory, also where it was refused to a datagram of the burst. The gateway is then as it was.
     pub(crate) fn run<T: Threads + Sync, G: Gate>(
         &self,
-        crew: &Crew<'_, T, G>,
+        workers: &Workers<'_, T, G>,
         alloc: Global,
         gateway: &mut Gateway,
-    ) -> Result<Items<Datagram>, NoMemory>
+    ) -> Result<BurstAnswers, NoMemory>
         ensures limits { IsWithinLimits self.now.datagrams.items }
-        ensures answers { IfOk result (λ answers. AnswersBurst gateway.old self.now.datagrams.items answers gateway.new) }
+        ensures answers { IfOk result (λ done. AnswersBurst gateway.old self.now.datagrams.items done.answers gateway.new) }
+        ensures counts { IfOk result (λ done. CountsBurst gateway.old self.now.datagrams.items done.counts) }
         ensures whole { OnOk result (self.now.is_refused ≡ false) }
         ensures refused { OnErr result (gateway.new ≡ gateway.old) }
     {
         if self.is_refused {
             return Err(NoMemory);
         }
-        crew.run(alloc, gateway, self.datagrams.as_slice())
+        workers.run(alloc, gateway, self.datagrams.as_slice())
     }
 }

@@ -11,6 +11,8 @@ pub(crate) enum Loss {
     Burst,
     /// A datagram that is too long.
     Datagram,
+    /// A datagram that is from no controller.
+    Stranger,
     /// An answer that could not be sent.
     Send,
 }
@@ -18,9 +20,10 @@ pub(crate) enum Loss {
 /// How often each was lost.
 #[derive(Clone, Copy)]
 pub(crate) struct Losses {
-    bursts: u64,
-    datagrams: u64,
-    sends: u64,
+    pub(crate) bursts: u64,
+    pub(crate) datagrams: u64,
+    pub(crate) strangers: u64,
+    pub(crate) sends: u64,
 }
 
 /// One more; a count that is full stays.
@@ -29,14 +32,15 @@ fn more(count: &mut u64) -> u64 {
     *count
 }
 
-/// Writes a line, and flushes. A writer that fails is let be.
-fn tell<W: Write>(out: &mut W, loss: Loss, count: u64) {
-    let told = match loss {
+/// Writes a line, and flushes. A writer that fails changes nothing.
+fn write_loss<W: Write>(out: &mut W, loss: Loss, count: u64) {
+    let written = match loss {
         Loss::Burst => writeln!(out, "dropped {count} bursts: no memory"),
         Loss::Datagram => writeln!(out, "dropped {count} datagrams: too long"),
+        Loss::Stranger => writeln!(out, "dropped {count} datagrams: not a controller"),
         Loss::Send => writeln!(out, "failed {count} sends"),
     };
-    if told.is_ok() {
+    if written.is_ok() {
         let _ = out.flush();
     }
 }
@@ -46,6 +50,7 @@ impl Losses {
     pub(crate) const NONE: Losses = Losses {
         bursts: 0,
         datagrams: 0,
+        strangers: 0,
         sends: 0,
     };
 
@@ -54,10 +59,11 @@ impl Losses {
         let count = match loss {
             Loss::Burst => more(&mut self.bursts),
             Loss::Datagram => more(&mut self.datagrams),
+            Loss::Stranger => more(&mut self.strangers),
             Loss::Send => more(&mut self.sends),
         };
         if count.is_power_of_two() {
-            tell(out, loss, count);
+            write_loss(out, loss, count);
         }
     }
 }

@@ -9,9 +9,9 @@ use crate::answers::write_answers;
 use crate::burst_reading::{Next, next_burst};
 use crate::counted::Counted;
 use crate::counts::Counts;
-use crate::crew::Crew;
 use crate::replay_fault::ReplayFault;
 use crate::spares::Spares;
+use crate::workers::Workers;
 use gw_engine::{Datagram, Gate, Gateway};
 use std::alloc::Global;
 use std::io::{BufReader, Read, Write};
@@ -25,7 +25,7 @@ const PIECE: usize = 65_536;
 
 /// Carries a burst out and writes its answers; the counts with it.
 fn carry_out<T: Threads + Sync, G: Gate, W: Write>(
-    crew: &Crew<'_, T, G>,
+    workers: &Workers<'_, T, G>,
     alloc: Global,
     out: &mut W,
     held: &mut Vec<u8>,
@@ -37,7 +37,7 @@ fn carry_out<T: Threads + Sync, G: Gate, W: Write>(
     ensures done { IsBurstDone burst.now counts (W.contents out.old) (W.contents out.new) gateway.old gateway.new result }
     ensures empty { OnOk result (held.new.items ≡ []) }
 {
-    let answers = crew.run(alloc, gateway, burst)?;
+    let answers = workers.run(alloc, gateway, burst)?.answers;
     // No replay lives to see so many answers. They could not be told, so this burst's are not written.
     let Some(counts) = counts.with_burst(burst.len(), answers.len()) else {
         return Err(ReplayFault::Write);
@@ -48,7 +48,7 @@ fn carry_out<T: Threads + Sync, G: Gate, W: Write>(
 
 /// Carries out the bursts of an input, one after another.
 fn replay_all<T: Threads + Sync, G: Gate, R: Read, W: Write>(
-    crew: &Crew<'_, T, G>,
+    workers: &Workers<'_, T, G>,
     alloc: Global,
     input: &mut BufReader<R>,
     out: &mut W,
@@ -63,11 +63,11 @@ fn replay_all<T: Threads + Sync, G: Gate, R: Read, W: Write>(
     for _turn in 0..u64::MAX {
         match next_burst(alloc, input, spares)? {
             Next::Burst(burst) => {
-                counts = carry_out(crew, alloc, out, held, gateway, burst.as_slice(), counts)?;
+                counts = carry_out(workers, alloc, out, held, gateway, burst.as_slice(), counts)?;
                 spares.give_all(alloc, burst);
             }
             Next::Last(burst) => {
-                return carry_out(crew, alloc, out, held, gateway, burst.as_slice(), counts);
+                return carry_out(workers, alloc, out, held, gateway, burst.as_slice(), counts);
             }
             Next::End => return Ok(counts),
         }
@@ -105,9 +105,9 @@ pub fn replay<T: Threads + Sync, R: Read, W: Write, G: Gate>(
     };
     let mut held = Vec::with_capacity(alloc, PIECE)?;
     let mut spares = Spares::new(alloc)?;
-    let crew = Crew::new(rt, workers, gate);
+    let workers = Workers::new(rt, workers, gate);
     replay_all(
-        &crew,
+        &workers,
         alloc,
         &mut input,
         writer,

@@ -15,12 +15,15 @@ pub enum ServeFault {
     /// The system refused to wait for datagrams.
     #[error("the socket cannot be waited for")]
     Poll,
-    /// A datagram could not be received. The burst in hand was not carried out.
+    /// A datagram could not be received. The burst in hand was not executed.
     #[error("a datagram cannot be received")]
     Receive,
-    /// A growth was refused before the first burst.
+    /// Memory was refused before the first burst.
     #[error("no memory")]
     NoMemory,
+    /// As many bursts in a row were dropped for memory as may be.
+    #[error("no memory for burst after burst")]
+    Full,
 }
 
 impl From<AllocError> for ServeFault {

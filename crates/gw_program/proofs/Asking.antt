@@ -1,15 +1,15 @@
 -- What the words ask for, from what `clap` tells.
-use Rattle.std.proofs.Common.{◌≡◌, ◌≤◌, ◌∙◌, ◌&&◌, ◌||◌, ℕ, Bool, arith, cond, true, false, not, List, [], ◌∷◌, Option, Some, None, Result, Ok, Err, IfOk, refl, sym, ap, ap₂, subst, inl, inr, codes, is_some, true≢false, find}
+use Rattle.std.proofs.Common.{◌≡◌, ◌≤◌, ◌<◌, ◌+◌, ◌++◌, map, take, length, get_or, ◌∙◌, ◌&&◌, ◌||◌, ℕ, Bool, arith, cond, true, false, not, List, [], ◌∷◌, Option, Some, None, Result, Ok, Err, IfOk, refl, sym, ap, ap₂, subst, inl, inr, codes, is_some, true≢false, find}
 use Rattle.std.specs.Prelude.{IfSome, IsOkAnd, option_map, unwrap_or, fold}
 use Rattle.std.specs.Borrow.{Bor}
 use Rattle.std.proofs.lemmas.Slice.Eq.{bytes_eq-Decides}
 use Rattle.std.specs.Str.{bytes_eq}
 use Rattle.std.specs.Str.Parse.{ParsesUnsigned}
-use Rattle.clap.proofs.WalkLemmas.{first_value-rows, one_text-rows}
+use Rattle.clap.proofs.WalkLemmas.{first_value-rows, one_text-rows, raw_values-rows}
 use Rattle.clap.specs.Built.{AddsSubcommand}
 use Rattle.clap.specs.Faults.{other_fault, step_fault, turn_fault, walk_fault, word_fault}
 use Rattle.clap.specs.Kinds.{Kinds, or_else}
-use Rattle.clap.specs.Matches.{ReadsOne, first_value, found_of, one_text, subcommand_name_of}
+use Rattle.clap.specs.Matches.{ReadsOne, first_value, found_of, matched_of, one_text, raw_values, subcommand_name_of}
 use Rattle.clap.specs.Simple.{App, Shape, app_of, built, entered, label_of, names_of, rows_at, subcommand_of, subcommand_rows_of, with_subcommand}
 use Rattle.clap.specs.Walk.{Held, Names, Outcome, Row, Rule, Step, Text, Waiting, Walk, after_flag, after_step, answers_to, arg_by_index, arg_by_long, bundle, done, idle, long_met, long_or_other, next, nothing_held, one_of, option, plain, plain_word, positional, refused, rows_of, short_or_plain, subcommand, subcommand_met, subcommand_or_other, to_positional, trailing, value, waits, walk, walk_from, walked, walked_from, word_met}
 use Rattle.clap.specs.Lexer.{long_of, short_of}
@@ -20,7 +20,12 @@ use Rattle.clap.specs.declared.parser.matches.ArgMatches.TheViews.{out-ArgMatche
 use Rattle.clap.specs.declared.parser.matches.Found.{Found}
 use Rattle.std.specs.Box.{box_value}
 use Rattle.gw_program.specs.Commands.{alone, program_app}
-use Rattle.gw_program.specs.Words.{AreAsked, IsCommand, IsFlag, IsNumber, given, mistakes}
+use Rattle.clap.specs.declared.error.Error.{Error}
+use Rattle.std.specs.List.{AllZip}
+use Rattle.std.proofs.lemmas.List.{take_more}
+use Rattle.gw_program.specs.Words.{AreAsked, HasNoAddress, IsCommand, IsFlag, IsKindOf, IsMistaken, IsNumber, IsUnnamedIn, controller_texts, given, mistake_kind, mistakes}
+use Rattle.gw_program.specs.declared.mistake.Mistake.{Mistake}
+use Rattle.gw_program.specs.declared.mistake.Mistake.TheVariants as mistake
 
 -- ---- the commands
 
@@ -213,3 +218,48 @@ entered_command (Some p) ok =
 -- words without a mistake name one of the commands, or none
 pub command_named : (words : List Text) → mistakes words ≡ [] → IfSome (subcommand_of program_app words) (λ p. IsCommand p.0)
 command_named words sound = entered_command _ (sound_stop words sound)
+
+-- ---- mistakes
+
+-- a relation to texts that are looked at through another value
+pub zip_mapped : {A B C : Type 0} (R : B → C → Type 0) (f : A → B) (xs : List A) (ys : List C) → AllZip (λ x y. R (f x) y) xs ys → AllZip R (map f xs) ys
+zip_mapped R f [] [] h = h
+zip_mapped R f [] (y ∷ ys) h = absurd h
+zip_mapped R f (x ∷ xs) [] h = absurd h
+zip_mapped R f (x ∷ xs) (y ∷ ys) h = (h.0, zip_mapped R f xs ys h.1)
+
+pub zip_last : {A B : Type 0} (R : A → B → Type 0) (xs : List A) (ys : List B) (x : A) (y : B) → AllZip R xs ys → R x y → AllZip R (xs ++ x ∷ []) (ys ++ y ∷ [])
+zip_last R [] [] x y h r = (r, h)
+zip_last R [] (b ∷ ys) x y h r = absurd h
+zip_last R (a ∷ xs) [] x y h r = absurd h
+zip_last R (a ∷ xs) (b ∷ ys) x y h r = (h.0, zip_last R xs ys x y h.1 r)
+
+pub zip_more : {A B : Type 0} (R : A → B → Type 0) (xs : List A) (ys : List B) (i : ℕ) (d : A) (y : B) → i < length xs → AllZip R (take i xs) ys → R (get_or xs i d) y → AllZip R (take (i + 1) xs) (ys ++ y ∷ [])
+zip_more {A} {B} R xs ys i d y within all r = subst (λ (l : List A). AllZip R l (ys ++ y ∷ [])) (sym (take_more xs i d within)) (zip_last R (take i xs) ys (get_or xs i d) y all r)
+
+-- the texts of the controllers
+pub texts_given : (f : Found) (texts : Option (Bor (List (Bor Text)))) → option_map (λ s. map (λ v. v.now) s.now) texts ≡ option_map raw_values (matched_of f (codes "CONTROLLER"))
+    → unwrap_or (option_map (λ s. map (λ v. v.now) s.now) texts) [] ≡ controller_texts (rows_of f)
+texts_given f texts e = ap (λ (o : Option (List Text)). unwrap_or o []) (e ∙ raw_values-rows f (codes "CONTROLLER"))
+
+unnamed_words : (found : Option (Text × List Row)) (error : Error) → IsUnnamedIn found (mistake.Words error) → ⊥
+unnamed_words None error h = h
+unnamed_words (Some f) error h = h
+
+-- what is wrong with a controller of the words
+pub unnamed_mistaken : (words : List Text) (found : Option (Text × List Row)) (m : Mistake) → mistakes words ≡ [] → found ≡ subcommand_of program_app words → IsUnnamedIn found m → IsMistaken words m
+unnamed_mistaken words found (mistake.Words error) sound same h = absurd (unnamed_words found error h)
+unnamed_mistaken words found (mistake.Controller text) sound same h = (sound, subst (λ (o : Option (Text × List Row)). IsUnnamedIn o (mistake.Controller text)) same h)
+unnamed_mistaken words found mistake.NoMemory sound same h = tt
+
+no_address : (found : Option (Text × List Row)) (text : Bor Text) → IsUnnamedIn found (mistake.Controller text) → HasNoAddress found
+no_address None text h = h
+no_address (Some f) text h = (text.now, h.0, h.1)
+
+pub kind_of_mistake : (words : List Text) (m : Mistake) → IsMistaken words m → IsKindOf words (mistake_kind m)
+kind_of_mistake words (mistake.Words error) h = elim h [
+  | inl e ↦ inl e
+  | inr a ↦ inr (inl a)
+]
+kind_of_mistake words (mistake.Controller text) h = inr (inr (refl, no_address (subcommand_of program_app words) text h.1))
+kind_of_mistake words mistake.NoMemory h = inl refl

@@ -11,10 +11,13 @@ use Rattle.gw_front.specs.Replays.{IsReplay}
 use Rattle.gw_front.specs.declared.counts.Counts.{Counts}
 use Rattle.gw_front.specs.declared.replay_fault.ReplayFault.{ReplayFault}
 use Rattle.gw_front.specs.declared.serve_fault.ServeFault.{ServeFault}
-use Rattle.gw_front.specs.declared.serve_fault.ServeFault.TheVariants.{Bind, Poll, Receive, NoMemory}
+use Rattle.gw_front.specs.declared.serve_fault.ServeFault.TheVariants.{Bind, Poll, Receive, NoMemory, Full}
+use Rattle.gw_front.specs.declared.serve_options.ServeOptions.{ServeOptions}
+use Rattle.gw_front.specs.declared.totals.Totals.{Totals}
 use Rattle.gw_front.proofs.Served.{not_begun}
 use Rattle.gw_program.specs.Faults.{of_replay}
-use Rattle.gw_program.specs.Jobs.{IsReplayJob, IsServeJob, IsServedAt, IsUntoldFor}
+use Rattle.gw_program.specs.Jobs.{AreOptions, IsReplayJob, IsServeJob, IsServedAt, IsUntoldFor}
+use Rattle.gw_program.specs.declared.job.Serving.{Serving}
 use Rattle.gw_program.specs.declared.fault.Fault.{Fault}
 use Rattle.gw_program.specs.declared.fault.Fault.TheVariants as why
 
@@ -30,13 +33,23 @@ plain old new input out after counts h = record { counts = counts; new = new; be
 pub with_tables : (old new : GatewayValue) (input out between after : Option (List ℕ)) (counts : Counts) → IsReplay input out between old new (Ok counts) → Appends between after (audit_text new) → IsReplayJob true old input out after (Ok tt)
 with_tables old new input out between after counts h audited = record { counts = counts; new = new; between = between; replayed = h; audited = audited }
 
-pub unbound : (listen : List ℕ) (most : Option ℕ) (gateway : GatewayValue) (out : Option (List ℕ)) → IsServeJob listen most gateway out out (Err why.ServeBind)
-unbound listen most gateway out = record { served = Err Bind; new = gateway; address = tt; serves = not_begun most None gateway (Err Bind) refl; begins = λ start. Keeps-refl out; becomes = refl }
+pub unbound : (serving : Serving) (options : ServeOptions) (gateway : GatewayValue) (out : Option (List ℕ)) → AreOptions serving options → IsServeJob serving gateway out out (Err why.ServeBind)
+unbound serving options gateway out are = record {
+  options = options;
+  are_options = are;
+  served = Err Bind;
+  new = gateway;
+  address = tt;
+  serves = not_begun options None gateway Bind (λ e. cc);
+  begins = λ start. Keeps-refl out;
+  becomes = refl;
+}
 
 -- however it ended, where the text is an address
-pub served_at : (listen : List ℕ) (address : SocketAddr) (served : Result Unit ServeFault) → IsSocketText listen address → IsServedAt listen served
+pub served_at : (listen : List ℕ) (address : SocketAddr) (served : Result Totals ServeFault) → IsSocketText listen address → IsServedAt listen served
 served_at listen address (Ok done) is = (address, is)
 served_at listen address (Err Bind) is = tt
 served_at listen address (Err Poll) is = (address, is)
 served_at listen address (Err Receive) is = (address, is)
 served_at listen address (Err NoMemory) is = (address, is)
+served_at listen address (Err Full) is = (address, is)

@@ -13,10 +13,14 @@ use Rattle.clap.proofs.ValueTestLemmas.{Accepts-accepts, accepts-Accepts}
 use Rattle.clap.specs.ValueTests.{is_unsigned_in}
 use Rattle.clap.specs.Values.{refused_kind}
 use Rattle.clap.specs.declared.builder.value_parser.ValueParser.TheVariants.{Unsigned}
-use Rattle.gw_program.specs.Forms.{Asks, IsCount, IsCrew, IsPlain, Request, answer, answers, answers_by, check, checks, everywhere, nothing, number_of, replay, replays, replays_and_tells, replays_and_tells_by, replays_by, request_of, serve, serves, serves_at, serves_at_by, serves_at_so_long, serves_by, serves_by_so_long, serves_so_long}
-use Rattle.gw_program.specs.Words.{AreAsked, IsAsked, IsFlag, IsJobOf, IsNumber, given, mistakes}
-use Rattle.gw_program.specs.declared.command_line.Job.{Job}
-use Rattle.gw_program.specs.declared.command_line.Job.TheVariants as job
+use Rattle.gw_program.specs.Forms.{Asks, IsCount, IsCrew, IsPlain, Request, answer, answers, answers_by, check, checks, everywhere, nothing, number_of, plain, replay, replays, replays_and_tells, replays_and_tells_by, replays_by, request_of, serve, serves, serves_at, serves_at_by, serves_at_so_long, serves_by, serves_by_so_long, serves_so_long, Terms}
+use Rattle.gw_front.specs.Controllers.{IsControllerText}
+use Rattle.gw_front.specs.declared.controllers.Controller.{Controller}
+use Rattle.gw_program.specs.Words.{AreAsked, IsAsked, IsFlag, IsJobOf, IsNumber, controller_texts, given, mistakes}
+use Rattle.gw_program.specs.declared.job.Serving.{Serving}
+use Rattle.std.specs.List.{AllZip}
+use Rattle.gw_program.specs.declared.job.Job.{Job}
+use Rattle.gw_program.specs.declared.job.Job.TheVariants as job
 
 -- a word that is no flag
 record IsWord (word : Text) : Type 0 where
@@ -38,6 +42,9 @@ record Seen : Type 0 where
   audit : Option Text
   workers : Option Text
   bursts : Option Text
+  controllers : List Text
+  report : Option Text
+  give_up : Option Text
 
 abbrev seen : Option (Text × List Row) → Option Seen
 seen = option_map (λ p. record {
@@ -48,10 +55,13 @@ seen = option_map (λ p. record {
   audit = one_of (codes "audit") p.1;
   workers = one_of (codes "WORKERS") p.1;
   bursts = one_of (codes "N") p.1;
+  controllers = controller_texts p.1;
+  report = one_of (codes "REPORT") p.1;
+  give_up = one_of (codes "GIVE_UP") p.1;
 })
 
 abbrev no_more : Text → Text → Seen
-no_more name file = record { name = name; file = file; listen = []; config = None; audit = None; workers = None; bursts = None }
+no_more name file = record { name = name; file = file; listen = []; config = None; audit = None; workers = None; bursts = None; controllers = []; report = None; give_up = None }
 
 -- one worker, where the words name no number
 abbrev alone : Text
@@ -164,9 +174,12 @@ listen_found : (f a : Text) → IsWord f → IsWord a → seen (subcommand_of pr
 unfolding clap_on_literals
 listen_found f a w v = rw (w.plain, w.other) (rw w.plain (rw (v.plain, v.other) (rw v.plain refl)))
 
-serve_crew_sound : (f n : Text) → IsWord f → IsWord n → is_unsigned_in 1 64 n ≡ true → mistakes (codes "serve" ∷ (f ∷ (codes "--workers" ∷ (n ∷ [])))) ≡ []
+serve_crew_kinds : (f n : Text) → IsWord f → IsWord n → mistakes (codes "serve" ∷ (f ∷ (codes "--workers" ∷ (n ∷ [])))) ≡ crew_kinds (is_unsigned_in 1 64 n)
 unfolding clap_on_literals
-serve_crew_sound f n w v c = rw (w.plain, w.other) (rw w.plain (rw (v.plain, v.other) (rw v.plain (rw c refl))))
+serve_crew_kinds f n w v = rw (w.plain, w.other) (rw w.plain (rw (v.plain, v.other) (rw v.plain refl)))
+
+serve_crew_sound : (f n : Text) → IsWord f → IsWord n → is_unsigned_in 1 64 n ≡ true → mistakes (codes "serve" ∷ (f ∷ (codes "--workers" ∷ (n ∷ [])))) ≡ []
+serve_crew_sound f n w v c = serve_crew_kinds f n w v ∙ ap crew_kinds c
 
 serve_crew_found : (f n : Text) → IsWord f → IsWord n → seen (subcommand_of program_app (codes "serve" ∷ (f ∷ (codes "--workers" ∷ (n ∷ []))))) ≡ Some (served f everywhere n None)
 unfolding clap_on_literals
@@ -224,13 +237,22 @@ crew_bursts_found f n b w v u = rw (w.plain, w.other) (rw w.plain (rw (v.plain, 
 
 -- ---- the job of what is seen
 
+record IsSeenServing (s : Seen) (serving : Serving) : Type 0 where
+  file : serving.file.now ≡ s.file
+  listen : serving.listen.now ≡ s.listen
+  workers : AreAsked s.workers serving.workers.count
+  bursts : IsNumber s.bursts serving.bursts
+  controllers : AllZip IsControllerText s.controllers serving.controllers.items
+  report : IsNumber s.report serving.report
+  give_up : IsNumber s.give_up serving.give_up
+
 abbrev IsSeenJob : Option Seen → Job → Type 0
 IsSeenJob None asked = asked ≡ job.BuiltIn
 IsSeenJob (Some s) job.BuiltIn = ⊥
 IsSeenJob (Some s) (job.Answer file) = (s.name ≡ codes "answer") × (option_map (λ f. f.now) file ≡ s.config)
 IsSeenJob (Some s) (job.Check file) = (s.name ≡ codes "check") × (file.now ≡ s.file)
 IsSeenJob (Some s) (job.Replay file audit workers) = (s.name ≡ codes "replay") × (file.now ≡ s.file) × IsFlag s.audit audit × AreAsked s.workers workers.count
-IsSeenJob (Some s) (job.Serve file listen workers bursts) = (s.name ≡ codes "serve") × (file.now ≡ s.file) × (listen.now ≡ s.listen) × AreAsked s.workers workers.count × IsNumber s.bursts bursts
+IsSeenJob (Some s) (job.Serve serving) = (s.name ≡ codes "serve") × IsSeenServing s serving
 
 by_seen : (found : Option (Text × List Row)) (asked : Job) → IsJobOf found asked → IsSeenJob (seen found) asked
 by_seen None asked h = h
@@ -238,7 +260,8 @@ by_seen (Some p) job.BuiltIn h = h
 by_seen (Some p) (job.Answer file) h = h
 by_seen (Some p) (job.Check file) h = h
 by_seen (Some p) (job.Replay file audit workers) h = h
-by_seen (Some p) (job.Serve file listen workers bursts) h = h
+by_seen (Some p) (job.Serve serving) (named, h) =
+    (named, record { file = h.file; listen = h.listen; workers = h.workers; bursts = h.bursts; controllers = h.controllers; report = h.report; give_up = h.give_up })
 
 as_seen : (words : List Text) (asked : Job) (s : Option Seen) → seen (subcommand_of program_app words) ≡ s → IsAsked words asked → IsSeenJob s asked
 as_seen words asked s e h = subst (λ (o : Option Seen). IsSeenJob o asked) e (by_seen (subcommand_of program_app words) asked h.found)
@@ -252,14 +275,14 @@ of_answer s job.BuiltIn n h = absurd h
 of_answer s (job.Answer file) n h = ap answer h.1
 of_answer s (job.Check file) n h = absurd (apart _ _ 97 99 (sym n ∙ h.0) refl refl (λ e. omega (arith, e)))
 of_answer s (job.Replay file audit workers) n h = absurd (apart _ _ 97 114 (sym n ∙ h.0) refl refl (λ e. omega (arith, e)))
-of_answer s (job.Serve file listen workers bursts) n h = absurd (apart _ _ 97 115 (sym n ∙ h.0) refl refl (λ e. omega (arith, e)))
+of_answer s (job.Serve serving) n h = absurd (apart _ _ 97 115 (sym n ∙ h.0) refl refl (λ e. omega (arith, e)))
 
 of_check : (s : Seen) (asked : Job) → s.name ≡ codes "check" → IsSeenJob (Some s) asked → request_of asked ≡ check s.file
 of_check s job.BuiltIn n h = absurd h
 of_check s (job.Answer file) n h = absurd (apart _ _ 99 97 (sym n ∙ h.0) refl refl (λ e. omega (arith, e)))
 of_check s (job.Check file) n h = ap check h.1
 of_check s (job.Replay file audit workers) n h = absurd (apart _ _ 99 114 (sym n ∙ h.0) refl refl (λ e. omega (arith, e)))
-of_check s (job.Serve file listen workers bursts) n h = absurd (apart _ _ 99 115 (sym n ∙ h.0) refl refl (λ e. omega (arith, e)))
+of_check s (job.Serve serving) n h = absurd (apart _ _ 99 115 (sym n ∙ h.0) refl refl (λ e. omega (arith, e)))
 
 of_replay : (s : Seen) (asked : Job) (told : Bool) (crew : ℕ) → s.name ≡ codes "replay" → ((flag : Bool) → IsFlag s.audit flag → flag ≡ told) → ((n : ℕ) → AreAsked s.workers n → n ≡ crew) → IsSeenJob (Some s) asked
     → request_of asked ≡ replay s.file told crew
@@ -267,16 +290,29 @@ of_replay s job.BuiltIn told crew n flag by h = absurd h
 of_replay s (job.Answer file) told crew n flag by h = absurd (apart _ _ 114 97 (sym n ∙ h.0) refl refl (λ e. omega (arith, e)))
 of_replay s (job.Check file) told crew n flag by h = absurd (apart _ _ 114 99 (sym n ∙ h.0) refl refl (λ e. omega (arith, e)))
 of_replay s (job.Replay file audit workers) told crew n flag by h = ap₂ (λ (f : Text) (r : Bool × ℕ). replay f r.0 r.1) h.1 (ap₂ (λ (a : Bool) (b : ℕ). (a, b)) (flag audit h.2) (by workers.count h.3))
-of_replay s (job.Serve file listen workers bursts) told crew n flag by h = absurd (apart _ _ 114 115 (sym n ∙ h.0) refl refl (λ e. omega (arith, e)))
+of_replay s (job.Serve serving) told crew n flag by h = absurd (apart _ _ 114 115 (sym n ∙ h.0) refl refl (λ e. omega (arith, e)))
 
-of_serve : (s : Seen) (asked : Job) (crew : ℕ) (most : Option ℕ) → s.name ≡ codes "serve" → ((n : ℕ) → AreAsked s.workers n → n ≡ crew) → ((n : Option ℕ) → IsNumber s.bursts n → n ≡ most) → IsSeenJob (Some s) asked
-    → request_of asked ≡ serve s.file s.listen crew most
-of_serve s job.BuiltIn crew most n by read h = absurd h
-of_serve s (job.Answer file) crew most n by read h = absurd (apart _ _ 115 97 (sym n ∙ h.0) refl refl (λ e. omega (arith, e)))
-of_serve s (job.Check file) crew most n by read h = absurd (apart _ _ 115 99 (sym n ∙ h.0) refl refl (λ e. omega (arith, e)))
-of_serve s (job.Replay file audit workers) crew most n by read h = absurd (apart _ _ 115 114 (sym n ∙ h.0) refl refl (λ e. omega (arith, e)))
-of_serve s (job.Serve file listen workers bursts) crew most n by read h =
-    ap₂ (λ (f : Text × Text) (r : ℕ × Option ℕ). serve f.0 f.1 r.0 r.1) (ap₂ (λ (a b : Text). (a, b)) h.1 h.2) (ap₂ (λ (a : ℕ) (b : Option ℕ). (a, b)) (by workers.count h.3) (read bursts h.4))
+-- no controllers
+none_named : (controllers : List Controller) → AllZip IsControllerText [] controllers → controllers ≡ []
+none_named [] h = refl
+none_named (c ∷ cs) h = absurd h
+
+of_serve : (s : Seen) (asked : Job) (crew : ℕ) (most : Option ℕ) → s.name ≡ codes "serve" → s.controllers ≡ [] → s.report ≡ None → s.give_up ≡ None → ((n : ℕ) → AreAsked s.workers n → n ≡ crew) → ((n : Option ℕ) → IsNumber s.bursts n → n ≡ most)
+    → IsSeenJob (Some s) asked → request_of asked ≡ serve s.file s.listen (record plain { workers = crew; bursts = most })
+of_serve s job.BuiltIn crew most n no_one no_report no_end by read h = absurd h
+of_serve s (job.Answer file) crew most n no_one no_report no_end by read h = absurd (apart _ _ 115 97 (sym n ∙ h.0) refl refl (λ e. omega (arith, e)))
+of_serve s (job.Check file) crew most n no_one no_report no_end by read h = absurd (apart _ _ 115 99 (sym n ∙ h.0) refl refl (λ e. omega (arith, e)))
+of_serve s (job.Replay file audit workers) crew most n no_one no_report no_end by read h = absurd (apart _ _ 115 114 (sym n ∙ h.0) refl refl (λ e. omega (arith, e)))
+of_serve s (job.Serve serving) crew most n no_one no_report no_end by read (named, h) =
+    let terms : Terms = record { workers = serving.workers.count; bursts = serving.bursts; controllers = serving.controllers.items; report = serving.report; give_up = serving.give_up } in
+    let same : terms ≡ record plain { workers = crew; bursts = most } = λ i. record {
+      workers = by serving.workers.count h.workers i;
+      bursts = read serving.bursts h.bursts i;
+      controllers = none_named serving.controllers.items (subst (λ (l : List Text). AllZip IsControllerText l serving.controllers.items) no_one h.controllers) i;
+      report = subst (λ (o : Option Text). IsNumber o serving.report) no_report h.report i;
+      give_up = subst (λ (o : Option Text). IsNumber o serving.give_up) no_end h.give_up i;
+    } in
+    λ i. serve (h.file i) (h.listen i) (same i)
 
 read_number : (word : Text) (n : Option ℕ) → IsCount word → IsNumber (Some word) n → n ≡ Some (number_of word)
 read_number word (Some n) count h = ap (λ (x : ℕ). Some x) h
@@ -305,26 +341,26 @@ form_asks _ _ (replays_and_tells_by f n p q c) = (
   audit_crew_sound f n (word_of f p) (word_of n q) (crews n c),
   λ asked h. of_replay (replayed f (codes "true") n) asked true (number_of n) refl (λ flag g. g.0 refl) (by_many n c) (as_seen _ asked (Some (replayed f (codes "true") n)) (audit_crew_found f n (word_of f p) (word_of n q)) h),
 )
-form_asks _ _ (serves f p) = (serve_sound f (word_of f p), λ asked h. of_serve (served f everywhere alone None) asked 1 None refl by_one (λ n g. g) (as_seen _ asked (Some (served f everywhere alone None)) (serve_found f (word_of f p)) h))
-form_asks _ _ (serves_at f a p q) = (listen_sound f a (word_of f p) (word_of a q), λ asked h. of_serve (served f a alone None) asked 1 None refl by_one (λ n g. g) (as_seen _ asked (Some (served f a alone None)) (listen_found f a (word_of f p) (word_of a q)) h))
+form_asks _ _ (serves f p) = (serve_sound f (word_of f p), λ asked h. of_serve (served f everywhere alone None) asked 1 None refl refl refl refl by_one (λ n g. g) (as_seen _ asked (Some (served f everywhere alone None)) (serve_found f (word_of f p)) h))
+form_asks _ _ (serves_at f a p q) = (listen_sound f a (word_of f p) (word_of a q), λ asked h. of_serve (served f a alone None) asked 1 None refl refl refl refl by_one (λ n g. g) (as_seen _ asked (Some (served f a alone None)) (listen_found f a (word_of f p) (word_of a q)) h))
 form_asks _ _ (serves_by f n p q c) = (
   serve_crew_sound f n (word_of f p) (word_of n q) (crews n c),
-  λ asked h. of_serve (served f everywhere n None) asked (number_of n) None refl (by_many n c) (λ n g. g) (as_seen _ asked (Some (served f everywhere n None)) (serve_crew_found f n (word_of f p) (word_of n q)) h),
+  λ asked h. of_serve (served f everywhere n None) asked (number_of n) None refl refl refl refl (by_many n c) (λ n g. g) (as_seen _ asked (Some (served f everywhere n None)) (serve_crew_found f n (word_of f p) (word_of n q)) h),
 )
 form_asks _ _ (serves_at_by f a n p q r c) = (
   crew_at_sound f a n (word_of f p) (word_of a q) (word_of n r) (crews n c),
-  λ asked h. of_serve (served f a n None) asked (number_of n) None refl (by_many n c) (λ n g. g) (as_seen _ asked (Some (served f a n None)) (crew_at_found f a n (word_of f p) (word_of a q) (word_of n r)) h),
+  λ asked h. of_serve (served f a n None) asked (number_of n) None refl refl refl refl (by_many n c) (λ n g. g) (as_seen _ asked (Some (served f a n None)) (crew_at_found f a n (word_of f p) (word_of a q) (word_of n r)) h),
 )
 form_asks _ _ (serves_so_long f b p r c) = (
   bursts_sound f b (word_of f p) (word_of b r) (counts b c),
-  λ asked h. of_serve (served f everywhere alone (Some b)) asked 1 (Some (number_of b)) refl by_one (λ n g. read_number b n c g) (as_seen _ asked (Some (served f everywhere alone (Some b))) (bursts_found f b (word_of f p) (word_of b r)) h),
+  λ asked h. of_serve (served f everywhere alone (Some b)) asked 1 (Some (number_of b)) refl refl refl refl by_one (λ n g. read_number b n c g) (as_seen _ asked (Some (served f everywhere alone (Some b))) (bursts_found f b (word_of f p) (word_of b r)) h),
 )
 form_asks _ _ (serves_at_so_long f a b p q r c) = (
   both_sound f a b (word_of f p) (word_of a q) (word_of b r) (counts b c),
-  λ asked h. of_serve (served f a alone (Some b)) asked 1 (Some (number_of b)) refl by_one (λ n g. read_number b n c g) (as_seen _ asked (Some (served f a alone (Some b))) (both_found f a b (word_of f p) (word_of a q) (word_of b r)) h),
+  λ asked h. of_serve (served f a alone (Some b)) asked 1 (Some (number_of b)) refl refl refl refl by_one (λ n g. read_number b n c g) (as_seen _ asked (Some (served f a alone (Some b))) (both_found f a b (word_of f p) (word_of a q) (word_of b r)) h),
 )
 form_asks _ _ (serves_by_so_long f n b p q c r d) = (
   crew_bursts_sound f n b (word_of f p) (word_of n q) (crews n c) (word_of b r) (counts b d),
-  λ asked h. of_serve (served f everywhere n (Some b)) asked (number_of n) (Some (number_of b)) refl (by_many n c) (λ m g. read_number b m d g)
+  λ asked h. of_serve (served f everywhere n (Some b)) asked (number_of n) (Some (number_of b)) refl refl refl refl (by_many n c) (λ m g. read_number b m d g)
       (as_seen _ asked (Some (served f everywhere n (Some b))) (crew_bursts_found f n b (word_of f p) (word_of n q) (word_of b r)) h),
 )

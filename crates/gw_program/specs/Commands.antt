@@ -2,7 +2,7 @@
 use Rattle.std.specs.Prelude.{ℕ, [], ◌∷◌, List, Some, true, false, codes}
 use Rattle.clap.specs.Simple.{App, Shape, new_rule, new_shape}
 use Rattle.clap.specs.Walk.{Rule}
-use Rattle.clap.specs.declared.builder.action.ArgAction.TheVariants.{SetTrue}
+use Rattle.clap.specs.declared.builder.action.ArgAction.TheVariants.{Append, SetTrue}
 use Rattle.clap.specs.declared.builder.value_parser.ValueParser.TheVariants.{Unsigned}
 
 -- FILE, which must be there
@@ -24,6 +24,18 @@ listen_rule = record (new_rule (codes "ADDR")) { long = Some (codes "listen"); d
 -- `--bursts N`, a number of 64 bits
 abbrev pub bursts_rule : Rule
 bursts_rule = record (new_rule (codes "N")) { long = Some (codes "bursts"); parser = Some (Unsigned 0 18446744073709551615) }
+
+-- `--controller ADDR`, any number of times
+abbrev pub controller_rule : Rule
+controller_rule = record (new_rule (codes "CONTROLLER")) { long = Some (codes "controller"); value_names = 1; action = Some Append }
+
+-- `--report SECONDS`, a number of 64 bits
+abbrev pub report_rule : Rule
+report_rule = record (new_rule (codes "REPORT")) { long = Some (codes "report"); value_names = 1; parser = Some (Unsigned 0 18446744073709551615) }
+
+-- `--give-up N`, a number of 64 bits, from 1 on
+abbrev pub give_up_rule : Rule
+give_up_rule = record (new_rule (codes "GIVE_UP")) { long = Some (codes "give-up"); value_names = 1; parser = Some (Unsigned 1 18446744073709551615) }
 
 -- `--workers N`, a number from 1 to 64; 1 without it
 abbrev pub workers_rule : Rule
@@ -47,7 +59,7 @@ abbrev pub replay_command : Shape
 replay_command = command_of (codes "replay") (file_rule ∷ (audit_rule ∷ (workers_rule ∷ [])))
 
 abbrev pub serve_command : Shape
-serve_command = command_of (codes "serve") (file_rule ∷ (listen_rule ∷ (workers_rule ∷ (bursts_rule ∷ []))))
+serve_command = command_of (codes "serve") (file_rule ∷ (listen_rule ∷ (workers_rule ∷ (bursts_rule ∷ (controller_rule ∷ (report_rule ∷ (give_up_rule ∷ [])))))))
 
 -- the program: its words come without its name, and it has a version
 abbrev pub program_app : App

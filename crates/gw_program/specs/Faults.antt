@@ -38,6 +38,7 @@ of_serve serve.Bind = fault.ServeBind
 of_serve serve.Poll = fault.ServePoll
 of_serve serve.Receive = fault.ServeReceive
 of_serve serve.NoMemory = fault.NoMemory
+of_serve serve.Full = fault.NoMemory
 
 -- the line of a fault, without its line feed
 abbrev pub line_of : Fault → List ℕ

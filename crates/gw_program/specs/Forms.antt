@@ -1,10 +1,24 @@
--- The forms of the command line that docs/OPERATIONS.md shows, and what each asks for (own): `serve` with two of its three options at most.
+-- Forms of the command line that docs/OPERATIONS.md shows, and what each asks for (own): `serve` with two at most of an address, a number of
+-- workers and one of bursts.
 use Rattle.std.specs.Prelude.{◌≢◌, ⊤, ℕ, Bool, true, false, List, [], ◌∷◌, codes, Option, Some, None, option_map}
 use Rattle.std.specs.Str.Parse.{digits_value, without_leading_plus}
 use Rattle.clap.specs.Values.{IsUnsignedIn}
 use Rattle.clap.specs.Walk.{Text}
-use Rattle.gw_program.specs.declared.command_line.Job.{Job}
-use Rattle.gw_program.specs.declared.command_line.Job.TheVariants as job
+use Rattle.gw_front.specs.declared.controllers.Controller.{Controller}
+use Rattle.gw_program.specs.declared.job.Job.{Job}
+use Rattle.gw_program.specs.declared.job.Job.TheVariants as job
+
+-- how words ask to serve, apart from the file and the address
+pub record Terms : Type 0 where
+  pub workers : ℕ
+  pub bursts : Option ℕ
+  pub controllers : List Controller
+  pub report : Option ℕ
+  pub give_up : Option ℕ
+
+-- one worker, and nothing else
+abbrev pub plain : Terms
+plain = record { workers = 1; bursts = None; controllers = []; report = None; give_up = None }
 
 -- what words ask for: a job, apart from where its texts lie
 pub data Request : Type 0 where
@@ -12,14 +26,15 @@ pub data Request : Type 0 where
   answer : Option Text → Request
   check : Text → Request
   replay : Text → Bool → ℕ → Request
-  serve : Text → Text → ℕ → Option ℕ → Request
+  serve : Text → Text → Terms → Request
 
 abbrev pub request_of : Job → Request
 request_of job.BuiltIn = built_in
 request_of (job.Answer file) = answer (option_map (λ f. f.now) file)
 request_of (job.Check file) = check file.now
 request_of (job.Replay file audit workers) = replay file.now audit workers.count
-request_of (job.Serve file listen workers bursts) = serve file.now listen.now workers.count bursts
+request_of (job.Serve s) =
+    serve s.file.now s.listen.now (record { workers = s.workers.count; bursts = s.bursts; controllers = s.controllers.items; report = s.report; give_up = s.give_up })
 
 -- the word does not begin with a hyphen
 abbrev pub IsPlain : Text → Type 0
@@ -51,10 +66,10 @@ pub data Asks : List Text → Request → Type 0 where
   replays_and_tells : (file : Text) → IsPlain file → Asks (codes "replay" ∷ (file ∷ (codes "--audit" ∷ []))) (replay file true 1)
   replays_by : (file workers : Text) → IsPlain file → IsPlain workers → IsCrew workers → Asks (codes "replay" ∷ (file ∷ (codes "--workers" ∷ (workers ∷ [])))) (replay file false (number_of workers))
   replays_and_tells_by : (file workers : Text) → IsPlain file → IsPlain workers → IsCrew workers → Asks (codes "replay" ∷ (file ∷ (codes "--audit" ∷ (codes "--workers" ∷ (workers ∷ []))))) (replay file true (number_of workers))
-  serves : (file : Text) → IsPlain file → Asks (codes "serve" ∷ (file ∷ [])) (serve file everywhere 1 None)
-  serves_at : (file listen : Text) → IsPlain file → IsPlain listen → Asks (codes "serve" ∷ (file ∷ (codes "--listen" ∷ (listen ∷ [])))) (serve file listen 1 None)
-  serves_by : (file workers : Text) → IsPlain file → IsPlain workers → IsCrew workers → Asks (codes "serve" ∷ (file ∷ (codes "--workers" ∷ (workers ∷ [])))) (serve file everywhere (number_of workers) None)
-  serves_at_by : (file listen workers : Text) → IsPlain file → IsPlain listen → IsPlain workers → IsCrew workers → Asks (codes "serve" ∷ (file ∷ (codes "--listen" ∷ (listen ∷ (codes "--workers" ∷ (workers ∷ [])))))) (serve file listen (number_of workers) None)
-  serves_so_long : (file bursts : Text) → IsPlain file → IsPlain bursts → IsCount bursts → Asks (codes "serve" ∷ (file ∷ (codes "--bursts" ∷ (bursts ∷ [])))) (serve file everywhere 1 (Some (number_of bursts)))
-  serves_by_so_long : (file workers bursts : Text) → IsPlain file → IsPlain workers → IsCrew workers → IsPlain bursts → IsCount bursts → Asks (codes "serve" ∷ (file ∷ (codes "--workers" ∷ (workers ∷ (codes "--bursts" ∷ (bursts ∷ [])))))) (serve file everywhere (number_of workers) (Some (number_of bursts)))
-  serves_at_so_long : (file listen bursts : Text) → IsPlain file → IsPlain listen → IsPlain bursts → IsCount bursts → Asks (codes "serve" ∷ (file ∷ (codes "--listen" ∷ (listen ∷ (codes "--bursts" ∷ (bursts ∷ [])))))) (serve file listen 1 (Some (number_of bursts)))
+  serves : (file : Text) → IsPlain file → Asks (codes "serve" ∷ (file ∷ [])) (serve file everywhere plain)
+  serves_at : (file listen : Text) → IsPlain file → IsPlain listen → Asks (codes "serve" ∷ (file ∷ (codes "--listen" ∷ (listen ∷ [])))) (serve file listen plain)
+  serves_by : (file workers : Text) → IsPlain file → IsPlain workers → IsCrew workers → Asks (codes "serve" ∷ (file ∷ (codes "--workers" ∷ (workers ∷ [])))) (serve file everywhere (record plain { workers = number_of workers }))
+  serves_at_by : (file listen workers : Text) → IsPlain file → IsPlain listen → IsPlain workers → IsCrew workers → Asks (codes "serve" ∷ (file ∷ (codes "--listen" ∷ (listen ∷ (codes "--workers" ∷ (workers ∷ [])))))) (serve file listen (record plain { workers = number_of workers }))
+  serves_so_long : (file bursts : Text) → IsPlain file → IsPlain bursts → IsCount bursts → Asks (codes "serve" ∷ (file ∷ (codes "--bursts" ∷ (bursts ∷ [])))) (serve file everywhere (record plain { bursts = Some (number_of bursts) }))
+  serves_by_so_long : (file workers bursts : Text) → IsPlain file → IsPlain workers → IsCrew workers → IsPlain bursts → IsCount bursts → Asks (codes "serve" ∷ (file ∷ (codes "--workers" ∷ (workers ∷ (codes "--bursts" ∷ (bursts ∷ [])))))) (serve file everywhere (record plain { workers = number_of workers; bursts = Some (number_of bursts) }))
+  serves_at_so_long : (file listen bursts : Text) → IsPlain file → IsPlain listen → IsPlain bursts → IsCount bursts → Asks (codes "serve" ∷ (file ∷ (codes "--listen" ∷ (listen ∷ (codes "--bursts" ∷ (bursts ∷ [])))))) (serve file listen (record plain { bursts = Some (number_of bursts) }))

@@ -20,13 +20,16 @@ use Rattle.gw_front.specs.declared.counts.Counts.{Counts}
 use Rattle.gw_front.specs.declared.replay_fault.ReplayFault.{ReplayFault}
 use Rattle.gw_front.specs.declared.serve_fault.ServeFault.{ServeFault}
 use Rattle.gw_front.specs.declared.serve_fault.ServeFault.TheVariants.{Bind}
+use Rattle.gw_front.specs.declared.serve_options.ServeOptions.{ServeOptions}
+use Rattle.gw_front.specs.declared.totals.Totals.{Totals}
 use Rattle.gw_program.specs.Faults.{of_replay, of_serve}
 use Rattle.gw_program.specs.Outcomes.{IsTold, IsExplained}
 use Rattle.gw_program.specs.Standings.{Standing}
 use Rattle.gw_program.specs.Start.{start}
-use Rattle.gw_program.specs.Words.{IsAsked, mistakes}
-use Rattle.gw_program.specs.declared.command_line.Job.{Job}
-use Rattle.gw_program.specs.declared.command_line.Job.TheVariants as job
+use Rattle.gw_program.specs.Words.{IsAsked}
+use Rattle.gw_program.specs.declared.job.Job.{Job}
+use Rattle.gw_program.specs.declared.job.Job.TheVariants as job
+use Rattle.gw_program.specs.declared.job.Serving.{Serving}
 use Rattle.gw_program.specs.declared.ended.Ended.{Ended}
 use Rattle.gw_program.specs.declared.fault.Fault.{Fault}
 use Rattle.gw_program.specs.declared.fault.Fault.TheVariants as why
@@ -132,8 +135,8 @@ IsReplayJob audit old input out out′ (Ok done) = IsToEnd (told_tables audit) o
 IsReplayJob audit old input out out′ (Err fault) = IsStoppedBy fault old input out out′ ⊎ IsUntold audit fault old input out out′
 
 -- what becomes of a run below
-abbrev pub ended_by : {E : Type 0} → (E → Fault) → Result Unit E → Result Unit Fault
-ended_by becomes (Ok done) = Ok done
+abbrev pub ended_by : {A E : Type 0} → (E → Fault) → Result A E → Result Unit Fault
+ended_by becomes (Ok done) = Ok tt
 ended_by becomes (Err fault) = Err (becomes fault)
 
 -- one datagram, answered by this gateway
@@ -144,16 +147,26 @@ pub record IsAnswerJob (old : GatewayValue) (input out out′ : Option (List ℕ
   pub becomes : ended ≡ ended_by of_replay answered
 
 -- Only an address is served: the text is one, unless nothing was bound.
-abbrev pub IsServedAt : List ℕ → Result Unit ServeFault → Type 0
+abbrev pub IsServedAt : List ℕ → Result Totals ServeFault → Type 0
 IsServedAt listen (Err Bind) = ⊤
 IsServedAt listen _ = (address : SocketAddr) × IsSocketText listen address
 
+-- what serving is told of the words
+pub record AreOptions (serving : Serving) (options : ServeOptions) : Type 0 where
+  pub workers : options.workers ≡ serving.workers.count
+  pub bursts : options.bursts ≡ serving.bursts
+  pub controllers : options.controllers.now ≡ serving.controllers.items
+  pub report : options.report ≡ serving.report
+  pub give_up : options.give_up ≡ serving.give_up
+
 -- controllers, served by this gateway; nothing is out where the address could not be bound, nor where memory was refused at the start
-pub record IsServeJob (listen : List ℕ) (most : Option ℕ) (old : GatewayValue) (out out′ : Option (List ℕ)) (ended : Result Unit Fault) : Type 0 where
-  pub served : Result Unit ServeFault
+pub record IsServeJob (serving : Serving) (old : GatewayValue) (out out′ : Option (List ℕ)) (ended : Result Unit Fault) : Type 0 where
+  pub options : ServeOptions
+  pub are_options : AreOptions serving options
+  pub served : Result Totals ServeFault
   pub new : GatewayValue
-  pub address : IsServedAt listen served
-  pub serves : ServesSome most old new served
+  pub address : IsServedAt serving.listen.now served
+  pub serves : ServesSome options old new served
   pub begins : IfErr served (λ fault. IsAtStart fault → Keeps out out′)
   pub becomes : ended ≡ ended_by of_serve served
 
@@ -163,7 +176,7 @@ file_of job.BuiltIn = None
 file_of (job.Answer file) = option_map (λ f. f.now) file
 file_of (job.Check file) = Some file.now
 file_of (job.Replay file audit workers) = Some file.now
-file_of (job.Serve file listen workers bursts) = Some file.now
+file_of (job.Serve serving) = Some serving.file.now
 
 -- what a job does with its gateway
 abbrev pub IsDoneWith : Job → GatewayValue → (input out out′ : Option (List ℕ)) → Result Unit Fault → Type 0
@@ -171,7 +184,7 @@ IsDoneWith job.BuiltIn gateway input out out′ ended = IsReplayJob false gatewa
 IsDoneWith (job.Answer file) gateway input out out′ ended = IsAnswerJob gateway input out out′ ended
 IsDoneWith (job.Check file) gateway input out out′ ended = ⊤
 IsDoneWith (job.Replay file audit workers) gateway input out out′ ended = IsReplayJob audit gateway input out out′ ended
-IsDoneWith (job.Serve file listen workers bursts) gateway input out out′ ended = IsServeJob listen.now bursts gateway out out′ ended
+IsDoneWith (job.Serve serving) gateway input out out′ ended = IsServeJob serving gateway out out′ ended
 
 -- the fault of a job whose gateway could not be made, and nothing is out
 abbrev pub IsNotBegun : Fault → (out out′ : Option (List ℕ)) → Result Unit Fault → Type 0
@@ -197,4 +210,4 @@ pub record IsJobEnd {F : Type 0} (held : F → Option (List ℕ)) (words : List 
 
 -- how the program ends on these words: the job that they ask for was done, or they ask for none
 abbrev pub IsEnd : {F : Type 0} → (F → Option (List ℕ)) → List (List ℕ) → (input out out′ : Option (List ℕ)) → (err err′ : Standing) → Ended → Type 0
-IsEnd held words input out out′ err err′ ended = IsJobEnd held words input out out′ err err′ ended ⊎ IsExplained (mistakes words) ended out out′ err err′
+IsEnd held words input out out′ err err′ ended = IsJobEnd held words input out out′ err err′ ended ⊎ IsExplained words ended out out′ err err′

@@ -5,12 +5,13 @@ use Rattle.gw_program.specs.declared.ended.Ended.{Ended}
 use Rattle.gw_program.specs.declared.ended.Ended.TheVariants.{Done, Misused, Failed}
 use Rattle.gw_program.specs.declared.fault.Fault.{Fault}
 use Rattle.gw_program.specs.declared.fault.Fault.TheVariants as why
-use Rattle.clap.specs.Kinds.{IsAmong, Kinds}
+use Rattle.clap.specs.Walk.{Text}
 use Rattle.clap.specs.declared.error.kind.ErrorKind.{ErrorKind}
 use Rattle.clap.specs.declared.error.kind.ErrorKind.TheVariants as asked
 use Rattle.std.specs.declared.io.ErrorKind.{ErrorKind as ReadFault}
 use Rattle.std.specs.declared.io.ErrorKind.TheVariants.{OutOfMemory}
 use Rattle.gw_program.specs.Faults.{line_of}
+use Rattle.gw_program.specs.Words.{IsKindOf}
 use Rattle.gw_program.specs.Standings.{Standing, IsSilent, Tells}
 
 -- the exit status
@@ -47,10 +48,10 @@ IsExplainedBy kind Done out out′ err err′ = IsShown kind × IsSilent err err
 IsExplainedBy kind (Failed fault told) out out′ err err′ = (fault ≡ why.NoMemory) × Keeps out out′ × Tells (line_of fault ++ codes "\n") told err err′
 IsExplainedBy kind (Misused told) out out′ err err′ = IsMistake kind × Keeps out out′ × Says told err err′
 
--- The words ask for no job, since they have one of these mistakes, or memory was refused.
-pub record IsExplained (mistakes : Kinds) (ended : Ended) (out out′ : Option (List ℕ)) (err err′ : Standing) : Type 0 where
+-- The words ask for no job, since they have such a mistake, or memory was refused.
+pub record IsExplained (words : List Text) (ended : Ended) (out out′ : Option (List ℕ)) (err err′ : Standing) : Type 0 where
   pub kind : ErrorKind
-  pub is_one : (kind ≡ asked.OutOfMemory) ⊎ IsAmong kind mistakes
+  pub is_one : IsKindOf words kind
   pub explained : IsExplainedBy kind ended out out′ err err′
 
 -- The words could not be read: memory was refused to them, or one of them is no text, which standard error is told.

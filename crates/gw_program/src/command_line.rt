@@ -1,14 +1,19 @@
 //! The command line: its words, and what they ask for.
 
 ghost use Rattle.std.specs.Prelude.{◌≡◌, false, IfOk, IfErr, IfSome, IsOkAnd, codes, map};
-ghost use Rattle.clap.specs.Words.{AddsSubcommand, HasKind, found_of, app_of, rows_of, rule_of, subcommand_rows_of};
+ghost use Rattle.std.specs.List.{AllZip};
+ghost use Rattle.clap.specs.Words.{AddsSubcommand, found_of, app_of, rows_of, rule_of, subcommand_rows_of};
 ghost use Rattle.clap.specs.Walk.{one_of};
 ghost use Rattle.clap.specs.declared.builder.command.Command.TheViews.{out-Command as fields_of};
-ghost use Rattle.gw_program.specs.Commands.{alone, answer_command, audit_rule, bursts_rule, check_command, config_rule, file_rule, listen_rule, program_app, replay_command, serve_command, workers_rule};
-ghost use Rattle.gw_program.specs.Words.{AreAsked, IsAsked, IsAskedBy, IsCommand, IsJobOf, given, mistakes};
+ghost use Rattle.gw_front.specs.Controllers.{IsControllerText};
+ghost use Rattle.gw_program.specs.Commands.{alone, answer_command, audit_rule, bursts_rule, check_command, config_rule, controller_rule, file_rule, give_up_rule, listen_rule, program_app, replay_command, report_rule, serve_command, workers_rule};
+ghost use Rattle.gw_program.specs.Words.{AreAsked, IsAsked, IsAskedBy, IsCommand, IsJobOf, IsMistaken, IsServing, IsUnnamed, IsUnnamedIn, controller_texts, given};
 
+use crate::job::{Job, Serving};
+use crate::mistake::Mistake;
 use crate::workers::Workers;
-use clap::{Arg, ArgAction, ArgMatches, Command, Error, value_parser};
+use clap::{Arg, ArgAction, ArgMatches, Command, value_parser};
+use gw_front::Controller;
 use std::alloc::{AllocError, Global};
 use std::convert::AsStr;
 
@@ -61,36 +66,9 @@ const SERVE: &str = "Answers controllers over UDP";
 const SERVE_LONG: &str = "Answers controllers over UDP
 
 Reads FILE and makes its gateway. Binds the address, writes a line `listening` to standard output, and answers each datagram to
-where it came from, until it is ended by a signal. The calls of a gateway that ends are lost. What is dropped is told on standard
-output at the 1st, 2nd, 4th, 8th, .. time.";
-
-/// What the words ask for.
-#[derive(Clone, Copy)]
-pub enum Job<'a> {
-    /// A replay with the built-in configuration.
-    BuiltIn,
-    /// An answer to one datagram, of the file's gateway or the built-in one.
-    Answer {
-        file: Option<&'a str>,
-    },
-    /// The numbers of a configuration.
-    Check {
-        file: &'a str,
-    },
-    /// A replay by so many workers, and the tables behind its answers where they are asked for.
-    Replay {
-        file: &'a str,
-        audit: bool,
-        workers: Workers,
-    },
-    /// Controllers over UDP, served by so many workers, for so many bursts or without end.
-    Serve {
-        file: &'a str,
-        listen: &'a str,
-        workers: Workers,
-        bursts: Option<u64>,
-    },
-}
+where it came from, until it is ended by a signal. The calls of a gateway that ends are lost. With --controller only the datagrams
+of these controllers are read, and all others are dropped. What is dropped is said on standard output at the 1st, 2nd, 4th, 8th, ..
+time.";
 
 /// The configuration file of a command.
 fn file<'a>(alloc: Global) -> Arg<'a>
@@ -133,7 +111,7 @@ fn check<'a>(alloc: Global) -> Result<Command<'a>, AllocError>
         .arg(file(alloc))
 }
 
-/// Whether the tables are told.
+/// Whether the tables are written.
 fn audit<'a>(alloc: Global) -> Arg<'a>
     ensures rule { rule_of result ≡ audit_rule }
     ensures own { result.global ≡ false }
@@ -141,7 +119,7 @@ fn audit<'a>(alloc: Global) -> Arg<'a>
     Arg::new(alloc, "audit")
         .long("audit")
         .action(ArgAction::SetTrue)
-        .help("Tells the tables behind the last answers")
+        .help("Writes the tables behind the last answers")
 }
 
 /// How many workers carry a burst out.
@@ -191,6 +169,48 @@ fn bursts<'a>(alloc: Global) -> Arg<'a>
         .help("Ends after so many bursts, with 0 once the address is bound; without it, never")
 }
 
+/// Whose datagrams are read.
+fn controller<'a>(alloc: Global) -> Arg<'a>
+    ensures rule { rule_of result ≡ controller_rule }
+    ensures own { result.global ≡ false }
+{
+    Arg::new(alloc, "CONTROLLER")
+        .long("controller")
+        .value_name("ADDR")
+        .action(ArgAction::Append)
+        .help(
+            "A controller, as 10.0.0.9 or 10.0.0.9:2944; any number of them. Without one, every sender is answered",
+        )
+}
+
+/// How often a report is written.
+fn report<'a>(alloc: Global) -> Arg<'a>
+    ensures rule { rule_of result ≡ report_rule }
+    ensures own { result.global ≡ false }
+{
+    Arg::new(alloc, "REPORT")
+        .long("report")
+        .value_name("SECONDS")
+        .value_parser(value_parser!(u64))
+        .help(
+            "Writes a line of numbers after a burst, where so many seconds have gone since the last one",
+        )
+}
+
+/// After how many bursts in a row that were dropped serving ends.
+fn give_up<'a>(alloc: Global) -> Arg<'a>
+    ensures rule { rule_of result ≡ give_up_rule }
+    ensures own { result.global ≡ false }
+{
+    Arg::new(alloc, "GIVE_UP")
+        .long("give-up")
+        .value_name("N")
+        .value_parser(value_parser!(u64).range(1..))
+        .help(
+            "Ends with status 1 after so many bursts in a row that were dropped for memory; without it, never",
+        )
+}
+
 fn serve<'a>(alloc: Global) -> Result<Command<'a>, AllocError>
     ensures shape { IfOk result (λ command. app_of command ≡ alone serve_command) }
     ensures own { IfOk result (λ command. (fields_of command).has_globals ≡ false) }
@@ -201,7 +221,10 @@ fn serve<'a>(alloc: Global) -> Result<Command<'a>, AllocError>
         .arg(file(alloc))?
         .arg(listen(alloc))?
         .arg(workers(alloc))?
-        .arg(bursts(alloc))
+        .arg(bursts(alloc))?
+        .arg(controller(alloc))?
+        .arg(report(alloc))?
+        .arg(give_up(alloc))
 }
 
 /// A command with one more below it.
@@ -247,39 +270,86 @@ fn workers_in(matches: &ArgMatches<'_>) -> Workers
     Workers::of(matches.get_one::<u64>("WORKERS"))
 }
 
+/// The controllers that texts name.
+///
+/// # Errors
+///
+/// The first text that names none, or out of memory.
+fn controllers_of<'a>(alloc: Global, texts: &[&'a str]) -> Result<Vec<Controller>, Mistake<'a>>
+    ensures named { IfOk result (λ controllers. AllZip IsControllerText (map (λ t. t.now) texts.now) controllers.items) }
+    ensures mistaken { IfErr result (IsUnnamed (map (λ t. t.now) texts.now)) }
+{
+    let mut controllers = Vec::with_capacity(alloc, texts.len())?;
+    for text in texts {
+        match text.parse::<Controller>() {
+            Ok(controller) if controllers.push(controller).is_ok() => {}
+            Ok(_) => return Err(Mistake::NoMemory),
+            Err(_) => return Err(Mistake::Controller(text)),
+        }
+    }
+    Ok(controllers)
+}
+
+/// The controllers of the words.
+fn controllers_in<'a>(
+    alloc: Global,
+    matches: &ArgMatches<'a>,
+) -> Result<Vec<Controller>, Mistake<'a>>
+    ensures named { IfOk result (λ controllers. AllZip IsControllerText (controller_texts (rows_of (found_of matches.now))) controllers.items) }
+    ensures mistaken { IfErr result (IsUnnamed (controller_texts (rows_of (found_of matches.now)))) }
+{
+    match matches.get_strs("CONTROLLER") {
+        Some(texts) => controllers_of(alloc, texts),
+        None => Ok(Vec::new(alloc)),
+    }
+}
+
+/// How the matches of `serve` ask to serve.
+fn serving_of<'a>(alloc: Global, matches: &ArgMatches<'a>) -> Result<Serving<'a>, Mistake<'a>>
+    ensures asked { IfOk result (IsServing (rows_of (found_of matches.now))) }
+    ensures mistaken { IfErr result (IsUnnamed (controller_texts (rows_of (found_of matches.now)))) }
+{
+    Ok(Serving {
+        file: text_of(matches, "FILE"),
+        listen: text_of(matches, "ADDR"),
+        workers: workers_in(matches),
+        bursts: matches.get_one::<u64>("N"),
+        controllers: controllers_in(alloc, matches)?,
+        report: matches.get_one::<u64>("REPORT"),
+        give_up: matches.get_one::<u64>("GIVE_UP"),
+    })
+}
+
 /// What the matches of a command ask for.
-fn job_of<'a>(name: &str, matches: &ArgMatches<'a>) -> Job<'a>
+fn job_of<'a>(alloc: Global, name: &str, matches: &ArgMatches<'a>) -> Result<Job<'a>, Mistake<'a>>
     requires { IsCommand name.now }
-    ensures { IsAskedBy name.now (rows_of (found_of matches.now)) result }
+    ensures asked { IfOk result (IsAskedBy name.now (rows_of (found_of matches.now))) }
+    ensures mistaken { IfErr result (IsUnnamed (controller_texts (rows_of (found_of matches.now)))) }
 {
     let file = text_of(matches, "FILE");
     match name {
-        "answer" => Job::Answer {
+        "answer" => Ok(Job::Answer {
             file: matches.get_str("CONFIG"),
-        },
-        "check" => Job::Check { file },
-        "replay" => Job::Replay {
+        }),
+        "check" => Ok(Job::Check { file }),
+        "replay" => Ok(Job::Replay {
             file,
             audit: matches.get_flag("audit"),
             workers: workers_in(matches),
-        },
-        _ => Job::Serve {
-            file,
-            listen: text_of(matches, "ADDR"),
-            workers: workers_in(matches),
-            bursts: matches.get_one::<u64>("N"),
-        },
+        }),
+        _ => Ok(Job::Serve(serving_of(alloc, matches)?)),
     }
 }
 
 /// What matches of the program ask for.
-fn job_in<'a>(matches: &ArgMatches<'a>) -> Job<'a>
+fn job_in<'a>(alloc: Global, matches: &ArgMatches<'a>) -> Result<Job<'a>, Mistake<'a>>
     requires { IfSome (subcommand_rows_of matches.now) (λ found. IsCommand found.0) }
-    ensures { IsJobOf (subcommand_rows_of matches.now) result }
+    ensures asked { IfOk result (IsJobOf (subcommand_rows_of matches.now)) }
+    ensures mistaken { IfErr result (IsUnnamedIn (subcommand_rows_of matches.now)) }
 {
     match matches.subcommand() {
-        Some((name, inner)) => job_of(name, inner),
-        None => Job::BuiltIn,
+        Some((name, inner)) => job_of(alloc, name, inner),
+        None => Ok(Job::BuiltIn),
     }
 }
 
@@ -287,11 +357,14 @@ fn job_in<'a>(matches: &ArgMatches<'a>) -> Job<'a>
 ///
 /// # Errors
 ///
-/// A mistake in the words, a request for help or the version, or want of memory.
-pub(crate) fn read_words<'a, S: AsStr>(alloc: Global, words: &'a [S]) -> Result<Job<'a>, Error>
+/// A mistake in the words, a request for help or the version, or out of memory.
+pub(crate) fn read_words<'a, S: AsStr>(
+    alloc: Global,
+    words: &'a [S],
+) -> Result<Job<'a>, Mistake<'a>>
     ensures asked { IfOk result (IsAsked (map S.text words.entry.now)) }
-    ensures mistaken { IfErr result (HasKind (mistakes (map S.text words.entry.now))) }
+    ensures mistaken { IfErr result (IsMistaken (map S.text words.entry.now)) }
 {
     let matches = command(alloc)?.try_get_matches_from(words)?;
-    Ok(job_in(&matches))
+    job_in(alloc, &matches)
 }

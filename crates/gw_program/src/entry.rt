@@ -9,16 +9,17 @@ ghost use Rattle.gw_program.specs.Outcomes.{status_of};
 ghost use Rattle.gw_program.specs.declared.ended.Ended.{Ended as Ending};
 
 use crate::check::check;
-use crate::command_line::{Job, read_words};
+use crate::command_line::read_words;
 use crate::ended::Ended;
 use crate::fault::Fault;
 use crate::file::gateway_of;
 use crate::gateway::gateway;
+use crate::job::{Job, Serving};
 use crate::standard_error::StandardError;
 use crate::telling::{explained, told};
 use crate::workers::Workers;
 use gw_engine::{Gateway, OpenGate};
-use gw_front::{answer, replay, serve};
+use gw_front::{ServeOptions, answer, replay, serve};
 use std::alloc::Global;
 use std::convert::AsStr;
 use std::io::{Read, Write};
@@ -26,6 +27,7 @@ use std::net::{Net, SocketAddr};
 use std::rt::Files;
 use std::sync::Wait;
 use std::thread::Threads;
+use std::time::Clock;
 
 /// The gateway before the first datagram: that of the file, or the built-in one.
 fn start<'a, R: Files>(rt: &R, alloc: Global, file: Option<&'a str>) -> Result<Gateway, Fault<'a>>
@@ -89,21 +91,26 @@ fn answer_with<R: Threads + Sync, I: Read, W: Write>(
 }
 
 /// Serves a gateway at the address that a text is.
-fn serve_with<R: Net + Wait + Threads + Sync, W: Write>(
+fn serve_with<R: Net + Wait + Threads + Clock + Sync, W: Write>(
     rt: &R,
     alloc: Global,
     gateway: &mut Gateway,
-    listen: &str,
-    workers: Workers,
-    bursts: Option<u64>,
+    serving: &Serving<'_>,
     out: &mut W,
 ) -> Result<(), Fault<'static>>
-    ensures { IsServeJob listen.now bursts gateway.old (W.contents out.old) (W.contents out.new) result }
+    ensures { IsServeJob serving.now gateway.old (W.contents out.old) (W.contents out.new) result }
 {
-    let Ok(addr) = listen.parse::<SocketAddr>() else {
+    let options = ServeOptions {
+        workers: serving.workers.count(),
+        bursts: serving.bursts,
+        controllers: serving.controllers.as_slice(),
+        report: serving.report,
+        give_up: serving.give_up,
+    };
+    let Ok(addr) = serving.listen.parse::<SocketAddr>() else {
         return Err(Fault::ServeBind);
     };
-    serve(rt, alloc, addr, gateway, workers.count(), bursts, out)?;
+    serve(rt, alloc, addr, gateway, options, out)?;
     Ok(())
 }
 
@@ -151,23 +158,20 @@ fn run_replay<'a, R: Files + Threads + Sync, I: Read, W: Write>(
 }
 
 /// Controllers, served by the file's gateway.
-fn run_serve<'a, R: Files + Net + Wait + Threads + Sync, W: Write>(
+fn run_serve<'a, R: Files + Net + Wait + Threads + Clock + Sync, W: Write>(
     rt: &R,
     alloc: Global,
-    file: &'a str,
-    listen: &'a str,
-    workers: Workers,
-    bursts: Option<u64>,
+    serving: &Serving<'a>,
     out: &mut W,
 ) -> Result<(), Fault<'a>>
-    ensures { (input : Option (List ℕ)) → IsJob R.File.Read.remaining (Job.Serve file.entry listen.entry workers bursts) input (W.contents out.old) (W.contents out.new) result }
+    ensures { (input : Option (List ℕ)) → IsJob R.File.Read.remaining (Job.Serve serving.now) input (W.contents out.old) (W.contents out.new) result }
 {
-    let mut gateway = start(rt, alloc, Some(file))?;
-    serve_with(rt, alloc, &mut gateway, listen, workers, bursts, out)
+    let mut gateway = start(rt, alloc, Some(serving.file))?;
+    serve_with(rt, alloc, &mut gateway, serving, out)
 }
 
 /// Does what the words ask for.
-fn run<'a, R: Files + Net + Wait + Threads + Sync, I: Read, W: Write>(
+fn run<'a, R: Files + Net + Wait + Threads + Clock + Sync, I: Read, W: Write>(
     rt: &R,
     alloc: Global,
     job: Job<'a>,
@@ -185,19 +189,14 @@ fn run<'a, R: Files + Net + Wait + Threads + Sync, I: Read, W: Write>(
             audit,
             workers,
         } => run_replay(rt, alloc, file, audit, workers, reader, out),
-        Job::Serve {
-            file,
-            listen,
-            workers,
-            bursts,
-        } => run_serve(rt, alloc, file, listen, workers, bursts, out),
+        Job::Serve(serving) => run_serve(rt, alloc, &serving, out),
     }
 }
 
 /// How the program ends on words.
 fn end_of<
     'a,
-    R: Files + Net + Wait + Threads + Sync,
+    R: Files + Net + Wait + Threads + Clock + Sync,
     S: AsStr,
     I: Read,
     W: Write,
@@ -207,7 +206,7 @@ fn end_of<
 {
     let job = match read_words(alloc, words) {
         Ok(job) => job,
-        Err(error) => return explained(alloc, &error, out, err),
+        Err(mistake) => return explained(alloc, &mistake, out, err),
     };
     let done = run(rt, alloc, job, reader, out);
     told(done, err)
@@ -217,7 +216,7 @@ fn end_of<
 /// version too; 1 after a fault, whose one line goes to `err`; 2 where the words ask for nothing that there is, which is told on
 /// `err`. With no words it replays with the built-in configuration.
 pub fn program<
-    R: Files + Net + Wait + Threads + Sync + AllocGlobal,
+    R: Files + Net + Wait + Threads + Clock + Sync + AllocGlobal,
     S: AsStr,
     I: Read,
     W: Write,

@@ -40,7 +40,7 @@ pub enum Fault<'a> {
     ServePoll,
     /// A datagram could not be received.
     ServeReceive,
-    /// A growth was refused.
+    /// Memory was refused.
     NoMemory,
 }
 
@@ -127,7 +127,7 @@ impl<'a> From<ServeFault> for Fault<'a> {
             ServeFault::Bind => Fault::ServeBind,
             ServeFault::Poll => Fault::ServePoll,
             ServeFault::Receive => Fault::ServeReceive,
-            ServeFault::NoMemory => Fault::NoMemory,
+            ServeFault::NoMemory | ServeFault::Full => Fault::NoMemory,
         }
     }
 }

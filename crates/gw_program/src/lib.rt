@@ -8,15 +8,17 @@ mod entry;
 mod fault;
 mod file;
 mod gateway;
+mod job;
 mod laws;
+mod mistake;
 mod standard_error;
 mod telling;
 mod workers;
 
-pub use command_line::Job;
 pub use ended::Ended;
 pub use entry::program;
 pub use fault::Fault;
+pub use job::{Job, Serving};
 pub use laws::words_of_each_form_ask_for_their_job;
 pub use standard_error::{StandardError, Stream};
 pub use telling::unreadable_words;

@@ -1,13 +1,16 @@
 //! What standard error is told, and how the program ends with it.
 
-ghost use Rattle.std.specs.Prelude.{◌≡◌, Bool};
+ghost use Rattle.std.specs.Prelude.{◌≡◌, ℕ, Bool, List, Option};
 ghost use Rattle.clap.specs.Words.{kind_of};
+ghost use Rattle.clap.specs.declared.error.kind.ErrorKind.TheVariants.{ValueValidation as NotAValue};
 ghost use Rattle.std.specs.IoError.{error_kind};
 ghost use Rattle.gw_program.specs.Outcomes.{IsExplainedBy, IsTold, IsUnreadable, Says, status_of};
+ghost use Rattle.gw_program.specs.Words.{mistake_kind};
 ghost use Rattle.gw_program.specs.declared.ended.Ended.{Ended as Ending};
 
 use crate::ended::Ended;
 use crate::fault::Fault;
+use crate::mistake::Mistake;
 use crate::standard_error::StandardError;
 use clap::Error;
 use clap::error::ErrorKind;
@@ -39,8 +42,8 @@ fn misused<E: StandardError>(text: &str, err: &mut E) -> Ended<'static>
     Ended::Misused { is_told }
 }
 
-/// How the program ends on words that ask for no job: help and the version go to `out`, a mistake is told on `err`.
-pub(crate) fn explained<W: Write, E: StandardError>(
+/// How the program ends where the reader of the command line says so: help and the version go to `out`, a mistake is said on `err`.
+fn answered<W: Write, E: StandardError>(
     alloc: Global,
     error: &Error,
     out: &mut W,
@@ -58,6 +61,35 @@ pub(crate) fn explained<W: Write, E: StandardError>(
             Ok(text) => misused(text.as_str(), err),
             Err(_) => told(Err(Fault::NoMemory), err),
         },
+    }
+}
+
+/// What is said of a controller that is no address.
+fn not_a_controller<E: StandardError>(alloc: Global, text: &str, err: &mut E) -> Ended<'static>
+    ensures { (out : Option (List ℕ)) → IsExplainedBy NotAValue result out out (E.standing err.old) (E.standing err.new) }
+{
+    match format!(in alloc;
+        "error: invalid value '{text}' for '--controller <ADDR>': no IP address, and none with a port\n\n\
+         For more information, try '--help'.\n"
+    ) {
+        Ok(said) => misused(said.as_str(), err),
+        Err(_) => told(Err(Fault::NoMemory), err),
+    }
+}
+
+/// How the program ends on words that ask for no job.
+pub(crate) fn explained<W: Write, E: StandardError>(
+    alloc: Global,
+    mistake: &Mistake<'_>,
+    out: &mut W,
+    err: &mut E,
+) -> Ended<'static>
+    ensures { IsExplainedBy (mistake_kind mistake.now) result (W.contents out.old) (W.contents out.new) (E.standing err.old) (E.standing err.new) }
+{
+    match mistake {
+        Mistake::Words(error) => answered(alloc, error, out, err),
+        Mistake::Controller(text) => not_a_controller(alloc, text, err),
+        Mistake::NoMemory => told(Err(Fault::NoMemory), err),
     }
 }
 

@@ -2,22 +2,35 @@
 
 use std::alloc::Allocator;
 use std::fs::{Metadata, OpenOptions};
-use std::io;
+use std::io::{self, ErrorKind};
 use std::net::{Net, SocketAddr, UdpSocket};
 use std::rt::Files;
 use std::sync::Wait;
 use std::thread::Threads;
+use std::time::{Clock, Duration};
 
-/// A runtime whose network gives this socket, whatever address is asked for. All else is that of the runtime behind it.
+/// A runtime whose network gives this socket where this address is to be bound, and fails where another one is. All else is that of the
+/// runtime behind it.
 #[derive(Drop)]
 pub(crate) struct OneSocket<'a, R> {
     pub(crate) rt: &'a R,
+    pub(crate) address: SocketAddr,
     pub(crate) socket: &'a UdpSocket,
 }
 
 impl<R: Wait> Wait for OneSocket<'_, R> {}
 
 impl<R: Threads> Threads for OneSocket<'_, R> {}
+
+impl<R: Clock> Clock for OneSocket<'_, R> {
+    fn monotonic(&self) -> io::Result<Duration> {
+        self.rt.monotonic()
+    }
+
+    fn since_1970(&self) -> io::Result<Duration> {
+        self.rt.since_1970()
+    }
+}
 
 impl<R: Alloc> Alloc for OneSocket<'_, R> {
     type A = R::A;
@@ -40,7 +53,10 @@ impl<R: Net> Net for OneSocket<'_, R> {
         self.rt.connect(addr)
     }
 
-    fn bind_udp(&self, _addr: SocketAddr) -> io::Result<UdpSocket> {
+    fn bind_udp(&self, addr: SocketAddr) -> io::Result<UdpSocket> {
+        if addr != self.address {
+            return Err(io::Error::from(ErrorKind::AddrNotAvailable));
+        }
         self.socket.try_clone()
     }
 }

@@ -6,6 +6,7 @@ use std::rt::Files;
 use std::sync::Wait;
 use std::test::Fail;
 use std::thread::Threads;
+use std::time::Clock;
 use tests_wanted::{is_so, is_text};
 
 /// A configuration: the one that is built in, as a text.
@@ -37,7 +38,7 @@ fn holds(bytes: &[u8], text: &[u8]) -> bool {
 
 impl Run {
     /// A run on the words.
-    pub(crate) fn of<R: Files + Net + Wait + Threads + Sync + AllocGlobal>(
+    pub(crate) fn of<R: Files + Net + Wait + Threads + Clock + Sync + AllocGlobal>(
         rt: &R,
         words: &[&str],
     ) -> Run {

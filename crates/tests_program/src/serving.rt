@@ -14,7 +14,7 @@ use std::rt::Files;
 use std::sync::Wait;
 use std::test::Fail;
 use std::thread::Threads;
-use std::time::Duration;
+use std::time::{Clock, Duration};
 use std::{fs, thread};
 use tests_wanted::{is_so, is_text};
 
@@ -74,26 +74,48 @@ impl Write for Starter<'_> {
     }
 }
 
-/// Runs the program on an address of the host that nobody has, until it ends after so many bursts; whether it could bind the
-/// address, which somebody may have taken meanwhile. It is sent these datagrams first, and says this.
-fn is_served<R: Files + Net + Wait + Threads + Sync + AllocGlobal>(
-    rt: &R,
+/// How a run serves: at an address of which host, for how many bursts, and which controller where there is one.
+#[derive(Clone, Copy)]
+struct Service<'a> {
     host: IpAddr,
-    bursts: &str,
+    bursts: &'a str,
+    controller: Option<&'a str>,
+}
+
+/// The words of a run.
+fn words_of<'a>(
+    alloc: Global,
+    file: &'a str,
+    listen: &'a str,
+    service: Service<'a>,
+) -> Result<Vec<&'a str>, Fail> {
+    let mut words = vec![in alloc;
+        "serve",
+        file,
+        "--listen",
+        listen,
+        "--bursts",
+        service.bursts,
+    ]?;
+    if let Some(controller) = service.controller {
+        words.push("--controller")?;
+        words.push(controller)?;
+    }
+    Ok(words)
+}
+
+/// Runs the program on an address that nobody has, until it ends after so many bursts; whether it could bind the address, which somebody
+/// may have taken meanwhile. It is sent these datagrams first, and says this.
+fn is_served<R: Files + Net + Wait + Threads + Clock + Sync + AllocGlobal>(
+    rt: &R,
+    service: Service<'_>,
     sent: &[Sent<'_>],
     said: &[u8],
 ) -> Result<bool, Fail> {
-    let server = free_address(rt, host)?;
+    let server = free_address(rt, service.host)?;
     let file = file_of(rt, CONFIGURATION)?;
     let listen = format!(in rt.alloc(); "{server}")?;
-    let words: [&str; 6] = [
-        "serve",
-        file.as_str(),
-        "--listen",
-        listen.as_str(),
-        "--bursts",
-        bursts,
-    ];
+    let words = words_of(rt.alloc(), file.as_str(), listen.as_str(), service)?;
     let mut out = Starter {
         server,
         sent,
@@ -113,20 +135,35 @@ fn is_served<R: Files + Net + Wait + Threads + Sync + AllocGlobal>(
     Ok(true)
 }
 
-/// Serves so many bursts of datagrams, which wait when it begins, and says this.
-fn serves<R: Files + Net + Wait + Threads + Sync + AllocGlobal>(
+/// Serves datagrams that wait when it begins, and says this.
+fn serves_so<R: Files + Net + Wait + Threads + Clock + Sync + AllocGlobal>(
+    rt: &R,
+    service: Service<'_>,
+    sent: &[Sent<'_>],
+    said: &[u8],
+) -> Result<(), Fail> {
+    for _attempt in 0..ATTEMPTS {
+        if is_served(rt, service, sent, said)? {
+            return Ok(());
+        }
+    }
+    Err(Fail::new("an address that nobody has"))
+}
+
+/// Serves so many bursts of datagrams of every sender.
+fn serves<R: Files + Net + Wait + Threads + Clock + Sync + AllocGlobal>(
     rt: &R,
     host: IpAddr,
     bursts: &str,
     sent: &[Sent<'_>],
     said: &[u8],
 ) -> Result<(), Fail> {
-    for _attempt in 0..ATTEMPTS {
-        if is_served(rt, host, bursts, sent, said)? {
-            return Ok(());
-        }
-    }
-    Err(Fail::new("an address that nobody has"))
+    let service = Service {
+        host,
+        bursts,
+        controller: None,
+    };
+    serves_so(rt, service, sent, said)
 }
 
 /// A socket of the loopback.
@@ -158,6 +195,9 @@ const IPV4: IpAddr = IpAddr::V4(Ipv4Addr::LOCALHOST);
 
 const IPV6: IpAddr = IpAddr::V6(Ipv6Addr::LOCALHOST);
 
+/// Another address of the loopback.
+const NEAR: IpAddr = IpAddr::V4(Ipv4Addr::new(127, 0, 0, 2));
+
 #[test]
 fn two_senders_in_one_burst(rt: HostRuntime) -> Result<(), Fail> {
     let (one, other) = (client(&rt, IPV4)?, client(&rt, IPV4)?);
@@ -174,6 +214,48 @@ fn two_senders_in_one_burst(rt: HostRuntime) -> Result<(), Fail> {
     serves(&rt, IPV4, "1", &sent, SERVING)?;
     has_answers(&one, 1, ANSWERED)?;
     has_answers(&other, 1, OTHER_ANSWERED)
+}
+
+#[test]
+fn two_senders_on_two_addresses(rt: HostRuntime) -> Result<(), Fail> {
+    let (one, near) = (client(&rt, IPV4)?, client(&rt, NEAR)?);
+    let sent = [
+        Sent {
+            from: &one,
+            bytes: ASKED,
+        },
+        Sent {
+            from: &near,
+            bytes: OTHER,
+        },
+    ];
+    serves(&rt, IPV4, "1", &sent, SERVING)?;
+    has_answers(&one, 1, ANSWERED)?;
+    has_answers(&near, 1, OTHER_ANSWERED)
+}
+
+#[test]
+fn a_controller_and_a_stranger(rt: HostRuntime) -> Result<(), Fail> {
+    let (stranger, controller) = (client(&rt, IPV4)?, client(&rt, NEAR)?);
+    let sent = [
+        Sent {
+            from: &stranger,
+            bytes: OTHER,
+        },
+        Sent {
+            from: &controller,
+            bytes: ASKED,
+        },
+    ];
+    let service = Service {
+        host: IPV4,
+        bursts: "1",
+        controller: Some("127.0.0.2"),
+    };
+    let said = b"listening\ndropped 1 datagrams: not a controller\n";
+    serves_so(&rt, service, &sent, said)?;
+    has_answers(&stranger, 0, b"")?;
+    has_answers(&controller, 1, ANSWERED)
 }
 
 /// Asks again when the first answer has come, so that a burst follows another; whether each answer is the one that is wanted.
@@ -298,8 +380,42 @@ fn an_address_that_cannot_be_bound(rt: HostRuntime) -> Result<(), Fail> {
     Ok(fs::remove_file(&rt, file.as_str())?)
 }
 
+/// Where no address is named.
+const EVERYWHERE: SocketAddr = SocketAddr::new(IpAddr::V4(Ipv4Addr::UNSPECIFIED), 2944);
+
+// Of each address, the family and the port are those that the words name.
+#[test]
+fn the_address_that_is_bound(rt: HostRuntime) -> Result<(), Fail> {
+    let file = file_of(&rt, CONFIGURATION)?;
+    let socket = client(&rt, IPV4)?;
+    let named = IpAddr::V6(Ipv6Addr::new(0x2001, 0xdb8, 0, 0, 0, 0, 0, 1));
+    let table: [(&str, SocketAddr); 5] = [
+        ("0.0.0.0:2944", EVERYWHERE),
+        ("127.0.0.1:2945", SocketAddr::new(IPV4, 2945)),
+        ("127.0.0.2:0", SocketAddr::new(NEAR, 0)),
+        ("[::1]:2944", SocketAddr::new(IPV6, 2944)),
+        ("[2001:db8::1]:65535", SocketAddr::new(named, 65535)),
+    ];
+    for (listen, address) in table {
+        let network = OneSocket {
+            rt: &rt,
+            address,
+            socket: &socket,
+        };
+        let words = ["serve", file.as_str(), "--listen", listen, "--bursts", "0"];
+        Run::of(&network, words.as_slice()).explains(SERVING)?;
+    }
+    let network = OneSocket {
+        rt: &rt,
+        address: EVERYWHERE,
+        socket: &socket,
+    };
+    Run::of(&network, &["serve", file.as_str(), "--bursts", "0"]).explains(SERVING)?;
+    Ok(fs::remove_file(&rt, file.as_str())?)
+}
+
 /// The program serves two bursts over the network of a runtime, and ends with a fault: this was said, and this is its line.
-fn fails_at<R: Files + Net + Wait + Threads + Sync + AllocGlobal>(
+fn fails_at<R: Files + Net + Wait + Threads + Clock + Sync + AllocGlobal>(
     rt: &R,
     said: &[u8],
     line: &[u8],
@@ -315,6 +431,7 @@ fn a_socket_that_cannot_be_waited_for(rt: HostRuntime) -> Result<(), Fail> {
     let socket = UdpSocket::from(OwnedFd::from(File::open(&rt, "/dev/null")?));
     let network = OneSocket {
         rt: &rt,
+        address: EVERYWHERE,
         socket: &socket,
     };
     fails_at(&network, b"", b"h248gw: serve poll\n")
@@ -325,14 +442,14 @@ fn a_socket_that_cannot_be_waited_for(rt: HostRuntime) -> Result<(), Fail> {
 #[test]
 fn a_datagram_that_cannot_be_received(rt: HostRuntime) -> Result<(), Fail> {
     let (server, client) = (client(&rt, IPV4)?, client(&rt, IPV4)?);
-    let near = IpAddr::V4(Ipv4Addr::new(127, 0, 0, 2));
-    let peer = rt.bind_udp(SocketAddr::from((near, client.local_addr()?.port())))?;
+    let peer = rt.bind_udp(SocketAddr::from((NEAR, client.local_addr()?.port())))?;
     client.send_to(ASKED, server.local_addr()?)?;
     peer.send_to(OTHER, server.local_addr()?)?;
     server.connect(peer.local_addr()?)?;
     drop(peer);
     let network = OneSocket {
         rt: &rt,
+        address: EVERYWHERE,
         socket: &server,
     };
     fails_at(&network, SERVING, b"h248gw: serve receive\n")?;

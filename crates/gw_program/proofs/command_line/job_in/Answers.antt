@@ -1,11 +1,10 @@
-use Rattle.std.proofs.Common.{ap, refl, subst, sym, ◌∙◌, List}
+use Rattle.std.proofs.Common.{ap, subst, sym, ◌∙◌, List}
 use Rattle.std.specs.Prelude.{IfSome, Option, option_map}
 use Rattle.std.specs.Borrow.{Bor}
 use Rattle.clap.specs.Words.{Row, Text, found_of, rows_of}
 use Rattle.clap.specs.declared.parser.matches.ArgMatches.{ArgMatches}
 use Rattle.gw_program.proofs.Asking.{command_found}
-use Rattle.gw_program.specs.Words.{IsCommand, IsJobOf}
-use Rattle.gw_program.specs.declared.command_line.Job.TheVariants.{BuiltIn}
+use Rattle.gw_program.specs.Words.{IsCommand}
 use Rattle.gw_program.proofs.command_line.job_in.Goals as goal
 
 abbrev seen : Option (Bor Text × Bor ArgMatches) → Option (Text × List Row)
@@ -15,13 +14,3 @@ pub job_of-requires : goal.job_of-requires
 job_of-requires c =
     let same = ap seen (sym c.in-Some.is) ∙ command_found c.args.matches.now c.subcommand.result c.subcommand.ensures.name c.subcommand.ensures.rows in
     subst (λ (o : Option (Text × List Row)). IfSome o (λ found. IsCommand found.0)) (sym same) c.requires
-
-pub returns-in-Some : goal.returns-in-Some
-returns-in-Some c =
-    let same = ap seen (sym c.in-Some.is) ∙ command_found c.args.matches.now c.subcommand.result c.subcommand.ensures.name c.subcommand.ensures.rows in
-    subst (λ (o : Option (Text × List Row)). IsJobOf o c.job_of.result) same c.job_of.ensures
-
-pub returns-in-None : goal.returns-in-None
-returns-in-None c =
-    let same = ap seen (sym c.in-None.is) ∙ command_found c.args.matches.now c.subcommand.result c.subcommand.ensures.name c.subcommand.ensures.rows in
-    subst (λ (o : Option (Text × List Row)). IsJobOf o BuiltIn) same refl
