@@ -128,19 +128,14 @@ impl<'a, 'b> Merger<'a, 'b> {
                 return self.applied(alloc, old, settings);
             }
         }
-        let gathered = match self.gathered.take() {
-            Some(gathered) => gathered,
-            None => Gathered::by(alloc, self.descriptors)?,
+        if self.gathered.is_none() {
+            self.gathered = Some(Gathered::by(alloc, self.descriptors)?);
+        }
+        let Some(gathered) = &self.gathered else {
+            unreachable!()
         };
-        let applied = merge(
-            alloc,
-            self.rules,
-            self.descriptors,
-            &gathered,
-            old,
-            &self.after,
-        )?;
-        self.gathered = Some(gathered);
+        let (rules, descriptors) = (self.rules, self.descriptors);
+        let applied = merge(alloc, rules, descriptors, gathered, old, &self.after)?;
         self.keep(old, applied.record.get())?;
         Ok(applied)
     }
