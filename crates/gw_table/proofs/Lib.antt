@@ -20,6 +20,7 @@ pub mod Places
 pub mod Prepared
 pub mod Provisioning
 pub mod Shown
+pub mod RowChanges
 pub mod Searched
 pub mod SettingLookups
 pub mod Settings
@@ -27,4 +28,6 @@ pub mod SlotNames
 pub mod Standing
 pub mod Swept
 pub mod SweptAtOnce
+pub mod SweptRows
+pub mod TiedRows
 pub mod Undone
