@@ -88,8 +88,8 @@ impl Draft {
         }
     }
 
-    /// Where the termination of a name stands in whole tables, if there is one: a guide for `term_at`, `set_term_at` and
-    /// `set_service_at`. It is one look-up. Of a part it is none.
+    /// Where the termination of a name stands in whole tables, if there is one: the guide of `term_at`, `set_term_at`
+    /// and `set_service_at`. It is one look-up. Of a part it is none, without a look-up.
     pub fn guide(&self, name: &TermName) -> Guide {
         match &self.backing {
             Backing::OfPart(_) => Guide::none(),
@@ -102,7 +102,7 @@ impl Draft {
         ensures { option_map (λ p. p.0.now) result ≡ term self.now.maps name.now }
     {
         match &self.backing {
-            Backing::OfPart(backing) => Some((backing.term(name)?, guide)),
+            Backing::OfPart(part) => Some((part.term(name)?, guide)),
             Backing::OfTables(backing) => backing.tables.find_term_at(guide, name),
         }
     }

@@ -36,8 +36,8 @@ impl Guide {
     }
 }
 
-/// Rows by key, in the order of the keys: the index has the number of the row of each key. A row that was dropped is used
-/// again.
+/// Rows by key, in the order of the keys: the index has the number of the row of each key. The place of a row that was
+/// dropped is used again.
 #[derive(Drop)]
 pub(crate) struct Rows<K: Ord, T> {
     index: BTreeMap<K, usize>,
