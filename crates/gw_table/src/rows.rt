@@ -100,6 +100,17 @@ impl<K: Ord, T> Rows<K, T> {
         }
     }
 
+    /// No rows, and room for so many.
+    pub(crate) fn with_room(alloc: Global, count: usize) -> Result<Self, NoMemory>
+        ensures { IfOk result (λ rows. rows.entries ≡ []) }
+    {
+        let rows = Slab::with_capacity(alloc, count)?;
+        Ok(Rows {
+            index: BTreeMap::new(alloc),
+            rows,
+        })
+    }
+
     /// How many keys have a row.
     pub(crate) fn len(&self) -> usize
         ensures ordered { IsRising K.cmp self.now }
