@@ -159,8 +159,10 @@ pub record AreOptions (serving : Serving) (options : ServeOptions) : Type 0 wher
   pub report : options.report ≡ serving.report
   pub give_up : options.give_up ≡ serving.give_up
 
--- controllers, served by this gateway; nothing is out where the address could not be bound, nor where memory was refused at the start
-pub record IsServeJob (serving : Serving) (old : GatewayValue) (out out′ : Option (List ℕ)) (ended : Result Unit Fault) : Type 0 where
+-- controllers, served by this gateway; nothing is out where the address could not be bound, nor where memory was refused at
+-- the start
+pub record IsServeJob (serving : Serving) (old : GatewayValue) (out out′ : Option (List ℕ))
+    (ended : Result Unit Fault) : Type 0 where
   pub options : ServeOptions
   pub are_options : AreOptions serving options
   pub served : Result Totals ServeFault
@@ -209,5 +211,7 @@ pub record IsJobEnd {F : Type 0} (held : F → Option (List ℕ)) (words : List 
   pub told : IsTold done err err′ ended
 
 -- how the program ends on these words: the job that they ask for was done, or they ask for none
-abbrev pub IsEnd : {F : Type 0} → (F → Option (List ℕ)) → List (List ℕ) → (input out out′ : Option (List ℕ)) → (err err′ : Standing) → Ended → Type 0
-IsEnd held words input out out′ err err′ ended = IsJobEnd held words input out out′ err err′ ended ⊎ IsExplained words ended out out′ err err′
+abbrev pub IsEnd : {F : Type 0} → (F → Option (List ℕ)) → List (List ℕ) → (input out out′ : Option (List ℕ))
+    → (err err′ : Standing) → Ended → Type 0
+IsEnd held words input out out′ err err′ ended =
+    IsJobEnd held words input out out′ err err′ ended ⊎ IsExplained words ended out out′ err err′

@@ -41,15 +41,16 @@ IsShown kind = (kind ≡ asked.DisplayHelp) ⊎ (kind ≡ asked.DisplayVersion)
 abbrev pub IsMistake : ErrorKind → Type 0
 IsMistake kind = (kind ≢ asked.OutOfMemory) × (kind ≢ asked.DisplayHelp) × (kind ≢ asked.DisplayVersion)
 
--- What is said of words with a mistake of that kind: help and the version, which standard error says nothing of, a mistake, or want
--- of memory.
+-- What is said of words with a mistake of that kind: help and the version, which standard error says nothing of, a mistake,
+-- or want of memory.
 abbrev pub IsExplainedBy : ErrorKind → Ended → (out out′ : Option (List ℕ)) → (err err′ : Standing) → Type 0
 IsExplainedBy kind Done out out′ err err′ = IsShown kind × IsSilent err err′
 IsExplainedBy kind (Failed fault told) out out′ err err′ = (fault ≡ why.NoMemory) × Keeps out out′ × Tells (line_of fault ++ codes "\n") told err err′
 IsExplainedBy kind (Misused told) out out′ err err′ = IsMistake kind × Keeps out out′ × Says told err err′
 
 -- The words ask for no job, since they have such a mistake, or memory was refused.
-pub record IsExplained (words : List Text) (ended : Ended) (out out′ : Option (List ℕ)) (err err′ : Standing) : Type 0 where
+pub record IsExplained (words : List Text) (ended : Ended) (out out′ : Option (List ℕ))
+    (err err′ : Standing) : Type 0 where
   pub kind : ErrorKind
   pub is_one : IsKindOf words kind
   pub explained : IsExplainedBy kind ended out out′ err err′

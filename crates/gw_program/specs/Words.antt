@@ -94,7 +94,8 @@ IsUnnamedIn (Some found) made = IsUnnamed (controller_texts found.1) made
 -- why the words ask for no job
 abbrev pub IsMistaken : List Text → Mistake → Type 0
 IsMistaken words (mistake.Words error) = HasKind (mistakes words) error
-IsMistaken words (mistake.Controller text) = (mistakes words ≡ []) × IsUnnamedIn (subcommand_of program_app words) (mistake.Controller text)
+IsMistaken words (mistake.Controller text) =
+    (mistakes words ≡ []) × IsUnnamedIn (subcommand_of program_app words) (mistake.Controller text)
 IsMistaken words mistake.NoMemory = ⊤
 
 -- the kind of a mistake
@@ -106,9 +107,12 @@ mistake_kind mistake.NoMemory = asked.OutOfMemory
 -- a controller of the words is no address
 abbrev pub HasNoAddress : Option (Text × List Row) → Type 0
 HasNoAddress None = ⊥
-HasNoAddress (Some found) = (text : Text) × Contains (controller_texts found.1) text × ((c : Controller) → ¬ IsControllerText text c)
+HasNoAddress (Some found) =
+    (text : Text) × Contains (controller_texts found.1) text × ((c : Controller) → ¬ IsControllerText text c)
 
 -- The words have a mistake of that kind, or ask for help or the version; or memory was refused.
 abbrev pub IsKindOf : List Text → ErrorKind → Type 0
 IsKindOf words kind =
-    (kind ≡ asked.OutOfMemory) ⊎ (IsAmong kind (mistakes words) ⊎ ((kind ≡ asked.ValueValidation) × HasNoAddress (subcommand_of program_app words)))
+    (kind ≡ asked.OutOfMemory)
+    ⊎ (IsAmong kind (mistakes words)
+    ⊎ ((kind ≡ asked.ValueValidation) × HasNoAddress (subcommand_of program_app words)))

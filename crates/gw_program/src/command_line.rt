@@ -276,7 +276,8 @@ fn workers_in(matches: &ArgMatches<'_>) -> Workers
 ///
 /// The first text that names none, or out of memory.
 fn controllers_of<'a>(alloc: Global, texts: &[&'a str]) -> Result<Vec<Controller>, Mistake<'a>>
-    ensures named { IfOk result (λ controllers. AllZip IsControllerText (map (λ t. t.now) texts.now) controllers.items) }
+    ensures named { IfOk result (λ controllers. AllZip IsControllerText (map (λ t. t.now) texts.now)
+        controllers.items) }
     ensures mistaken { IfErr result (IsUnnamed (map (λ t. t.now) texts.now)) }
 {
     let mut controllers = Vec::with_capacity(alloc, texts.len())?;
@@ -295,7 +296,8 @@ fn controllers_in<'a>(
     alloc: Global,
     matches: &ArgMatches<'a>,
 ) -> Result<Vec<Controller>, Mistake<'a>>
-    ensures named { IfOk result (λ controllers. AllZip IsControllerText (controller_texts (rows_of (found_of matches.now))) controllers.items) }
+    ensures named { IfOk result (λ controllers. AllZip IsControllerText
+        (controller_texts (rows_of (found_of matches.now))) controllers.items) }
     ensures mistaken { IfErr result (IsUnnamed (controller_texts (rows_of (found_of matches.now)))) }
 {
     match matches.get_strs("CONTROLLER") {

@@ -1,5 +1,5 @@
-//! The program by its words: the texts of the command line's reader, and files of every length. What else it does on words is cases
-//! (`cases_engine`, subject programs).
+//! The program by its words: the texts of the command line's reader, and files of every length. What else it does on
+//! words is cases (`cases_engine`, subject programs).
 
 use crate::places::new_file;
 use crate::runs::Run;

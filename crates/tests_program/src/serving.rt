@@ -1,5 +1,5 @@
-//! Serving over the loopback. What is to wait when the gateway first looks is sent from within the line `listening`, which it writes
-//! once it is bound: so each burst is what a test says, without a thread.
+//! Serving over the loopback. What is to wait when the gateway first looks is sent from within the line `listening`,
+//! which it writes once it is bound: so each burst is what a test says, without a thread.
 
 use crate::networks::OneSocket;
 use crate::places::{file_of, free_address};
@@ -104,8 +104,8 @@ fn words_of<'a>(
     Ok(words)
 }
 
-/// Runs the program on an address that nobody has, until it ends after so many bursts; whether it could bind the address, which somebody
-/// may have taken meanwhile. It is sent these datagrams first, and says this.
+/// Runs the program on an address that nobody has, until it ends after so many bursts; whether it could bind the
+/// address, which somebody may have taken meanwhile. It is sent these datagrams first, and says this.
 fn is_served<R: Files + Net + Wait + Threads + Clock + Sync + AllocGlobal>(
     rt: &R,
     service: Service<'_>,
@@ -258,7 +258,8 @@ fn a_controller_and_a_stranger(rt: HostRuntime) -> Result<(), Fail> {
     has_answers(&controller, 1, ANSWERED)
 }
 
-/// Asks again when the first answer has come, so that a burst follows another; whether each answer is the one that is wanted.
+/// Asks again when the first answer has come, so that a burst follows another; whether each answer is the one that is
+/// wanted.
 fn is_answered_twice(client: &UdpSocket) -> io::Result<bool> {
     let mut buffer = [0u8; 1024];
     let (length, server) = client.recv_from(&mut buffer)?;
@@ -285,7 +286,8 @@ fn two_bursts(rt: HostRuntime) -> Result<(), Fail> {
     is_so(asked?, "an answer in each burst")
 }
 
-/// How many datagrams wait when one more is sent than a burst may have: all of them, or as many as a socket's buffer holds here.
+/// How many datagrams wait when one more is sent than a burst may have: all of them, or as many as a socket's buffer
+/// holds here.
 fn waiting(rt: &impl Net) -> Result<u32, Fail> {
     let (held, sender) = (client(rt, IPV4)?, client(rt, IPV4)?);
     let address = held.local_addr()?;
@@ -414,7 +416,8 @@ fn the_address_that_is_bound(rt: HostRuntime) -> Result<(), Fail> {
     Ok(fs::remove_file(&rt, file.as_str())?)
 }
 
-/// The program serves two bursts over the network of a runtime, and ends with a fault: this was said, and this is its line.
+/// The program serves two bursts over the network of a runtime, and ends with a fault: this was said, and this is its
+/// line.
 fn fails_at<R: Files + Net + Wait + Threads + Clock + Sync + AllocGlobal>(
     rt: &R,
     said: &[u8],
@@ -437,8 +440,8 @@ fn a_socket_that_cannot_be_waited_for(rt: HostRuntime) -> Result<(), Fail> {
     fails_at(&network, b"", b"h248gw: serve poll\n")
 }
 
-// A socket with one peer is told when that has gone, at the receipt behind what was sent to it. The peer has another address of the
-// loopback, at the client's port, so that nobody takes it meanwhile.
+// A socket with one peer is told when that has gone, at the receipt behind what was sent to it. The peer has another
+// address of the loopback, at the client's port, so that nobody takes it meanwhile.
 #[test]
 fn a_datagram_that_cannot_be_received(rt: HostRuntime) -> Result<(), Fail> {
     let (server, client) = (client(&rt, IPV4)?, client(&rt, IPV4)?);
