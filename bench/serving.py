@@ -191,7 +191,7 @@ class Rate:
 
     def __str__(self):
         seen = (self.rate, self.lost, self.requests, self.median, self.late)
-        return "%.0f a second, %d of %d lost, delay %.0f us, 99th percentile %.0f us" % seen
+        return "{:,.0f} | {:,} of {:,} | {:,.0f} | {:,.0f} |".format(*seen)
 
 
 def rate(gateway, given):
@@ -212,10 +212,14 @@ def rate(gateway, given):
         beside = Rate(given, int(echo.stdout.readline()))
     finally:
         echo.kill()
-    print("rate: %d senders, %d on the way each" % (given.senders, given.window))
-    print("  gateway  %s; %.1f datagrams in a burst" % (seen, told["datagrams"] / told["bursts"]))
-    print("  echo     %s" % beside)
-    print("  the gateway answers %.2f of what the echo does" % (seen.rate / beside.rate))
+    print("| %d senders with %d requests on the way each | answers a second | lost | delay, us | 99th percentile, us |"
+          % (given.senders, given.window))
+    print("|---|---|---|---|---|")
+    print("| the gateway, %d of `--workers`, %.1f datagrams in a burst | %s"
+          % (gateway.workers, told["datagrams"] / told["bursts"], seen))
+    print("| an echo | %s" % beside)
+    print("| the gateway's by the echo's | %.2f | | %.2f | %.2f |"
+          % (seen.rate / beside.rate, seen.median / beside.median, seen.late / beside.late))
 
 
 def calls(gateway, given):
