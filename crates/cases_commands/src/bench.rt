@@ -91,9 +91,9 @@ fn carry_out(
     let keys = enough_keys(alloc, tables, place, asked)?;
     tables.reserve_slots(keys.list())?;
     let part = tables.take_out(keys);
-    let mut draft = Draft::of_part(alloc, &part);
+    let mut draft = Draft::of_part(part);
     let outcome = command(alloc, rules, &mut draft, place.at, place.slot, asked)?;
-    let after = draft.into_part(alloc)?;
+    let after = draft.into_part();
     tables.put_back(after);
     tables.sweep();
     Ok(outcome)

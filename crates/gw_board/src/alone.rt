@@ -113,7 +113,7 @@ fn carry_place<G: Gate>(
     manner: &Manner,
     seats: &mut Vec<Seat<'_, '_, '_>>,
     place: usize,
-    draft: &mut Draft<'_>,
+    draft: &mut Draft,
     block: &mut Items<u8>,
     gate: &G,
 ) -> Result<(), NoMemory>
@@ -146,7 +146,7 @@ fn carry_each<G: Gate>(
     alloc: Global,
     manner: &Manner,
     seats: &mut Vec<Seat<'_, '_, '_>>,
-    draft: &mut Draft<'_>,
+    draft: &mut Draft,
     gate: &G,
 ) -> Result<(), NoMemory>
     requires over { draft.old.keys ≡ Over (start_of draft.old.keys) }

@@ -64,7 +64,7 @@ pub(crate) fn carry_on(
     alloc: Global,
     manner: &Manner,
     asked: &Asked<'_, '_>,
-    draft: &mut Draft<'_>,
+    draft: &mut Draft,
     block: &mut Items<u8>,
 ) -> Result<Items<u8>, NoMemory>
     requires covered { Covers draft.old (keys_of asked.now draft.old.maps) }
@@ -92,9 +92,8 @@ pub(crate) fn carry_on(
     Ok(text)
 }
 
-/// Carries a job's request out on a draft over its part, and writes the reply; the job stays as it is. The work is that of the
-/// commands, and of a new part, in which what they did not change is copied. What is behind the limit of a reply is carried out, and not
-/// told.
+/// Carries a job's request out on a copy of its part, and writes the reply; the job stays as it is. The work is that of the
+/// commands and of the copy. What is behind the limit of a reply is carried out, and not told.
 ///
 /// # Errors
 ///
@@ -103,10 +102,10 @@ pub fn carry(alloc: Global, job: &Job<'_, '_, '_>) -> Result<(Part, Items<u8>), 
     ensures part { IfOk result (λ new. new.0 ≡ new_part job.now) }
     ensures reply { IfOk result (λ new. new.1 ≡ (outcome_of job.now).answer) }
 {
-    let mut draft = Draft::of_part(alloc, &job.part);
+    let mut draft = Draft::of_part(job.part.copy(alloc)?);
     let mut block = Items::new(alloc);
     let text = carry_on(alloc, &job.manner, job.task.get(), &mut draft, &mut block)?;
-    Ok((draft.into_part(alloc)?, text))
+    Ok((draft.into_part(), text))
 }
 
 /// A job that is over: with its result, or unchanged.

@@ -177,7 +177,7 @@ fn audited(alloc: Global, place: Option<CtxNum>, old: &Termination) -> Result<Pl
 /// What becomes of a termination with this record.
 fn planned(
     alloc: Global,
-    draft: &Draft<'_>,
+    draft: &Draft,
     act: Act,
     merger: &mut Merger<'_, '_>,
     old: &Termination,
@@ -203,7 +203,7 @@ fn planned(
 /// What is decided of a termination with this record. What its reply has is found only where it is wanted.
 pub(crate) fn decided(
     alloc: Global,
-    draft: &Draft<'_>,
+    draft: &Draft,
     act: Act,
     merger: &mut Merger<'_, '_>,
     old: &Termination,

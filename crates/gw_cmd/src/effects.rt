@@ -30,7 +30,7 @@ use std::alloc::Global;
 
 /// The termination's record becomes this one, or none.
 fn put(
-    draft: &mut Draft<'_>,
+    draft: &mut Draft,
     name: &TermName,
     entry: Option<Held<Termination>>,
 ) -> Result<(), NoMemory>
@@ -45,7 +45,7 @@ fn put(
 fn changed(
     alloc: Global,
     rules: &Rules,
-    draft: &mut Draft<'_>,
+    draft: &mut Draft,
     name: &TermName,
     change: Change,
 ) -> Result<(), NoMemory>
@@ -75,7 +75,7 @@ fn changed(
 /// Does this to the termination of a name.
 fn act_on(
     alloc: Global,
-    draft: &mut Draft<'_>,
+    draft: &mut Draft,
     act: Act,
     prepared: &mut Prepared<'_, '_>,
     name: &TermName,
@@ -101,7 +101,7 @@ fn act_on(
 /// Gives the termination of a name, if it is in this place, the service state, if there is one for it.
 fn serve(
     alloc: Global,
-    draft: &mut Draft<'_>,
+    draft: &mut Draft,
     place: Option<CtxNum>,
     service: Option<Service>,
     name: &TermName,
@@ -124,7 +124,7 @@ fn serve(
 /// Does the task to the termination of a name. What its reply has is found only where it is wanted.
 pub(crate) fn on_name(
     alloc: Global,
-    draft: &mut Draft<'_>,
+    draft: &mut Draft,
     task: Task,
     prepared: &mut Prepared<'_, '_>,
     name: &TermName,
@@ -148,7 +148,7 @@ pub(crate) fn on_name(
 /// Does this to a termination that it makes in a slot, under the slot's name.
 pub(crate) fn on_new(
     alloc: Global,
-    draft: &mut Draft<'_>,
+    draft: &mut Draft,
     act: Act,
     prepared: &mut Prepared<'_, '_>,
     slot: u16,

@@ -43,7 +43,7 @@ use std::slice;
 /// written.
 fn on_names(
     alloc: Global,
-    draft: &mut Draft<'_>,
+    draft: &mut Draft,
     execution: Execution,
     prepared: &mut Prepared<'_, '_>,
     named: &[TermName],
@@ -78,7 +78,7 @@ fn on_names(
 /// Executes a command on the termination of a name.
 fn on_one(
     alloc: Global,
-    draft: &mut Draft<'_>,
+    draft: &mut Draft,
     execution: Execution,
     prepared: &mut Prepared<'_, '_>,
     name: &TermName,
@@ -102,7 +102,7 @@ fn on_one(
 /// Executes an Add on a termination that it makes in the slot, if one is owned.
 fn on_slot(
     alloc: Global,
-    draft: &mut Draft<'_>,
+    draft: &mut Draft,
     execution: Execution,
     prepared: &mut Prepared<'_, '_>,
     writer: ReplyWriter<CommandReply>,
@@ -139,7 +139,7 @@ fn on_slot(
 /// Executes a command on the gateway itself.
 fn on_root(
     alloc: Global,
-    draft: &mut Draft<'_>,
+    draft: &mut Draft,
     execution: Execution,
     command: &Command<'_>,
     writer: ReplyWriter<CommandReply>,
@@ -161,7 +161,7 @@ fn on_root(
 /// Executes a command that is not refused as a whole.
 fn executed(
     alloc: Global,
-    draft: &mut Draft<'_>,
+    draft: &mut Draft,
     execution: Execution,
     prepared: &mut Prepared<'_, '_>,
     named: &[TermName],
@@ -190,7 +190,7 @@ fn executed(
 /// Executes a command whose form is allowed on these targets, unless the tables refuse it.
 fn on_allowed(
     alloc: Global,
-    draft: &mut Draft<'_>,
+    draft: &mut Draft,
     execution: Execution,
     prepared: &mut Prepared<'_, '_>,
     named: &[TermName],
@@ -229,7 +229,7 @@ fn on_allowed(
 #[tactic(auto, unfolding(crate::specs::Commands::command))]
 pub fn command_written(
     alloc: Global,
-    draft: &mut Draft<'_>,
+    draft: &mut Draft,
     at: At,
     slot: Option<u16>,
     prepared: &mut Prepared<'_, '_>,
@@ -274,7 +274,7 @@ pub fn command_written(
 pub fn command(
     alloc: Global,
     rules: &Rules,
-    draft: &mut Draft<'_>,
+    draft: &mut Draft,
     at: At,
     slot: Option<u16>,
     command: &Command<'_>,

@@ -25,7 +25,7 @@ use std::alloc::Global;
 
 /// Whether a command leaves each termination as it is: an AuditValue, and without descriptors a Modify and an Add into
 /// a full context.
-fn leaves_all(draft: &Draft<'_>, task: Task, prepared: &Prepared<'_, '_>) -> bool
+fn leaves_all(draft: &Draft, task: Task, prepared: &Prepared<'_, '_>) -> bool
     ensures { result ≡ leaves_all (task_verb task) (is_some_list prepared.now.command.now.descriptors) (is_full_at prepared.now.rules.now (task_place task) draft.now.maps) }
 {
     let is_bare = prepared.command.descriptors.is_empty();
@@ -41,7 +41,7 @@ fn leaves_all(draft: &Draft<'_>, task: Task, prepared: &Prepared<'_, '_>) -> boo
 /// in an action for each context that is said where the draft is of whole tables. An Add costs a look-up of the
 /// context, the others nothing.
 pub(crate) fn is_idle(
-    draft: &Draft<'_>,
+    draft: &Draft,
     execution: Execution,
     prepared: &Prepared<'_, '_>,
     writer: &ReplyWriter<CommandReply>,
@@ -75,7 +75,7 @@ fn seen_idle(task: Task) -> Seen
 /// Executes such a command without its targets: whether there is one is looked up alone.
 pub(crate) fn on_idle(
     alloc: Global,
-    draft: &Draft<'_>,
+    draft: &Draft,
     execution: Execution,
     prepared: &Prepared<'_, '_>,
     writer: ReplyWriter<CommandReply>,

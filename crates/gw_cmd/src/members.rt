@@ -8,7 +8,7 @@ use gw_base::{CtxNum, Rules};
 use gw_table::Draft;
 
 /// How many members the context has, which may not have come into being.
-fn member_count(draft: &Draft<'_>, number: CtxNum) -> usize
+fn member_count(draft: &Draft, number: CtxNum) -> usize
     ensures { result ≡ length (members_of (ctx draft.now.maps number)) }
 {
     match draft.ctx(number) {
@@ -18,7 +18,7 @@ fn member_count(draft: &Draft<'_>, number: CtxNum) -> usize
 }
 
 /// Whether the context takes no more members.
-pub(crate) fn is_full(rules: &Rules, draft: &Draft<'_>, number: CtxNum) -> bool
+pub(crate) fn is_full(rules: &Rules, draft: &Draft, number: CtxNum) -> bool
     ensures { result ≡ is_full rules.now number draft.now.maps }
 {
     usize::from(rules.members) <= member_count(draft, number)

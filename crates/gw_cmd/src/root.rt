@@ -22,7 +22,7 @@ use std::alloc::Global;
 /// The terminations of these names have this service state.
 fn all_serviced(
     alloc: Global,
-    draft: &mut Draft<'_>,
+    draft: &mut Draft,
     service: Service,
     named: &[TermName],
 ) -> Result<(), NoMemory>
@@ -37,7 +37,7 @@ fn all_serviced(
 }
 
 /// Every termination has the service state that the task has for them, if there is one.
-pub(crate) fn serve_all(alloc: Global, draft: &mut Draft<'_>, task: Task) -> Result<(), NoMemory>
+pub(crate) fn serve_all(alloc: Global, draft: &mut Draft, task: Task) -> Result<(), NoMemory>
     requires { task_verb task ≡ ServiceChange → (t : List ℕ) → is_in t (names draft.old.maps) ≡ true → holds draft.old.keys (Term t) ≡ true }
     ensures maps { OnOk result (draft.new.maps ≡ serviced_if (task_service task) draft.old.maps) }
     ensures keys { draft.new.keys ≡ draft.old.keys }

@@ -12,7 +12,7 @@ use gw_refusal::At;
 use gw_table::Draft;
 
 /// Whether the action's context has ended.
-fn has_ended(draft: &Draft<'_>, at: At) -> bool
+fn has_ended(draft: &Draft, at: At) -> bool
     ensures { result ≡ has_ended at draft.now.maps }
 {
     match at {
@@ -23,7 +23,7 @@ fn has_ended(draft: &Draft<'_>, at: At) -> bool
 
 /// What is missing: the termination of a name, one that a wildcard matches, or a slot.
 fn missing(
-    draft: &Draft<'_>,
+    draft: &Draft,
     at: At,
     slot: Option<u16>,
     command: &Command<'_>,
@@ -44,7 +44,7 @@ fn missing(
 /// is missing, and what is wrong with its descriptors. The caller says whether the command is for any termination.
 #[tactic(auto, unfolding(crate::specs::Refusals::refusal_by_tables))]
 pub(crate) fn refusal_by_tables(
-    draft: &Draft<'_>,
+    draft: &Draft,
     at: At,
     slot: Option<u16>,
     prepared: &Prepared<'_, '_>,

@@ -28,7 +28,7 @@ use std::alloc::Global;
 /// Does the task to the termination of a name, and writes the reply. Once the writer is full, nothing is audited.
 pub(crate) fn on_target(
     alloc: Global,
-    draft: &mut Draft<'_>,
+    draft: &mut Draft,
     task: Task,
     prepared: &mut Prepared<'_, '_>,
     name: &TermName,
@@ -56,7 +56,7 @@ pub(crate) fn on_target(
 /// Does the task to the terminations of these names, one after another; none stops the others.
 pub(crate) fn on_targets(
     alloc: Global,
-    draft: &mut Draft<'_>,
+    draft: &mut Draft,
     task: Task,
     prepared: &mut Prepared<'_, '_>,
     named: &[TermName],

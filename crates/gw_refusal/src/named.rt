@@ -14,7 +14,7 @@ use gw_table::Draft;
 use std::alloc::Global;
 
 /// The members of a context in joining order.
-fn members(alloc: Global, draft: &Draft<'_>, number: CtxNum) -> Result<Vec<TermName>, NoMemory>
+fn members(alloc: Global, draft: &Draft, number: CtxNum) -> Result<Vec<TermName>, NoMemory>
     ensures { IfOk result (λ list. list.items ≡ members_of (ctx draft.now.maps number)) }
 {
     match draft.ctx(number) {
@@ -26,7 +26,7 @@ fn members(alloc: Global, draft: &Draft<'_>, number: CtxNum) -> Result<Vec<TermN
 /// The terminations in this place: a context, or none for the null context.
 fn those_in(
     alloc: Global,
-    draft: &Draft<'_>,
+    draft: &Draft,
     place: Option<CtxNum>,
 ) -> Result<Vec<TermName>, NoMemory>
     ensures { IfOk result (λ list. list.items ≡ those_in place draft.now.maps) }
@@ -52,7 +52,7 @@ fn source(at: At, command: &Command<'_>) -> Option<CtxNum>
 #[tactic(auto, unfolding(crate::specs::Targets::matched))]
 fn matched(
     alloc: Global,
-    draft: &Draft<'_>,
+    draft: &Draft,
     at: At,
     command: &Command<'_>,
 ) -> Result<Vec<TermName>, NoMemory>
@@ -69,7 +69,7 @@ fn matched(
 /// The names of the terminations that the command is for, in order, as the tables are now.
 pub fn targets(
     alloc: Global,
-    draft: &Draft<'_>,
+    draft: &Draft,
     at: At,
     command: &Command<'_>,
 ) -> Result<Vec<TermName>, NoMemory>
@@ -87,7 +87,7 @@ pub fn targets(
 }
 
 /// Whether the wildcard matches a member of the context.
-fn has_member(draft: &Draft<'_>, number: CtxNum, term: &TermRef) -> bool
+fn has_member(draft: &Draft, number: CtxNum, term: &TermRef) -> bool
     ensures { result ≡ list_any (matches term.now) (members_of (ctx draft.now.maps number)) }
 {
     match draft.ctx(number) {
@@ -97,7 +97,7 @@ fn has_member(draft: &Draft<'_>, number: CtxNum, term: &TermRef) -> bool
 }
 
 /// Whether the wildcard matches a termination of the null context.
-fn has_free(draft: &Draft<'_>, term: TermRef) -> bool
+fn has_free(draft: &Draft, term: TermRef) -> bool
     ensures { result ≡ list_any (λ name. is_free draft.now.maps name && matches term name) (names draft.now.maps) }
 {
     match term {
@@ -109,7 +109,7 @@ fn has_free(draft: &Draft<'_>, term: TermRef) -> bool
 
 /// Whether a wildcard matches a termination. The work ends at the first.
 #[tactic(auto, unfolding(crate::specs::Targets::matched))]
-fn has_matched(draft: &Draft<'_>, at: At, command: &Command<'_>) -> bool
+fn has_matched(draft: &Draft, at: At, command: &Command<'_>) -> bool
     ensures { result ≡ is_some_list (matched at command.now draft.now.maps) }
 {
     match source(at, command) {
@@ -121,7 +121,7 @@ fn has_matched(draft: &Draft<'_>, at: At, command: &Command<'_>) -> bool
 /// Whether the command is for a termination, as the tables are now: whether [`targets`] has a name. It takes no memory. A wildcard
 /// costs a look-up of the context and one pass of its members, which are not looked up, or, in the null context and of an Add, one
 /// pass of the names, up to the first that matches.
-pub fn has_targets(draft: &Draft<'_>, at: At, command: &Command<'_>) -> bool
+pub fn has_targets(draft: &Draft, at: At, command: &Command<'_>) -> bool
     ensures { result ≡ is_some_list (targets at command.now draft.now.maps) }
 {
     match command.term {

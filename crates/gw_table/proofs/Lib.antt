@@ -1,5 +1,4 @@
 pub mod Celled
-pub mod Drafted
 pub mod Exchanged
 pub mod Folding
 pub mod Frames
@@ -9,12 +8,12 @@ pub mod InPlace
 pub mod LeftPlaces
 pub mod KeyLists
 pub mod KeyOrder
-pub mod LaidCells
 pub mod Leaving
 pub mod Localities
 pub mod Lookups
 pub mod Moved
 pub mod PartLookups
+pub mod PartWrites
 pub mod Picked
 pub mod Places
 pub mod Prepared

@@ -96,11 +96,3 @@ module _ (numbers slots new : List ℕ) (s after : Stored) (marked : AreMarked n
   marked-put_term_place t p b set here e =
       marked_still numbers new (put_term (maps_of s) t (shown (Some p))) (maps_of after) (ap (λ x. maps_of x) e ∙ maps-put_term_place s t p)
       (marked-put_term numbers slots new (maps_of s) marked t (shown (Some p)) (subst (λ (x : Bool). IsSlotSet t x slots new) here set))
-
-  pub marked-drop_ctx_place : (n : CtxNum) → IsNumberSet n.0 false numbers new → after ≡ drop_ctx_place s n → AreMarked new slots (maps_of after)
-  marked-drop_ctx_place n set e =
-      marked_still new slots (put_ctx (maps_of s) n None) (maps_of after) (ap (λ x. maps_of x) e ∙ maps-drop_ctx_place s n) (marked-put_ctx numbers slots new (maps_of s) marked n None set)
-
-  pub marked-drop_term_place : (t : List ℕ) → IsSlotSet t false slots new → after ≡ drop_term_place s t → AreMarked numbers new (maps_of after)
-  marked-drop_term_place t set e =
-      marked_still numbers new (put_term (maps_of s) t None) (maps_of after) (ap (λ x. maps_of x) e ∙ maps-drop_term_place s t) (marked-put_term numbers slots new (maps_of s) marked t None set)

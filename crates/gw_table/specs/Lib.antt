@@ -1,7 +1,6 @@
 pub mod Accesses
 pub mod Backings
 pub mod Cells
-pub mod Drafts
 pub mod Folds
 pub mod Found
 pub mod Free

@@ -238,12 +238,6 @@ pub record AreMoved (keys : List Key) (from to left full : Stored) : Type 0 wher
   pub contexts_left : (n : CtxNum) → finite.get left.contexts n.0 ≡ cond (has keys (Ctx n)) (Some Out) (finite.get from.contexts n.0)
   pub contexts_full : (n : CtxNum) → finite.get full.contexts n.0 ≡ cond (has keys (Ctx n)) (finite.get from.contexts n.0) (finite.get to.contexts n.0)
 
--- there is no place for the key any more
-abbrev pub without_place : Stored → Key → Stored
-without_place s (Term t) = drop_term_place s t
-without_place s (Ctx n) = drop_ctx_place s n
-without_place s Whole = s
-
 -- ---- codes, by which values of models are told apart
 
 abbrev flat : {A : Type 0} → Place A → Option (Option A)

@@ -1,4 +1,4 @@
-//! What commands work on: tables in place, or changes over a borrowed part.
+//! What commands work on: whole tables or a part, in place.
 
 ghost use Rattle.std.specs.Prelude.{◌≡◌, ◌<◌, None, true, false, length, IfOk, OnOk, OnErr, option_copied};
 ghost use Rattle.gw_base.specs.declared.key.Key.{Key};
@@ -12,7 +12,6 @@ ghost use Rattle.gw_table.specs.Stored.{maps_of, NoneIsOut, AreReady, KeepReady}
 
 use crate::in_place::InPlace;
 use crate::originals::Originals;
-use crate::over_part::OverPart;
 use crate::part::Part;
 use crate::tables::Tables;
 use gw_base::{CtxNum, Held, NoMemory, Service, TermName};
@@ -23,28 +22,28 @@ use std::marker::Model;
 
 /// What a draft works on.
 #[derive(Drop)]
-pub(crate) enum Backing<'t> {
-    /// Changes over a borrowed part.
-    OfPart(OverPart<'t>),
-    /// Whole tables, in place.
+pub(crate) enum Backing {
+    /// A part.
+    OfPart(Part),
+    /// Whole tables.
     OfTables(InPlace),
 }
 
-/// Whole tables that are changed in place, with an undo log; or changes that are laid over a borrowed part, which
-/// stays as it is. What is read at a key is what was written there last. A record is moved and not copied, but where
-/// a change is one of some of it: then what stood there is logged, and a copy is changed.
-pub struct Draft<'t> {
-    pub(crate) backing: Backing<'t>,
+/// Whole tables that are changed in place, with an undo log; or a part that is changed in place, without one. What is
+/// read at a key is what was written there last. A record is moved and not copied, but where some of it is changed in
+/// whole tables: then what stood there is logged, and a copy is changed.
+pub struct Draft {
+    pub(crate) backing: Backing,
 }
 
 // By hand, so that a function that drops a draft does so by one call. A derived one would stand in it field by field.
-impl<'t> Drop for Draft<'t> {
+impl Drop for Draft {
     fn drop(self) {
         let Draft { backing: _ } = self;
     }
 }
 
-impl<'t> Model for Draft<'t> {
+impl Model for Draft {
     ghost use Rattle.gw_table.specs.Backings.{backing_part};
     ghost use Rattle.gw_table.specs.Parts.{Parted, coded_part};
 
@@ -55,10 +54,10 @@ impl<'t> Model for Draft<'t> {
     ghost view = { λ a. backing_part a.backing };
 }
 
-impl<'t> Draft<'t> {
+impl Draft {
     /// Whole tables, with the undo log of earlier changes, or of none. The caller knows that nothing is out, and that
     /// each key of the log has a place. It takes no memory.
-    pub fn of_tables(tables: Tables, originals: Originals) -> Draft<'t>
+    pub fn of_tables(tables: Tables, originals: Originals) -> Draft
         requires here { NoneIsOut tables }
         requires ready { AreReady (keys_written originals) tables }
         ensures { result ≡ record { keys = Over (before_all originals tables); maps = maps_of tables } }
@@ -68,12 +67,12 @@ impl<'t> Draft<'t> {
         }
     }
 
-    /// A part without changes. It takes no memory.
-    pub fn of_part(alloc: Global, part: &'t Part) -> Draft<'t>
-        ensures { result ≡ part.now }
+    /// A part. It takes no memory.
+    pub fn of_part(part: Part) -> Draft
+        ensures { result ≡ part }
     {
         Draft {
-            backing: Backing::OfPart(OverPart::new(alloc, part)),
+            backing: Backing::OfPart(part),
         }
     }
 
@@ -82,7 +81,7 @@ impl<'t> Draft<'t> {
         ensures { option_copied result ≡ term self.now.maps name.now }
     {
         match &self.backing {
-            Backing::OfPart(backing) => backing.term(name),
+            Backing::OfPart(part) => part.term(name),
             Backing::OfTables(backing) => backing.tables.find_term(name),
         }
     }
@@ -92,7 +91,7 @@ impl<'t> Draft<'t> {
         ensures { option_copied result ≡ ctx self.now.maps number }
     {
         match &self.backing {
-            Backing::OfPart(backing) => backing.ctx(number),
+            Backing::OfPart(part) => part.ctx(number),
             Backing::OfTables(backing) => backing.tables.find_ctx(number),
         }
     }
@@ -113,7 +112,10 @@ impl<'t> Draft<'t> {
         ensures keys { self.new.keys ≡ self.old.keys }
     {
         match &mut self.backing {
-            Backing::OfPart(backing) => backing.set_term(name, entry),
+            Backing::OfPart(part) => {
+                part.set_term(&name, entry);
+                Ok(())
+            }
             Backing::OfTables(backing) => backing.set_term(&name, entry),
         }
     }
@@ -130,22 +132,21 @@ impl<'t> Draft<'t> {
         ensures keys { self.new.keys ≡ self.old.keys }
     {
         match &mut self.backing {
-            Backing::OfPart(backing) => backing.set_ctx(number, entry),
+            Backing::OfPart(part) => {
+                part.set_ctx(number, entry);
+                Ok(())
+            }
             Backing::OfTables(backing) => backing.set_ctx(number, entry),
         }
     }
 
     /// Takes the context with a number out of the draft, to be changed and set again: a copy, where what stood there
-    /// is logged. The caller knows that the number is one of the draft's keys.
+    /// is logged. The caller knows that the number is one of the draft's keys. Of a part it takes no memory.
     ///
     /// # Errors
     ///
     /// Out of memory. The draft is as it was.
-    pub fn take_ctx(
-        &mut self,
-        alloc: Global,
-        number: CtxNum,
-    ) -> Result<Option<Held<Context>>, NoMemory>
+    pub fn take_ctx(&mut self, number: CtxNum) -> Result<Option<Held<Context>>, NoMemory>
         requires { holds self.old.keys (Ctx number) ≡ true }
         ensures context { IfOk result (λ context. context ≡ ctx self.old.maps number) }
         ensures maps { OnOk result (self.new.maps ≡ put_ctx self.old.maps number None) }
@@ -153,7 +154,7 @@ impl<'t> Draft<'t> {
         ensures keys { self.new.keys ≡ self.old.keys }
     {
         match &mut self.backing {
-            Backing::OfPart(backing) => backing.take_ctx(alloc, number),
+            Backing::OfPart(part) => Ok(part.set_ctx(number, None)),
             Backing::OfTables(backing) => backing.take_ctx(number),
         }
     }
@@ -163,7 +164,7 @@ impl<'t> Draft<'t> {
     ///
     /// # Errors
     ///
-    /// Out of memory. The termination may then be gone from the draft.
+    /// Out of memory. The draft is as it was.
     pub fn set_service(
         &mut self,
         alloc: Global,
@@ -175,7 +176,10 @@ impl<'t> Draft<'t> {
         ensures keys { self.new.keys ≡ self.old.keys }
     {
         match &mut self.backing {
-            Backing::OfPart(backing) => backing.set_service(alloc, name, service),
+            Backing::OfPart(part) => {
+                part.set_service(name, service);
+                Ok(())
+            }
             Backing::OfTables(backing) => backing.set_service(name, service),
         }
     }
@@ -187,7 +191,7 @@ impl<'t> Draft<'t> {
     ///
     /// # Errors
     ///
-    /// Out of memory. The context may then be gone from the draft.
+    /// Out of memory. The draft is as it was.
     pub fn join(
         &mut self,
         alloc: Global,
@@ -202,7 +206,7 @@ impl<'t> Draft<'t> {
         ensures keys { self.new.keys ≡ self.old.keys }
     {
         match &mut self.backing {
-            Backing::OfPart(backing) => backing.join(alloc, number, name, limit),
+            Backing::OfPart(part) => part.join(alloc, number, name, limit),
             Backing::OfTables(backing) => backing.join(alloc, number, name, limit),
         }
     }
@@ -212,14 +216,17 @@ impl<'t> Draft<'t> {
     ///
     /// # Errors
     ///
-    /// Out of memory. The context may then be gone from the draft.
+    /// Out of memory. The name may then have left.
     pub fn leave(&mut self, alloc: Global, number: CtxNum, name: &TermName) -> Result<(), NoMemory>
         requires { holds self.old.keys (Ctx number) ≡ true }
         ensures maps { OnOk result (self.new.maps ≡ without_member number name.now self.old.maps) }
         ensures keys { self.new.keys ≡ self.old.keys }
     {
         match &mut self.backing {
-            Backing::OfPart(backing) => backing.leave(alloc, number, name),
+            Backing::OfPart(part) => {
+                part.leave(number, name);
+                Ok(())
+            }
             Backing::OfTables(backing) => backing.leave(number, name),
         }
     }
@@ -234,7 +241,7 @@ impl<'t> Draft<'t> {
         ensures { IfOk result (λ list. list.items ≡ names self.now.maps) }
     {
         match &self.backing {
-            Backing::OfPart(backing) => backing.names(alloc),
+            Backing::OfPart(part) => part.names(alloc),
             Backing::OfTables(backing) => backing.tables.names(alloc),
         }
     }
@@ -249,7 +256,7 @@ impl<'t> Draft<'t> {
         ensures { IfOk result (λ list. list.items ≡ numbers self.now.maps) }
     {
         match &self.backing {
-            Backing::OfPart(backing) => backing.numbers(alloc),
+            Backing::OfPart(part) => part.numbers(alloc),
             Backing::OfTables(backing) => backing.tables.numbers(alloc),
         }
     }
@@ -273,18 +280,18 @@ impl<'t> Draft<'t> {
     /// the tables in which the changes began, those of the log that was continued among them. It takes no memory.
     pub fn into_tables(self) -> (Tables, Originals)
         requires { self.keys ≡ Over (start_of self.keys) }
-        ensures maps { maps_of result.0 ≡ self.entry.maps }
+        ensures maps { maps_of result.0 ≡ self.maps }
         ensures here { NoneIsOut result.0 }
-        ensures kept { KeepReady (start_of self.entry.keys) result.0 }
+        ensures kept { KeepReady (start_of self.keys) result.0 }
         ensures ready { AreReady (keys_written result.1) result.0 }
-        ensures back { undone result.1 (maps_of result.0) ≡ maps_of (start_of self.entry.keys) }
+        ensures back { undone result.1 (maps_of result.0) ≡ maps_of (start_of self.keys) }
     {
         let Draft { backing } = self;
         match backing {
             Backing::OfTables(backing) => backing.into_tables(),
-            Backing::OfPart(backing) => {
+            Backing::OfPart(part) => {
                 // No effect at run time. The proof reads here that it lists its keys.
-                let _ = &backing.part;
+                let _ = &part.keys;
                 unreachable!()
             }
         }
@@ -294,33 +301,29 @@ impl<'t> Draft<'t> {
     /// memory.
     pub fn undone(self) -> Tables
         requires { self.keys ≡ Over (start_of self.keys) }
-        ensures maps { maps_of result ≡ maps_of (start_of self.entry.keys) }
+        ensures maps { maps_of result ≡ maps_of (start_of self.keys) }
         ensures here { NoneIsOut result }
-        ensures kept { KeepReady (start_of self.entry.keys) result }
+        ensures kept { KeepReady (start_of self.keys) result }
     {
         let Draft { backing } = self;
         match backing {
             Backing::OfTables(backing) => backing.undone(),
-            Backing::OfPart(backing) => {
+            Backing::OfPart(part) => {
                 // No effect at run time. The proof reads here that it lists its keys.
-                let _ = &backing.part;
+                let _ = &part.keys;
                 unreachable!()
             }
         }
     }
 
-    /// A draft of a part as a part of its own. Entries that were not changed are copied; a key takes a look-up.
-    ///
-    /// # Errors
-    ///
-    /// Out of memory.
-    pub fn into_part(self, alloc: Global) -> Result<Part, NoMemory>
+    /// A draft of a part as the part that it left. It takes no memory.
+    pub fn into_part(self) -> Part
         requires { self.keys ≡ Only (list_of self.keys) }
-        ensures { IfOk result (λ part. part ≡ self.entry) }
+        ensures { result ≡ self }
     {
         let Draft { backing } = self;
         match backing {
-            Backing::OfPart(backing) => backing.into_part(alloc),
+            Backing::OfPart(part) => part,
             Backing::OfTables(backing) => {
                 // No effect at run time. The proof reads here that its keys are those of whole tables.
                 let _ = &backing.tables;

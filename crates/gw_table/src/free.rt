@@ -7,7 +7,7 @@ ghost use Rattle.gw_table.specs.Maps.{term, is_free, names};
 ghost use Rattle.gw_table.specs.Stored.{maps_of};
 
 use crate::draft::{Backing, Draft};
-use crate::over_part::OverPart;
+use crate::part::Part;
 use crate::place::Place;
 use crate::row::Row;
 use crate::tables::Tables;
@@ -59,7 +59,7 @@ impl Tables {
     }
 }
 
-impl OverPart<'_> {
+impl Part {
     /// Whether the termination of this name is in the null context.
     fn is_free(&self, name: &TermName) -> bool
         ensures { result ≡ is_free self.now.maps name.now }
@@ -91,7 +91,7 @@ impl OverPart<'_> {
     fn has_free_under(&self, prefix: &[u8]) -> bool
         ensures { result ≡ list_any (λ t. is_free self.now.maps t && starts_with nat_eq t prefix.now) (names self.now.maps) }
     {
-        for key in self.part.keys() {
+        for key in &self.keys {
             if let Key::Term(name) = key {
                 if self.is_free_under(name, prefix) {
                     return true;
@@ -102,7 +102,7 @@ impl OverPart<'_> {
     }
 }
 
-impl Draft<'_> {
+impl Draft {
     /// The names of the terminations of the null context, in the order of their bytes. The work is one pass over the
     /// tables, without a look-up; or two look-ups for each key of the part.
     ///
@@ -113,19 +113,19 @@ impl Draft<'_> {
         ensures { IfOk result (λ list. list.items ≡ filter (is_free self.now.maps) (names self.now.maps)) }
     {
         match &self.backing {
-            Backing::OfPart(backing) => backing.free_names(alloc),
+            Backing::OfPart(part) => part.free_names(alloc),
             Backing::OfTables(backing) => backing.tables.free_names(alloc),
         }
     }
 
     /// Whether there is a termination of the null context with a name that begins so. The work is at most one pass
-    /// over the tables, without a look-up and without memory, which ends at the first; or two look-ups for each key
-    /// of the part.
+    /// over the tables, without a look-up and without memory, which ends at the first; or a look-up for each key of
+    /// the part.
     pub fn has_free_under(&self, prefix: &[u8]) -> bool
         ensures { result ≡ list_any (λ t. is_free self.now.maps t && starts_with nat_eq t prefix.now) (names self.now.maps) }
     {
         match &self.backing {
-            Backing::OfPart(backing) => backing.has_free_under(prefix),
+            Backing::OfPart(part) => part.has_free_under(prefix),
             Backing::OfTables(backing) => backing.tables.has_free_under(prefix),
         }
     }

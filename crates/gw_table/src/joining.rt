@@ -1,12 +1,12 @@
 //! Who joins and who leaves a context, in its place.
 
-ghost use Rattle.std.specs.Prelude.{◌≡◌, ◌<◌, ◌↔◌, true, false, length, None, Some, IsTrue, IfOk, OnOk, OnErr};
+ghost use Rattle.std.specs.Prelude.{◌≡◌, ◌<◌, ◌↔◌, true, false, length, Some, IsTrue, IfOk, OnOk, OnErr};
 ghost use Rattle.gw_base.specs.declared.key.Key.TheVariants.{Ctx};
 ghost use Rattle.gw_base.specs.NameLists.{is_in};
 ghost use Rattle.gw_ctx.specs.Contexts.{new_context, joined, left};
 ghost use Rattle.gw_table.specs.Found.{IsFound};
 ghost use Rattle.gw_table.specs.Joining.{joined_at, join_place, left_at, leave_place};
-ghost use Rattle.gw_table.specs.Maps.{ctx, put_ctx, members_of, context_of};
+ghost use Rattle.gw_table.specs.Maps.{ctx, members_of};
 ghost use Rattle.gw_table.specs.Members.{with_member, without_member};
 ghost use Rattle.gw_table.specs.Originals.{keys_written};
 ghost use Rattle.gw_table.specs.Parts.{holds};
@@ -15,7 +15,7 @@ ghost use Rattle.gw_table.specs.Stored.{maps_of, shown};
 use crate::in_place::{InPlace, log_vacated};
 use crate::marked::set_number;
 use crate::originals::Write;
-use crate::over_part::OverPart;
+use crate::part::Part;
 use crate::place::Place;
 use crate::row::{Found, Row};
 use crate::tables::Tables;
@@ -185,21 +185,9 @@ impl InPlace {
     }
 }
 
-impl OverPart<'_> {
-    /// Takes the context with a number out of its place. One that is not there is as one that has just come into being.
-    fn take_context(&mut self, alloc: Global, number: CtxNum) -> Result<Held<Context>, NoMemory>
-        requires { holds self.old.keys (Ctx number) ≡ true }
-        ensures context { IfOk result (λ context. context ≡ context_of (ctx self.old.maps number)) }
-        ensures maps { OnOk result (self.new.maps ≡ put_ctx self.old.maps number None) }
-        ensures keys { self.new.keys ≡ self.old.keys }
-    {
-        match self.take_ctx(alloc, number)? {
-            Some(context) => Ok(context),
-            None => Ok(Held::new(alloc, Context::new(alloc))?),
-        }
-    }
-
-    /// The name joins the context as its last member. A context comes into being with its first.
+impl Part {
+    /// The name joins the context as its last member. A context comes into being with its first. Out of memory nothing
+    /// has changed.
     pub(crate) fn join(
         &mut self,
         alloc: Global,
@@ -211,32 +199,23 @@ impl OverPart<'_> {
         requires room { length (members_of (ctx self.old.maps number)) < limit }
         requires key { holds self.old.keys (Ctx number) ≡ true }
         ensures maps { OnOk result (self.new.maps ≡ with_member number name self.old.maps) }
+        ensures err { OnErr result (self.new.maps ≡ self.old.maps) }
         ensures keys { self.new.keys ≡ self.old.keys }
     {
-        let mut context = self.take_context(alloc, number)?;
-        joined(context.get_mut(), name, limit)?;
-        self.set_ctx(number, Some(context))?;
-        Ok(())
+        let mut place = Place::of(self.set_ctx(number, None));
+        let joined = join_in_place(&mut place, alloc, name, limit);
+        self.set_ctx(number, place.into_entry());
+        joined
     }
 
     /// The name leaves the context, which ends if it is empty.
-    pub(crate) fn leave(
-        &mut self,
-        alloc: Global,
-        number: CtxNum,
-        name: &TermName,
-    ) -> Result<(), NoMemory>
+    pub(crate) fn leave(&mut self, number: CtxNum, name: &TermName)
         requires { holds self.old.keys (Ctx number) ≡ true }
-        ensures maps { OnOk result (self.new.maps ≡ without_member number name.now self.old.maps) }
+        ensures maps { self.new.maps ≡ without_member number name.now self.old.maps }
         ensures keys { self.new.keys ≡ self.old.keys }
     {
-        let Some(mut context) = self.take_ctx(alloc, number)? else {
-            return Ok(());
-        };
-        context.get_mut().leave(name);
-        if context.get().members().is_empty() {
-            return self.set_ctx(number, None);
-        }
-        self.set_ctx(number, Some(context))
+        let mut place = Place::of(self.set_ctx(number, None));
+        leave_in_place(&mut place, name);
+        self.set_ctx(number, place.into_entry());
     }
 }

@@ -3,7 +3,6 @@
 
 mod attempts;
 mod cell;
-mod changes;
 mod draft;
 mod free;
 mod in_place;
@@ -15,7 +14,6 @@ mod laws;
 mod marked;
 mod moves;
 mod originals;
-mod over_part;
 mod part;
 mod place;
 mod reserved;

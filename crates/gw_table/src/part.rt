@@ -1,16 +1,20 @@
 //! A part of the tables: entries that were taken out of them.
 
-ghost use Rattle.std.specs.Prelude.{◌≡◌, IfOk, option_copied};
+ghost use Rattle.std.specs.Prelude.{◌≡◌, true, IfOk, option_copied};
+ghost use Rattle.gw_base.specs.declared.key.Key.TheVariants.{Term, Ctx};
 ghost use Rattle.gw_table.specs.KeyLists.{IsInOrder};
-ghost use Rattle.gw_table.specs.Maps.{term, ctx};
-ghost use Rattle.gw_table.specs.Parts.{list_of, IsPart};
+ghost use Rattle.gw_table.specs.Maps.{term, ctx, put_term, put_ctx, names, numbers};
+ghost use Rattle.gw_table.specs.Members.{put_service};
+ghost use Rattle.gw_table.specs.Parts.{list_of, holds, IsPart};
 
 use crate::cell::{Cell, find_name, find_number};
-use gw_base::{CtxNum, Held, Key, NoMemory, TermName};
+use crate::place::Place;
+use gw_base::{CtxNum, Held, Key, NoMemory, Service, TermName};
 use gw_ctx::Context;
 use gw_term::Termination;
 use std::alloc::Global;
 use std::marker::Model;
+use std::mem;
 
 /// A part of the tables: its keys, and the entry of each or none. A look-up takes log k steps in its k keys.
 #[derive(Drop)]
@@ -36,11 +40,20 @@ impl Model for Part {
 }
 
 impl Part {
-    /// A copy of its keys.
-    pub(crate) fn copied_keys(&self) -> Result<Vec<Key>, NoMemory>
-        ensures { IfOk result (λ keys. keys.items ≡ list_of self.now.keys) }
+    /// An equal part, with entries of its own.
+    ///
+    /// # Errors
+    ///
+    /// Out of memory.
+    pub fn copy(&self, alloc: Global) -> Result<Part, NoMemory>
+        ensures { IfOk result (λ copy. copy ≡ self.now) }
     {
-        Ok(self.keys.clone()?)
+        let keys = Vec::from_slice(alloc, &self.keys)?;
+        let mut cells = Vec::with_capacity(alloc, self.cells.len())?;
+        for cell in &self.cells {
+            cells.push(cell.copy()?)?;
+        }
+        Ok(Part { keys, cells })
     }
 
     /// The keys of the part, in order. No entry is at another one.
@@ -72,31 +85,90 @@ impl Part {
         }
     }
 
-    /// A copy of the termination of a name.
-    pub(crate) fn copied_term(
-        &self,
-        alloc: Global,
+    /// Sets the termination of a name, or none, and answers what stood there. The caller knows that the name is one
+    /// of the part's keys.
+    pub fn set_term(
+        &mut self,
         name: &TermName,
-    ) -> Result<Option<Held<Termination>>, NoMemory>
-        ensures { IfOk result (λ entry. entry ≡ term self.now.maps name.now) }
+        entry: Option<Held<Termination>>,
+    ) -> Option<Held<Termination>>
+        requires { holds self.old.keys (Term name.now) ≡ true }
+        ensures before { result ≡ term self.old.maps name.now }
+        ensures maps { self.new.maps ≡ put_term self.old.maps name.now entry }
+        ensures keys { self.new.keys ≡ self.old.keys }
     {
-        match self.term(name) {
-            Some(termination) => Ok(Some(Held::new(alloc, termination.copy()?)?)),
-            None => Ok(None),
+        match find_name(&self.keys, name) {
+            Some(i) => mem::replace(&mut self.cells[i], Cell::OfTerm(Place::of(entry)))
+                .into_term()
+                .into_entry(),
+            None => unreachable!(),
         }
     }
 
-    /// A copy of the context with a number.
-    pub(crate) fn copied_ctx(
-        &self,
-        alloc: Global,
-        number: CtxNum,
-    ) -> Result<Option<Held<Context>>, NoMemory>
-        ensures { IfOk result (λ entry. entry ≡ ctx self.now.maps number) }
+    /// Sets the context with a number, or none, and answers what stood there. The caller knows that the number is one
+    /// of the part's keys.
+    pub fn set_ctx(&mut self, number: CtxNum, entry: Option<Held<Context>>) -> Option<Held<Context>>
+        requires { holds self.old.keys (Ctx number) ≡ true }
+        ensures before { result ≡ ctx self.old.maps number }
+        ensures maps { self.new.maps ≡ put_ctx self.old.maps number entry }
+        ensures keys { self.new.keys ≡ self.old.keys }
     {
-        match self.ctx(number) {
-            Some(context) => Ok(Some(Held::new(alloc, context.copy()?)?)),
-            None => Ok(None),
+        match find_number(&self.keys, number) {
+            Some(i) => mem::replace(&mut self.cells[i], Cell::OfCtx(Place::of(entry)))
+                .into_ctx()
+                .into_entry(),
+            None => unreachable!(),
         }
+    }
+
+    /// The termination of a name has another service state, if there is one. The caller knows that the name is one of
+    /// the part's keys.
+    pub(crate) fn set_service(&mut self, name: &TermName, service: Service)
+        requires { holds self.old.keys (Term name.now) ≡ true }
+        ensures maps { self.new.maps ≡ put_service service name.now self.old.maps (term self.old.maps name.now) }
+        ensures keys { self.new.keys ≡ self.old.keys }
+    {
+        if let Some(mut termination) = self.set_term(name, None) {
+            termination.get_mut().set_service(service);
+            self.set_term(name, Some(termination));
+        }
+    }
+
+    /// The names of all terminations, in the order of their bytes. Each of the keys takes a look-up.
+    ///
+    /// # Errors
+    ///
+    /// Out of memory.
+    pub fn names(&self, alloc: Global) -> Result<Vec<TermName>, NoMemory>
+        ensures { IfOk result (λ list. list.items ≡ names self.now.maps) }
+    {
+        let mut names = Vec::with_capacity(alloc, self.keys.len())?;
+        for key in &self.keys {
+            if let Key::Term(name) = key {
+                if self.term(name).is_some() {
+                    names.push(*name)?;
+                }
+            }
+        }
+        Ok(names)
+    }
+
+    /// The numbers of all contexts, rising. Each of the keys takes a look-up.
+    ///
+    /// # Errors
+    ///
+    /// Out of memory.
+    pub fn numbers(&self, alloc: Global) -> Result<Vec<CtxNum>, NoMemory>
+        ensures { IfOk result (λ list. list.items ≡ numbers self.now.maps) }
+    {
+        let mut numbers = Vec::with_capacity(alloc, self.keys.len())?;
+        for key in &self.keys {
+            if let Key::Ctx(number) = key {
+                if self.ctx(*number).is_some() {
+                    numbers.push(*number)?;
+                }
+            }
+        }
+        Ok(numbers)
     }
 }

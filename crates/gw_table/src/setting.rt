@@ -12,7 +12,7 @@ ghost use Rattle.gw_table.specs.Stored.{maps_of, Stored};
 use crate::draft::{Backing, Draft};
 use crate::in_place::InPlace;
 use crate::originals::Write;
-use crate::over_part::OverPart;
+use crate::part::Part;
 use crate::place::Place;
 use crate::tables::Tables;
 use gw_base::{CtxNum, Held, NoMemory};
@@ -106,45 +106,37 @@ impl InPlace {
     }
 }
 
-impl OverPart<'_> {
+impl Part {
     /// Sets a property of the context with a number, if there is one.
-    fn set_property(
-        &mut self,
-        alloc: Global,
-        number: CtxNum,
-        setting: Setting,
-    ) -> Result<(), NoMemory>
+    fn set_property(&mut self, number: CtxNum, setting: Setting)
         requires { holds self.old.keys (Ctx number) ≡ true }
-        ensures maps { OnOk result (self.new.maps ≡ put_setting setting number self.old.maps (ctx self.old.maps number)) }
+        ensures maps { self.new.maps ≡ put_setting setting number self.old.maps (ctx self.old.maps number) }
         ensures keys { self.new.keys ≡ self.old.keys }
     {
-        if let Some(mut context) = self.take_ctx(alloc, number)? {
+        if let Some(mut context) = self.set_ctx(number, None) {
             set(context.get_mut(), setting);
-            self.set_ctx(number, Some(context))?;
+            self.set_ctx(number, Some(context));
         }
-        Ok(())
     }
 }
 
-impl Draft<'_> {
+impl Draft {
     /// Sets a property of the context with a number, if there is one. The caller knows that the number is one of the
     /// draft's keys. In whole tables it is one look-up, and the context is not copied.
     ///
     /// # Errors
     ///
-    /// Out of memory. The context may then be gone from the draft.
-    pub fn set_property(
-        &mut self,
-        alloc: Global,
-        number: CtxNum,
-        setting: Setting,
-    ) -> Result<(), NoMemory>
+    /// Out of memory. The draft is as it was.
+    pub fn set_property(&mut self, number: CtxNum, setting: Setting) -> Result<(), NoMemory>
         requires { holds self.old.keys (Ctx number) ≡ true }
         ensures maps { OnOk result (self.new.maps ≡ put_setting setting number self.old.maps (ctx self.old.maps number)) }
         ensures keys { self.new.keys ≡ self.old.keys }
     {
         match &mut self.backing {
-            Backing::OfPart(backing) => backing.set_property(alloc, number, setting),
+            Backing::OfPart(part) => {
+                part.set_property(number, setting);
+                Ok(())
+            }
             Backing::OfTables(backing) => backing.set_property(number, setting),
         }
     }

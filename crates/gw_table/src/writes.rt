@@ -1,81 +1,22 @@
-//! Single places of tables: read, written, and freed.
+//! Single places of tables that are written.
 
-ghost use Rattle.std.specs.Prelude.{◌≡◌, IfOk, OnOk, OnErr, option_copied};
-ghost use Rattle.std.specs.FinMap as finite;
+ghost use Rattle.std.specs.Prelude.{◌≡◌, IfOk, OnOk, OnErr};
 ghost use Rattle.gw_base.specs.declared.key.Key.TheVariants.{Term, Ctx};
 ghost use Rattle.gw_table.specs.Found.{IsFound};
 ghost use Rattle.gw_table.specs.Maps.{term, ctx};
 ghost use Rattle.gw_table.specs.Originals.{keys_written};
-ghost use Rattle.gw_table.specs.Stored.{maps_of, is_ready, put_term_place, put_ctx_place, with_service, without_ctx, drop_term_place, drop_ctx_place};
+ghost use Rattle.gw_table.specs.Stored.{maps_of, put_term_place, put_ctx_place, with_service, without_ctx};
 
 use crate::marked::{set_number, set_slot};
 use crate::originals::Write;
 use crate::place::Place;
-use crate::row::{Found, Row, place_at, place_in};
+use crate::row::{Found, Row};
 use crate::tables::Tables;
 use gw_base::{CtxNum, Held, Key, NoMemory, Service, TermName};
 use gw_ctx::Context;
 use gw_term::Termination;
 
 impl Tables {
-    /// Whether there is a place for a termination.
-    pub(crate) fn has_term(&self, name: &TermName) -> bool
-        ensures { result ≡ is_ready self.now (Term name.now) }
-    {
-        self.terms.contains_key(name)
-    }
-
-    /// Whether there is a place for a context.
-    pub(crate) fn has_ctx(&self, number: CtxNum) -> bool
-        ensures { result ≡ is_ready self.now (Ctx number) }
-    {
-        self.contexts.contains_key(&number.0)
-    }
-
-    /// The place of a termination.
-    pub(crate) fn term_place(&self, name: &TermName) -> Option<&Place<Held<Termination>>>
-        ensures { option_copied result ≡ finite.get self.now.terms name.now }
-    {
-        place_at(self.terms.get(name))
-    }
-
-    /// The place of a context.
-    pub(crate) fn ctx_place(&self, number: CtxNum) -> Option<&Place<Held<Context>>>
-        ensures { option_copied result ≡ finite.get self.now.contexts number.0 }
-    {
-        place_at(self.contexts.get(&number.0))
-    }
-
-    /// Sets the place of a termination. A refused allocation changes nothing.
-    pub(crate) fn put_term(
-        &mut self,
-        name: TermName,
-        place: Place<Held<Termination>>,
-    ) -> Result<(), NoMemory>
-        ensures ok { OnOk result (self.new ≡ put_term_place self.old name place) }
-        ensures err { OnErr result (self.new ≡ self.old) }
-    {
-        let stands = place.is_here();
-        self.terms.insert(name, Row::of(place))?;
-        set_slot(&mut self.slots, &name, stands);
-        Ok(())
-    }
-
-    /// Sets the place of a context. A refused allocation changes nothing.
-    pub(crate) fn put_ctx(
-        &mut self,
-        number: CtxNum,
-        place: Place<Held<Context>>,
-    ) -> Result<(), NoMemory>
-        ensures ok { OnOk result (self.new ≡ put_ctx_place self.old number place) }
-        ensures err { OnErr result (self.new ≡ self.old) }
-    {
-        let stands = place.is_here();
-        self.contexts.insert(number.0, Row::of(place))?;
-        set_number(&mut self.numbers, number, stands);
-        Ok(())
-    }
-
     /// Sets the place of a termination, by one look-up where it has one, and answers what was found there: that the
     /// name is logged in the list of writes, or what the caller logs next. A refused allocation changes nothing.
     pub(crate) fn write_term(
@@ -160,23 +101,5 @@ impl Tables {
             return Ok(Found::Unlogged(None));
         };
         row.serve(service, writes, &Key::Term(*name))
-    }
-
-    /// Frees the place of a termination, and answers what stood there.
-    pub(crate) fn drop_term(&mut self, name: &TermName) -> Option<Place<Held<Termination>>>
-        ensures place { result ≡ finite.get self.old.terms name.now }
-        ensures left { self.new ≡ drop_term_place self.old name.now }
-    {
-        set_slot(&mut self.slots, name, false);
-        place_in(self.terms.remove(name))
-    }
-
-    /// Frees the place of a context, and answers what stood there.
-    pub(crate) fn drop_ctx(&mut self, number: CtxNum) -> Option<Place<Held<Context>>>
-        ensures place { result ≡ finite.get self.old.contexts number.0 }
-        ensures left { self.new ≡ drop_ctx_place self.old number }
-    {
-        set_number(&mut self.numbers, number, false);
-        place_in(self.contexts.remove(&number.0))
     }
 }

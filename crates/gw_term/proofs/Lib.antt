@@ -4,6 +4,7 @@ pub mod ByField
 pub mod FewProperties
 pub mod PropertyLists
 pub mod StreamsFound
+pub mod Gathering
 pub mod TooLong
 pub mod KeptMerges
 pub mod KeptAudits

@@ -159,7 +159,7 @@ none_in test of none (x ∷ xs) h =
     let parts = or_parts (test x) (list_any test xs) h in
     rw (none x parts.0, none_in test of none xs parts.1) refl
 
-no_parts : (number : ℕ) (descriptors : List Descriptor) → list_any (is_named_in number) descriptors ≡ false → flat_map (parts_in number) descriptors ≡ []
+pub no_parts : (number : ℕ) (descriptors : List Descriptor) → list_any (is_named_in number) descriptors ≡ false → flat_map (parts_in number) descriptors ≡ []
 no_parts number = none_in (is_named_in number) (parts_in number) (λ d. none_in (names_stream number) (parts_in_part number) (no_part number) (media_parts d))
 
 -- a stream that is named or there is what its parts make of it

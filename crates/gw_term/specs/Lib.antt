@@ -13,4 +13,5 @@ pub mod Lookups
 pub mod NameTags
 pub mod KeptRecords
 pub mod Named
+pub mod Gathered
 pub mod Plain

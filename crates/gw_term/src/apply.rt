@@ -2,6 +2,7 @@
 
 ghost use Rattle.std.specs.Prelude.{◌≡◌, ◌≤◌, ◌++◌, [], IfOk, OnOk, None, Some, true};
 ghost use Rattle.gw_term.specs.Merge.{filled_in, merged_properties, merged_service};
+ghost use Rattle.gw_term.specs.Gathered.{gathered_by};
 ghost use Rattle.gw_term.specs.Named.{named_by, with_set};
 ghost use Rattle.gw_term.specs.Places.{at_number};
 ghost use Rattle.gw_term.specs.Record.{unset};
@@ -9,6 +10,7 @@ ghost use Rattle.gw_term.specs.Settings.{nothing_set};
 ghost use Rattle.gw_term.specs.Applies.{IsMerged, IsMergedInto, merging_of};
 
 use crate::fault::ApplyFault;
+use crate::gathered::Gathered;
 use crate::held::HeldProperty;
 use crate::named::Named;
 use crate::properties::{merged_properties, merged_service};
@@ -55,11 +57,13 @@ fn push_filled(
 fn merge_into(
     alloc: Global,
     sent: &Sent<'_, '_, '_>,
+    gathered: &Gathered<'_>,
     there: &Named,
     old: &Termination,
     set: &mut SettingList,
     filled: &mut Filled,
 ) -> Result<(), ApplyFault>
+    requires gathered { gathered.now ≡ gathered_by sent.now.descriptors.now }
     requires there { there.now ≡ with_set old.now.settings (named_by sent.now.descriptors.now) }
     requires slot { sent.now.slot ≡ old.now.slot }
     requires rest { merged_properties sent.now.descriptors.now old.now.settings.properties ≡ Some set.old.properties }
@@ -69,10 +73,26 @@ fn merge_into(
 {
     let before = &old.settings;
     let streams = &there.streams;
-    let first = merge_stream(alloc, sent, 1, streams.first, before, set)?;
-    let second = merge_stream(alloc, sent, 2, streams.second, before, set)?;
-    let third = merge_stream(alloc, sent, 3, streams.third, before, set)?;
-    let fourth = merge_stream(alloc, sent, 4, streams.fourth, before, set)?;
+    let first = merge_stream(alloc, sent, 1, &gathered.first, streams.first, before, set)?;
+    let second = merge_stream(
+        alloc,
+        sent,
+        2,
+        &gathered.second,
+        streams.second,
+        before,
+        set,
+    )?;
+    let third = merge_stream(alloc, sent, 3, &gathered.third, streams.third, before, set)?;
+    let fourth = merge_stream(
+        alloc,
+        sent,
+        4,
+        &gathered.fourth,
+        streams.fourth,
+        before,
+        set,
+    )?;
     push_filled(alloc, 1, first, set, filled)?;
     push_filled(alloc, 2, second, set, filled)?;
     push_filled(alloc, 3, third, set, filled)?;
@@ -109,14 +129,16 @@ pub struct Applied {
 
 /// The record after the descriptors, as `Termination::merged` gives it. Long texts are shared with what was made of
 /// them before.
-#[tactic(auto, unfolding(crate::specs::Merge::merged, crate::specs::Merge::merged_media))]
+#[tactic(auto, using(crate::proofs::Gathering::properties_are), unfolding(crate::specs::Merge::merged, crate::specs::Merge::merged_media))]
 pub(crate) fn merge(
     alloc: Global,
     rules: &Rules,
     descriptors: &[Descriptor<'_>],
+    gathered: &Gathered<'_>,
     old: &Termination,
     made: &Settings,
 ) -> Result<Applied, ApplyFault>
+    requires { gathered.now ≡ gathered_by descriptors.now }
     ensures { IsMerged rules.now descriptors.now old.now result }
 {
     let sent = Sent {
@@ -125,12 +147,24 @@ pub(crate) fn merge(
         descriptors,
         made,
     };
-    let mut there = Named::by(descriptors);
+    let mut there = gathered.named;
     there.add_set(&old.settings);
-    let properties = merged_properties(alloc, &sent, old.settings.properties())?;
+    let properties = merged_properties(
+        alloc,
+        gathered.properties.as_slice(),
+        old.settings.properties(),
+    )?;
     let mut settings = begun(alloc, properties, there.count())?;
     let mut filled = Items::new(alloc);
-    merge_into(alloc, &sent, &there, old, &mut settings, &mut filled)?;
+    merge_into(
+        alloc,
+        &sent,
+        gathered,
+        &there,
+        old,
+        &mut settings,
+        &mut filled,
+    )?;
     let record = Termination {
         place: old.place,
         service: merged_service(descriptors, old.service),
@@ -168,7 +202,15 @@ impl Termination {
     ) -> Result<Applied, ApplyFault>
         ensures { IsMerged rules.now descriptors.now self.now result }
     {
-        merge(alloc, rules, descriptors, self, &Settings::none())
+        let gathered = Gathered::by(alloc, descriptors)?;
+        merge(
+            alloc,
+            rules,
+            descriptors,
+            &gathered,
+            self,
+            &Settings::none(),
+        )
     }
 
     /// The termination becomes its record after the descriptors, as `merged` gives it. Answers the streams whose

@@ -4,7 +4,7 @@ ghost use Rattle.std.specs.Prelude.{◌≡◌, IfOk};
 
 use crate::held::HeldProperty;
 use crate::properties::MOST_PROPERTIES;
-use crate::record::{Stream, Termination};
+use crate::record::Termination;
 use gw_base::{Items, NoMemory};
 use std::alloc::{AllocError, Global};
 
@@ -24,22 +24,6 @@ pub(crate) fn copied_properties(
         copy.push(property.copied(alloc)?)?;
     }
     Ok(Items::from(copy))
-}
-
-/// A copy of the stream. Always inlined, so that it is made where it goes to.
-#[inline(always)]
-pub(crate) fn copied_stream(alloc: Global, stream: &Stream) -> Result<Stream, AllocError>
-    ensures { IfOk result (λ copy. copy ≡ stream.now) }
-{
-    let properties = copied_properties(alloc, stream.properties.as_slice())?;
-    let local = stream.local.copied(alloc)?;
-    let remote = stream.remote.copied(alloc)?;
-    Ok(Stream {
-        mode: stream.mode,
-        properties,
-        local,
-        remote,
-    })
 }
 
 /// The value takes the place of the one there, which is dropped here: where that is done at a type with many fields,

@@ -6,7 +6,6 @@ ghost use Rattle.gw_term.specs.Lookups.{is_of_name};
 
 use crate::names::{is_same_name, name_tag};
 use crate::short::Joined;
-use crate::text::LONG;
 use gw_base::{Items, Span};
 use gw_desc::{Property, Sign, Tail};
 use gw_reply::{KeptProperty, KeptTail};
@@ -106,33 +105,6 @@ impl HeldProperty {
             texts: self.texts.copied(alloc)?,
             split: self.split,
         })
-    }
-
-    /// Whether it is the property that is sent.
-    fn is(&self, property: &Property<Span<'_>>) -> bool
-        ensures { result ≡ true → self.now ≡ property.now }
-    {
-        let (name, value) = self.texts.as_slice().split_at(self.split);
-        is_same_sign(self.sign, property.sign)
-            && name == property.name.as_bytes()
-            && value == property.value.as_bytes()
-    }
-
-    /// The property: where it is long and the same one is among these, a copy of that, which shares its block.
-    pub(crate) fn of_or(
-        alloc: Global,
-        property: &Property<Span<'_>>,
-        made: &[HeldProperty],
-    ) -> Result<HeldProperty, AllocError>
-        ensures { IfOk result (λ held. held ≡ property.now) }
-    {
-        if property.value.as_bytes().len() < LONG {
-            return HeldProperty::of(alloc, property);
-        }
-        match made.iter().find(|own| own.is(property)) {
-            Some(own) => own.copied(alloc),
-            None => HeldProperty::of(alloc, property),
-        }
     }
 
     /// The property as a reply has it, with copies of its texts.

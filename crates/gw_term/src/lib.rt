@@ -5,6 +5,7 @@ mod apply;
 mod audit;
 mod copies;
 mod fault;
+mod gathered;
 mod held;
 mod laws;
 mod merger;

@@ -3,11 +3,13 @@
 ghost use Rattle.std.specs.Prelude.{◌≡◌, true, IfOk, IfSome, Some};
 ghost use Rattle.std.specs.Option.{ForSome};
 ghost use Rattle.gw_term.specs.Applies.{IsMerged};
+ghost use Rattle.gw_term.specs.Gathered.{gathered_by};
 ghost use Rattle.gw_term.specs.Merge.{merged};
 ghost use Rattle.gw_term.specs.Plain.{are_plain, fill_none, IsMadeOf};
 
 use crate::apply::{Applied, merge};
 use crate::fault::ApplyFault;
+use crate::gathered::Gathered;
 use crate::plain::are_plain;
 use crate::properties::merged_service;
 use crate::record::Termination;
@@ -26,11 +28,14 @@ pub struct Merger<'a, 'b> {
     /// The descriptors, of which no code of `check` applies, taken as those of an Add.
     pub descriptors: &'a [Descriptor<'b>],
     is_plain: bool,
+    /// What the descriptors send, once it was asked for.
+    gathered: Option<Gathered<'b>>,
     /// The settings met last, if nothing of them was filled.
     before: Option<Settings>,
     /// What was made of the settings met last.
     after: Settings,
     ghost plain: { is_plain ≡ are_plain descriptors.now },
+    ghost sends: { ForSome gathered (λ gathered. gathered ≡ gathered_by descriptors.now) },
     ghost made: { ForSome before (λ before. IsMadeOf rules.now descriptors.now before after) },
 }
 
@@ -44,6 +49,7 @@ impl<'a, 'b> Merger<'a, 'b> {
             rules,
             descriptors,
             is_plain: are_plain(descriptors),
+            gathered: None,
             before: None,
             after: Settings::none(),
         }
@@ -122,7 +128,14 @@ impl<'a, 'b> Merger<'a, 'b> {
                 return self.applied(alloc, old, settings);
             }
         }
-        let applied = merge(alloc, self.rules, self.descriptors, old, &self.after)?;
+        if self.gathered.is_none() {
+            self.gathered = Some(Gathered::by(alloc, self.descriptors)?);
+        }
+        let Some(gathered) = &self.gathered else {
+            unreachable!()
+        };
+        let (rules, descriptors) = (self.rules, self.descriptors);
+        let applied = merge(alloc, rules, descriptors, gathered, old, &self.after)?;
         self.keep(old, applied.record.get())?;
         Ok(applied)
     }

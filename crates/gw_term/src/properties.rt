@@ -2,13 +2,12 @@
 
 ghost use Rattle.std.specs.Prelude.{◌≡◌, ◌≤◌, length};
 ghost use Rattle.std.specs.List.{flat_map};
-ghost use Rattle.gw_term.specs.Merge.{property_place, put_property, put_state, service_after, last_service, merged_service, merged_properties, states_in, states_in_part, media_parts, each};
+ghost use Rattle.gw_term.specs.Merge.{property_place, put_property, service_after, last_service, merged_service, states_in, states_in_part, media_parts, each};
 ghost use Rattle.gw_term.specs.Applies.{Becomes, Yields};
 
 use crate::copies::copied_properties;
 use crate::fault::ApplyFault;
 use crate::held::HeldProperty;
-use crate::sent::Sent;
 use gw_base::{Code, Items, Service, Span};
 use gw_desc::{Descriptor, MediaPart, Property, is_service_states, service_set_by};
 use std::alloc::Global;
@@ -29,17 +28,10 @@ fn property_place(property: &HeldProperty, list: &[HeldProperty]) -> usize
     list.len()
 }
 
-/// The property takes the place of the one of its name, or goes last. It shares its block with what was made of it
-/// before, if it is long.
-pub(crate) fn put_property(
-    alloc: Global,
-    property: &Property<Span<'_>>,
-    made: &[HeldProperty],
-    list: &mut Items<HeldProperty>,
-) -> Result<(), ApplyFault>
-    ensures { Becomes result list.new (put_property property.now list.old) }
+/// The property takes the place of the one of its name, or goes last.
+fn put_property(kept: HeldProperty, list: &mut Items<HeldProperty>) -> Result<(), ApplyFault>
+    ensures { Becomes result list.new (put_property kept list.old) }
 {
-    let kept = HeldProperty::of_or(alloc, property, made)?;
     let place = property_place(&kept, list.as_slice());
     let is_there = place < list.len();
     if !is_there && list.len() >= MOST_PROPERTIES {
@@ -53,37 +45,22 @@ pub(crate) fn put_property(
     Ok(())
 }
 
-/// So does a property of a TerminationState; ServiceStates is none of the list.
-fn put_state(
+/// So do copies of these, one after another.
+pub(crate) fn put_properties(
     alloc: Global,
-    property: &Property<Span<'_>>,
-    made: &[HeldProperty],
+    sent: &[HeldProperty],
     list: &mut Items<HeldProperty>,
 ) -> Result<(), ApplyFault>
-    ensures { Becomes result list.new (put_state property.now list.old) }
+    ensures { Becomes result list.new (each put_property sent.now list.old) }
 {
-    if is_service_states(property.name.as_bytes()) {
-        return Ok(());
-    }
-    put_property(alloc, property, made, list)
-}
-
-fn put_states(
-    alloc: Global,
-    properties: &[Property<Span<'_>>],
-    made: &[HeldProperty],
-    list: &mut Items<HeldProperty>,
-) -> Result<(), ApplyFault>
-    ensures { Becomes result list.new (each put_state properties.now list.old) }
-{
-    for property in properties {
-        put_state(alloc, property, made, list)?;
+    for property in sent {
+        put_property(property.copied(alloc)?, list)?;
     }
     Ok(())
 }
 
 /// The properties of a part of a Media, if it is a TerminationState.
-fn states_in_part<'a, 'b>(part: &'b MediaPart<'a>) -> &'b [Property<Span<'a>>]
+pub(crate) fn states_in_part<'a, 'b>(part: &'b MediaPart<'a>) -> &'b [Property<Span<'a>>]
     ensures { result.now ≡ states_in_part part.now }
 {
     match part {
@@ -102,45 +79,16 @@ pub(crate) fn media_parts<'a, 'b>(descriptor: &'b Descriptor<'a>) -> &'b [MediaP
     }
 }
 
-fn put_states_of(
-    alloc: Global,
-    parts: &[MediaPart<'_>],
-    made: &[HeldProperty],
-    list: &mut Items<HeldProperty>,
-) -> Result<(), ApplyFault>
-    ensures { Becomes result list.new (each put_state (flat_map states_in_part parts.now) list.old) }
-{
-    for part in parts {
-        put_states(alloc, states_in_part(part), made, list)?;
-    }
-    Ok(())
-}
-
-fn put_all_states(
-    alloc: Global,
-    sent: &Sent<'_, '_, '_>,
-    list: &mut Items<HeldProperty>,
-) -> Result<(), ApplyFault>
-    ensures { Becomes result list.new (each put_state (flat_map states_in sent.now.descriptors.now) list.old) }
-{
-    let made = sent.made.properties();
-    for descriptor in sent.descriptors {
-        put_states_of(alloc, media_parts(descriptor), made, list)?;
-    }
-    Ok(())
-}
-
-/// The properties after the descriptors.
-#[tactic(auto, unfolding(crate::specs::Merge::merged_properties))]
+/// The properties after those that are sent.
 pub(crate) fn merged_properties(
     alloc: Global,
-    sent: &Sent<'_, '_, '_>,
+    sent: &[HeldProperty],
     old: &[HeldProperty],
 ) -> Result<Items<HeldProperty>, ApplyFault>
-    ensures { Yields result (merged_properties sent.now.descriptors.now old.now) }
+    ensures { Yields result (each put_property sent.now old.now) }
 {
     let mut list = copied_properties(alloc, old)?;
-    put_all_states(alloc, sent, &mut list)?;
+    put_properties(alloc, sent, &mut list)?;
     Ok(list)
 }
 

@@ -2,7 +2,6 @@
 
 ghost use Rattle.std.specs.Prelude.{◌≤◌};
 
-use crate::held::HeldProperty;
 use crate::settings::Settings;
 use crate::text::Text;
 use gw_base::Rules;
@@ -19,18 +18,7 @@ pub(crate) struct Sent<'a, 'b, 'c> {
 }
 
 impl<'c> Sent<'_, '_, 'c> {
-    /// The properties that were made of the stream of this number.
-    pub fn made_controls(&self, number: u8) -> &'c [HeldProperty]
-        requires first { 1 ≤ number }
-        requires last { number ≤ 4 }
-    {
-        match self.made.stream(number) {
-            Some(stream) => stream.properties.as_slice(),
-            None => &[],
-        }
-    }
-
-    /// The Local that was made of it.
+    /// The Local that was made of the stream of this number.
     pub fn made_local(&self, number: u8) -> Option<&'c Text>
         requires first { 1 ≤ number }
         requires last { number ≤ 4 }
@@ -38,7 +26,7 @@ impl<'c> Sent<'_, '_, 'c> {
         Some(&self.made.stream(number)?.local)
     }
 
-    /// The Remote that was made of it.
+    /// The Remote that was made of the stream of this number.
     pub fn made_remote(&self, number: u8) -> Option<&'c Text>
         requires first { 1 ≤ number }
         requires last { number ≤ 4 }

@@ -1,27 +1,25 @@
-//! Streams: what the parts of a Media do to each.
+//! Streams: what becomes of each by what is sent to it.
 
-ghost use Rattle.std.specs.Prelude.{◌≡◌, ◌≤◌, IfOk, OnOk, None, true};
+ghost use Rattle.std.specs.Prelude.{◌≡◌, ◌≤◌, IfOk, OnOk, None, Some, false, true};
 ghost use Rattle.std.specs.Option.{is_some, option_copied};
 ghost use Rattle.gw_term.specs.Named.{or_named};
-ghost use Rattle.gw_desc.specs.declared.descriptor.StreamPart.TheVariants.{Local};
-ghost use Rattle.std.specs.List.{flat_map, list_any};
-ghost use Rattle.gw_term.specs.Merge.{put_control, local_text, is_filled, put_part, begun, parts_in, parts_in_part, is_named_in, merged_stream, each};
-ghost use Rattle.gw_term.specs.Applies.{Becomes, IsStreamMerged};
+ghost use Rattle.std.specs.List.{list_any};
+ghost use Rattle.gw_term.specs.Gathered.{applied, filled_after, local_after, remote_after, sent_to};
+ghost use Rattle.gw_term.specs.Merge.{local_text, is_filled, begun, is_named_in, merged_stream};
+ghost use Rattle.gw_term.specs.Applies.{IsStreamMerged, Yields};
 ghost use Rattle.gw_term.specs.Places.{at_number, put_number};
 
-use crate::copies::{copied_stream, put};
+use crate::copies::copied_properties;
 use crate::fault::ApplyFault;
-use crate::held::HeldProperty;
-use crate::properties::{media_parts, put_property};
+use crate::gathered::SentStream;
+use crate::properties::put_properties;
 use crate::record::Stream;
 use crate::sent::Sent;
 use crate::settings::{Setting, SettingList, Settings};
 use crate::text::Text;
-use gw_base::{Items, NoMemory, Rules, Span};
-use gw_desc::{
-    Descriptor, MediaPart, Mode, Property, StreamPart, fill_local, is_mode, mode_set_by,
-};
-use std::alloc::Global;
+use gw_base::{Items, NoMemory, Span};
+use gw_desc::{Mode, fill_local};
+use std::alloc::{AllocError, Global};
 
 /// A stream while descriptors are merged into it.
 pub(crate) struct Merging {
@@ -51,198 +49,136 @@ impl Merging {
     }
 }
 
-/// A property of a LocalControl: Mode, or one of the list.
-fn put_control(
-    alloc: Global,
-    property: &Property<Span<'_>>,
-    made: &[HeldProperty],
-    stream: &mut Stream,
-) -> Result<(), ApplyFault>
-    ensures { Becomes result stream.new (put_control property.now stream.old) }
-{
-    if is_mode(property.name.as_bytes()) {
-        stream.mode = mode_set_by(property).unwrap_or(stream.mode);
-        return Ok(());
-    }
-    put_property(alloc, property, made, &mut stream.properties)
-}
-
-fn put_controls(
-    alloc: Global,
-    properties: &[Property<Span<'_>>],
-    made: &[HeldProperty],
-    stream: &mut Stream,
-) -> Result<(), ApplyFault>
-    ensures { Becomes result stream.new (each put_control properties.now stream.old) }
-{
-    for property in properties {
-        put_control(alloc, property, made, stream)?;
-    }
-    Ok(())
-}
-
-/// A Local, filled where the termination has a slot. Inlined it would have each part of a stream clear a larger
-/// frame.
+/// A Local that is sent, filled where the termination has a slot, and whether it was.
 #[inline(never)]
-fn put_local(
+fn filled_local(
     alloc: Global,
-    sent: &Sent<'_, '_, '_>,
+    target: &Sent<'_, '_, '_>,
     number: u8,
     text: &[u8],
-    merging: &mut Merging,
-) -> Result<(), ApplyFault>
+) -> Result<(Text, bool), NoMemory>
     requires first { 1 ≤ number }
     requires last { number ≤ 4 }
-    ensures { Becomes result merging.new (put_part sent.now.rules.now sent.now.slot number (Local text.now) merging.old) }
+    ensures local { IfOk result (λ made. made.0 ≡ Some (local_text target.now.rules.now target.now.slot number text.now)) }
+    ensures filled { IfOk result (λ made. made.1 ≡ is_filled target.now.slot text.now) }
 {
-    let made = sent.made_local(number);
-    let (local, filled) = match sent.slot {
+    let made = target.made_local(number);
+    match target.slot {
         Some(slot) => {
-            let (local, filled) = fill_local(alloc, text, &sent.rules.media, slot, number)?;
-            (Text::from_vec(local)?.shared_with(alloc, made)?, filled)
+            let (local, filled) = fill_local(alloc, text, &target.rules.media, slot, number)?;
+            Ok((Text::from_vec(local)?.shared_with(alloc, made)?, filled))
         }
-        None => (Text::of_or(alloc, text, made)?, false),
-    };
-    put(&mut merging.stream.local, local);
-    merging.filled = filled;
-    Ok(())
-}
-
-/// A part of the stream.
-fn put_part(
-    alloc: Global,
-    sent: &Sent<'_, '_, '_>,
-    number: u8,
-    part: &StreamPart<'_>,
-    merging: &mut Merging,
-) -> Result<(), ApplyFault>
-    requires first { 1 ≤ number }
-    requires last { number ≤ 4 }
-    ensures { Becomes result merging.new (put_part sent.now.rules.now sent.now.slot number part.now merging.old) }
-{
-    match part {
-        StreamPart::Local(text) => put_local(alloc, sent, number, text.as_bytes(), merging),
-        StreamPart::Remote(text) => {
-            let remote = Text::of_or(alloc, text.as_bytes(), sent.made_remote(number))?;
-            put(&mut merging.stream.remote, remote);
-            Ok(())
-        }
-        StreamPart::LocalControl(properties) => {
-            let made = sent.made_controls(number);
-            put_controls(alloc, properties.as_slice(), made, &mut merging.stream)
-        }
+        None => Ok((Text::of_or(alloc, text, made)?, false)),
     }
 }
 
-fn put_parts(
+/// The Local after what is sent, and whether it was filled.
+fn local_after(
     alloc: Global,
-    sent: &Sent<'_, '_, '_>,
+    target: &Sent<'_, '_, '_>,
     number: u8,
-    parts: &[StreamPart<'_>],
-    merging: &mut Merging,
-) -> Result<(), ApplyFault>
+    sent: &Option<Span<'_>>,
+    old: &Text,
+) -> Result<(Text, bool), NoMemory>
     requires first { 1 ≤ number }
     requires last { number ≤ 4 }
-    ensures { Becomes result merging.new (each (put_part sent.now.rules.now sent.now.slot number) parts.now merging.old) }
+    ensures local { IfOk result (λ made. made.0 ≡ local_after target.now.rules.now target.now.slot number sent.now old.now) }
+    ensures filled { IfOk result (λ made. made.1 ≡ filled_after target.now.slot sent.now false) }
 {
-    for part in parts {
-        put_part(alloc, sent, number, part, merging)?;
-    }
-    Ok(())
-}
-
-/// What of a part of a Media is of the stream.
-fn put_part_of(
-    alloc: Global,
-    sent: &Sent<'_, '_, '_>,
-    number: u8,
-    part: &MediaPart<'_>,
-    merging: &mut Merging,
-) -> Result<(), ApplyFault>
-    requires first { 1 ≤ number }
-    requires last { number ≤ 4 }
-    ensures { Becomes result merging.new (each (put_part sent.now.rules.now sent.now.slot number) (parts_in_part number part.now) merging.old) }
-{
-    match part {
-        MediaPart::Outside(p) if number == 1 => put_part(alloc, sent, number, p, merging),
-        MediaPart::Stream(other, parts) if *other == u16::from(number) => {
-            put_parts(alloc, sent, number, parts.as_slice(), merging)
-        }
-        _ => Ok(()),
+    match sent {
+        Some(text) => filled_local(alloc, target, number, text.as_bytes()),
+        None => Ok((old.copied(alloc)?, false)),
     }
 }
 
-fn put_media(
+/// The Remote after what is sent.
+fn remote_after(
     alloc: Global,
-    sent: &Sent<'_, '_, '_>,
-    number: u8,
-    parts: &[MediaPart<'_>],
-    merging: &mut Merging,
-) -> Result<(), ApplyFault>
-    requires first { 1 ≤ number }
-    requires last { number ≤ 4 }
-    ensures { Becomes result merging.new (each (put_part sent.now.rules.now sent.now.slot number) (flat_map (parts_in_part number) parts.now) merging.old) }
+    sent: &Option<Span<'_>>,
+    made: Option<&Text>,
+    old: &Text,
+) -> Result<Text, AllocError>
+    ensures { IfOk result (λ remote. remote ≡ remote_after sent.now old.now) }
 {
-    for part in parts {
-        put_part_of(alloc, sent, number, part, merging)?;
+    match sent {
+        Some(text) => Text::of_or(alloc, text.as_bytes(), made),
+        None => old.copied(alloc),
     }
-    Ok(())
 }
 
-fn put_all(
+/// A stream after what is sent to it.
+fn applied(
     alloc: Global,
-    sent: &Sent<'_, '_, '_>,
+    target: &Sent<'_, '_, '_>,
     number: u8,
-    merging: &mut Merging,
-) -> Result<(), ApplyFault>
+    sent: &SentStream<'_>,
+    old: &Stream,
+) -> Result<Merging, ApplyFault>
     requires first { 1 ≤ number }
     requires last { number ≤ 4 }
-    ensures { Becomes result merging.new (each (put_part sent.now.rules.now sent.now.slot number) (flat_map (parts_in number) sent.now.descriptors.now) merging.old) }
+    ensures { Yields result (applied target.now.rules.now target.now.slot number sent.now (record { stream = old.now; filled = false })) }
 {
-    for descriptor in sent.descriptors {
-        put_media(alloc, sent, number, media_parts(descriptor), merging)?;
-    }
-    Ok(())
-}
-
-/// A copy of the stream, or a new one where there was none: in mode Inactive, and nothing else.
-fn begun(alloc: Global, old: Option<&Stream>) -> Result<Merging, NoMemory>
-    ensures { IfOk result (λ merging. merging ≡ begun (option_copied old.entry)) }
-{
-    let stream = match old {
-        Some(stream) => copied_stream(alloc, stream)?,
-        None => Stream {
-            mode: Mode::Inactive,
-            properties: Items::new(alloc),
-            local: Text::none(),
-            remote: Text::none(),
-        },
-    };
+    let mut properties = copied_properties(alloc, old.properties.as_slice())?;
+    put_properties(alloc, sent.properties.as_slice(), &mut properties)?;
+    let (local, filled) = local_after(alloc, target, number, &sent.local, &old.local)?;
+    let remote = remote_after(alloc, &sent.remote, target.made_remote(number), &old.remote)?;
     Ok(Merging {
-        stream,
-        filled: false,
+        stream: Stream {
+            mode: sent.mode.unwrap_or(old.mode),
+            properties,
+            local,
+            remote,
+        },
+        filled,
     })
+}
+
+/// The same of one that is there, or of a new one, which is in mode Inactive, and nothing else.
+fn applied_or_new(
+    alloc: Global,
+    target: &Sent<'_, '_, '_>,
+    number: u8,
+    sent: &SentStream<'_>,
+    old: Option<&Stream>,
+) -> Result<Merging, ApplyFault>
+    requires first { 1 ≤ number }
+    requires last { number ≤ 4 }
+    ensures { Yields result (applied target.now.rules.now target.now.slot number sent.now (begun (option_copied old.entry))) }
+{
+    match old {
+        Some(stream) => applied(alloc, target, number, sent, stream),
+        None => {
+            let new = Stream {
+                mode: Mode::Inactive,
+                properties: Items::new(alloc),
+                local: Text::none(),
+                remote: Text::none(),
+            };
+            applied(alloc, target, number, sent, &new)
+        }
+    }
 }
 
 /// The stream of this number, which is named or there, after the descriptors is set; whether its Local was filled.
 /// Not inlined, since most streams are neither.
 #[inline(never)]
-#[tactic(auto, using(crate::proofs::StreamsFound::merged_there))]
+#[tactic(auto, using(crate::proofs::Gathering::merged_there))]
 fn merge_there(
     alloc: Global,
-    sent: &Sent<'_, '_, '_>,
+    target: &Sent<'_, '_, '_>,
     number: u8,
+    sent: &SentStream<'_>,
     old: &Settings,
     new: &mut SettingList,
 ) -> Result<bool, ApplyFault>
     requires first { 1 ≤ number }
     requires last { number ≤ 4 }
-    requires there { or_named (is_some (at_number number old.now.streams)) (list_any (is_named_in number) sent.now.descriptors.now) ≡ true }
-    ensures merged { IsStreamMerged result (at_number number new.new.streams) (merged_stream sent.now.rules.now sent.now.slot number sent.now.descriptors.now (at_number number old.now.streams)) }
+    requires sent { sent.now ≡ sent_to number target.now.descriptors.now }
+    requires there { or_named (is_some (at_number number old.now.streams)) (list_any (is_named_in number) target.now.descriptors.now) ≡ true }
+    ensures merged { IsStreamMerged result (at_number number new.new.streams) (merged_stream target.now.rules.now target.now.slot number target.now.descriptors.now (at_number number old.now.streams)) }
     ensures rest { OnOk result (new.new ≡ record new.old { streams = put_number number (at_number number new.new.streams) new.old.streams }) }
 {
-    let mut merging = begun(alloc, old.stream(number))?;
-    put_all(alloc, sent, number, &mut merging)?;
+    let merging = applied_or_new(alloc, target, number, sent, old.stream(number))?;
     let filled = merging.filled;
     new.push(Setting::Stream(number, merging.into_stream()))?;
     Ok(filled)
@@ -253,21 +189,23 @@ fn merge_there(
 #[tactic(auto, unfolding(crate::specs::Merge::merged_stream))]
 pub(crate) fn merge_stream(
     alloc: Global,
-    sent: &Sent<'_, '_, '_>,
+    target: &Sent<'_, '_, '_>,
     number: u8,
+    sent: &SentStream<'_>,
     is_there: bool,
     old: &Settings,
     new: &mut SettingList,
 ) -> Result<bool, ApplyFault>
     requires first { 1 ≤ number }
     requires last { number ≤ 4 }
-    requires there { is_there ≡ or_named (is_some (at_number number old.now.streams)) (list_any (is_named_in number) sent.now.descriptors.now) }
+    requires sent { sent.now ≡ sent_to number target.now.descriptors.now }
+    requires there { is_there ≡ or_named (is_some (at_number number old.now.streams)) (list_any (is_named_in number) target.now.descriptors.now) }
     requires empty { at_number number new.old.streams ≡ None }
-    ensures merged { IsStreamMerged result (at_number number new.new.streams) (merged_stream sent.now.rules.now sent.now.slot number sent.now.descriptors.now (at_number number old.now.streams)) }
+    ensures merged { IsStreamMerged result (at_number number new.new.streams) (merged_stream target.now.rules.now target.now.slot number target.now.descriptors.now (at_number number old.now.streams)) }
     ensures rest { OnOk result (new.new ≡ record new.old { streams = put_number number (at_number number new.new.streams) new.old.streams }) }
 {
     if is_there {
-        return merge_there(alloc, sent, number, old, new);
+        return merge_there(alloc, target, number, sent, old, new);
     }
     Ok(false)
 }

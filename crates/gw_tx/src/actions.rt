@@ -31,7 +31,7 @@ use std::alloc::Global;
 /// Executes an action with a number, where the context and what is to be linked in it are there.
 fn action_in(
     alloc: Global,
-    draft: &mut Draft<'_>,
+    draft: &mut Draft,
     number: CtxNum,
     task: &ActionTask<'_, '_>,
     writer: ReplyWriter<ActionReply>,
@@ -58,7 +58,7 @@ fn action_in(
 #[inline(always)]
 fn action_on(
     alloc: Global,
-    draft: &mut Draft<'_>,
+    draft: &mut Draft,
     task: &ActionTask<'_, '_>,
     writer: ReplyWriter<ActionReply>,
 ) -> Result<Progress<(), ActionReply>, NoMemory>
@@ -88,7 +88,7 @@ fn action_on(
 #[inline(always)]
 fn action(
     alloc: Global,
-    draft: &mut Draft<'_>,
+    draft: &mut Draft,
     task: &ActionTask<'_, '_>,
     writer: ReplyWriter<ActionReply>,
 ) -> Result<Progress<(), ActionReply>, NoMemory>
@@ -108,7 +108,7 @@ fn action(
 pub(crate) fn actions(
     alloc: Global,
     rules: &Rules,
-    draft: &mut Draft<'_>,
+    draft: &mut Draft,
     numbers: &[Option<CtxNum>],
     slots: &[Option<u16>],
     sent: &[Action<'_>],

@@ -30,7 +30,7 @@ use std::alloc::Global;
 #[inline(always)]
 fn attempt(
     alloc: Global,
-    draft: &mut Draft<'_>,
+    draft: &mut Draft,
     late: &[ContextProp],
     at: At,
     slot: Option<u16>,
@@ -46,7 +46,7 @@ fn attempt(
     ensures same { IsSameCommand prepared.old prepared.new }
 {
     let done = command_written(alloc, draft, at, slot, prepared, writer)?;
-    set_when_made(alloc, draft, done.made, at, late)?;
+    set_when_made(draft, done.made, at, late)?;
     Ok(Progress {
         next: if done.made { at.made() } else { at },
         writer: done.written,
@@ -59,7 +59,7 @@ fn attempt(
 #[inline(always)]
 fn commands(
     alloc: Global,
-    draft: &mut Draft<'_>,
+    draft: &mut Draft,
     late: &[ContextProp],
     at: At,
     task: &ActionTask<'_, '_>,
@@ -101,7 +101,7 @@ fn commands(
 /// The same of commands that were prepared before, in a context that is there.
 pub(crate) fn commands_prepared(
     alloc: Global,
-    draft: &mut Draft<'_>,
+    draft: &mut Draft,
     at: At,
     task: &ActionTask<'_, '_>,
     prepared: &mut [Prepared<'_, '_>],
@@ -144,7 +144,7 @@ pub(crate) fn commands_prepared(
 #[inline(always)]
 pub(crate) fn commands_in(
     alloc: Global,
-    draft: &mut Draft<'_>,
+    draft: &mut Draft,
     late: &[ContextProp],
     at: At,
     task: &ActionTask<'_, '_>,

@@ -178,7 +178,7 @@ fn has_no_part(sent: &Action<'_>) -> bool
 /// Out of memory.
 pub(crate) fn context_parts_if(
     alloc: Global,
-    draft: &Draft<'_>,
+    draft: &Draft,
     number: CtxNum,
     sent: &Action<'_>,
     writer: &ReplyWriter<ActionReply>,

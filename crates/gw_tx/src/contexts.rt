@@ -31,7 +31,7 @@ use std::alloc::Global;
 /// commands.
 pub(crate) fn in_context(
     alloc: Global,
-    draft: &mut Draft<'_>,
+    draft: &mut Draft,
     number: CtxNum,
     task: &ActionTask<'_, '_>,
     writer: ReplyWriter<ActionReply>,
@@ -44,7 +44,7 @@ pub(crate) fn in_context(
     ensures answer { IfOk result (λ done. done ≡ progress action_reply_text writer (done_in_context task.now.rules.now (owned_action task.now) (Live number) number draft.old.maps).answer) }
     ensures keys { draft.new.keys ≡ draft.old.keys }
 {
-    set_properties(alloc, draft, number, task.sent.props.as_slice())?;
+    set_properties(draft, number, task.sent.props.as_slice())?;
     let parts = context_parts_if(alloc, draft, number, task.sent, &writer)?;
     commands_in(alloc, draft, &[], At::Live(number), task, parts, writer)
 }
@@ -52,7 +52,7 @@ pub(crate) fn in_context(
 /// The same in one of the contexts of an action with `*`, whose commands were prepared once for all of them.
 fn in_each(
     alloc: Global,
-    draft: &mut Draft<'_>,
+    draft: &mut Draft,
     number: CtxNum,
     task: &ActionTask<'_, '_>,
     prepared: &mut [Prepared<'_, '_>],
@@ -68,7 +68,7 @@ fn in_each(
     ensures keys { draft.new.keys ≡ draft.old.keys }
     ensures prepared { OnOk result (ArePrepared task.now.rules.now prepared.new task.now.sent.now.commands) }
 {
-    set_properties(alloc, draft, number, task.sent.props.as_slice())?;
+    set_properties(draft, number, task.sent.props.as_slice())?;
     let parts = context_parts_if(alloc, draft, number, task.sent, &writer)?;
     let mut writer = writer;
     let within = begun(alloc, &mut writer);
@@ -80,7 +80,7 @@ fn in_each(
 /// what the next would go on from.
 fn in_all(
     alloc: Global,
-    draft: &mut Draft<'_>,
+    draft: &mut Draft,
     numbers: &[CtxNum],
     task: &ActionTask<'_, '_>,
     prepared: &mut [Prepared<'_, '_>],
@@ -113,7 +113,7 @@ fn in_all(
 /// properties and commands in each of them, and of the replies that there is room for.
 pub(crate) fn action_for_each(
     alloc: Global,
-    draft: &mut Draft<'_>,
+    draft: &mut Draft,
     task: &ActionTask<'_, '_>,
     writer: ReplyWriter<ActionReply>,
 ) -> Result<Progress<(), ActionReply>, NoMemory>

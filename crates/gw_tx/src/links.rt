@@ -56,13 +56,13 @@ pub fn linked_names(alloc: Global, props: &[ContextProp]) -> Result<Vec<TermName
     Ok(names)
 }
 
-fn is_absent(draft: &Draft<'_>, name: &TermName) -> bool
+fn is_absent(draft: &Draft, name: &TermName) -> bool
     ensures { result ≡ is_absent draft.now.maps name.now }
 {
     draft.term(name).is_none()
 }
 
-fn is_elsewhere(draft: &Draft<'_>, number: CtxNum, name: &TermName) -> bool
+fn is_elsewhere(draft: &Draft, number: CtxNum, name: &TermName) -> bool
     ensures { result ≡ is_elsewhere number draft.now.maps name.now }
 {
     match draft.term(name) {
@@ -71,13 +71,13 @@ fn is_elsewhere(draft: &Draft<'_>, number: CtxNum, name: &TermName) -> bool
     }
 }
 
-fn is_any_absent(draft: &Draft<'_>, names: &[TermName]) -> bool
+fn is_any_absent(draft: &Draft, names: &[TermName]) -> bool
     ensures { result ≡ list_any (is_absent draft.now.maps) names.now }
 {
     names.iter().any(|name| is_absent(draft, name))
 }
 
-fn is_any_elsewhere(draft: &Draft<'_>, number: CtxNum, names: &[TermName]) -> bool
+fn is_any_elsewhere(draft: &Draft, number: CtxNum, names: &[TermName]) -> bool
     ensures { result ≡ list_any (is_elsewhere number draft.now.maps) names.now }
 {
     names.iter().any(|name| is_elsewhere(draft, number, name))
@@ -85,7 +85,7 @@ fn is_any_elsewhere(draft: &Draft<'_>, number: CtxNum, names: &[TermName]) -> bo
 
 /// Why these terminations are not linked in this context: the first code that applies. A name takes two look-ups.
 pub(crate) fn refusal_of_links(
-    draft: &Draft<'_>,
+    draft: &Draft,
     number: CtxNum,
     names: &[TermName],
 ) -> Option<Code>

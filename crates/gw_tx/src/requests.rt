@@ -25,7 +25,7 @@ use std::alloc::Global;
 pub fn transaction(
     alloc: Global,
     rules: &Rules,
-    draft: &mut Draft<'_>,
+    draft: &mut Draft,
     request: &Request<'_>,
     owned: &Owned,
 ) -> Result<TxReply, NoMemory>
@@ -64,7 +64,7 @@ pub fn transaction(
 pub fn transaction_within(
     alloc: Global,
     rules: &Rules,
-    draft: &mut Draft<'_>,
+    draft: &mut Draft,
     request: &Request<'_>,
     owned: &Owned,
     block: Items<u8>,

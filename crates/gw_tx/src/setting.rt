@@ -16,7 +16,6 @@ use gw_cmd::At;
 use gw_ctx::Context;
 use gw_msg::{ContextProp, Triple};
 use gw_table::{Draft, Setting};
-use std::alloc::Global;
 
 fn link_two(context: &mut Context, triple: &Triple) -> Result<(), NoMemory>
     ensures { OnOk result (context.new ≡ linked_if (link_of (name_of triple.now.a) (name_of triple.now.b) triple.now.flow) context.old) }
@@ -43,8 +42,7 @@ fn link_all(context: &mut Context, triples: &[Triple]) -> Result<(), NoMemory>
 
 /// Links the members of the context, where it is there: it is taken out, linked and set again.
 fn link_in(
-    alloc: Global,
-    draft: &mut Draft<'_>,
+    draft: &mut Draft,
     number: CtxNum,
     triples: &[Triple],
 ) -> Result<(), NoMemory>
@@ -52,7 +50,7 @@ fn link_in(
     ensures maps { OnOk result (draft.new.maps ≡ set_property number (Topology triples.now) draft.old.maps) }
     ensures keys { draft.new.keys ≡ draft.old.keys }
 {
-    let Some(mut context) = draft.take_ctx(alloc, number)? else {
+    let Some(mut context) = draft.take_ctx(number)? else {
         return Ok(());
     };
     link_all(context.get_mut(), triples)?;
@@ -61,8 +59,7 @@ fn link_in(
 
 /// Sets a property of a context, where it is there. A ContextAudit sets nothing.
 fn set_property(
-    alloc: Global,
-    draft: &mut Draft<'_>,
+    draft: &mut Draft,
     number: CtxNum,
     prop: &ContextProp,
 ) -> Result<(), NoMemory>
@@ -73,10 +70,10 @@ fn set_property(
 {
     match prop {
         ContextProp::Priority(priority) => {
-            draft.set_property(alloc, number, Setting::Priority(*priority as u8))
+            draft.set_property(number, Setting::Priority(*priority as u8))
         }
-        ContextProp::Emergency => draft.set_property(alloc, number, Setting::Emergency),
-        ContextProp::Topology(triples) => link_in(alloc, draft, number, triples.as_slice()),
+        ContextProp::Emergency => draft.set_property(number, Setting::Emergency),
+        ContextProp::Topology(triples) => link_in(draft, number, triples.as_slice()),
         ContextProp::ContextAudit(_) => Ok(()),
     }
 }
@@ -89,8 +86,7 @@ fn set_property(
 ///
 /// Out of memory. The context may then be gone from the draft.
 pub(crate) fn set_properties(
-    alloc: Global,
-    draft: &mut Draft<'_>,
+    draft: &mut Draft,
     number: CtxNum,
     props: &[ContextProp],
 ) -> Result<(), NoMemory>
@@ -100,15 +96,14 @@ pub(crate) fn set_properties(
     ensures keys { draft.new.keys ≡ draft.old.keys }
 {
     for prop in props {
-        set_property(alloc, draft, number, prop)?;
+        set_property(draft, number, prop)?;
     }
     Ok(())
 }
 
 /// A context that has just been made gets its properties.
 pub(crate) fn set_when_made(
-    alloc: Global,
-    draft: &mut Draft<'_>,
+    draft: &mut Draft,
     made: bool,
     at: At,
     late: &[ContextProp],
@@ -119,7 +114,7 @@ pub(crate) fn set_when_made(
     ensures keys { draft.new.keys ≡ draft.old.keys }
 {
     match at {
-        At::Unmade(number) if made => set_properties(alloc, draft, number, late),
+        At::Unmade(number) if made => set_properties(draft, number, late),
         _ => Ok(()),
     }
 }

@@ -49,7 +49,7 @@ returns-clause-maps c =
     c.in_ok-outcome.ensures.maps ∙ ap (λ (x : Maps). (command c.args.rules.now c.args.place.at c.args.place.slot c.args.asked.now x).maps) shown in
     let beside : maps_of c.take_out-part.new.self ≡ cut keys m = c.take_out-part.ensures.maps ∙ ap (λ x. cut keys x) c.in_ok-reserve_slots.ensures.maps in
     c.sweep.ensures.maps ∙ c.put_back.ensures.maps
-    ∙ ap (λ (p : Parted). overlaid (list_of p.keys) p.maps (maps_of c.take_out-part.new.self)) c.in_ok-after.ensures
+    ∙ ap (λ (p : Parted). overlaid (list_of p.keys) p.maps (maps_of c.take_out-part.new.self)) c.into_part-after.ensures
     ∙ ap (λ (k : PartKeys). overlaid (list_of k) c.command.new.draft.maps (maps_of c.take_out-part.new.self)) held
     ∙ (λ i. overlaid keys (after i) (beside i))
     ∙ laid_back keys c.args.place.at c.args.place.slot c.args.asked.now m c.in_ok-keys.ensures c.args.rules.now c.requires.whole

@@ -1,6 +1,0 @@
-use Rattle.std.proofs.Common.{is_some, ap, ◌∙◌}
-use Rattle.gw_table.proofs.Exchanged.{term_seen}
-use Rattle.gw_table.proofs.tables.Tables.has_term.Goals as goal
-
-pub returns : goal.returns
-returns c = c.contains_key.ensures ∙ ap (λ o. is_some o) (term_seen c.self.inside.terms.entries c.self.inside.contexts.entries c.args.self.now c.args.name.now c.self.view_is)
