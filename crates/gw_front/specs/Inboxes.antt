@@ -17,4 +17,4 @@ pub record Gathers (controllers : List Controller) (before after : Option (List 
   pub packets : List Packet
   pub happened : Happens before after (came_all packets)
   pub holds : (earlier : List Packet) → Holds old (taken controllers earlier)
-    → Holds new (taken controllers (earlier ++ packets))
+      → Holds new (taken controllers (earlier ++ packets))

@@ -101,7 +101,7 @@ abbrev pub IsForDropped : Option ℕ → Totals → ServeFault → Type 0
 IsForDropped give_up totals Full = IsFull give_up totals
 IsForDropped give_up totals fault = ¬ IsFull give_up totals
 
--- As many turns as were asked for, and what was executed is told; after a fault no more.
+-- As many turns as the options say, and the answer is what was executed; after a fault no more turns.
 abbrev pub IsEnd : ServeOptions → (turns : ℕ) → Totals → Result Totals ServeFault → Type 0
 IsEnd options turns totals (Ok executed) =
     (options.bursts ≡ Some turns) × (executed ≡ totals) × ¬ IsFull options.give_up totals
@@ -124,7 +124,7 @@ pub record Serves (options : ServeOptions) (before after : Option (List Event)) 
   pub end : IsEnd options (length turns) totals ended
   pub last : AreLast rest ended
 
--- the same, whatever happened: all that is known of a network that does not tell
+-- the same, whatever happened: all that is known of a network of which no clause says what happens
 abbrev pub ServesSome : ServeOptions → GatewayValue → GatewayValue → Result Totals ServeFault → Type 0
 ServesSome options old new ended = Serves options None None old new ended
 

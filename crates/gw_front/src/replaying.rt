@@ -1,4 +1,4 @@
-//! Replays: bursts read from an input, carried out, and answered to an output.
+//! Replays: bursts read from an input, executed, and answered to an output.
 
 ghost use Rattle.std.specs.Prelude.{◌≡◌, ◌≤◌, [], OnOk};
 ghost use Rattle.std.specs.Io.Buffered.{reader_remaining};
@@ -39,7 +39,7 @@ fn carry_out<T: Threads + Sync, G: Gate, W: Write>(
     ensures empty { OnOk result (held.new.items ≡ []) }
 {
     let answers = workers.run(alloc, gateway, burst)?.answers;
-    // No replay lives to see so many answers. They could not be told, so this burst's are not written.
+    // No replay lives to see so many answers. They could not be counted, so this burst's are not written.
     let Some(counts) = counts.with_burst(burst.len(), answers.len()) else {
         return Err(ReplayFault::Write);
     };
@@ -47,7 +47,7 @@ fn carry_out<T: Threads + Sync, G: Gate, W: Write>(
     Ok(counts)
 }
 
-/// Carries out the bursts of an input, one after another.
+/// Executes the bursts of an input, one after another.
 fn replay_all<T: Threads + Sync, G: Gate, R: Read, W: Write>(
     workers: &Workers<'_, T, G>,
     alloc: Global,
@@ -77,18 +77,18 @@ fn replay_all<T: Threads + Sync, G: Gate, R: Read, W: Write>(
     Err(ReplayFault::Read)
 }
 
-/// Carries out the bursts of an input, one after another, and writes the answers of each, when all of them stand, in
+/// Executes the bursts of an input, one after another, and writes the answers of each, when all of them stand, in
 /// the form in which bursts are read: `D <peer> <length>` and a line feed, so many bytes, a line feed; `.` and a line
-/// feed end a burst. The transactions of a burst are carried out by so many workers, 1 to 64, each of which passes the
+/// feed end a burst. The transactions of a burst are executed by so many workers, 1 to 64, each of which passes the
 /// gate before each; how many makes no difference to what is answered. At most one burst is kept in memory, and blocks
 /// of at most 2 MB for the next one. Reads and writes that a signal interrupts are tried again.
 ///
 /// # Errors
 ///
-/// The bursts before the fault were carried out, and their answers are out whole. `BadHeader`, `Truncated` and
+/// The bursts before the fault were executed, and their answers are out whole. `BadHeader`, `Truncated` and
 /// `TooLong` where that is wrong first in what follows them; `Read` where a read failed, or after 4,294,967,295 reads;
-/// `NoMemory` where a growth was refused: of the burst in hand nothing was carried out, and nothing is out. `Write`
-/// where a write failed or took 0 bytes: the burst in hand was carried out, and a front of the text of its answers is
+/// `NoMemory` where a growth was refused: of the burst in hand nothing was executed, and nothing is out. `Write`
+/// where a write failed or took 0 bytes: the burst in hand was executed, and a front of the text of its answers is
 /// out.
 pub fn replay<T: Threads + Sync, R: Read, W: Write, G: Gate>(
     rt: &T,

@@ -49,7 +49,7 @@ enum Received {
 }
 
 impl<'a> Server<'a> {
-    /// Room for a burst, and for a datagram. One byte more than a datagram may have tells that it has more.
+    /// Room for a burst, and for a datagram. One byte more than a datagram may have shows that it has more.
     pub(crate) fn new(
         rt: &impl Clock,
         alloc: Global,

@@ -76,7 +76,8 @@ replay_command = command_of (codes "replay") (file_rule ∷ (audit_rule ∷ (wor
 abbrev pub serve_command : Shape
 serve_command =
     command_of (codes "serve")
-      (file_rule ∷ (listen_rule ∷ (workers_rule ∷ (bursts_rule ∷ (controller_rule ∷ (report_rule ∷ (give_up_rule ∷ [])))))))
+    (file_rule ∷ (listen_rule ∷ (workers_rule ∷ (bursts_rule
+    ∷ (controller_rule ∷ (report_rule ∷ (give_up_rule ∷ [])))))))
 
 -- the program: its words come without its name, and it has a version
 abbrev pub program_app : App

@@ -60,9 +60,12 @@ pub record IsServing (rows : List Row) (serving : Serving) : Type 0 where
 -- what a command with these arguments asks for
 abbrev pub IsAskedBy : Text → List Row → Job → Type 0
 IsAskedBy name rows job.BuiltIn = ⊥
-IsAskedBy name rows (job.Answer file) = (name ≡ codes "answer") × (option_map (λ f. f.now) file ≡ first_of (codes "CONFIG") rows)
+IsAskedBy name rows (job.Answer file) =
+    (name ≡ codes "answer") × (option_map (λ f. f.now) file ≡ first_of (codes "CONFIG") rows)
 IsAskedBy name rows (job.Check file) = (name ≡ codes "check") × (file.now ≡ given (codes "FILE") rows)
-IsAskedBy name rows (job.Replay file audit workers) = (name ≡ codes "replay") × (file.now ≡ given (codes "FILE") rows) × IsFlag (one_of (codes "audit") rows) audit × AreAsked (one_of (codes "WORKERS") rows) workers.count
+IsAskedBy name rows (job.Replay file audit workers) =
+    (name ≡ codes "replay") × (file.now ≡ given (codes "FILE") rows) × IsFlag (one_of (codes "audit") rows) audit
+    × AreAsked (one_of (codes "WORKERS") rows) workers.count
 IsAskedBy name rows (job.Serve serving) = (name ≡ codes "serve") × IsServing rows serving
 
 -- the job of the command that was found, or the built-in replay where none was
