@@ -29,11 +29,7 @@ use gw_term::Termination;
 use std::alloc::Global;
 
 /// The termination's record becomes this one, or none.
-fn put(
-    draft: &mut Draft,
-    name: &TermName,
-    entry: Option<Held<Termination>>,
-) -> Result<(), NoMemory>
+fn put(draft: &mut Draft, name: &TermName, entry: Option<Held<Termination>>) -> Result<(), NoMemory>
     requires { holds draft.old.keys (Term name.now) ≡ true }
     ensures maps { OnOk result (draft.new.maps ≡ put_term draft.old.maps name.now entry) }
     ensures keys { draft.new.keys ≡ draft.old.keys }

@@ -24,11 +24,7 @@ fn members(alloc: Global, draft: &Draft, number: CtxNum) -> Result<Vec<TermName>
 }
 
 /// The terminations in this place: a context, or none for the null context.
-fn those_in(
-    alloc: Global,
-    draft: &Draft,
-    place: Option<CtxNum>,
-) -> Result<Vec<TermName>, NoMemory>
+fn those_in(alloc: Global, draft: &Draft, place: Option<CtxNum>) -> Result<Vec<TermName>, NoMemory>
     ensures { IfOk result (λ list. list.items ≡ those_in place draft.now.maps) }
 {
     match place {

@@ -19,6 +19,7 @@ pub mod Places
 pub mod Prepared
 pub mod Provisioning
 pub mod Shown
+pub mod RowChanges
 pub mod Searched
 pub mod SettingLookups
 pub mod Settings
@@ -26,4 +27,6 @@ pub mod SlotNames
 pub mod Standing
 pub mod Swept
 pub mod SweptAtOnce
+pub mod SweptRows
+pub mod TiedRows
 pub mod Undone

@@ -1,18 +1,16 @@
 -- Places that are made, and places that are swept; and a key of a list in order, which is none of those before it.
-use Rattle.std.proofs.Common.{nat_eq, ◌≡◌, ℕ, suc, zero, ◌<◌, Bool, true, false, cond, List, [], ◌∷◌, ◌++◌, length, get_or, take, filter, bytes_eq, Option, None, Some, is_some, refl, sym, ap, ◌∙◌, arith}
+use Rattle.std.proofs.Common.{nat_eq, ◌≡◌, ℕ, suc, zero, ◌<◌, Bool, true, false, cond, List, [], ◌∷◌, ◌++◌, length, get_or, take, bytes_eq, Option, None, Some, is_some, refl, sym, ap, ◌∙◌, arith}
 use Rattle.std.specs.Prelude.{◌||◌}
-use Rattle.std.specs.Cmp.{IsTotalOrder, eq_by_cmp_equiv}
+use Rattle.std.specs.Cmp.{IsTotalOrder}
 use Rattle.std.specs.FinMap as finite
 use Rattle.std.specs.FinMap.{from_entries, get, get-empty}
 use Rattle.std.specs.List.{AllByRecursion}
 use Rattle.std.specs.List.Sorted.{IsStrictlySortedBy}
-use Rattle.std.specs.Map.{keys_of, lookup}
+use Rattle.std.specs.Map.{lookup}
 use Rattle.std.specs.BTreeMap.{is_at}
 use Rattle.std.specs.Ordering.{is_eq, nat_cmp}
 use Rattle.std.specs.declared.cmp.Ordering.{Ordering}
 use Rattle.std.specs.declared.cmp.Ordering.TheVariants.{Less}
-use Rattle.std.proofs.lemmas.Map.Entries.{option_filter, lookup-filter-values}
-use Rattle.std.proofs.lemmas.Map.Keys.{IsDistinct-from_sorted}
 use Rattle.gw_base.specs.declared.ids.CtxNum.{CtxNum}
 use Rattle.gw_base.specs.declared.key.Key.{Key}
 use Rattle.gw_base.specs.declared.key.Key.TheVariants.{Term, Ctx, Whole}
@@ -171,18 +169,8 @@ blank keys a b start maps out ready alone = record {
 
 -- ---- places are swept
 
-filter_shown : {A : Type 0} (o : Option (Place A)) → option_filter (λ p. is_some (shown (Some p))) o ≡ if_shown o
-filter_shown None = refl
-filter_shown (Some Empty) = refl
-filter_shown (Some (Here a)) = refl
-filter_shown (Some Out) = refl
-
-pub swept : {K X : Type 0} {R : K → K → Ordering} (total : IsTotalOrder R) (es fs : List (K × Place X)) → IsStrictlySortedBy R (keys_of es) → fs ≡ filter (λ e. is_some (shown (Some e.1))) es → (q : K) → get (from_entries {R = R} fs) q ≡ if_shown (get (from_entries {R = R} es) q)
-swept {R = R} total es fs sorted is q =
-    seen total fs q ∙ ap (λ l. lookup (is_at (R q)) l) is
-    ∙ lookup-filter-values (eq_by_cmp_equiv total) (λ p. is_some (shown (Some p))) q es (IsDistinct-from_sorted R (keys_of es) sorted)
-    ∙ filter_shown (lookup (is_at (R q)) es)
-    ∙ ap (λ o. if_shown o) (sym (seen total es q))
+pub swept : {K X : Type 0} {R : K → K → Ordering} (total : IsTotalOrder R) (es fs : List (K × Place X)) → ((q : K) → lookup (is_at (R q)) fs ≡ if_shown (lookup (is_at (R q)) es)) → (q : K) → get (from_entries {R = R} fs) q ≡ if_shown (get (from_entries {R = R} es) q)
+swept total es fs is q = seen total fs q ∙ is q ∙ ap (λ o. if_shown o) (sym (seen total es q))
 
 pub shown_same : {A : Type 0} (o : Option (Place A)) → shown (if_shown o) ≡ shown o
 shown_same None = refl

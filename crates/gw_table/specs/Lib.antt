@@ -15,6 +15,8 @@ pub mod Members
 pub mod Originals
 pub mod Parts
 pub mod Reserved
+pub mod RowLending
+pub mod Rows
 pub mod Settings
 pub mod Provided
 pub mod Stored

@@ -1,6 +1,7 @@
 //! What commands work on: whole tables or a part, in place.
 
 ghost use Rattle.std.specs.Prelude.{◌≡◌, ◌<◌, None, true, false, length, IfOk, OnOk, OnErr, option_copied};
+ghost use Rattle.std.specs.Option.{option_map};
 ghost use Rattle.gw_base.specs.declared.key.Key.{Key};
 ghost use Rattle.gw_base.specs.declared.key.Key.TheVariants.{Term, Ctx};
 ghost use Rattle.gw_base.specs.NameLists.{is_in};
@@ -13,6 +14,7 @@ ghost use Rattle.gw_table.specs.Stored.{maps_of, NoneIsOut, AreReady, KeepReady}
 use crate::in_place::InPlace;
 use crate::originals::Originals;
 use crate::part::Part;
+use crate::rows::Guide;
 use crate::tables::Tables;
 use gw_base::{CtxNum, Held, NoMemory, Service, TermName};
 use gw_ctx::Context;
@@ -86,6 +88,25 @@ impl Draft {
         }
     }
 
+    /// Where the termination of a name stands in whole tables, if there is one: a guide for `term_at`, `set_term_at` and
+    /// `set_service_at`. It is one look-up. Of a part it is none.
+    pub fn guide(&self, name: &TermName) -> Guide {
+        match &self.backing {
+            Backing::OfPart(_) => Guide::none(),
+            Backing::OfTables(backing) => backing.tables.terms.guide(name),
+        }
+    }
+
+    /// The termination of a name, and where it stands. In whole tables it takes no look-up where the guide is right.
+    pub fn term_at(&self, guide: Guide, name: &TermName) -> Option<(&Termination, Guide)>
+        ensures { option_map (λ p. p.0.now) result ≡ term self.now.maps name.now }
+    {
+        match &self.backing {
+            Backing::OfPart(backing) => Some((backing.term(name)?, guide)),
+            Backing::OfTables(backing) => backing.tables.find_term_at(guide, name),
+        }
+    }
+
     /// The context with a number.
     pub fn ctx(&self, number: CtxNum) -> Option<&Context>
         ensures { option_copied result ≡ ctx self.now.maps number }
@@ -111,12 +132,32 @@ impl Draft {
         ensures err { OnErr result (self.new.maps ≡ self.old.maps) }
         ensures keys { self.new.keys ≡ self.old.keys }
     {
+        self.set_term_at(Guide::none(), name, entry)
+    }
+
+    /// Sets the termination of a name, or none, as `set_term` does. In whole tables it takes no look-up where the guide
+    /// is right.
+    ///
+    /// # Errors
+    ///
+    /// Out of memory. The draft is as it was.
+    pub fn set_term_at(
+        &mut self,
+        guide: Guide,
+        name: TermName,
+        entry: Option<Held<Termination>>,
+    ) -> Result<(), NoMemory>
+        requires { holds self.old.keys (Term name) ≡ true }
+        ensures maps { OnOk result (self.new.maps ≡ put_term self.old.maps name entry) }
+        ensures err { OnErr result (self.new.maps ≡ self.old.maps) }
+        ensures keys { self.new.keys ≡ self.old.keys }
+    {
         match &mut self.backing {
             Backing::OfPart(part) => {
                 part.set_term(&name, entry);
                 Ok(())
             }
-            Backing::OfTables(backing) => backing.set_term(&name, entry),
+            Backing::OfTables(backing) => backing.set_term(guide, &name, entry),
         }
     }
 
@@ -175,12 +216,32 @@ impl Draft {
         ensures maps { OnOk result (self.new.maps ≡ put_service service name.now self.old.maps (term self.old.maps name.now)) }
         ensures keys { self.new.keys ≡ self.old.keys }
     {
+        self.set_service_at(alloc, Guide::none(), name, service)
+    }
+
+    /// The termination of a name has another service state, if there is one, as by `set_service`. In whole tables it
+    /// takes no look-up where the guide is right.
+    ///
+    /// # Errors
+    ///
+    /// Out of memory. The termination may then be gone from the draft.
+    pub fn set_service_at(
+        &mut self,
+        alloc: Global,
+        guide: Guide,
+        name: &TermName,
+        service: Service,
+    ) -> Result<(), NoMemory>
+        requires { holds self.old.keys (Term name.now) ≡ true }
+        ensures maps { OnOk result (self.new.maps ≡ put_service service name.now self.old.maps (term self.old.maps name.now)) }
+        ensures keys { self.new.keys ≡ self.old.keys }
+    {
         match &mut self.backing {
             Backing::OfPart(part) => {
                 part.set_service(name, service);
                 Ok(())
             }
-            Backing::OfTables(backing) => backing.set_service(name, service),
+            Backing::OfTables(backing) => backing.set_service(guide, name, service),
         }
     }
 

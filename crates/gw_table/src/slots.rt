@@ -10,13 +10,13 @@ ghost use Rattle.gw_table.specs.Stored.{maps_of, is_out, shown, if_shown, ArePre
 
 use crate::place::{Place, is_vacant};
 use crate::row::{Row, place_at};
+use crate::rows::Rows;
 use crate::tables::Tables;
 use gw_base::{CtxNum, Held, Key, NoMemory, TermName};
 use gw_ctx::Context;
-use std::collections::BTreeMap;
 
 /// Whether no context stands in any of these places.
-fn none_stands(contexts: &BTreeMap<u32, Row<Held<Context>>>) -> bool
+fn none_stands(contexts: &Rows<u32, Held<Context>>) -> bool
     ensures { result ≡ true → (n : ℕ) → shown (lookup (is_at (nat_cmp n)) contexts.now.entries) ≡ None }
 {
     for (_, row) in contexts {
@@ -132,7 +132,7 @@ impl Tables {
         ensures terms { (t : List ℕ) → finite.get self.new.terms t ≡ if_shown (finite.get self.old.terms t) }
         ensures contexts { self.new.contexts ≡ self.old.contexts }
     {
-        self.terms.retain(|_, row| row.is_here());
+        self.terms.sweep();
     }
 
     /// Ends the preparation of numbers without a context. Where there is no context, all places go at once.
@@ -144,7 +144,7 @@ impl Tables {
             self.contexts.clear();
             return;
         }
-        self.contexts.retain(|_, row| row.is_here());
+        self.contexts.sweep();
     }
 
     /// Ends the preparation of keys without an entry. The caller knows that no key is out. The work is one pass over

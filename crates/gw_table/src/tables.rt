@@ -1,6 +1,7 @@
 //! The gateway's tables: two ordered maps with a place for each prepared key, which contracts see as finite maps.
 
 ghost use Rattle.std.specs.Prelude.{◌≡◌, Some, IfOk, OnOk, option_copied};
+ghost use Rattle.std.specs.Option.{option_map};
 ghost use Rattle.gw_term.specs.Record.{provisioned};
 ghost use Rattle.gw_table.specs.Maps.{term, ctx, put_term, names, numbers, new_maps};
 ghost use Rattle.gw_table.specs.Provided.{put_missing, AreAmong};
@@ -9,12 +10,12 @@ ghost use Rattle.gw_table.specs.Stored.{maps_of, nothing_stored, NoneIsOut};
 use crate::place::{Place, entry_at};
 use crate::reserved::SLOTS;
 use crate::row::{Row, place_at};
+use crate::rows::{Guide, Rows};
 use gw_base::{Config, CtxNum, Held, NoMemory, TermName};
 use gw_ctx::Context;
 use gw_marks::Marks;
 use gw_term::Termination;
 use std::alloc::Global;
-use std::collections::BTreeMap;
 use std::marker::Model;
 
 /// The numbers below this one can be marked: all numbers of contexts.
@@ -23,8 +24,8 @@ const NUMBERS: u32 = 65536;
 /// Terminations by name, and contexts by number, each by its handle in a place. A look-up takes log n steps. Numbers
 /// and slots of which an entry stands are marked, by a bit for each, for the search for free ones.
 pub struct Tables {
-    pub(crate) terms: BTreeMap<TermName, Row<Held<Termination>>>,
-    pub(crate) contexts: BTreeMap<u32, Row<Held<Context>>>,
+    pub(crate) terms: Rows<TermName, Held<Termination>>,
+    pub(crate) contexts: Rows<u32, Held<Context>>,
     // Of what is marked an entry stands. One that is not marked may stand too.
     pub(crate) numbers: Marks,
     pub(crate) slots: Marks,
@@ -62,8 +63,8 @@ impl Tables {
         ensures { result ≡ nothing_stored }
     {
         Tables {
-            terms: BTreeMap::new(alloc),
-            contexts: BTreeMap::new(alloc),
+            terms: Rows::new(alloc),
+            contexts: Rows::new(alloc),
             numbers: Marks::new(alloc),
             slots: Marks::new(alloc),
         }
@@ -74,8 +75,8 @@ impl Tables {
         ensures { IfOk result (λ tables. tables ≡ nothing_stored) }
     {
         Ok(Tables {
-            terms: BTreeMap::new(alloc),
-            contexts: BTreeMap::new(alloc),
+            terms: Rows::new(alloc),
+            contexts: Rows::new(alloc),
             numbers: Marks::with_room(alloc, NUMBERS)?,
             slots: Marks::with_room(alloc, u32::from(SLOTS))?,
         })
@@ -154,6 +155,23 @@ impl Tables {
         ensures { option_copied result ≡ term (maps_of self.now) name.now }
     {
         entry_at(place_at(self.terms.get(name)))
+    }
+
+    /// The termination of a name, and where it stands. One that is out is not found.
+    pub(crate) fn find_term_at(
+        &self,
+        guide: Guide,
+        name: &TermName,
+    ) -> Option<(&Termination, Guide)>
+        ensures { option_map (λ p. p.0.now) result ≡ term (maps_of self.now) name.now }
+    {
+        let Some((row, guide)) = self.terms.get_at(guide, name) else {
+            return None;
+        };
+        match entry_at(Some(row.place())) {
+            Some(termination) => Some((termination, guide)),
+            None => None,
+        }
     }
 
     /// The context with a number. One that is out is not found.

@@ -84,11 +84,7 @@ fn is_any_elsewhere(draft: &Draft, number: CtxNum, names: &[TermName]) -> bool
 }
 
 /// Why these terminations are not linked in this context: the first code that applies. A name takes two look-ups.
-pub(crate) fn refusal_of_links(
-    draft: &Draft,
-    number: CtxNum,
-    names: &[TermName],
-) -> Option<Code>
+pub(crate) fn refusal_of_links(draft: &Draft, number: CtxNum, names: &[TermName]) -> Option<Code>
     ensures { result ≡ refusal_of_links number names.now draft.now.maps }
 {
     if is_any_absent(draft, names) {

@@ -41,11 +41,7 @@ fn link_all(context: &mut Context, triples: &[Triple]) -> Result<(), NoMemory>
 }
 
 /// Links the members of the context, where it is there: it is taken out, linked and set again.
-fn link_in(
-    draft: &mut Draft,
-    number: CtxNum,
-    triples: &[Triple],
-) -> Result<(), NoMemory>
+fn link_in(draft: &mut Draft, number: CtxNum, triples: &[Triple]) -> Result<(), NoMemory>
     requires key { holds draft.old.keys (Ctx number) ≡ true }
     ensures maps { OnOk result (draft.new.maps ≡ set_property number (Topology triples.now) draft.old.maps) }
     ensures keys { draft.new.keys ≡ draft.old.keys }
@@ -58,11 +54,7 @@ fn link_in(
 }
 
 /// Sets a property of a context, where it is there. A ContextAudit sets nothing.
-fn set_property(
-    draft: &mut Draft,
-    number: CtxNum,
-    prop: &ContextProp,
-) -> Result<(), NoMemory>
+fn set_property(draft: &mut Draft, number: CtxNum, prop: &ContextProp) -> Result<(), NoMemory>
     requires key { holds draft.old.keys (Ctx number) ≡ true }
     requires low { is_too_high prop.now ≡ false }
     ensures maps { OnOk result (draft.new.maps ≡ set_property number prop.now draft.old.maps) }

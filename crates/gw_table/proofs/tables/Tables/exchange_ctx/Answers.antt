@@ -22,7 +22,7 @@ pub returns-clause-after : goal.returns-clause-after
 returns-clause-after c =
     let w : Place ContextRecord = c.put.new.self in
     ctx_written c.self.inside.terms.entries c.self.inside.contexts.entries (c.get_mut.follows.lender w).entries c.args.number w
-    ((c.get_mut.follows.holds w).3 (ap (λ o. is_some o) (sym c.get_mut.ensures.value) ∙ ap (λ o. is_some (option_copied_mut o)) c.in-Some.is)).0
+    (c.get_mut.follows.holds w (ap (λ o. is_some o) (sym c.get_mut.ensures.value) ∙ ap (λ o. is_some (option_copied_mut o)) c.in-Some.is))
     ∙ ap (λ (s : Stored). put_ctx_place s c.args.number w) c.self.view_is ∙ ap (λ (p : Place ContextRecord). put_ctx_place c.args.self.now c.args.number p) c.put.ensures.after
 
 pub invariant_of-self : goal.invariant_of-self
@@ -32,5 +32,5 @@ invariant_of-self c =
     marked-put_ctx_place c.self.inside.numbers c.self.inside.slots c.set_number.new.numbers now (stored c.self.inside.terms.entries (c.get_mut.follows.lender w).entries) c.self.invariant
     c.args.number c.args.new c.is_here.result c.set_number.ensures c.is_here.ensures
     (ctx_written c.self.inside.terms.entries c.self.inside.contexts.entries (c.get_mut.follows.lender w).entries c.args.number w
-    ((c.get_mut.follows.holds w).3 (ap (λ o. is_some o) (sym c.get_mut.ensures.value) ∙ ap (λ o. is_some (option_copied_mut o)) c.in-Some.is)).0
+    (c.get_mut.follows.holds w (ap (λ o. is_some o) (sym c.get_mut.ensures.value) ∙ ap (λ o. is_some (option_copied_mut o)) c.in-Some.is))
     ∙ ap (λ (p : Place ContextRecord). put_ctx_place now c.args.number p) c.put.ensures.after)

@@ -9,5 +9,5 @@ pub returns : goal.returns
 returns c =
     sym (append-nil c.loop-name.names.items) ∙ ap (λ (l : List Named). c.loop-name.names.items ++ free_here l) (sym c.in-None.ensures.steps.0) ∙ c.loop-name.invariant
     ∙ ap (λ (l : List Named). free_here l) c.into_iter-name-iterator.ensures.into_iter_gives.0
-    ∙ free_are c.self.inside.terms.entries c.self.inside.contexts.entries c.into_iter-name-iterator.ensures.into_iter_gives.5
+    ∙ free_are c.self.inside.terms.entries c.self.inside.contexts.entries c.into_iter-name-iterator.ensures.into_iter_gives.1
     ∙ ap (λ (s : Stored). filter (is_free (maps_of s)) (names (maps_of s))) c.self.view_is

@@ -9,11 +9,11 @@ returns-then-begins_with c =
     free_first p c.in-Some.name.now c.in-Some.row.now c.next.new.self (sym c.if-is_free_at.ensures) (sym c.if-begins_with.ensures)
     ∙ ap (λ (l : List Named). list_any p (free_here l)) (sym c.in-Some.ensures.steps) ∙ c.loop-name.invariant
     ∙ ap (λ (l : List Named). list_any p (free_here l)) c.into_iter-name-iterator.ensures.into_iter_gives.0
-    ∙ any_free p c.self.inside.terms.entries c.self.inside.contexts.entries c.args.self.now c.into_iter-name-iterator.ensures.into_iter_gives.5 c.self.view_is
+    ∙ any_free p c.self.inside.terms.entries c.self.inside.contexts.entries c.args.self.now c.into_iter-name-iterator.ensures.into_iter_gives.1 c.self.view_is
 
 pub returns : goal.returns
 returns c =
     let p : List ℕ → Bool = λ t. starts_with nat_eq t c.args.prefix.now in
     ap (λ (l : List Named). list_any p (free_here l)) (sym c.in-None.ensures.steps.0) ∙ c.loop-name.invariant
     ∙ ap (λ (l : List Named). list_any p (free_here l)) c.into_iter-name-iterator.ensures.into_iter_gives.0
-    ∙ any_free p c.self.inside.terms.entries c.self.inside.contexts.entries c.args.self.now c.into_iter-name-iterator.ensures.into_iter_gives.5 c.self.view_is
+    ∙ any_free p c.self.inside.terms.entries c.self.inside.contexts.entries c.args.self.now c.into_iter-name-iterator.ensures.into_iter_gives.1 c.self.view_is

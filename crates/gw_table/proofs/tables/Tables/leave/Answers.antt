@@ -1,5 +1,5 @@
 use Rattle.std.proofs.Common.{◌≡◌, ℕ, Result, Ok, Err, Option, None, Some, is_some, refl, subst, sym, ap, ◌∙◌}
-use Rattle.std.specs.BTreeMap.{BTreeMap}
+use Rattle.gw_table.specs.Rows.{Rowed}
 use Rattle.std.specs.FinMap as finite
 use Rattle.std.specs.Option.{option_copied_mut}
 use Rattle.std.specs.Result.{OnErr}
@@ -29,7 +29,7 @@ returns-in_default-clause-after c =
     let nothing : None ≡ ctx (maps_of c.args.self.now) c.args.number = ap (λ o. shown (option_copied_mut o)) (sym c.in_default.is)
     ∙ ap (λ o. shown o) (c.get_mut.ensures.value ∙ ctx_seen c.self.inside.terms.entries c.self.inside.contexts.entries c.args.self.now c.args.number c.self.view_is)
     ∙ sym (ctx-maps_of c.args.self.now c.args.number) in
-    ap (λ (m : BTreeMap ℕ (Place ContextRecord)). stored c.self.inside.terms.entries m.entries) c.get_mut.follows.holds-at-none ∙ c.self.view_is
+    ap (λ (m : Rowed ℕ (Place ContextRecord)). stored c.self.inside.terms.entries m.entries) c.get_mut.follows.holds-at-none ∙ c.self.view_is
     ∙ ap (λ (o : Option ContextRecord). leave_place c.args.name.now c.args.number c.args.self.now o) nothing
 
 -- ---- where there is one
@@ -45,7 +45,7 @@ invariant_of-self-in_err-found c =
     let after : Stored = stored c.self.inside.terms.entries (c.get_mut.follows.lender new).entries in
     let was : Some c.in-Some.row.now ≡ finite.get before.contexts c.args.number.0 = ap (λ o. option_copied_mut o) (sym c.in-Some.is) ∙ c.get_mut.ensures.value ∙ ctx_seen c.self.inside.terms.entries c.self.inside.contexts.entries before c.args.number refl in
     let written : after ≡ put_ctx_place before c.args.number new = ctx_written c.self.inside.terms.entries c.self.inside.contexts.entries (c.get_mut.follows.lender new).entries c.args.number new
-    ((c.get_mut.follows.holds new).3 (ap (λ o. is_some o) (sym c.get_mut.ensures.value) ∙ ap (λ o. is_some (option_copied_mut o)) c.in-Some.is)).0 in
+    (c.get_mut.follows.holds new (ap (λ o. is_some o) (sym c.get_mut.ensures.value) ∙ ap (λ o. is_some (option_copied_mut o)) c.in-Some.is)) in
     marked_still c.self.inside.numbers c.self.inside.slots (maps_of before) (maps_of after)
     (ap (λ s. maps_of s) (written ∙ ap (λ (p : Place ContextRecord). put_ctx_place before c.args.number p) c.in_err-found.ensures.err ∙ same_ctx_place before c.args.number c.in-Some.row.now (sym was))) c.self.invariant
 
@@ -56,7 +56,7 @@ returns-in_err-found-clause-err c =
     let was : Some c.in-Some.row.now ≡ finite.get now.contexts c.args.number.0 = ap (λ o. option_copied_mut o) (sym c.in-Some.is) ∙ c.get_mut.ensures.value ∙ ctx_seen c.self.inside.terms.entries c.self.inside.contexts.entries now c.args.number c.self.view_is in
     at_err c.from_residual.result
     (ctx_written c.self.inside.terms.entries c.self.inside.contexts.entries (c.get_mut.follows.lender new).entries c.args.number new
-    ((c.get_mut.follows.holds new).3 (ap (λ o. is_some o) (sym c.get_mut.ensures.value) ∙ ap (λ o. is_some (option_copied_mut o)) c.in-Some.is)).0
+    (c.get_mut.follows.holds new (ap (λ o. is_some o) (sym c.get_mut.ensures.value) ∙ ap (λ o. is_some (option_copied_mut o)) c.in-Some.is))
     ∙ ap (λ (s : Stored). put_ctx_place s c.args.number new) c.self.view_is ∙ ap (λ (p : Place ContextRecord). put_ctx_place now c.args.number p) c.in_err-found.ensures.err
     ∙ same_ctx_place now c.args.number c.in-Some.row.now (sym was))
 
@@ -67,7 +67,7 @@ invariant_of-self-2 c =
     let after : Stored = stored c.self.inside.terms.entries (c.get_mut.follows.lender new).entries in
     marked-put_ctx_place c.self.inside.numbers c.self.inside.slots c.set_number.new.numbers before after c.self.invariant c.args.number new c.is_here-stands.result c.set_number.ensures c.is_here-stands.ensures
     (ctx_written c.self.inside.terms.entries c.self.inside.contexts.entries (c.get_mut.follows.lender new).entries c.args.number new
-    ((c.get_mut.follows.holds new).3 (ap (λ o. is_some o) (sym c.get_mut.ensures.value) ∙ ap (λ o. is_some (option_copied_mut o)) c.in-Some.is)).0)
+    (c.get_mut.follows.holds new (ap (λ o. is_some o) (sym c.get_mut.ensures.value) ∙ ap (λ o. is_some (option_copied_mut o)) c.in-Some.is)))
 
 pub returns-clause-found : goal.returns-clause-found
 returns-clause-found c =
@@ -82,7 +82,7 @@ returns-clause-after c =
     let new : Place ContextRecord = c.leave.new.self in
     let was : Some c.in-Some.row.now ≡ finite.get now.contexts c.args.number.0 = ap (λ o. option_copied_mut o) (sym c.in-Some.is) ∙ c.get_mut.ensures.value ∙ ctx_seen c.self.inside.terms.entries c.self.inside.contexts.entries now c.args.number c.self.view_is in
     ctx_written c.self.inside.terms.entries c.self.inside.contexts.entries (c.get_mut.follows.lender new).entries c.args.number new
-    ((c.get_mut.follows.holds new).3 (ap (λ o. is_some o) (sym c.get_mut.ensures.value) ∙ ap (λ o. is_some (option_copied_mut o)) c.in-Some.is)).0
+    (c.get_mut.follows.holds new (ap (λ o. is_some o) (sym c.get_mut.ensures.value) ∙ ap (λ o. is_some (option_copied_mut o)) c.in-Some.is))
     ∙ ap (λ (s : Stored). put_ctx_place s c.args.number new) c.self.view_is ∙ ap (λ (p : Place ContextRecord). put_ctx_place now c.args.number p) c.in_ok-found.ensures.after
     ∙ left_here c.args.name.now now c.args.number c.in-Some.row.now (sym was)
     ∙ ap (λ (o : Option ContextRecord). leave_place c.args.name.now c.args.number now o) (ap (λ o. shown o) was ∙ sym (ctx-maps_of now c.args.number))

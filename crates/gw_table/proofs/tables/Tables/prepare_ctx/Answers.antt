@@ -15,7 +15,7 @@ pub returns-in_ok-insert-clause-ok : goal.returns-in_ok-insert-clause-ok
 returns-in_ok-insert-clause-ok c =
     let now : Stored = c.args.self.now in
     let none : finite.get now.contexts c.args.number.0 ≡ None = nothing_found _ (ap (λ o. is_some o) (sym (ctx_seen c.self.inside.terms.entries c.self.inside.contexts.entries now c.args.number c.self.view_is)) ∙ sym c.contains_key.ensures ∙ c.if-not-contains_key.true) in
-    let new = ctx_written c.self.inside.terms.entries c.self.inside.contexts.entries c.insert.new.self.entries c.args.number c.of.result c.in_ok-insert.ensures.updates.0 ∙ ap (λ (s : Stored). put_ctx_place s c.args.number c.of.result) c.self.view_is ∙ ap (λ p. put_ctx_place now c.args.number p) c.of.ensures in
+    let new = ctx_written c.self.inside.terms.entries c.self.inside.contexts.entries c.insert.new.self.entries c.args.number c.of.result c.in_ok-insert.ensures.updates ∙ ap (λ (s : Stored). put_ctx_place s c.args.number c.of.result) c.self.view_is ∙ ap (λ p. put_ctx_place now c.args.number p) c.of.ensures in
     let done : ArePrepared (Ctx c.args.number ∷ []) now (put_ctx_place now c.args.number Empty) = ctx_made now c.args.number none in
     elim c.match-branch-2.branch [
       | in-Some+in-Here-1 w ↦ subst (λ (s : Stored). ArePrepared (Ctx c.args.number ∷ []) now s) (sym (w.self-is ∙ new)) done
@@ -31,5 +31,5 @@ pub invariant_of-self-in_ok-insert-3 : goal.invariant_of-self-in_ok-insert-3
 invariant_of-self-in_ok-insert-3 c =
     let now : Stored = stored c.self.inside.terms.entries c.self.inside.contexts.entries in
     let none : finite.get now.contexts c.args.number.0 ≡ None = nothing_found _ (ap (λ o. is_some o) (sym (ctx_seen c.self.inside.terms.entries c.self.inside.contexts.entries now c.args.number refl)) ∙ sym c.contains_key.ensures ∙ c.if-not-contains_key.true) in
-    let new = ctx_written c.self.inside.terms.entries c.self.inside.contexts.entries c.insert.new.self.entries c.args.number c.of.result c.in_ok-insert.ensures.updates.0 ∙ ap (λ p. put_ctx_place now c.args.number p) c.of.ensures in
+    let new = ctx_written c.self.inside.terms.entries c.self.inside.contexts.entries c.insert.new.self.entries c.args.number c.of.result c.in_ok-insert.ensures.updates ∙ ap (λ p. put_ctx_place now c.args.number p) c.of.ensures in
     marked_still c.self.inside.numbers c.self.inside.slots (maps_of now) (maps_of (stored c.self.inside.terms.entries c.insert.new.self.entries)) (ap (λ s. maps_of s) new ∙ (ctx_made now c.args.number none).maps) c.self.invariant

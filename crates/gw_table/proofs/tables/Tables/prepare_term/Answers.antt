@@ -15,7 +15,7 @@ pub returns-in_ok-insert-clause-ok : goal.returns-in_ok-insert-clause-ok
 returns-in_ok-insert-clause-ok c =
     let now : Stored = c.args.self.now in
     let none : finite.get now.terms c.args.name ≡ None = nothing_found _ (ap (λ o. is_some o) (sym (term_seen c.self.inside.terms.entries c.self.inside.contexts.entries now c.args.name c.self.view_is)) ∙ sym c.contains_key.ensures ∙ c.if-not-contains_key.true) in
-    let new = term_written c.self.inside.terms.entries c.insert.new.self.entries c.self.inside.contexts.entries c.args.name c.of.result c.in_ok-insert.ensures.updates.0 ∙ ap (λ (s : Stored). put_term_place s c.args.name c.of.result) c.self.view_is ∙ ap (λ p. put_term_place now c.args.name p) c.of.ensures in
+    let new = term_written c.self.inside.terms.entries c.insert.new.self.entries c.self.inside.contexts.entries c.args.name c.of.result c.in_ok-insert.ensures.updates ∙ ap (λ (s : Stored). put_term_place s c.args.name c.of.result) c.self.view_is ∙ ap (λ p. put_term_place now c.args.name p) c.of.ensures in
     let done : ArePrepared (Term c.args.name ∷ []) now (put_term_place now c.args.name Empty) = term_made now c.args.name none in
     elim c.match-branch-2.branch [
       | in-Some+in-Here-1 w ↦ subst (λ (s : Stored). ArePrepared (Term c.args.name ∷ []) now s) (sym (w.self-is ∙ new)) done
@@ -31,5 +31,5 @@ pub invariant_of-self-in_ok-insert-3 : goal.invariant_of-self-in_ok-insert-3
 invariant_of-self-in_ok-insert-3 c =
     let now : Stored = stored c.self.inside.terms.entries c.self.inside.contexts.entries in
     let none : finite.get now.terms c.args.name ≡ None = nothing_found _ (ap (λ o. is_some o) (sym (term_seen c.self.inside.terms.entries c.self.inside.contexts.entries now c.args.name refl)) ∙ sym c.contains_key.ensures ∙ c.if-not-contains_key.true) in
-    let new = term_written c.self.inside.terms.entries c.insert.new.self.entries c.self.inside.contexts.entries c.args.name c.of.result c.in_ok-insert.ensures.updates.0 ∙ ap (λ p. put_term_place now c.args.name p) c.of.ensures in
+    let new = term_written c.self.inside.terms.entries c.insert.new.self.entries c.self.inside.contexts.entries c.args.name c.of.result c.in_ok-insert.ensures.updates ∙ ap (λ p. put_term_place now c.args.name p) c.of.ensures in
     marked_still c.self.inside.numbers c.self.inside.slots (maps_of now) (maps_of (stored c.insert.new.self.entries c.self.inside.contexts.entries)) (ap (λ s. maps_of s) new ∙ (term_made now c.args.name none).maps) c.self.invariant

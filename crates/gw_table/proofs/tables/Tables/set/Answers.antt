@@ -1,5 +1,5 @@
 use Rattle.std.proofs.Common.{◌≡◌, ℕ, Option, None, is_some, sym, ap, ◌∙◌}
-use Rattle.std.specs.BTreeMap.{BTreeMap}
+use Rattle.gw_table.specs.Rows.{Rowed}
 use Rattle.std.specs.Option.{option_copied_mut}
 use Rattle.gw_ctx.specs.Contexts.{ContextRecord}
 use Rattle.gw_table.specs.declared.place.Place.{Place}
@@ -16,18 +16,18 @@ returns-in_default c =
     let nothing : None ≡ ctx (maps_of c.args.self.now) c.args.number = ap (λ o. shown (option_copied_mut o)) (sym c.in_default.is)
     ∙ ap (λ o. shown o) (c.get_mut.ensures.value ∙ ctx_seen c.self.inside.terms.entries c.self.inside.contexts.entries c.args.self.now c.args.number c.self.view_is)
     ∙ sym (ctx-maps_of c.args.self.now c.args.number) in
-    ap (λ (m : BTreeMap ℕ (Place ContextRecord)). stored c.self.inside.terms.entries m.entries) c.get_mut.follows.holds-at-none ∙ c.self.view_is
+    ap (λ (m : Rowed ℕ (Place ContextRecord)). stored c.self.inside.terms.entries m.entries) c.get_mut.follows.holds-at-none ∙ c.self.view_is
     ∙ ap (λ (o : Option ContextRecord). set_place c.args.setting c.args.number c.args.self.now o) nothing
 
 pub returns : goal.returns
 returns c =
     place_set c.self.inside.terms.entries c.self.inside.contexts.entries (c.get_mut.follows.lender c.set.new.self).entries c.args.self.now c.args.number c.in-Some.row.now c.set.new.self
     c.self.view_is (ap (λ o. option_copied_mut o) (sym c.in-Some.is) ∙ c.get_mut.ensures.value)
-    ((c.get_mut.follows.holds c.set.new.self).3 (ap (λ o. is_some o) (sym c.get_mut.ensures.value) ∙ ap (λ o. is_some (option_copied_mut o)) c.in-Some.is)).0 c.args.setting c.set.ensures
+    (c.get_mut.follows.holds c.set.new.self (ap (λ o. is_some o) (sym c.get_mut.ensures.value) ∙ ap (λ o. is_some (option_copied_mut o)) c.in-Some.is)) c.args.setting c.set.ensures
 
 pub invariant_of-self-2 : goal.invariant_of-self-2
 invariant_of-self-2 c =
     marks_set c.self.inside.terms.entries c.self.inside.contexts.entries (c.get_mut.follows.lender c.set.new.self).entries c.args.self.now c.args.number c.in-Some.row.now c.set.new.self
     c.self.view_is (ap (λ o. option_copied_mut o) (sym c.in-Some.is) ∙ c.get_mut.ensures.value)
-    ((c.get_mut.follows.holds c.set.new.self).3 (ap (λ o. is_some o) (sym c.get_mut.ensures.value) ∙ ap (λ o. is_some (option_copied_mut o)) c.in-Some.is)).0 c.args.setting c.set.ensures
+    (c.get_mut.follows.holds c.set.new.self (ap (λ o. is_some o) (sym c.get_mut.ensures.value) ∙ ap (λ o. is_some (option_copied_mut o)) c.in-Some.is)) c.args.setting c.set.ensures
     c.self.inside.numbers c.self.inside.slots c.self.invariant

@@ -1,5 +1,6 @@
 use Rattle.std.proofs.Common.{◌≡◌, ℕ, List, cond, Option, None, Some, is_some, sym, ap, subst, ◌∙◌, nat_cmp}
-use Rattle.std.specs.BTreeMap.{BTreeMap, is_at}
+use Rattle.std.specs.BTreeMap.{is_at}
+use Rattle.gw_table.specs.Rows.{Rowed}
 use Rattle.std.specs.FinMap as finite
 use Rattle.std.specs.Map.{lookup}
 use Rattle.std.specs.Option.{option_copied_mut}
@@ -21,7 +22,7 @@ returns-in_default-clause-after c =
     let nothing : None ≡ ctx (maps_of c.args.self.now) c.args.number = ap (λ o. shown (option_copied_mut o)) (sym c.in_default.is)
     ∙ ap (λ o. shown o) (c.get_mut.ensures.value ∙ ctx_seen c.self.inside.terms.entries c.self.inside.contexts.entries c.args.self.now c.args.number c.self.view_is)
     ∙ sym (ctx-maps_of c.args.self.now c.args.number) in
-    ap (λ (m : BTreeMap ℕ (Place ContextRecord)). stored c.self.inside.terms.entries m.entries) c.get_mut.follows.holds-at-none ∙ c.self.view_is
+    ap (λ (m : Rowed ℕ (Place ContextRecord)). stored c.self.inside.terms.entries m.entries) c.get_mut.follows.holds-at-none ∙ c.self.view_is
     ∙ ap (λ (o : Option ContextRecord). set_place c.args.setting c.args.number c.args.self.now o) nothing
 
 -- ---- out of memory nothing is set
@@ -34,7 +35,7 @@ module _ (c : goal.After-from_residual) where
   still =
       place_same c.self.inside.terms.entries c.self.inside.contexts.entries (c.get_mut.follows.lender new).entries c.args.self.now c.args.number c.in-Some.row.now new
       c.self.view_is (ap (λ o. option_copied_mut o) (sym c.in-Some.is) ∙ c.get_mut.ensures.value)
-      ((c.get_mut.follows.holds new).3 (ap (λ o. is_some o) (sym c.get_mut.ensures.value) ∙ ap (λ o. is_some (option_copied_mut o)) c.in-Some.is)).0 c.in_err-log_properties.ensures.same
+      (c.get_mut.follows.holds new (ap (λ o. is_some o) (sym c.get_mut.ensures.value) ∙ ap (λ o. is_some (option_copied_mut o)) c.in-Some.is)) c.in_err-log_properties.ensures.same
 
   stood_there : finite.get c.args.self.now.contexts c.args.number.0 ≡ Some c.in-Some.row.now
   stood_there = sym (ap (λ o. option_copied_mut o) (sym c.in-Some.is) ∙ c.get_mut.ensures.value ∙ ctx_seen c.self.inside.terms.entries c.self.inside.contexts.entries c.args.self.now c.args.number c.self.view_is)
@@ -58,7 +59,7 @@ module _ (c : goal.After-self-2-1) where
   was = ap (λ o. option_copied_mut o) (sym c.in-Some.is) ∙ c.get_mut.ensures.value
 
   others : (q : ℕ) → lookup (is_at (nat_cmp q)) fs ≡ cond (is_at (nat_cmp c.args.number.0) q) (Some c.set.new.self) (lookup (is_at (nat_cmp q)) c.self.inside.contexts.entries)
-  others = ((c.get_mut.follows.holds c.set.new.self).3 (ap (λ o. is_some o) (sym c.get_mut.ensures.value) ∙ ap (λ o. is_some (option_copied_mut o)) c.in-Some.is)).0
+  others = (c.get_mut.follows.holds c.set.new.self (ap (λ o. is_some o) (sym c.get_mut.ensures.value) ∙ ap (λ o. is_some (option_copied_mut o)) c.in-Some.is))
 
   set_there : c.set.new.self ≡ set_at c.args.setting c.in-Some.row.now
   set_there = c.set.ensures ∙ ap (λ (p : Place ContextRecord). set_at c.args.setting p) c.in_ok-log_properties.ensures.same

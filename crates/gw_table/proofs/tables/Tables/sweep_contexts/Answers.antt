@@ -1,5 +1,4 @@
-use Rattle.std.proofs.Common.{Some, refl, is_some, ap, ◌∙◌, rules}
-use Rattle.std.proofs.lemmas.Map.Entries.{filter_from_retain_pairs}
+use Rattle.std.proofs.Common.{refl, ap, ◌∙◌}
 use Rattle.std.specs.Cmp.{nat_cmp_total}
 use Rattle.std.specs.FinMap as finite
 use Rattle.gw_table.specs.Stored.{Stored, stored, shown, if_shown, maps_of}
@@ -27,14 +26,12 @@ invariant_of-self c =
 
 pub returns-clause-contexts : goal.returns-clause-contexts
 returns-clause-contexts c q =
-    swept nat_cmp_total c.self.inside.contexts.entries c.retain.new.self.entries c.retain.ensures.was_ordered
-    (filter_from_retain_pairs _ (λ _. Unit {0}) (λ e. is_some (shown (Some e.1))) (λ g k v b w h i t. search rules) _ _ _ tt c.retain.ensures.filtered) q
+    swept nat_cmp_total c.self.inside.contexts.entries c.sweep.new.self.entries c.sweep.ensures q
     ∙ ap (λ (s : Stored). if_shown (finite.get s.contexts q)) c.self.view_is
 
 pub invariant_of-self-2 : goal.invariant_of-self-2
 invariant_of-self-2 c =
     let now : Stored = stored c.self.inside.terms.entries c.self.inside.contexts.entries in
-    let after : Stored = stored c.self.inside.terms.entries c.retain.new.self.entries in
-    let left = swept nat_cmp_total c.self.inside.contexts.entries c.retain.new.self.entries c.retain.ensures.was_ordered
-    (filter_from_retain_pairs _ (λ _. Unit {0}) (λ e. is_some (shown (Some e.1))) (λ g k v b w h i t. search rules) _ _ _ tt c.retain.ensures.filtered) in
+    let after : Stored = stored c.self.inside.terms.entries c.sweep.new.self.entries in
+    let left = swept nat_cmp_total c.self.inside.contexts.entries c.sweep.new.self.entries c.sweep.ensures in
     marked_still c.self.inside.numbers c.self.inside.slots (maps_of now) (maps_of after) (shown_alike after now (λ t. refl) (λ n. ap (λ o. shown o) (left n.0) ∙ shown_same (finite.get now.contexts n.0))) c.self.invariant

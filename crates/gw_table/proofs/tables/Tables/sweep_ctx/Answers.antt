@@ -15,7 +15,7 @@ use Rattle.gw_table.proofs.tables.Tables.sweep_ctx.Goals as goal
 pub returns-then-is_vacant : goal.returns-then-is_vacant
 returns-then-is_vacant c =
     let now : Stored = c.args.self.now in
-    let new = ctx_dropped c.self.inside.terms.entries c.self.inside.contexts.entries c.remove.new.self.entries c.args.number c.remove.ensures.updates.0 ∙ ap (λ (s : Stored). drop_ctx_place s c.args.number) c.self.view_is in
+    let new = ctx_dropped c.self.inside.terms.entries c.self.inside.contexts.entries c.remove.new.self.entries c.args.number c.remove.ensures.updates ∙ ap (λ (s : Stored). drop_ctx_place s c.args.number) c.self.view_is in
     let done : WereSwept (Ctx c.args.number ∷ []) now (drop_ctx_place now c.args.number) = ctx_gone now c.args.number (sym (c.is_vacant.ensures ∙ ap (λ o. is_vacant o) (c.place_at.ensures ∙ c.get.ensures.value ∙ sym (seen nat_cmp_total c.self.inside.contexts.entries c.args.number.0)) ∙ ap (λ (s : Stored). is_vacant (finite.get s.contexts c.args.number.0)) c.self.view_is) ∙ c.if-is_vacant.true) in
     elim c.match-remove.branch [
       | in-Some+in-Here-1 w ↦ subst (λ (s : Stored). WereSwept (Ctx c.args.number ∷ []) now s) (sym (w.self-is ∙ new)) done
@@ -30,5 +30,5 @@ pub invariant_of-self-then-is_vacant-2 : goal.invariant_of-self-then-is_vacant-2
 invariant_of-self-then-is_vacant-2 c =
     let now : Stored = stored c.self.inside.terms.entries c.self.inside.contexts.entries in
     let vacant : is_vacant (finite.get now.contexts c.args.number.0) ≡ true = sym (c.is_vacant.ensures ∙ ap (λ o. is_vacant o) (c.place_at.ensures ∙ c.get.ensures.value ∙ sym (seen nat_cmp_total c.self.inside.contexts.entries c.args.number.0))) ∙ c.if-is_vacant.true in
-    let new = ctx_dropped c.self.inside.terms.entries c.self.inside.contexts.entries c.remove.new.self.entries c.args.number c.remove.ensures.updates.0 in
+    let new = ctx_dropped c.self.inside.terms.entries c.self.inside.contexts.entries c.remove.new.self.entries c.args.number c.remove.ensures.updates in
     marked_still c.self.inside.numbers c.self.inside.slots (maps_of now) (maps_of (stored c.self.inside.terms.entries c.remove.new.self.entries)) (ap (λ s. maps_of s) new ∙ (ctx_gone now c.args.number vacant).maps) c.self.invariant

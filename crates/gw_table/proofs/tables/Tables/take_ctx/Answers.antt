@@ -1,5 +1,5 @@
 use Rattle.std.proofs.Common.{◌≡◌, ℕ, false, Result, Ok, Err, Option, None, Some, is_some, refl, subst, sym, ap, ◌∙◌}
-use Rattle.std.specs.BTreeMap.{BTreeMap}
+use Rattle.gw_table.specs.Rows.{Rowed}
 use Rattle.std.specs.FinMap as finite
 use Rattle.std.specs.Option.{option_copied_mut}
 use Rattle.std.specs.Result.{OnErr}
@@ -33,7 +33,7 @@ returns-in_default-clause-after c =
     let nothing : None ≡ ctx (maps_of c.args.self.now) c.args.number = ap (λ o. shown (option_copied_mut o)) (sym c.in_default.is)
     ∙ ap (λ o. shown o) (c.get_mut.ensures.value ∙ ctx_seen c.self.inside.terms.entries c.self.inside.contexts.entries c.args.self.now c.args.number c.self.view_is)
     ∙ sym (ctx-maps_of c.args.self.now c.args.number) in
-    ap (λ (m : BTreeMap ℕ (Place ContextRecord)). stored c.self.inside.terms.entries m.entries) c.get_mut.follows.holds-at-none ∙ c.self.view_is
+    ap (λ (m : Rowed ℕ (Place ContextRecord)). stored c.self.inside.terms.entries m.entries) c.get_mut.follows.holds-at-none ∙ c.self.view_is
     ∙ ap (λ (o : Option ContextRecord). without_ctx c.args.number c.args.self.now o) nothing
 
 -- ---- where there is one
@@ -54,7 +54,7 @@ invariant_of-self-in_err-taken c =
     let after : Stored = stored c.self.inside.terms.entries (c.get_mut.follows.lender new).entries in
     let was : Some c.in-Some.row.now ≡ finite.get before.contexts c.args.number.0 = ap (λ o. option_copied_mut o) (sym c.in-Some.is) ∙ c.get_mut.ensures.value ∙ ctx_seen c.self.inside.terms.entries c.self.inside.contexts.entries before c.args.number refl in
     let written : after ≡ put_ctx_place before c.args.number new = ctx_written c.self.inside.terms.entries c.self.inside.contexts.entries (c.get_mut.follows.lender new).entries c.args.number new
-    ((c.get_mut.follows.holds new).3 (ap (λ o. is_some o) (sym c.get_mut.ensures.value) ∙ ap (λ o. is_some (option_copied_mut o)) c.in-Some.is)).0 in
+    (c.get_mut.follows.holds new (ap (λ o. is_some o) (sym c.get_mut.ensures.value) ∙ ap (λ o. is_some (option_copied_mut o)) c.in-Some.is)) in
     marked_still c.self.inside.numbers c.self.inside.slots (maps_of before) (maps_of after)
     (ap (λ s. maps_of s) (written ∙ ap (λ (p : Place ContextRecord). put_ctx_place before c.args.number p) c.in_err-taken.ensures.err ∙ same_ctx_place before c.args.number c.in-Some.row.now (sym was))) c.self.invariant
 
@@ -65,7 +65,7 @@ returns-in_err-taken-clause-err c =
     let was : Some c.in-Some.row.now ≡ finite.get now.contexts c.args.number.0 = ap (λ o. option_copied_mut o) (sym c.in-Some.is) ∙ c.get_mut.ensures.value ∙ ctx_seen c.self.inside.terms.entries c.self.inside.contexts.entries now c.args.number c.self.view_is in
     at_err c.from_residual.result
     (ctx_written c.self.inside.terms.entries c.self.inside.contexts.entries (c.get_mut.follows.lender new).entries c.args.number new
-    ((c.get_mut.follows.holds new).3 (ap (λ o. is_some o) (sym c.get_mut.ensures.value) ∙ ap (λ o. is_some (option_copied_mut o)) c.in-Some.is)).0
+    (c.get_mut.follows.holds new (ap (λ o. is_some o) (sym c.get_mut.ensures.value) ∙ ap (λ o. is_some (option_copied_mut o)) c.in-Some.is))
     ∙ ap (λ (s : Stored). put_ctx_place s c.args.number new) c.self.view_is ∙ ap (λ (p : Place ContextRecord). put_ctx_place now c.args.number p) c.in_err-taken.ensures.err
     ∙ same_ctx_place now c.args.number c.in-Some.row.now (sym was))
 
@@ -76,7 +76,7 @@ invariant_of-self-2 c =
     let after : Stored = stored c.self.inside.terms.entries (c.get_mut.follows.lender new).entries in
     marked-put_ctx_place c.self.inside.numbers c.self.inside.slots c.set_number.new.numbers before after c.self.invariant c.args.number (emptied c.in-Some.row.now) false c.set_number.ensures (gone c.in-Some.row.now)
     (ctx_written c.self.inside.terms.entries c.self.inside.contexts.entries (c.get_mut.follows.lender new).entries c.args.number new
-    ((c.get_mut.follows.holds new).3 (ap (λ o. is_some o) (sym c.get_mut.ensures.value) ∙ ap (λ o. is_some (option_copied_mut o)) c.in-Some.is)).0
+    (c.get_mut.follows.holds new (ap (λ o. is_some o) (sym c.get_mut.ensures.value) ∙ ap (λ o. is_some (option_copied_mut o)) c.in-Some.is))
     ∙ ap (λ (p : Place ContextRecord). put_ctx_place before c.args.number p) c.in_ok-taken.ensures.after)
 
 pub returns-clause-context : goal.returns-clause-context
@@ -97,7 +97,7 @@ returns-clause-after c =
     let new : Place ContextRecord = c.take.new.self in
     let was : Some c.in-Some.row.now ≡ finite.get now.contexts c.args.number.0 = ap (λ o. option_copied_mut o) (sym c.in-Some.is) ∙ c.get_mut.ensures.value ∙ ctx_seen c.self.inside.terms.entries c.self.inside.contexts.entries now c.args.number c.self.view_is in
     ctx_written c.self.inside.terms.entries c.self.inside.contexts.entries (c.get_mut.follows.lender new).entries c.args.number new
-    ((c.get_mut.follows.holds new).3 (ap (λ o. is_some o) (sym c.get_mut.ensures.value) ∙ ap (λ o. is_some (option_copied_mut o)) c.in-Some.is)).0
+    (c.get_mut.follows.holds new (ap (λ o. is_some o) (sym c.get_mut.ensures.value) ∙ ap (λ o. is_some (option_copied_mut o)) c.in-Some.is))
     ∙ ap (λ (s : Stored). put_ctx_place s c.args.number new) c.self.view_is ∙ ap (λ (p : Place ContextRecord). put_ctx_place now c.args.number p) c.in_ok-taken.ensures.after
     ∙ emptied_here now c.args.number c.in-Some.row.now (sym was)
     ∙ ap (λ (o : Option ContextRecord). without_ctx c.args.number now o) (ap (λ o. shown o) was ∙ sym (ctx-maps_of now c.args.number))

@@ -1,5 +1,5 @@
 use Rattle.std.proofs.Common.{ℕ, Option, is_some, subst, sym, ap, ◌∙◌}
-use Rattle.std.specs.BTreeMap.{BTreeMap}
+use Rattle.gw_table.specs.Rows.{Rowed}
 use Rattle.std.specs.Option.{option_copied_mut}
 use Rattle.gw_ctx.specs.Contexts.{ContextRecord}
 use Rattle.gw_base.specs.declared.key.Key.TheVariants.{Ctx}
@@ -25,7 +25,7 @@ pub returns-in-Some-clause-ok : goal.returns-in-Some-clause-ok
 returns-in-Some-clause-ok c =
     let w : Place ContextRecord = c.write-found.new.self in
     ctx_written c.self.inside.terms.entries c.self.inside.contexts.entries (c.get_mut.follows.lender w).entries c.args.number w
-    ((c.get_mut.follows.holds w).3 (ap (λ o. is_some o) (sym c.get_mut.ensures.value) ∙ ap (λ o. is_some (option_copied_mut o)) c.in-Some.is)).0
+    (c.get_mut.follows.holds w (ap (λ o. is_some o) (sym c.get_mut.ensures.value) ∙ ap (λ o. is_some (option_copied_mut o)) c.in-Some.is))
     ∙ ap (λ (s : Stored). put_ctx_place s c.args.number w) c.self.view_is ∙ ap (λ (p : Place ContextRecord). put_ctx_place c.args.self.now c.args.number p) c.write-found.ensures.after
 
 pub invariant_of-self : goal.invariant_of-self
@@ -35,7 +35,7 @@ invariant_of-self c =
     marked-put_ctx_place c.self.inside.numbers c.self.inside.slots c.set_number.new.numbers now (stored c.self.inside.terms.entries (c.get_mut.follows.lender w).entries) c.self.invariant
     c.args.number c.args.place c.is_here-stands.result c.set_number.ensures c.is_here-stands.ensures
     (ctx_written c.self.inside.terms.entries c.self.inside.contexts.entries (c.get_mut.follows.lender w).entries c.args.number w
-    ((c.get_mut.follows.holds w).3 (ap (λ o. is_some o) (sym c.get_mut.ensures.value) ∙ ap (λ o. is_some (option_copied_mut o)) c.in-Some.is)).0
+    (c.get_mut.follows.holds w (ap (λ o. is_some o) (sym c.get_mut.ensures.value) ∙ ap (λ o. is_some (option_copied_mut o)) c.in-Some.is))
     ∙ ap (λ (p : Place ContextRecord). put_ctx_place now c.args.number p) c.write-found.ensures.after)
 
 -- ---- where there is none
@@ -48,8 +48,8 @@ returns-clause-found c =
 pub returns-clause-ok : goal.returns-clause-ok
 returns-clause-ok c =
     ctx_written c.self.inside.terms.entries c.get_mut.follows.lender-at-none.entries c.insert.new.self.entries c.args.number c.logged_in.result
-    c.in_ok-insert.ensures.updates.0
-    ∙ ap (λ (s : Stored). put_ctx_place s c.args.number c.logged_in.result) (ap (λ (m : BTreeMap ℕ (Place ContextRecord)). stored c.self.inside.terms.entries m.entries) c.get_mut.follows.holds-at-none ∙ c.self.view_is)
+    c.in_ok-insert.ensures.updates
+    ∙ ap (λ (s : Stored). put_ctx_place s c.args.number c.logged_in.result) (ap (λ (m : Rowed ℕ (Place ContextRecord)). stored c.self.inside.terms.entries m.entries) c.get_mut.follows.holds-at-none ∙ c.self.view_is)
     ∙ ap (λ (p : Place ContextRecord). put_ctx_place c.args.self.now c.args.number p) c.logged_in.ensures
 
 pub invariant_of-self-2 : goal.invariant_of-self-2
@@ -58,6 +58,6 @@ invariant_of-self-2 c =
     marked-put_ctx_place c.self.inside.numbers c.self.inside.slots c.set_number-2.new.numbers now (stored c.self.inside.terms.entries c.insert.new.self.entries) c.self.invariant
     c.args.number c.args.place c.is_here-stands.result c.set_number-2.ensures c.is_here-stands.ensures
     (ctx_written c.self.inside.terms.entries c.get_mut.follows.lender-at-none.entries c.insert.new.self.entries c.args.number c.logged_in.result
-    c.in_ok-insert.ensures.updates.0
-    ∙ ap (λ (s : Stored). put_ctx_place s c.args.number c.logged_in.result) (ap (λ (m : BTreeMap ℕ (Place ContextRecord)). stored c.self.inside.terms.entries m.entries) c.get_mut.follows.holds-at-none)
+    c.in_ok-insert.ensures.updates
+    ∙ ap (λ (s : Stored). put_ctx_place s c.args.number c.logged_in.result) (ap (λ (m : Rowed ℕ (Place ContextRecord)). stored c.self.inside.terms.entries m.entries) c.get_mut.follows.holds-at-none)
     ∙ ap (λ (p : Place ContextRecord). put_ctx_place now c.args.number p) c.logged_in.ensures)
