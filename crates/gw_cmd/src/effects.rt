@@ -24,17 +24,22 @@ use crate::refusal::Refusal;
 use crate::task::{Act, Task};
 use gw_base::{Code, CtxNum, Held, Items, NoMemory, Rules, Service, TermName};
 use gw_reply::ReplyPart;
-use gw_table::Draft;
+use gw_table::{Draft, Guide};
 use gw_term::Termination;
 use std::alloc::Global;
 
 /// The termination's record becomes this one, or none.
-fn put(draft: &mut Draft, name: &TermName, entry: Option<Held<Termination>>) -> Result<(), NoMemory>
+fn put(
+    draft: &mut Draft,
+    guide: Guide,
+    name: &TermName,
+    entry: Option<Held<Termination>>,
+) -> Result<(), NoMemory>
     requires { holds draft.old.keys (Term name.now) ≡ true }
     ensures maps { OnOk result (draft.new.maps ≡ put_term draft.old.maps name.now entry) }
     ensures keys { draft.new.keys ≡ draft.old.keys }
 {
-    draft.set_term(*name, entry)
+    draft.set_term_at(guide, *name, entry)
 }
 
 /// What a change makes of the tables.
@@ -42,6 +47,7 @@ fn changed(
     alloc: Global,
     rules: &Rules,
     draft: &mut Draft,
+    guide: Guide,
     name: &TermName,
     change: Change,
 ) -> Result<(), NoMemory>
@@ -51,18 +57,18 @@ fn changed(
 {
     match change {
         Change::Stays => Ok(()),
-        Change::Becomes(record) => put(draft, name, Some(record)),
+        Change::Becomes(record) => put(draft, guide, name, Some(record)),
         Change::Joins(number, record) => {
-            put(draft, name, Some(record))?;
+            put(draft, guide, name, Some(record))?;
             draft.join(alloc, number, *name, usize::from(rules.members))
         }
         Change::Crosses(from, number, record) => {
-            put(draft, name, Some(record))?;
+            put(draft, guide, name, Some(record))?;
             draft.leave(alloc, from, name)?;
             draft.join(alloc, number, *name, usize::from(rules.members))
         }
         Change::Leaves(number, remains) => {
-            put(draft, name, remains)?;
+            put(draft, guide, name, remains)?;
             draft.leave(alloc, number, name)
         }
     }
@@ -86,11 +92,11 @@ fn act_on(
     ensures keys { draft.new.keys ≡ draft.old.keys }
     ensures same { IsSameCommand prepared.old prepared.new }
 {
-    let Some(old) = draft.term(name) else {
+    let Some((old, guide)) = draft.term_at(prepared.guide, name) else {
         return Err(Refusal::Code(Code::UnknownTermination));
     };
     let decided = decided(alloc, draft, act, &mut prepared.merger, old, wanted)?;
-    changed(alloc, prepared.rules, draft, name, decided.change)?;
+    changed(alloc, prepared.rules, draft, guide, name, decided.change)?;
     Ok(decided.parts)
 }
 
@@ -98,6 +104,7 @@ fn act_on(
 fn serve(
     alloc: Global,
     draft: &mut Draft,
+    guide: Guide,
     place: Option<CtxNum>,
     service: Option<Service>,
     name: &TermName,
@@ -106,14 +113,14 @@ fn serve(
     ensures gives { (rules : TheRules) (c : Command) (wanted : Bool) → Does (does.Serve place service) c → Gives result draft.new.maps (answered wanted (on_name rules place c name.now draft.old.maps)) }
     ensures keys { draft.new.keys ≡ draft.old.keys }
 {
-    let Some(old) = draft.term(name) else {
+    let Some((old, guide)) = draft.term_at(guide, name) else {
         return Err(Refusal::Code(Code::UnknownTermination));
     };
     if let Some(code) = refusal_elsewhere(place, old.place()) {
         return Err(Refusal::Code(code));
     }
     let given = service.unwrap_or(old.service());
-    draft.set_service(alloc, name, given)?;
+    draft.set_service_at(alloc, guide, name, given)?;
     Ok(Items::new(alloc))
 }
 
@@ -137,7 +144,7 @@ pub(crate) fn on_name(
 {
     match task {
         Task::Act(act) => act_on(alloc, draft, act, prepared, name, wanted),
-        Task::Serve(place, service) => serve(alloc, draft, place, service, name),
+        Task::Serve(place, service) => serve(alloc, draft, prepared.guide, place, service, name),
     }
 }
 
@@ -162,6 +169,13 @@ pub(crate) fn on_new(
 {
     let new = Termination::ephemeral(slot);
     let decided = decided(alloc, draft, act, &mut prepared.merger, &new, wanted)?;
-    changed(alloc, prepared.rules, draft, name, decided.change)?;
+    changed(
+        alloc,
+        prepared.rules,
+        draft,
+        Guide::none(),
+        name,
+        decided.change,
+    )?;
     Ok(decided.parts)
 }

@@ -250,6 +250,7 @@ pub fn command_written(
     };
     let execution = Execution { at, slot, task };
     if let TermRef::Name(name) = &command.term {
+        prepared.found_at(draft.guide(name));
         let named = slice::from_ref(name);
         return on_allowed(alloc, draft, execution, prepared, named, writer);
     }

@@ -7,7 +7,6 @@ ghost use Rattle.gw_cmd.specs.Refusals.{has_ended, missing, refusal_by_tables};
 
 use crate::prepared::Prepared;
 use gw_base::{Code, TermRef};
-use gw_msg::Command;
 use gw_refusal::At;
 use gw_table::Draft;
 
@@ -26,14 +25,16 @@ fn missing(
     draft: &Draft,
     at: At,
     slot: Option<u16>,
-    command: &Command<'_>,
+    prepared: &Prepared<'_, '_>,
     any: bool,
 ) -> Option<Code>
-    requires { any ≡ is_some_list (targets at command.now draft.now.maps) }
-    ensures { result ≡ missing at slot command.now draft.now.maps command.now.term }
+    requires { any ≡ is_some_list (targets at prepared.now.command.now draft.now.maps) }
+    ensures { result ≡ missing at slot prepared.now.command.now draft.now.maps prepared.now.command.now.term }
 {
-    match command.term {
-        TermRef::Name(name) if draft.term(&name).is_none() => Some(Code::UnknownTermination),
+    match prepared.command.term {
+        TermRef::Name(name) if draft.term_at(prepared.guide, &name).is_none() => {
+            Some(Code::UnknownTermination)
+        }
         TermRef::All | TermRef::Under(_) if !any => Some(Code::NoWildcardMatch),
         TermRef::Choose if slot.is_none() => Some(Code::NoTerminationLeft),
         _ => None,
@@ -56,7 +57,7 @@ pub(crate) fn refusal_by_tables(
     if has_ended(draft, at) {
         return Some(Code::UnknownContext);
     }
-    if let Some(code) = missing(draft, at, slot, prepared.command, any) {
+    if let Some(code) = missing(draft, at, slot, prepared, any) {
         return Some(code);
     }
     prepared.wrong

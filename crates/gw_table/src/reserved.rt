@@ -1,6 +1,7 @@
 //! Names that are the gateway's own to give.
 
-ghost use Rattle.std.specs.Prelude.{◌≡◌, ◌≢◌, ℕ, ◌<◌, ◌≤◌, ◌^◌, ◌↔◌, true, length, slice_index, None, IfSome, IsTrue};
+ghost use Rattle.std.specs.Prelude.{◌≡◌, ◌≢◌, ℕ, ◌<◌, ◌≤◌, ◌^◌, ◌↔◌, true, length, slice_index, None, IfSome, IsTrue, codes, nat_eq};
+ghost use Rattle.std.specs.List.{starts_with};
 ghost use Rattle.std.specs.Str.{all_ascii_digits};
 ghost use Rattle.std.specs.Str.Parse.{digits_value};
 ghost use Rattle.gw_table.specs.Reserved.{is_reserved, slot_name};
@@ -62,6 +63,16 @@ fn has_leading_zero(text: &[u8]) -> bool
     text.len() > 1 && text[0] == ZERO
 }
 
+/// Whether the text begins as the name of a slot. Most names differ from that in the first byte.
+fn begins_as_slot(text: &[u8]) -> bool
+    ensures { result ≡ starts_with nat_eq text.now (codes "RTP/") }
+{
+    match text.first() {
+        Some(b'R') => text.starts_with(b"RTP/"),
+        _ => false,
+    }
+}
+
 /// The slot below 4,096 of which the name is.
 pub(crate) fn slot_of(name: &TermName) -> Option<u16>
     ensures small { IfSome result (λ s. s < 4096) }
@@ -69,7 +80,7 @@ pub(crate) fn slot_of(name: &TermName) -> Option<u16>
     ensures none { result ≡ None → (s : ℕ) → s < 4096 → slot_name s ≢ name.now }
 {
     let bytes = name.as_bytes();
-    if !bytes.starts_with(b"RTP/") {
+    if !begins_as_slot(bytes) {
         return None;
     }
     let digits = &bytes[4..];

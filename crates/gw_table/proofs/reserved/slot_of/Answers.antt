@@ -12,9 +12,9 @@ behind bytes = take (length bytes - 4) (drop 4 bytes)
 all_behind : (bytes : List ℕ) → behind bytes ≡ drop 4 bytes
 all_behind bytes = take_all (length bytes - 4) (drop 4 bytes) (omega (arith, length-drop 4 bytes))
 
-pub returns-then-not-starts_with-clause-none : goal.returns-then-not-starts_with-clause-none
-returns-then-not-starts_with-clause-none c e s small same =
-    starts_otherwise c.as_bytes-bytes.result.now s (sym c.starts_with.ensures.value ∙ c.if-not-starts_with.true) (same ∙ sym c.as_bytes-bytes.ensures.bytes)
+pub returns-then-not-begins_as_slot-clause-none : goal.returns-then-not-begins_as_slot-clause-none
+returns-then-not-begins_as_slot-clause-none c e s small same =
+    starts_otherwise c.as_bytes-bytes.result.now s (sym c.begins_as_slot.ensures ∙ c.if-not-begins_as_slot.true) (same ∙ sym c.as_bytes-bytes.ensures.bytes)
 
 pub returns-then-is_empty-clause-none : goal.returns-then-is_empty-clause-none
 returns-then-is_empty-clause-none c e s small same =
@@ -42,7 +42,7 @@ one c first = at_most (length (behind c.as_bytes-bytes.result.now)) (some c) (λ
 pub returns-clause-slot : goal.returns-clause-slot
 returns-clause-slot c =
     subst (λ (n : List ℕ). IfSome c.number_in.result (λ s. slot_name s ≡ n)) c.as_bytes-bytes.ensures.bytes
-    (found_slot c.as_bytes-bytes.result.now (behind c.as_bytes-bytes.result.now) c.number_in.result (sym c.starts_with.ensures.value ∙ c.if-not-starts_with.false) (all_behind c.as_bytes-bytes.result.now) (some c) (one c)
+    (found_slot c.as_bytes-bytes.result.now (behind c.as_bytes-bytes.result.now) c.number_in.result (sym c.begins_as_slot.ensures ∙ c.if-not-begins_as_slot.false) (all_behind c.as_bytes-bytes.result.now) (some c) (one c)
     c.number_in.ensures.number c.number_in.ensures.digits c.number_in.ensures.small)
 
 pub returns-clause-none : goal.returns-clause-none
