@@ -64,12 +64,12 @@ fn changed(
         }
         Change::Crosses(from, number, record) => {
             put(draft, guide, name, Some(record))?;
-            draft.leave(alloc, from, name)?;
+            draft.leave(from, name)?;
             draft.join(alloc, number, *name, usize::from(rules.members))
         }
         Change::Leaves(number, remains) => {
             put(draft, guide, name, remains)?;
-            draft.leave(alloc, number, name)
+            draft.leave(number, name)
         }
     }
 }
@@ -120,7 +120,7 @@ fn serve(
         return Err(Refusal::Code(code));
     }
     let given = service.unwrap_or(old.service());
-    draft.set_service_at(alloc, guide, name, given)?;
+    draft.set_service_at(guide, name, given)?;
     Ok(Items::new(alloc))
 }
 

@@ -20,18 +20,13 @@ use gw_table::Draft;
 use std::alloc::Global;
 
 /// The terminations of these names have this service state.
-fn all_serviced(
-    alloc: Global,
-    draft: &mut Draft,
-    service: Service,
-    named: &[TermName],
-) -> Result<(), NoMemory>
+fn all_serviced(draft: &mut Draft, service: Service, named: &[TermName]) -> Result<(), NoMemory>
     requires { (t : List ℕ) → is_in t named.now ≡ true → holds draft.old.keys (Term t) ≡ true }
     ensures maps { OnOk result (draft.new.maps ≡ all_serviced service named.now draft.old.maps) }
     ensures keys { draft.new.keys ≡ draft.old.keys }
 {
     for name in named {
-        draft.set_service(alloc, name, service)?;
+        draft.set_service(name, service)?;
     }
     Ok(())
 }
@@ -45,7 +40,7 @@ pub(crate) fn serve_all(alloc: Global, draft: &mut Draft, task: Task) -> Result<
     match task {
         Task::Serve(_, Some(service)) => {
             let named = draft.names(alloc)?;
-            all_serviced(alloc, draft, service, &named)
+            all_serviced(draft, service, &named)
         }
         Task::Serve(_, None) | Task::Act(_) => Ok(()),
     }

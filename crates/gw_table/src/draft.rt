@@ -88,8 +88,8 @@ impl Draft {
         }
     }
 
-    /// Where the termination of a name stands in whole tables, if there is one: a guide for `term_at`, `set_term_at` and
-    /// `set_service_at`. It is one look-up. Of a part it is none.
+    /// Where the termination of a name stands in whole tables, if there is one: the guide of `term_at`, `set_term_at`
+    /// and `set_service_at`. It is one look-up. Of a part it is none, without a look-up.
     pub fn guide(&self, name: &TermName) -> Guide {
         match &self.backing {
             Backing::OfPart(_) => Guide::none(),
@@ -102,7 +102,7 @@ impl Draft {
         ensures { option_map (λ p. p.0.now) result ≡ term self.now.maps name.now }
     {
         match &self.backing {
-            Backing::OfPart(backing) => Some((backing.term(name)?, guide)),
+            Backing::OfPart(part) => Some((part.term(name)?, guide)),
             Backing::OfTables(backing) => backing.tables.find_term_at(guide, name),
         }
     }
@@ -206,17 +206,12 @@ impl Draft {
     /// # Errors
     ///
     /// Out of memory. The draft is as it was.
-    pub fn set_service(
-        &mut self,
-        alloc: Global,
-        name: &TermName,
-        service: Service,
-    ) -> Result<(), NoMemory>
+    pub fn set_service(&mut self, name: &TermName, service: Service) -> Result<(), NoMemory>
         requires { holds self.old.keys (Term name.now) ≡ true }
         ensures maps { OnOk result (self.new.maps ≡ put_service service name.now self.old.maps (term self.old.maps name.now)) }
         ensures keys { self.new.keys ≡ self.old.keys }
     {
-        self.set_service_at(alloc, Guide::none(), name, service)
+        self.set_service_at(Guide::none(), name, service)
     }
 
     /// The termination of a name has another service state, if there is one, as by `set_service`. In whole tables it
@@ -227,7 +222,6 @@ impl Draft {
     /// Out of memory. The termination may then be gone from the draft.
     pub fn set_service_at(
         &mut self,
-        alloc: Global,
         guide: Guide,
         name: &TermName,
         service: Service,
@@ -278,7 +272,7 @@ impl Draft {
     /// # Errors
     ///
     /// Out of memory. The name may then have left.
-    pub fn leave(&mut self, alloc: Global, number: CtxNum, name: &TermName) -> Result<(), NoMemory>
+    pub fn leave(&mut self, number: CtxNum, name: &TermName) -> Result<(), NoMemory>
         requires { holds self.old.keys (Ctx number) ≡ true }
         ensures maps { OnOk result (self.new.maps ≡ without_member number name.now self.old.maps) }
         ensures keys { self.new.keys ≡ self.old.keys }

@@ -142,7 +142,7 @@ impl Tables {
 
     /// Frees the places of those keys that were left without an entry and still have none. The caller knows that
     /// nothing is out. Such a key takes two look-ups; of many keys it is one pass over all places, which frees each
-    /// that has no entry. Memory is given back and none is taken.
+    /// that has no entry. No memory is taken.
     pub fn sweep_vacated(&mut self, originals: &Originals)
         requires { NoneIsOut self.old }
         ensures maps { maps_of self.new ≡ maps_of self.old }

@@ -107,13 +107,6 @@ impl<T> Row<T> {
         &self.place
     }
 
-    /// The place.
-    pub(crate) fn into_place(self) -> Place<T>
-        ensures { result ≡ self }
-    {
-        self.place
-    }
-
     /// Whether an entry stands here.
     pub(crate) fn is_here(&self) -> bool
         ensures { result ≡ is_some (shown (Some self.now)) }
@@ -291,16 +284,6 @@ pub(crate) fn place_at<T>(row: Option<&Row<T>>) -> Option<&Place<T>>
 {
     match row {
         Some(row) => Some(row.place()),
-        None => None,
-    }
-}
-
-/// The place, if there was one.
-pub(crate) fn place_in<T>(row: Option<Row<T>>) -> Option<Place<T>>
-    ensures { result ≡ row }
-{
-    match row {
-        Some(row) => Some(row.into_place()),
         None => None,
     }
 }

@@ -36,8 +36,8 @@ impl Guide {
     }
 }
 
-/// Rows by key, in the order of the keys: the index has the number of the row of each key. A row that was dropped is used
-/// again.
+/// Rows by key, in the order of the keys: the index has the number of the row of each key. The place of a row that was
+/// dropped is used again.
 #[derive(Drop)]
 pub(crate) struct Rows<K: Ord, T> {
     index: BTreeMap<K, usize>,
@@ -98,6 +98,17 @@ impl<K: Ord, T> Rows<K, T> {
             index: BTreeMap::new(alloc),
             rows: Slab::new(alloc),
         }
+    }
+
+    /// No rows, and room for so many.
+    pub(crate) fn with_room(alloc: Global, count: usize) -> Result<Self, NoMemory>
+        ensures { IfOk result (λ rows. rows.entries ≡ []) }
+    {
+        let rows = Slab::with_capacity(alloc, count)?;
+        Ok(Rows {
+            index: BTreeMap::new(alloc),
+            rows,
+        })
     }
 
     /// How many keys have a row.

@@ -114,8 +114,7 @@ impl Tables {
     }
 
     /// Ends the preparation of those of the keys that have no entry, and of no other key. The caller knows that none
-    /// of them is out. A key takes one look-up, and one more where its place is freed; memory is given back and none
-    /// is taken.
+    /// of them is out. A key takes one look-up, and one more where its row is freed. No memory is taken.
     pub fn sweep_keys(&mut self, keys: &[Key])
         requires { AreIn keys.now self.old }
         ensures maps { maps_of self.new ≡ maps_of self.old }

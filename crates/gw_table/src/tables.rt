@@ -70,12 +70,12 @@ impl Tables {
         }
     }
 
-    /// Tables without places, in which what comes to stand is marked.
-    fn marking(alloc: Global) -> Result<Tables, NoMemory>
+    /// Tables without places, in which what comes to stand is marked, with room for so many terminations.
+    fn marking(alloc: Global, terms: usize) -> Result<Tables, NoMemory>
         ensures { IfOk result (λ tables. tables ≡ nothing_stored) }
     {
         Ok(Tables {
-            terms: Rows::new(alloc),
+            terms: Rows::with_room(alloc, terms)?,
             contexts: Rows::new(alloc),
             numbers: Marks::with_room(alloc, NUMBERS)?,
             slots: Marks::with_room(alloc, u32::from(SLOTS))?,
@@ -144,7 +144,7 @@ impl Tables {
         ensures out { IfOk result NoneIsOut }
     {
         let names = config.terms.as_slice();
-        let mut tables = Tables::marking(alloc)?;
+        let mut tables = Tables::marking(alloc, names.len())?;
         tables.provide_most(alloc, names)?;
         tables.provide_others(alloc, names)?;
         Ok(tables)

@@ -1,6 +1,6 @@
 -- What descriptors send to each list and to each stream (own): of each kind the last, and the properties in order. A merge is told from
 -- it alone.
-use Rattle.std.specs.Prelude.{ℕ, Bool, not, if◌then◌else◌, List, [], ◌∷◌, ◌++◌, Option, Some, None}
+use Rattle.std.specs.Prelude.{◌≡◌, ℕ, Bool, not, if◌then◌else◌, List, [], ◌∷◌, ◌++◌, Option, Some, None}
 use Rattle.std.specs.List.{flat_map}
 use Rattle.std.specs.Option.{option_map, unwrap_or}
 use Rattle.gw_base.specs.declared.command_words.Rules.{Rules}
@@ -51,15 +51,17 @@ nothing_sent = record { mode = None; properties = []; local = None; remote = Non
 abbrev pub sent_to : ℕ → List Descriptor → SentStream
 sent_to number descriptors = with_parts (flat_map (parts_in number) descriptors) nothing_sent
 
-abbrev pub gathered_by : List Descriptor → Gathered
-gathered_by descriptors = record {
-  named = named_by descriptors;
-  properties = states_sent descriptors;
-  first = sent_to 1 descriptors;
-  second = sent_to 2 descriptors;
-  third = sent_to 3 descriptors;
-  fourth = sent_to 4 descriptors;
-}
+-- it is that; where the stream is not named, nothing may stand for it
+abbrev pub IsSentTo : ℕ → List Descriptor → Option SentStream → Type 0
+IsSentTo number descriptors sent = unwrap_or sent nothing_sent ≡ sent_to number descriptors
+
+pub record IsGathered (descriptors : List Descriptor) (g : Gathered) : Type 0 where
+  pub named : g.named ≡ named_by descriptors
+  pub properties : g.properties ≡ states_sent descriptors
+  pub first : IsSentTo 1 descriptors g.first
+  pub second : IsSentTo 2 descriptors g.second
+  pub third : IsSentTo 3 descriptors g.third
+  pub fourth : IsSentTo 4 descriptors g.fourth
 
 -- ---- a stream after what is sent to it
 

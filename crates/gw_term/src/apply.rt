@@ -2,7 +2,7 @@
 
 ghost use Rattle.std.specs.Prelude.{◌≡◌, ◌≤◌, ◌++◌, [], IfOk, OnOk, None, Some, true};
 ghost use Rattle.gw_term.specs.Merge.{filled_in, merged_properties, merged_service};
-ghost use Rattle.gw_term.specs.Gathered.{gathered_by};
+ghost use Rattle.gw_term.specs.Gathered.{IsGathered};
 ghost use Rattle.gw_term.specs.Named.{named_by, with_set};
 ghost use Rattle.gw_term.specs.Places.{at_number};
 ghost use Rattle.gw_term.specs.Record.{unset};
@@ -63,7 +63,7 @@ fn merge_into(
     set: &mut SettingList,
     filled: &mut Filled,
 ) -> Result<(), ApplyFault>
-    requires gathered { gathered.now ≡ gathered_by sent.now.descriptors.now }
+    requires gathered { IsGathered sent.now.descriptors.now gathered.now }
     requires there { there.now ≡ with_set old.now.settings (named_by sent.now.descriptors.now) }
     requires slot { sent.now.slot ≡ old.now.slot }
     requires rest { merged_properties sent.now.descriptors.now old.now.settings.properties ≡ Some set.old.properties }
@@ -138,7 +138,7 @@ pub(crate) fn merge(
     old: &Termination,
     made: &Settings,
 ) -> Result<Applied, ApplyFault>
-    requires { gathered.now ≡ gathered_by descriptors.now }
+    requires { IsGathered descriptors.now gathered.now }
     ensures { IsMerged rules.now descriptors.now old.now result }
 {
     let sent = Sent {

@@ -1,7 +1,7 @@
 //! What descriptors send to each list and to each stream, gathered once for all records that they are merged into.
 
 ghost use Rattle.std.specs.Prelude.{◌≡◌, ◌++◌, ◌∷◌, [], IfOk, OnOk};
-ghost use Rattle.gw_term.specs.Gathered.{gathered_by, not_service, sent_to, with_control, with_controls, with_part, with_parts};
+ghost use Rattle.gw_term.specs.Gathered.{not_service, nothing_sent, with_control, with_controls, with_part, with_parts, IsGathered, IsSentTo};
 ghost use Rattle.gw_term.specs.Lookups.{states_sent};
 ghost use Rattle.gw_term.specs.Merge.{is_named_in, parts_in, parts_in_part, states_in_part};
 ghost use Rattle.std.specs.List.{filter, flat_map, list_any};
@@ -9,7 +9,7 @@ ghost use Rattle.std.specs.List.{filter, flat_map, list_any};
 use crate::held::HeldProperty;
 use crate::named::Named;
 use crate::properties::{media_parts, states_in_part};
-use gw_base::{Items, Span};
+use gw_base::{Held, Items, Span};
 use gw_desc::{
     Descriptor, MediaPart, Mode, Property, StreamPart, is_mode, is_service_states, mode_set_by,
 };
@@ -29,16 +29,44 @@ pub struct SentStream<'a> {
 }
 
 /// What descriptors send.
-#[derive(Drop)]
 pub struct Gathered<'a> {
     /// The streams and tails that they name.
     pub(crate) named: Named,
     /// The properties of TerminationState but ServiceStates.
     pub(crate) properties: Items<HeldProperty>,
-    pub(crate) first: SentStream<'a>,
-    pub(crate) second: SentStream<'a>,
-    pub(crate) third: SentStream<'a>,
-    pub(crate) fourth: SentStream<'a>,
+    /// What is sent to stream 1, if it is named; and so on.
+    pub(crate) first: Option<Held<SentStream<'a>>>,
+    pub(crate) second: Option<Held<SentStream<'a>>>,
+    pub(crate) third: Option<Held<SentStream<'a>>>,
+    pub(crate) fourth: Option<Held<SentStream<'a>>>,
+}
+
+// By hand, so that a function that drops it does so by one call.
+impl Drop for Gathered<'_> {
+    fn drop(self) {
+        let Gathered {
+            named: _,
+            properties: _,
+            first: _,
+            second: _,
+            third: _,
+            fourth: _,
+        } = self;
+    }
+}
+
+impl<'a> SentStream<'a> {
+    /// Nothing. It takes no memory.
+    pub(crate) fn nothing(alloc: Global) -> SentStream<'a>
+        ensures { result ≡ nothing_sent }
+    {
+        SentStream {
+            mode: None,
+            properties: Items::new(alloc),
+            local: None,
+            remote: None,
+        }
+    }
 }
 
 /// A property of a LocalControl is sent too.
@@ -144,27 +172,24 @@ fn add_all<'a>(
     Ok(())
 }
 
-/// What is sent to the stream of this number, where it is known whether it is named.
+/// What is sent to the stream of this number, where it is known whether it is named. To one that is not, nothing is
+/// sent.
 #[tactic(auto, using(crate::proofs::Gathering::none_sent))]
 fn sent_to<'a>(
     alloc: Global,
     number: u8,
     is_named: bool,
     descriptors: &[Descriptor<'a>],
-) -> Result<SentStream<'a>, AllocError>
+) -> Result<Option<Held<SentStream<'a>>>, AllocError>
     requires { is_named ≡ list_any (is_named_in number) descriptors.now }
-    ensures { IfOk result (λ sent. sent ≡ sent_to number descriptors.now) }
+    ensures { IfOk result (λ sent. IsSentTo number descriptors.now sent) }
 {
-    let mut sent = SentStream {
-        mode: None,
-        properties: Items::new(alloc),
-        local: None,
-        remote: None,
-    };
-    if is_named {
-        add_all(alloc, number, descriptors, &mut sent)?;
+    if !is_named {
+        return Ok(None);
     }
-    Ok(sent)
+    let mut sent = SentStream::nothing(alloc);
+    add_all(alloc, number, descriptors, &mut sent)?;
+    Ok(Some(Held::new(alloc, sent)?))
 }
 
 /// A property of a TerminationState is sent too; ServiceStates is none of the list.
@@ -227,7 +252,7 @@ impl<'a> Gathered<'a> {
         alloc: Global,
         descriptors: &[Descriptor<'a>],
     ) -> Result<Gathered<'a>, AllocError>
-        ensures { IfOk result (λ gathered. gathered ≡ gathered_by descriptors.now) }
+        ensures { IfOk result (IsGathered descriptors.now) }
     {
         let named = Named::by(descriptors);
         let streams = named.streams;

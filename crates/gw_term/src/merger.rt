@@ -3,7 +3,7 @@
 ghost use Rattle.std.specs.Prelude.{◌≡◌, true, IfOk, IfSome, Some};
 ghost use Rattle.std.specs.Option.{ForSome};
 ghost use Rattle.gw_term.specs.Applies.{IsMerged};
-ghost use Rattle.gw_term.specs.Gathered.{gathered_by};
+ghost use Rattle.gw_term.specs.Gathered.{IsGathered};
 ghost use Rattle.gw_term.specs.Merge.{merged};
 ghost use Rattle.gw_term.specs.Plain.{are_plain, fill_none, IsMadeOf};
 
@@ -35,7 +35,7 @@ pub struct Merger<'a, 'b> {
     /// What was made of the settings met last.
     after: Settings,
     ghost plain: { is_plain ≡ are_plain descriptors.now },
-    ghost sends: { ForSome gathered (λ gathered. gathered ≡ gathered_by descriptors.now) },
+    ghost sends: { ForSome gathered (IsGathered descriptors.now) },
     ghost made: { ForSome before (λ before. IsMadeOf rules.now descriptors.now before after) },
 }
 

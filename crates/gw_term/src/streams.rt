@@ -4,7 +4,7 @@ ghost use Rattle.std.specs.Prelude.{◌≡◌, ◌≤◌, IfOk, OnOk, None, Some
 ghost use Rattle.std.specs.Option.{is_some, option_copied};
 ghost use Rattle.gw_term.specs.Named.{or_named};
 ghost use Rattle.std.specs.List.{list_any};
-ghost use Rattle.gw_term.specs.Gathered.{applied, filled_after, local_after, remote_after, sent_to};
+ghost use Rattle.gw_term.specs.Gathered.{applied, filled_after, local_after, remote_after, IsSentTo};
 ghost use Rattle.gw_term.specs.Merge.{local_text, is_filled, begun, is_named_in, merged_stream};
 ghost use Rattle.gw_term.specs.Applies.{IsStreamMerged, Yields};
 ghost use Rattle.gw_term.specs.Places.{at_number, put_number};
@@ -17,7 +17,7 @@ use crate::record::Stream;
 use crate::sent::Sent;
 use crate::settings::{Setting, SettingList, Settings};
 use crate::text::Text;
-use gw_base::{Items, NoMemory, Span};
+use gw_base::{Held, Items, NoMemory, Span};
 use gw_desc::{Mode, fill_local};
 use std::alloc::{AllocError, Global};
 
@@ -167,18 +167,22 @@ fn merge_there(
     alloc: Global,
     target: &Sent<'_, '_, '_>,
     number: u8,
-    sent: &SentStream<'_>,
+    sent: &Option<Held<SentStream<'_>>>,
     old: &Settings,
     new: &mut SettingList,
 ) -> Result<bool, ApplyFault>
     requires first { 1 ≤ number }
     requires last { number ≤ 4 }
-    requires sent { sent.now ≡ sent_to number target.now.descriptors.now }
+    requires sent { IsSentTo number target.now.descriptors.now sent.now }
     requires there { or_named (is_some (at_number number old.now.streams)) (list_any (is_named_in number) target.now.descriptors.now) ≡ true }
     ensures merged { IsStreamMerged result (at_number number new.new.streams) (merged_stream target.now.rules.now target.now.slot number target.now.descriptors.now (at_number number old.now.streams)) }
     ensures rest { OnOk result (new.new ≡ record new.old { streams = put_number number (at_number number new.new.streams) new.old.streams }) }
 {
-    let merging = applied_or_new(alloc, target, number, sent, old.stream(number))?;
+    let old = old.stream(number);
+    let merging = match sent {
+        Some(sent) => applied_or_new(alloc, target, number, sent.get(), old)?,
+        None => applied_or_new(alloc, target, number, &SentStream::nothing(alloc), old)?,
+    };
     let filled = merging.filled;
     new.push(Setting::Stream(number, merging.into_stream()))?;
     Ok(filled)
@@ -191,14 +195,14 @@ pub(crate) fn merge_stream(
     alloc: Global,
     target: &Sent<'_, '_, '_>,
     number: u8,
-    sent: &SentStream<'_>,
+    sent: &Option<Held<SentStream<'_>>>,
     is_there: bool,
     old: &Settings,
     new: &mut SettingList,
 ) -> Result<bool, ApplyFault>
     requires first { 1 ≤ number }
     requires last { number ≤ 4 }
-    requires sent { sent.now ≡ sent_to number target.now.descriptors.now }
+    requires sent { IsSentTo number target.now.descriptors.now sent.now }
     requires there { is_there ≡ or_named (is_some (at_number number old.now.streams)) (list_any (is_named_in number) target.now.descriptors.now) }
     requires empty { at_number number new.old.streams ≡ None }
     ensures merged { IsStreamMerged result (at_number number new.new.streams) (merged_stream target.now.rules.now target.now.slot number target.now.descriptors.now (at_number number old.now.streams)) }
