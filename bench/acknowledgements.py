@@ -12,6 +12,8 @@ import subprocess
 import sys
 import tempfile
 
+import usage
+
 PROGRAM = "crates/h248gw/out/h248gw"
 HEAD = b"MEGACO/1 [10.0.0.9]:2944 "
 KEPT = 4_096
@@ -73,7 +75,7 @@ def instructions(program, conf, given):
 
 
 def main():
-    program = sys.argv[1] if len(sys.argv) > 1 else PROGRAM
+    program = (usage.words(__doc__, usage.is_program, 1) or [PROGRAM])[0]
     failed = False
     with tempfile.TemporaryDirectory() as folder:
         conf = str(pathlib.Path(folder) / "kept.conf")

@@ -17,6 +17,8 @@ import subprocess
 import sys
 import tempfile
 
+import usage
+
 TOP = pathlib.Path(__file__).resolve().parent.parent
 WORDS = [b"Transaction", b"Context", b"Add", b"Move", b"Modify", b"Subtract", b"AuditValue", b"ServiceChange", b"Notify", b"Media",
          b"Stream", b"LocalControl", b"Local", b"Remote", b"Mode", b"Events", b"Signals", b"Audit", b"Services", b"Method", b"W-", b"O-",
@@ -176,11 +178,14 @@ def answers(program, given):
 
 
 def main():
-    if sys.argv[1:2] == ["--properties"]:
-        batches, old, new = sys.argv[2:5]
-        return properties_alike(int(batches), old, new, int(sys.argv[5]) if sys.argv[5:] else 1)
-    old, new = sys.argv[1:3]
-    start = int(sys.argv[3]) if sys.argv[3:] else 1
+    given = usage.words(__doc__, lambda word: word == "--properties" or usage.is_program(word) or usage.is_number(word), 5)
+    if given[:1] == ["--properties"] and len(given) > 3:
+        batches, old, new = given[1:4]
+        return properties_alike(int(batches), old, new, int(given[4]) if given[4:] else 1)
+    if not 2 <= len(given) <= 3:
+        sys.exit(__doc__)
+    old, new = given[:2]
+    start = int(given[2]) if given[2:] else 1
     given = bursts(start)
     left, right = answers(old, given), answers(new, given)
     if left != right:

@@ -15,6 +15,8 @@ import subprocess
 import sys
 import time
 
+import usage
+
 PROGRAM = "crates/h248gw/out/h248gw"
 LARGE, SMALL = 65_507, 8_192
 HEAD = b"MEGACO/1 [10.0.0.9]:2944 "
@@ -143,10 +145,11 @@ def carrying(nothing):
 
 
 def main():
+    given = usage.words(__doc__, lambda word: word in ("--reading", "--carrying"), 1)
     nothing = instructions(b"")
-    if sys.argv[1:] == ["--reading"]:
+    if given == ["--reading"]:
         return reading(nothing)
-    if sys.argv[1:] == ["--carrying"]:
+    if given == ["--carrying"]:
         return carrying(nothing)
     late = False
     print("| Datagram | ms at 65,507 bytes | instructions a byte | at most | work at 64 KB / work at 8 KB |")

@@ -14,6 +14,8 @@ import re
 import subprocess
 import sys
 
+import usage
+
 PAGE = pathlib.Path("docs/BENCHMARKS.md")
 MARK = re.compile(r"<!-- (bench/\S+\.py.*?) -->")
 
@@ -31,8 +33,10 @@ def table_of(words):
 
 
 def main():
-    chosen = sys.argv[1] if sys.argv[1:] else ""
     lines, out, failed = PAGE.read_text().splitlines(), [], []
+    commands = [mark[1] for mark in map(MARK.fullmatch, lines) if mark]
+    given = usage.words(__doc__, lambda word: any(word in command for command in commands), 1)
+    chosen = given[0] if given else ""
     place = 0
     while place < len(lines):
         line = lines[place]

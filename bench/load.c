@@ -3,9 +3,9 @@
    load echo                                    binds a port of the loopback, writes it, and sends each datagram back
    load send PORT SENDER COUNT WINDOW LINES     sends so many requests of AuditValue, with at most WINDOW on the way
 
-   Both take what is there until nothing is, at most 256 datagrams, then send, as the gateway does. A request is lost where nothing came
-   for half a second while it was on the way. A sender writes how many were lost, when it began and when it ended in nanoseconds,
-   and the delay of each answer in nanoseconds: numbers of 64 bits. */
+   Both take what is there until nothing is, at most 256 datagrams, then send, as the gateway does. A request is lost
+   where nothing came for half a second while it was on the way. A sender writes how many were lost, when it began and
+   when it ended in nanoseconds, and the delay of each answer in nanoseconds: numbers of 64 bits. */
 #define _GNU_SOURCE
 #include <arpa/inet.h>
 #include <errno.h>
@@ -86,8 +86,8 @@ static void request(struct sender *s, int at) {
     }
     char text[256];
     uint64_t number = s->next++;
-    int length = snprintf(text, sizeof text, "MEGACO/1 %s Transaction=%llu{Context=-{AuditValue=L/%llu{Audit{}}}}", s->mid,
-                          (unsigned long long)number, (unsigned long long)(number % (uint64_t)s->lines));
+    int length = snprintf(text, sizeof text, "MEGACO/1 %s Transaction=%llu{Context=-{AuditValue=L/%llu{Audit{}}}}",
+                          s->mid, (unsigned long long)number, (unsigned long long)(number % (uint64_t)s->lines));
     s->places_of[number % NUMBERS] = (uint16_t)at;
     s->places[at].number = number;
     s->places[at].at = now();
@@ -131,7 +131,8 @@ static int sending(int port, int number, uint64_t count, int window, int lines) 
     static struct sender s;
     char mid[32];
     snprintf(mid, sizeof mid, "[10.0.1.%d]:2944", number);
-    s.fd = socket(AF_INET, SOCK_DGRAM | SOCK_NONBLOCK, 0), s.window = window, s.lines = lines, s.count = count, s.next = 1, s.mid = mid;
+    s.fd = socket(AF_INET, SOCK_DGRAM | SOCK_NONBLOCK, 0);
+    s.window = window, s.lines = lines, s.count = count, s.next = 1, s.mid = mid;
     s.places = calloc((size_t)window, sizeof *s.places);
     uint64_t *out = malloc((count + 3) * sizeof *out), answered = 0;
     struct sockaddr_in to = loopback(port);

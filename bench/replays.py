@@ -24,6 +24,8 @@ import sys
 import tempfile
 import time
 
+import usage
+
 PROGRAM = "crates/h248gw/out/h248gw"
 HEAD = b"MEGACO/1 [10.0.0.9]:2944 "
 ADDS = (b"Transaction=%d{Context=${Add=T/%d{Media{Stream=1{LocalControl{Mode=SendReceive}}},Events=2223{al/on}},"
@@ -270,9 +272,12 @@ def records(folder):
     return any(found > limit for _, found, limit in lines)
 
 
+PARTS = ["--rates", "--tables", "--bursts", "--samples", "--waves", "--records"]
+
+
 def main():
     with tempfile.TemporaryDirectory() as folder:
-        chosen = sys.argv[1:] or ["--rates", "--tables", "--bursts", "--samples", "--waves", "--records"]
+        chosen = usage.words(__doc__, lambda word: word in PARTS) or PARTS
         for word, measure in (("--rates", rates), ("--tables", tables), ("--bursts", repeats)):
             if word in chosen:
                 measure(folder)

@@ -3,19 +3,19 @@
 
     bench/serving.py [--program PATH] [--workers N] [--senders N] [--window N] [--requests N] [PART..]
 
-Run it at the top of the repository, after `rt run` in crates/h248gw has built the program; `--program` names another one. Each part
-starts the program anew on a free port, with so many workers (1 by default), and ends it by SIGTERM. It fails at the first promise
-that is not kept.
+Run it at the top of the repository, after `rt run` in crates/h248gw has built the program; `--program` names another
+one. Each part starts the program anew on a free port, with so many workers (1 by default), and ends it by SIGTERM. It
+fails at the first promise that is not kept.
 
-  rate    three senders, each a process (bench/load.c) with 64 requests of AuditValue on the way, 200,000 in all: how many are answered a
-          second, how many are lost, and how long each waits for its answer, median and 99th percentile; then the same for an echo of
-          the same datagrams through the same kind of socket, and the two rates as a ratio. What the gateway reports of itself is what
-          the senders saw.
-  calls   four senders, each with at most 64 datagrams on the way, 20,000 in all: calls are set up and ended. Every request is
-          answered once, and at the end the tables hold the calls that were left standing and no other.
+  rate    three senders, each a process (bench/load.c) with 64 requests of AuditValue on the way, 200,000 in all: how
+          many are answered a second, how many are lost, and how long each waits for its answer, median and 99th
+          percentile; then the same for an echo of the same datagrams through the same kind of socket, and the two
+          rates as a ratio. What the gateway reports of itself is what the senders saw.
+  calls   four senders, each with at most 64 datagrams on the way, 20,000 in all: calls are set up and ended. Every
+          request is answered once, and at the end the tables hold the calls that were left standing and no other.
   flood   100,000 datagrams of random bytes, as fast as they can be sent; then a good one, which is answered.
-  memory  VmRSS after 20,000 and after 200,000 transactions, which set up a call and end it: within 5 percent; within 20 with
-          more workers than one, since the C library keeps some memory for each thread that there was at a time.
+  memory  VmRSS after 20,000 and after 200,000 transactions, which set up a call and end it: within 5 percent; within 20
+          with more workers than one, since the C library keeps some memory for each thread that there was at a time.
   longest a datagram of 65,507 bytes, which is answered; over IPv6, where there is, one of 65,508, which is not.
 """
 import argparse
@@ -54,7 +54,8 @@ class Gateway:
             probe.bind((host, 0))
             self.address = probe.getsockname()
         listen = form % self.address[:2]
-        self.process = subprocess.Popen([program, "serve", config, "--listen", listen, "--workers", str(workers), *more], stdout=subprocess.PIPE)
+        words = [program, "serve", config, "--listen", listen, "--workers", str(workers), *more]
+        self.process = subprocess.Popen(words, stdout=subprocess.PIPE)
         wanted(self.process.stdout.readline() == b"listening\n", "it listens")
 
     def socket(self):
@@ -163,7 +164,8 @@ def driven(senders, seconds=60):
 def audited(gateway, number, context):
     """What an audit of a context, of all or of none names, for each context: a transaction of a number of its own."""
     client = gateway.socket()
-    answer = gateway.ask(client, b"MEGACO/1 [10.0.2.1]:2944 Transaction=%d{Context=%s{AuditValue=*{Audit{}}}}" % (number, context))
+    audit = b"MEGACO/1 [10.0.2.1]:2944 Transaction=%d{Context=%s{AuditValue=*{Audit{}}}}"
+    answer = gateway.ask(client, audit % (number, context))
     tables = collections.defaultdict(list)
     for number, names in re.findall(rb"Context=(\d+|-)\{([^}]*)\}", answer or b""):
         tables[number] = re.findall(rb"AuditValue=([^,]*)", names)
@@ -171,12 +173,14 @@ def audited(gateway, number, context):
 
 
 class Rate:
-    """What several senders saw of a server on a port: how much a second, how much was lost, and delays in microseconds."""
+    """What several senders saw of a server on a port: answers a second, how many are lost, delays in microseconds."""
 
     def __init__(self, given, port):
         share = given.requests // given.senders
-        words = [[given.load, "send", str(port), str(sender), str(share), str(given.window), str(LINES)] for sender in range(1, given.senders + 1)]
-        senders = [subprocess.Popen(each, stdout=subprocess.PIPE) for each in words]
+        senders = []
+        for number in range(1, given.senders + 1):
+            words = [given.load, "send", str(port), str(number), str(share), str(given.window), str(LINES)]
+            senders.append(subprocess.Popen(words, stdout=subprocess.PIPE))
         seen = [struct.unpack("=%dQ" % (len(out) // 8), out) for out in (sender.communicate()[0] for sender in senders)]
         wanted(all(sender.returncode == 0 for sender in senders), "each sender ends well")
         delays = sorted(delay for each in seen for delay in each[3:])
@@ -186,29 +190,36 @@ class Rate:
         self.median, self.late = (delays[self.answers * part // 100] / 1000 for part in (50, 99))
 
     def __str__(self):
-        return "%.0f a second, %d of %d lost, delay %.0f us, 99th percentile %.0f us" % (self.rate, self.lost, self.requests, self.median, self.late)
+        seen = (self.rate, self.lost, self.requests, self.median, self.late)
+        return "{:,.0f} | {:,} of {:,} | {:,.0f} | {:,.0f} |".format(*seen)
 
 
 def rate(gateway, given):
     seen = Rate(given, gateway.address[1])
     # A second behind the last report one more request draws another.
     time.sleep(1.1)
-    wanted(gateway.ask(gateway.socket(), b"MEGACO/1 [10.0.2.1]:2944 Transaction=1{Context=-{AuditValue=L/1{Audit{}}}}"), "an answer at the end")
+    audit = b"MEGACO/1 [10.0.2.1]:2944 Transaction=1{Context=-{AuditValue=L/1{Audit{}}}}"
+    wanted(gateway.ask(gateway.socket(), audit), "an answer at the end")
     time.sleep(0.1)
     os.set_blocking(gateway.process.stdout.fileno(), False)
     last = [line for line in (gateway.process.stdout.read() or b"").splitlines() if line.startswith(b"report ")][-1]
     told = {name.decode(): int(number) for name, number in re.findall(rb"(\w+)=(\d+)", last)}
-    wanted(told["executed"] + told["repeats"] == told["answers"] == told["datagrams"], "each datagram is answered: %r" % told)
-    wanted(seen.answers <= told["answers"] - 1 <= seen.requests, "what the gateway reports is what the senders saw: %r" % told)
+    answered = told["executed"] + told["repeats"]
+    wanted(answered == told["answers"] == told["datagrams"], "each datagram is answered: %r" % told)
+    wanted(seen.answers <= answered - 1 <= seen.requests, "what the gateway reports is what the senders saw: %r" % told)
     echo = subprocess.Popen([given.load, "echo"], stdout=subprocess.PIPE)
     try:
         beside = Rate(given, int(echo.stdout.readline()))
     finally:
         echo.kill()
-    print("rate: %d senders, %d on the way each" % (given.senders, given.window))
-    print("  gateway  %s; %.1f datagrams in a burst" % (seen, told["datagrams"] / told["bursts"]))
-    print("  echo     %s" % beside)
-    print("  the gateway answers %.2f of what the echo does" % (seen.rate / beside.rate))
+    print("| %d senders with %d requests on the way each | answers a second | lost | delay, us | 99th percentile, us |"
+          % (given.senders, given.window))
+    print("|---|---|---|---|---|")
+    print("| the gateway, %d of `--workers`, %.1f datagrams in a burst | %s"
+          % (gateway.workers, told["datagrams"] / told["bursts"], seen))
+    print("| an echo | %s" % beside)
+    print("| the gateway's by the echo's | %.2f | | %.2f | %.2f |"
+          % (seen.rate / beside.rate, seen.median / beside.median, seen.late / beside.late))
 
 
 def calls(gateway, given):
@@ -226,7 +237,8 @@ def calls(gateway, given):
     wanted({number: names[0] for number, names in tables.items()} == standing, "the calls that were left standing")
     wanted(all(len(names) == 2 and names[1].startswith(b"RTP/") for names in tables.values()), "two ends of each call")
     wanted(len(audited(gateway, 2, b"-")[b"-"]) == LINES - len(standing), "every other line in the null context")
-    print("calls: %d datagrams answered once each, %.0f a second, %d calls left" % (TRANSACTIONS, TRANSACTIONS / seconds, len(standing)))
+    print("calls: %d datagrams answered once each, %.0f a second, %d calls left"
+          % (TRANSACTIONS, TRANSACTIONS / seconds, len(standing)))
 
 
 def flood(gateway, given):
@@ -255,7 +267,8 @@ def memory(gateway, given):
         resident.append(gateway.resident())
     before, after = resident
     most = 0.05 if gateway.workers == 1 else 0.2
-    wanted(abs(after - before) <= before * most, "memory within %d percent: %d KB, then %d KB" % (100 * most, before, after))
+    is_within = abs(after - before) <= before * most
+    wanted(is_within, "memory within %d percent: %d KB, then %d KB" % (100 * most, before, after))
     print("memory: %d KB after %d transactions, %d KB after ten times as many (%.0f a second)"
           % (before, TRANSACTIONS, after, 9 * TRANSACTIONS / seconds))
 

@@ -25,6 +25,7 @@ import tempfile
 import time
 
 import serving
+import usage
 from serving import CONFIG, HEAD, KEPT, LINES, SENDERS, wanted
 
 ROUND, LEFT = 200, 10
@@ -214,7 +215,8 @@ def served(gateway, count):
 
 def main():
     serving.ON_THE_WAY = ON_THE_WAY
-    given = sys.argv[1:] + ["crates/h248gw/out/h248gw", "10000000", "2000000"][len(sys.argv) - 1:]
+    given = usage.words(__doc__, lambda word: usage.is_program(word) or usage.is_number(word), 3)
+    given += ["crates/h248gw/out/h248gw", "10000000", "2000000"][len(given):]
     program = os.path.abspath(given[0])
     with tempfile.TemporaryDirectory() as folder:
         config = os.path.join(folder, "soak.conf")

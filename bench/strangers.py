@@ -17,6 +17,8 @@ import tempfile
 import time
 from typing import Callable, NamedTuple
 
+import usage
+
 PROGRAM = "crates/h248gw/out/h248gw"
 HEAD = b"MEGACO/1 [10.0.0.9]:2944 "
 LONGEST = 65_507
@@ -193,8 +195,9 @@ def instructions(conf, before, datagrams):
 
 
 def main():
-    quick = "--quick" in sys.argv
-    words = [word for word in sys.argv[1:] if word != "--quick"]
+    given = usage.words(__doc__, lambda word: word == "--quick" or any(word in line.name for line in LINES))
+    quick = "--quick" in given
+    words = [word for word in given if word != "--quick"]
     over = False
     print("| Burst | s | at most | MB beyond the state | at most | instructions for an eighth |")
     print("|---|---|---|---|---|---|")

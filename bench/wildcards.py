@@ -22,6 +22,7 @@ from typing import Callable, NamedTuple, Optional
 
 import replays
 import strangers
+import usage
 
 HEAD = b"!/1 a "
 MANY, ALL, KEPT = 4_000, 65_535, 4_096
@@ -203,7 +204,7 @@ def full(folder, kind, terms):
 
 
 def main():
-    replays.PROGRAM = strangers.PROGRAM = sys.argv[1] if len(sys.argv) > 1 else strangers.PROGRAM
+    replays.PROGRAM = strangers.PROGRAM = (usage.words(__doc__, usage.is_program, 1) or [strangers.PROGRAM])[0]
     over, costs = False, {}
     with tempfile.TemporaryDirectory() as folder:
         print("| Wildcard | matches | instructions for a match | at most | MB beyond the state |\n|---|---|---|---|---|")

@@ -17,6 +17,8 @@ import sys
 import tempfile
 import time
 
+import usage
+
 PROGRAM = "crates/h248gw/out/h248gw"
 HEAD = b"MEGACO/1 [10.0.0.9]:2944 "
 SIZES = [1, 16, 64, 256]
@@ -106,7 +108,7 @@ def instructions(program, conf, replay):
 
 
 def main():
-    program = sys.argv[1] if len(sys.argv) > 1 else PROGRAM
+    program = (usage.words(__doc__, usage.is_program, 1) or [PROGRAM])[0]
     failed = False
     with tempfile.TemporaryDirectory() as folder:
         conf = config(folder)

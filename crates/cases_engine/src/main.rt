@@ -1,5 +1,5 @@
-//! Cases of the engine and of what stands above it, a subject behind another: gateways, configurations, replays, networks and runs
-//! of the program.
+//! Cases of the engine and of what stands above it, a subject behind another: gateways, configurations, replays,
+//! networks and runs of the program.
 #![tactic(auto)]
 
 mod answers;

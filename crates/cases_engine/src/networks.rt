@@ -1,4 +1,5 @@
-//! Serving over a network that stands in for a socket: what comes, and below it what goes, how serving ends and what it says.
+//! Serving over a network that stands in for a socket: what comes, and below it what goes, how serving ends and what it
+//! says.
 
 use crate::clocks::{Clocked, Readings};
 use crate::line::{Line, sender_of};

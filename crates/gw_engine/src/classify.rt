@@ -74,8 +74,8 @@ impl<'h, 'a> Classified<'h, 'a> {
     }
 }
 
-/// How all that a burst requests is answered, which requests are executed, what changes in the kept replies, and how many there are of
-/// each class. All of it follows from keys and acknowledgements alone.
+/// How all that a burst requests is answered, which requests are executed, what changes in the kept replies, and how
+/// many there are of each class. All of it follows from keys and acknowledgements alone.
 pub(crate) fn classify<'h, 'a>(
     alloc: Global,
     kept: &Kept,

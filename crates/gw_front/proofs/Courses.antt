@@ -85,7 +85,7 @@ behind_more (Some x) (Some y) (Some z) bursts b h t =
       second = refl;
     }
 
--- a burst was carried out and answered
+-- a burst was executed and answered
 pub stepped : (input now later before between after : Option (List ℕ)) (old mid new : GatewayValue) (counts more : Counts) (b : List Datagram) → IsSoFar input now before between old mid counts
     → TakesFrom (IsBurst b) now later → IsBurstDone b counts between after mid new (Ok more) → IsSoFar input later before after old new more
 stepped input now later before between after old mid new counts more b h t d = record {
@@ -168,7 +168,7 @@ kept (Some x) None after text p k = absurd p
 kept (Some x) (Some y) None text p k = absurd k
 kept (Some x) (Some y) (Some z) text p k = k ∙ p
 
--- a burst was not carried out
+-- a burst was not executed
 refused : (input now before between after : Option (List ℕ)) (old mid new : GatewayValue) (counts : Counts) → IsSoFar input now before between old mid counts → Keeps between after → new ≡ mid → IsReplay input before after old new (Err NoMemory)
 refused input now before between after old mid new counts h k same = record {
   bursts = h.bursts;
@@ -178,7 +178,7 @@ refused input now before between after old mid new counts h k same = record {
   written = kept before between after (all_answers_text h.answers) h.written k;
 }
 
--- a burst was not carried out, or not written whole
+-- a burst was not executed, or not written whole
 pub failed : (input now later before between after : Option (List ℕ)) (old mid new : GatewayValue) (counts : Counts) (b : List Datagram) (fault : ReplayFault) → IsSoFar input now before between old mid counts
     → TakesFrom (IsBurst b) now later → IsBurstDone b counts between after mid new (Err fault) → IsReplay input before after old new (Err fault)
 failed input now later before between after old mid new counts b Write h t d = short_of input before between after now old mid new counts b h (begins_whole input now later h.bursts b h.read t) d
@@ -188,7 +188,7 @@ failed input now later before between after old mid new counts b Truncated h t d
 failed input now later before between after old mid new counts b TooLong h t d = absurd d
 failed input now later before between after old mid new counts b Read h t d = absurd d
 
--- the last burst was carried out, or not
+-- the last burst was executed, or not
 pub last_done : (input now later before between after : Option (List ℕ)) (old mid new : GatewayValue) (counts : Counts) (b : List Datagram) (result : Result Counts ReplayFault) → IsSoFar input now before between old mid counts
     → TakesFrom (IsLastBurst b) now later × IsAtEnd later → IsBurstDone b counts between after mid new result → IsReplay input before after old new result
 last_done input now later before between after old mid new counts b (Ok more) h t d = record {

@@ -23,43 +23,64 @@ use Rattle.gw_front.proofs.Happening.{Happens-trans, Happens-nothing}
 datagram_at : ℕ → Packet → Datagram
 datagram_at n l = record { peer = n; bytes = l.bytes }
 
-burst_from-more : (place : ℕ) (packets : List Packet) (packet : Packet) → burst_from place (packets ++ packet ∷ []) ≡ burst_from place packets ++ record { peer = place + length packets; bytes = packet.bytes } ∷ []
+burst_from-more : (place : ℕ) (packets : List Packet) (packet : Packet)
+    → burst_from place (packets ++ packet ∷ [])
+    ≡ burst_from place packets ++ record { peer = place + length packets; bytes = packet.bytes } ∷ []
 unfolding datagram_at
 burst_from-more place [] packet = let e : place ≡ place + 0 = omega arith in ap (λ (n : ℕ). datagram_at n packet ∷ []) e
 burst_from-more place (first ∷ packets) packet =
     let e : (place + 1) + length packets ≡ place + length (first ∷ packets) = omega arith in
-    ap (λ (l : List Datagram). datagram_at place first ∷ l) (burst_from-more (place + 1) packets packet ∙ ap (λ (n : ℕ). burst_from (place + 1) packets ++ datagram_at n packet ∷ []) e)
+    ap (λ (l : List Datagram). datagram_at place first ∷ l)
+    (burst_from-more (place + 1) packets packet
+    ∙ ap (λ (n : ℕ). burst_from (place + 1) packets ++ datagram_at n packet ∷ []) e)
 
-burst_of-more : (packets : List Packet) (packet : Packet) → burst_of (packets ++ packet ∷ []) ≡ burst_of packets ++ record { peer = length packets; bytes = packet.bytes } ∷ []
+burst_of-more : (packets : List Packet) (packet : Packet)
+    → burst_of (packets ++ packet ∷ [])
+    ≡ burst_of packets ++ record { peer = length packets; bytes = packet.bytes } ∷ []
 unfolding datagram_at
-burst_of-more packets packet = let e : 0 + length packets ≡ length packets = omega arith in burst_from-more 0 packets packet ∙ ap (λ (n : ℕ). burst_of packets ++ datagram_at n packet ∷ []) e
+burst_of-more packets packet =
+    let e : 0 + length packets ≡ length packets = omega arith in
+    burst_from-more 0 packets packet ∙ ap (λ (n : ℕ). burst_of packets ++ datagram_at n packet ∷ []) e
 
-senders_of-more : (packets : List Packet) (packet : Packet) → senders_of (packets ++ packet ∷ []) ≡ senders_of packets ++ packet.address ∷ []
+senders_of-more : (packets : List Packet) (packet : Packet)
+    → senders_of (packets ++ packet ∷ []) ≡ senders_of packets ++ packet.address ∷ []
 senders_of-more packets packet = map-append (λ l. l.address) packets (packet ∷ [])
 
 -- the datagram went last
 pub Holds-more : (old new : Inbox) (packets : List Packet) (packet : Packet) → Holds old packets
-    → (new.is_refused ≡ false → (old.is_refused ≡ false) × (new.datagrams.items ≡ old.datagrams.items ++ record { peer = length old.senders.items; bytes = packet.bytes } ∷ []) × (new.senders.items ≡ old.senders.items ++ packet.address ∷ []))
+    → (new.is_refused ≡ false
+    → (old.is_refused ≡ false)
+    × (new.datagrams.items
+    ≡ old.datagrams.items ++ record { peer = length old.senders.items; bytes = packet.bytes } ∷ [])
+    × (new.senders.items ≡ old.senders.items ++ packet.address ∷ []))
     → Holds new (packets ++ packet ∷ [])
 unfolding datagram_at
 Holds-more old new packets packet h push = record {
   datagrams = λ e.
       let p = push e in
-      let same : length old.senders.items ≡ length packets = ap (λ (l : List SocketAddr). length l) (h.senders p.0) ∙ length-map packets (λ l. l.address) in
-      p.1 ∙ ap (λ (l : List Datagram). l ++ datagram_at (length old.senders.items) packet ∷ []) (h.datagrams p.0) ∙ ap (λ (n : ℕ). burst_of packets ++ datagram_at n packet ∷ []) same ∙ sym (burst_of-more packets packet);
-  senders = λ e. let p = push e in p.2 ∙ ap (λ (l : List SocketAddr). l ++ packet.address ∷ []) (h.senders p.0) ∙ sym (senders_of-more packets packet);
+      let same : length old.senders.items ≡ length packets =
+      ap (λ (l : List SocketAddr). length l) (h.senders p.0) ∙ length-map packets (λ l. l.address) in
+      p.1 ∙ ap (λ (l : List Datagram). l ++ datagram_at (length old.senders.items) packet ∷ []) (h.datagrams p.0)
+      ∙ ap (λ (n : ℕ). burst_of packets ++ datagram_at n packet ∷ []) same ∙ sym (burst_of-more packets packet);
+  senders = λ e.
+      let p = push e in
+      p.2 ∙ ap (λ (l : List SocketAddr). l ++ packet.address ∷ []) (h.senders p.0)
+      ∙ sym (senders_of-more packets packet);
   marked = λ e. omega (arith, length-append packets (packet ∷ []));
 }
 
 -- ---- which are taken
 
-taken-one : (controllers : List Controller) (packet : Packet) → is_admitted controllers packet.address ≡ true → length packet.bytes ≤ 65507 → taken controllers (packet ∷ []) ≡ packet ∷ []
+taken-one : (controllers : List Controller) (packet : Packet) → is_admitted controllers packet.address ≡ true
+    → length packet.bytes ≤ 65507 → taken controllers (packet ∷ []) ≡ packet ∷ []
 taken-one controllers packet admitted short = rw (admitted, le-leb (length packet.bytes) 65507 short) refl
 
-taken-stranger : (controllers : List Controller) (packet : Packet) → is_admitted controllers packet.address ≡ false → taken controllers (packet ∷ []) ≡ []
+taken-stranger : (controllers : List Controller) (packet : Packet) → is_admitted controllers packet.address ≡ false
+    → taken controllers (packet ∷ []) ≡ []
 taken-stranger controllers packet stranger = rw stranger refl
 
-taken-long : (controllers : List Controller) (packet : Packet) → 65507 < length packet.bytes → taken controllers (packet ∷ []) ≡ []
+taken-long : (controllers : List Controller) (packet : Packet) → 65507 < length packet.bytes
+    → taken controllers (packet ∷ []) ≡ []
 taken-long controllers packet long = elim (leb_tells (length packet.bytes) 65507) [
   | inl h ↦ absurd (omega (arith, h.1))
   | inr h ↦ none (is_admitted controllers packet.address) (leb (length packet.bytes) 65507) h.0
@@ -69,52 +90,68 @@ taken-long controllers packet long = elim (leb_tells (length packet.bytes) 65507
     none true b e = rw e refl
     none false b e = refl
 
-taken-append : (controllers : List Controller) (xs ys : List Packet) → taken controllers (xs ++ ys) ≡ taken controllers xs ++ taken controllers ys
+taken-append : (controllers : List Controller) (xs ys : List Packet)
+    → taken controllers (xs ++ ys) ≡ taken controllers xs ++ taken controllers ys
 taken-append controllers xs ys = filter-append (is_taken controllers) xs ys
 
 -- ---- receipts
 
-pub gathers_nothing : (controllers : List Controller) (a b : Option (List Event)) (i j : Inbox) → Happens a b [] → j ≡ i → Gathers controllers a b i j
+pub gathers_nothing : (controllers : List Controller) (a b : Option (List Event)) (i j : Inbox) → Happens a b [] → j ≡ i
+    → Gathers controllers a b i j
 gathers_nothing controllers a b i j h e = record {
   packets = [];
   happened = h;
-  holds = λ earlier p. subst (λ (k : Inbox). Holds k (taken controllers (earlier ++ []))) (sym e) (subst (λ (l : List Packet). Holds i (taken controllers l)) (sym (append-nil earlier)) p);
+  holds = λ earlier p. subst (λ (k : Inbox). Holds k (taken controllers (earlier ++ []))) (sym e)
+      (subst (λ (l : List Packet). Holds i (taken controllers l)) (sym (append-nil earlier)) p);
 }
 
-pub gathers_one : (controllers : List Controller) (a b : Option (List Event)) (i j : Inbox) (packet : Packet) → Happens a b (came_all (packet ∷ [])) → is_admitted controllers packet.address ≡ true → length packet.bytes ≤ 65507
+pub gathers_one : (controllers : List Controller) (a b : Option (List Event)) (i j : Inbox) (packet : Packet)
+    → Happens a b (came_all (packet ∷ [])) → is_admitted controllers packet.address ≡ true → length packet.bytes ≤ 65507
     → ((packets : List Packet) → Holds i packets → Holds j (packets ++ packet ∷ [])) → Gathers controllers a b i j
 gathers_one controllers a b i j packet h admitted short takes = record {
   packets = packet ∷ [];
   happened = h;
   holds = λ earlier p.
       let e : taken controllers (earlier ++ packet ∷ []) ≡ taken controllers earlier ++ packet ∷ [] =
-      taken-append controllers earlier (packet ∷ []) ∙ ap (λ (l : List Packet). taken controllers earlier ++ l) (taken-one controllers packet admitted short) in
+      taken-append controllers earlier (packet ∷ [])
+      ∙ ap (λ (l : List Packet). taken controllers earlier ++ l) (taken-one controllers packet admitted short) in
       subst (λ (l : List Packet). Holds j l) (sym e) (takes (taken controllers earlier) p);
 }
 
-gathers_none : (controllers : List Controller) (a b : Option (List Event)) (i j : Inbox) (packet : Packet) → Happens a b (came_all (packet ∷ [])) → taken controllers (packet ∷ []) ≡ [] → j ≡ i → Gathers controllers a b i j
+gathers_none : (controllers : List Controller) (a b : Option (List Event)) (i j : Inbox) (packet : Packet)
+    → Happens a b (came_all (packet ∷ [])) → taken controllers (packet ∷ []) ≡ [] → j ≡ i → Gathers controllers a b i j
 gathers_none controllers a b i j packet h none same = record {
   packets = packet ∷ [];
   happened = h;
   holds = λ earlier p.
       let e : taken controllers (earlier ++ packet ∷ []) ≡ taken controllers earlier =
-      taken-append controllers earlier (packet ∷ []) ∙ ap (λ (l : List Packet). taken controllers earlier ++ l) none ∙ append-nil (taken controllers earlier) in
-      subst (λ (k : Inbox). Holds k (taken controllers (earlier ++ packet ∷ []))) (sym same) (subst (λ (l : List Packet). Holds i l) (sym e) p);
+      taken-append controllers earlier (packet ∷ []) ∙ ap (λ (l : List Packet). taken controllers earlier ++ l) none
+      ∙ append-nil (taken controllers earlier) in
+      subst (λ (k : Inbox). Holds k (taken controllers (earlier ++ packet ∷ []))) (sym same)
+      (subst (λ (l : List Packet). Holds i l) (sym e) p);
 }
 
 -- it is too long
-pub gathers_long : (controllers : List Controller) (a b : Option (List Event)) (i j : Inbox) (packet : Packet) → Happens a b (came_all (packet ∷ [])) → 65507 < length packet.bytes → j ≡ i → Gathers controllers a b i j
-gathers_long controllers a b i j packet h long same = gathers_none controllers a b i j packet h (taken-long controllers packet long) same
+pub gathers_long : (controllers : List Controller) (a b : Option (List Event)) (i j : Inbox) (packet : Packet)
+    → Happens a b (came_all (packet ∷ [])) → 65507 < length packet.bytes → j ≡ i → Gathers controllers a b i j
+gathers_long controllers a b i j packet h long same =
+    gathers_none controllers a b i j packet h (taken-long controllers packet long) same
 
 -- it is from no controller
-pub gathers_stranger : (controllers : List Controller) (a b : Option (List Event)) (i j : Inbox) (packet : Packet) → Happens a b (came_all (packet ∷ [])) → is_admitted controllers packet.address ≡ false → j ≡ i → Gathers controllers a b i j
-gathers_stranger controllers a b i j packet h stranger same = gathers_none controllers a b i j packet h (taken-stranger controllers packet stranger) same
+pub gathers_stranger : (controllers : List Controller) (a b : Option (List Event)) (i j : Inbox) (packet : Packet)
+    → Happens a b (came_all (packet ∷ [])) → is_admitted controllers packet.address ≡ false → j ≡ i
+    → Gathers controllers a b i j
+gathers_stranger controllers a b i j packet h stranger same =
+    gathers_none controllers a b i j packet h (taken-stranger controllers packet stranger) same
 
-pub gathers_more : (controllers : List Controller) (a b c : Option (List Event)) (i j k : Inbox) → Gathers controllers a b i j → Gathers controllers b c j k → Gathers controllers a c i k
+pub gathers_more : (controllers : List Controller) (a b c : Option (List Event)) (i j k : Inbox)
+    → Gathers controllers a b i j → Gathers controllers b c j k → Gathers controllers a c i k
 gathers_more controllers a b c i j k p q = record {
   packets = p.packets ++ q.packets;
-  happened = subst (λ (l : List Event). Happens a c l) (sym (map-append (λ l. came l) p.packets q.packets)) (Happens-trans a b c _ _ p.happened q.happened);
-  holds = λ earlier h. subst (λ (l : List Packet). Holds k (taken controllers l)) (append_assoc earlier p.packets q.packets) (q.holds (earlier ++ p.packets) (p.holds earlier h));
+  happened = subst (λ (l : List Event). Happens a c l) (sym (map-append (λ l. came l) p.packets q.packets))
+      (Happens-trans a b c _ _ p.happened q.happened);
+  holds = λ earlier h. subst (λ (l : List Packet). Holds k (taken controllers l))
+      (append_assoc earlier p.packets q.packets) (q.holds (earlier ++ p.packets) (p.holds earlier h));
 }
 
 pub on_ok : {A E : Type 0} (r : Result A E) {P : Type 0} → is_err r ≡ false → OnOk r P → P
@@ -122,8 +159,10 @@ on_ok (Ok done) e h = h
 on_ok (Err fault) e h = absurd (false≢true (sym e))
 
 -- nothing happened behind it
-pub gathers_still : (controllers : List Controller) (a b c : Option (List Event)) (i j : Inbox) → Gathers controllers a b i j → Happens b c [] → Gathers controllers a c i j
-gathers_still controllers a b c i j p h = record { packets = p.packets; happened = Happens-nothing a b c _ p.happened h; holds = p.holds }
+pub gathers_still : (controllers : List Controller) (a b c : Option (List Event)) (i j : Inbox)
+    → Gathers controllers a b i j → Happens b c [] → Gathers controllers a c i j
+gathers_still controllers a b c i j p h =
+    record { packets = p.packets; happened = Happens-nothing a b c _ p.happened h; holds = p.holds }
 
 -- ---- of a server
 
@@ -131,5 +170,9 @@ pub HasSame-trans : (a b c : Server) → HasSame a b → HasSame b c → HasSame
 HasSame-trans a b c p q = record { options = q.options ∙ p.options; totals = q.totals ∙ p.totals }
 
 -- more by a server that is told the same
-pub gathers_next : (old now : Server) (a b c : Option (List Event)) (i j k : Inbox) → HasSame old now → Gathers old.options.controllers.now a b i j → Gathers now.options.controllers.now b c j k → Gathers old.options.controllers.now a c i k
-gathers_next old now a b c i j k same p q = gathers_more old.options.controllers.now a b c i j k p (subst (λ (o : ServeOptions). Gathers o.controllers.now b c j k) same.options q)
+pub gathers_next : (old now : Server) (a b c : Option (List Event)) (i j k : Inbox) → HasSame old now
+    → Gathers old.options.controllers.now a b i j → Gathers now.options.controllers.now b c j k
+    → Gathers old.options.controllers.now a c i k
+gathers_next old now a b c i j k same p q =
+    gathers_more old.options.controllers.now a b c i j k p
+    (subst (λ (o : ServeOptions). Gathers o.controllers.now b c j k) same.options q)

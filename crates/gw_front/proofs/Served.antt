@@ -30,7 +30,8 @@ AreLeft (Some most) done None = ⊥
 AreLeft (Some most) done (Some left) = most ≡ done + left
 
 -- some turns were done, and `left` are still to come
-pub record IsPartway (options : ServeOptions) (left : Option ℕ) (before now : Option (List Event)) (old new : GatewayValue) (totals : Totals) : Type 0 where
+pub record IsPartway (options : ServeOptions) (left : Option ℕ) (before now : Option (List Event))
+    (old new : GatewayValue) (totals : Totals) : Type 0 where
   pub turns : List Turn
   pub goes : GoesBy options turns old new no_totals totals
   pub happened : Happens before now (flat_map events_of turns)
@@ -46,7 +47,8 @@ none_dropped : (give_up : Option ℕ) → ¬ IsFull give_up no_totals
 none_dropped None h = h
 none_dropped (Some most) h = omega (arith, h.1)
 
-pub partway_at_start : (options : ServeOptions) (before : Option (List Event)) (gateway : GatewayValue) (totals : Totals) → totals ≡ no_totals → IsPartway options options.bursts before before gateway gateway totals
+pub partway_at_start : (options : ServeOptions) (before : Option (List Event)) (gateway : GatewayValue)
+    (totals : Totals) → totals ≡ no_totals → IsPartway options options.bursts before before gateway gateway totals
 partway_at_start options before gateway totals none = record {
   turns = [];
   goes = (refl, none);
@@ -61,15 +63,22 @@ all_done : (most : Option ℕ) (n : ℕ) → AreLeft most n (Some 0) → most �
 all_done None n h = absurd h
 all_done (Some most) n h = let e : most ≡ n = omega (arith, h) in ap (λ (k : ℕ). Some k) e
 
-pub ended : (options : ServeOptions) (left : Option ℕ) (before after : Option (List Event)) (old new : GatewayValue) (totals executed : Totals) → left ≡ Some 0 → executed ≡ totals → IsPartway options left before after old new totals
+pub ended : (options : ServeOptions) (left : Option ℕ) (before after : Option (List Event)) (old new : GatewayValue)
+    (totals executed : Totals) → left ≡ Some 0 → executed ≡ totals → IsPartway options left before after old new totals
     → Serves options before after old new (Ok executed)
 ended options left before after old new totals executed e same h = record {
   turns = h.turns;
   rest = [];
   totals = totals;
   goes = h.goes;
-  happened = subst (λ (l : List Event). Happens before after l) (sym (append-nil (flat_map events_of h.turns))) h.happened;
-  end = (all_done options.bursts (length h.turns) (subst (λ (l : Option ℕ). AreLeft options.bursts (length h.turns) l) e h.are_left), same, h.goes_on);
+  happened = subst (λ (l : List Event). Happens before after l) (sym (append-nil (flat_map events_of h.turns)))
+      h.happened;
+  end = (
+    all_done options.bursts (length h.turns) (subst (λ (l : Option ℕ). AreLeft options.bursts (length h.turns) l) e
+        h.are_left),
+    same,
+    h.goes_on,
+  );
   last = refl;
 }
 
@@ -79,14 +88,17 @@ no_more (Some most) None n h = absurd h
 no_more (Some most) (Some left) n h = omega (arith, h)
 
 -- a fault for another reason
-for_other : (give_up : Option ℕ) (totals : Totals) (fault : ServeFault) → ¬ IsFull give_up totals → ¬ (fault ≡ Full) → IsForDropped give_up totals fault
+for_other : (give_up : Option ℕ) (totals : Totals) (fault : ServeFault) → ¬ IsFull give_up totals → ¬ (fault ≡ Full)
+    → IsForDropped give_up totals fault
 for_other give_up totals Bind h other = h
 for_other give_up totals Poll h other = h
 for_other give_up totals Receive h other = h
 for_other give_up totals NoMemory h other = h
 for_other give_up totals Full h other = absurd (other refl)
 
-pub stopped : (options : ServeOptions) (left : Option ℕ) (before now after : Option (List Event)) (old new : GatewayValue) (totals : Totals) (i j : Inbox) (fault : ServeFault) → ¬ (fault ≡ Full) → IsPartway options left before now old new totals
+pub stopped : (options : ServeOptions) (left : Option ℕ) (before now after : Option (List Event))
+    (old new : GatewayValue) (totals : Totals) (i j : Inbox) (fault : ServeFault) → ¬ (fault ≡ Full)
+    → IsPartway options left before now old new totals
     → Gathers options.controllers.now now after i j → Serves options before after old new (Err fault)
 stopped options left before now after old new totals i j fault other h more = record {
   turns = h.turns;
@@ -94,18 +106,32 @@ stopped options left before now after old new totals i j fault other h more = re
   totals = totals;
   goes = h.goes;
   happened = Happens-trans before now after _ _ h.happened more.happened;
-  end = (no_more options.bursts left (length h.turns) h.are_left, for_other options.give_up totals fault h.goes_on other);
+  end = (
+    no_more options.bursts left (length h.turns) h.are_left,
+    for_other options.give_up totals fault h.goes_on
+        other,
+  );
   last = tt;
 }
 
 -- ---- one turn more
 
-goes_more : (options : ServeOptions) (turns : List Turn) (turn : Turn) (old middle new : GatewayValue) (before between after : Totals) → GoesBy options turns old middle before between → IsTurn options turn middle new between after
+goes_more : (options : ServeOptions) (turns : List Turn) (turn : Turn) (old middle new : GatewayValue)
+    (before between after : Totals) → GoesBy options turns old middle before between
+    → IsTurn options turn middle new between after
     → GoesBy options (turns ++ turn ∷ []) old new before after
-goes_more options [] turn old middle new before between after (e, f) h = (new, after, subst (λ t. IsTurn options turn old new t after) f (subst (λ g. IsTurn options turn g new between after) e h), (refl, refl))
-goes_more options (first ∷ later) turn old middle new before between after goes h = (goes.0, goes.1, goes.2, goes_more options later turn goes.0 middle new goes.1 between after goes.3 h)
+goes_more options [] turn old middle new before between after (e, f) h = (
+  new,
+  after,
+  subst (λ t. IsTurn options turn old new t after) f
+      (subst (λ g. IsTurn options turn g new between after) e h),
+  (refl, refl),
+)
+goes_more options (first ∷ later) turn old middle new before between after goes h =
+    (goes.0, goes.1, goes.2, goes_more options later turn goes.0 middle new goes.1 between after goes.3 h)
 
-fewer : (most : Option ℕ) (turns : List Turn) (turn : Turn) (left : ℕ) → left ≢ 0 → AreLeft most (length turns) (Some left) → AreLeft most (length (turns ++ turn ∷ [])) (Some (left - 1))
+fewer : (most : Option ℕ) (turns : List Turn) (turn : Turn) (left : ℕ) → left ≢ 0
+    → AreLeft most (length turns) (Some left) → AreLeft most (length (turns ++ turn ∷ [])) (Some (left - 1))
 fewer None turns turn left some h = absurd h
 fewer (Some most) turns turn left some h = omega (arith, h, length-append turns (turn ∷ []))
 
@@ -121,82 +147,116 @@ pub data IsNext : Option ℕ → Option ℕ → Type 0 where
 pub next_none : (left next : Option ℕ) → left ≡ None → next ≡ None → IsNext left next
 next_none left next e f = rw (e, f) endless
 
-pub next_some : (left next : Option ℕ) (count : ℕ) → left ≡ Some count → next ≡ Some (count - 1) → count ≢ 0 → IsNext left next
+pub next_some : (left next : Option ℕ) (count : ℕ) → left ≡ Some count → next ≡ Some (count - 1) → count ≢ 0
+    → IsNext left next
 next_some left next count e f some = rw (e, f) (counted count some)
 
-after_one : (most left next : Option ℕ) (turns : List Turn) (turn : Turn) → IsNext left next → AreLeft most (length turns) left → AreLeft most (length (turns ++ turn ∷ [])) next
+after_one : (most left next : Option ℕ) (turns : List Turn) (turn : Turn) → IsNext left next
+    → AreLeft most (length turns) left → AreLeft most (length (turns ++ turn ∷ [])) next
 after_one most left next turns turn (endless) h = still_none most (length turns) (length (turns ++ turn ∷ [])) h
 after_one most left next turns turn (counted k some) h = fewer most turns turn k some h
 
 -- what became of a burst
-abbrev pub IsAnsweredBy : Inbox → (a b : Option (List Event)) → (old new : GatewayValue) → (before after : Totals) → Type 0
-IsAnsweredBy inbox a b old new before after = (packets : List Packet) → Holds inbox packets → (sent : List Packet) × Happens a b (sent_all sent) × IsAnswered packets sent old new before after
+abbrev pub IsAnsweredBy : Inbox → (a b : Option (List Event)) → (old new : GatewayValue) → (before after : Totals)
+    → Type 0
+IsAnsweredBy inbox a b old new before after =
+    (packets : List Packet) → Holds inbox packets → (sent : List Packet) × Happens a b (sent_all sent)
+    × IsAnswered packets sent old new before after
 
 -- Some turns were done, the last of them just now.
-record IsTurned (options : ServeOptions) (next : Option ℕ) (before after : Option (List Event)) (old new : GatewayValue) (totals : Totals) : Type 0 where
+record IsTurned (options : ServeOptions) (next : Option ℕ) (before after : Option (List Event)) (old new : GatewayValue)
+    (totals : Totals) : Type 0 where
   turns : List Turn
   goes : GoesBy options turns old new no_totals totals
   happened : Happens before after (flat_map events_of turns)
   are_left : AreLeft options.bursts (length turns) next
 
-module _ (options : ServeOptions) (left next : Option ℕ) (before now between after : Option (List Event)) (old middle new : GatewayValue) (done more : Totals) (i j : Inbox)
-    (h : IsPartway options left before now old middle done) (is_next : IsNext left next) (empty : Holds i []) (gathered : Gathers options.controllers.now now between i j)
-    (some : (packets : List Packet) → Holds j packets → 0 < length packets) (answered : IsAnsweredBy j between after middle new done more) where
+module _ (options : ServeOptions) (left next : Option ℕ) (before now between after : Option (List Event))
+    (old middle new : GatewayValue) (done more : Totals) (i j : Inbox)
+    (h : IsPartway options left before now old middle done) (is_next : IsNext left next) (empty : Holds i [])
+    (gathered : Gathers options.controllers.now now between i j)
+    (some : (packets : List Packet) → Holds j packets → 0 < length packets)
+    (answered : IsAnsweredBy j between after middle new done more) where
   turned : IsTurned options next before after old new more
   turned =
       let came = taken options.controllers.now gathered.packets in
       let holds : Holds j came = gathered.holds [] empty in
       let burst = answered came holds in
       let turn : Turn = record { came = gathered.packets; sent = burst.0 } in
-      let is_turn : IsTurn options turn middle new done more = record { goes_on = h.goes_on; some = some came holds; answered = burst.2 } in
+      let is_turn : IsTurn options turn middle new done more =
+      record { goes_on = h.goes_on; some = some came holds; answered = burst.2 } in
       record {
         turns = h.turns ++ turn ∷ [];
         goes = goes_more options h.turns turn old middle new no_totals done more h.goes is_turn;
         happened = subst (λ (l : List Event). Happens before after l)
-            (sym (flat_map-append events_of h.turns (turn ∷ []) ∙ ap (λ (l : List Event). flat_map events_of h.turns ++ l) (append-nil (events_of turn))))
-            (Happens-trans before now after _ _ h.happened (Happens-trans now between after _ _ gathered.happened burst.1));
+            (sym (flat_map-append events_of h.turns (turn ∷ [])
+            ∙ ap (λ (l : List Event). flat_map events_of h.turns ++ l) (append-nil (events_of turn))))
+            (Happens-trans before now after _ _ h.happened
+            (Happens-trans now between after _ _ gathered.happened burst.1));
         are_left = after_one options.bursts left next h.turns turn is_next h.are_left;
       }
 
   pub stepped : ¬ IsFull options.give_up more → IsPartway options next before after old new more
-  stepped goes_on = record { turns = turned.turns; goes = turned.goes; happened = turned.happened; are_left = turned.are_left; goes_on = goes_on }
+  stepped goes_on = record {
+    turns = turned.turns;
+    goes = turned.goes;
+    happened = turned.happened;
+    are_left = turned.are_left;
+    goes_on = goes_on;
+  }
 
   -- too many were dropped
-  pub overfull : (fault : ServeFault) → fault ≡ Full → IsFull options.give_up more → Serves options before after old new (Err fault)
+  pub overfull : (fault : ServeFault) → fault ≡ Full → IsFull options.give_up more
+      → Serves options before after old new (Err fault)
   overfull fault is full = record {
     turns = turned.turns;
     rest = [];
     totals = more;
     goes = turned.goes;
-    happened = subst (λ (l : List Event). Happens before after l) (sym (append-nil (flat_map events_of turned.turns))) turned.happened;
-    end = (no_more options.bursts next (length turned.turns) turned.are_left, subst (λ (f : ServeFault). IsForDropped options.give_up more f) (sym is) full);
+    happened = subst (λ (l : List Event). Happens before after l) (sym (append-nil (flat_map events_of turned.turns)))
+        turned.happened;
+    end = (
+      no_more options.bursts next (length turned.turns) turned.are_left,
+      subst (λ (f : ServeFault). IsForDropped options.give_up more f) (sym is) full,
+    );
     last = tt;
   }
 
 -- the same, by what a server had at the start, before the turn, with its burst and behind it
-module _ (first before_turn with_burst_in_hand behind : Server) (same_options : before_turn.options ≡ first.options) (same : HasSame before_turn with_burst_in_hand) (kept : behind.options ≡ with_burst_in_hand.options)
+module _ (first before_turn with_burst_in_hand behind : Server) (same_options : before_turn.options ≡ first.options)
+    (same : HasSame before_turn with_burst_in_hand) (kept : behind.options ≡ with_burst_in_hand.options)
     (left next : Option ℕ) (before now between after : Option (List Event)) (old middle new : GatewayValue)
-    (h : IsPartway first.options left before now old middle before_turn.totals) (is_next : IsNext left next) (empty : Holds before_turn.inbox [])
+    (h : IsPartway first.options left before now old middle before_turn.totals) (is_next : IsNext left next)
+    (empty : Holds before_turn.inbox [])
     (gathered : Gathers before_turn.options.controllers.now now between before_turn.inbox with_burst_in_hand.inbox)
     (some : (packets : List Packet) → Holds with_burst_in_hand.inbox packets → 0 < length packets)
-    (answered : IsAnsweredBy with_burst_in_hand.inbox between after middle new with_burst_in_hand.totals behind.totals) where
+    (answered : IsAnsweredBy with_burst_in_hand.inbox between after middle new with_burst_in_hand.totals
+    behind.totals) where
   all_kept : behind.options ≡ first.options
   all_kept = kept ∙ same.options ∙ same_options
 
   gathered_for : Gathers first.options.controllers.now now between before_turn.inbox with_burst_in_hand.inbox
-  gathered_for = subst (λ (o : ServeOptions). Gathers o.controllers.now now between before_turn.inbox with_burst_in_hand.inbox) same_options gathered
+  gathered_for =
+      subst (λ (o : ServeOptions). Gathers o.controllers.now now between before_turn.inbox with_burst_in_hand.inbox)
+      same_options gathered
 
   answered_from : IsAnsweredBy with_burst_in_hand.inbox between after middle new before_turn.totals behind.totals
-  answered_from = subst (λ (t : Totals). IsAnsweredBy with_burst_in_hand.inbox between after middle new t behind.totals) same.totals answered
+  answered_from =
+      subst (λ (t : Totals). IsAnsweredBy with_burst_in_hand.inbox between after middle new t behind.totals) same.totals
+      answered
 
-  pub server_stepped : ¬ IsFull behind.options.give_up behind.totals → IsPartway first.options next before after old new behind.totals
+  pub server_stepped : ¬ IsFull behind.options.give_up behind.totals
+      → IsPartway first.options next before after old new behind.totals
   server_stepped goes_on =
-      stepped first.options left next before now between after old middle new before_turn.totals behind.totals before_turn.inbox with_burst_in_hand.inbox h is_next empty gathered_for some answered_from
+      stepped first.options left next before now between after old middle new before_turn.totals behind.totals
+      before_turn.inbox with_burst_in_hand.inbox h is_next empty gathered_for some answered_from
       (subst (λ (o : ServeOptions). ¬ IsFull o.give_up behind.totals) all_kept goes_on)
 
-  pub server_overfull : (fault : ServeFault) → fault ≡ Full → IsFull behind.options.give_up behind.totals → Serves first.options before after old new (Err fault)
+  pub server_overfull : (fault : ServeFault) → fault ≡ Full → IsFull behind.options.give_up behind.totals
+      → Serves first.options before after old new (Err fault)
   server_overfull fault is full =
-      overfull first.options left next before now between after old middle new before_turn.totals behind.totals before_turn.inbox with_burst_in_hand.inbox h is_next empty gathered_for some answered_from
+      overfull first.options left next before now between after old middle new before_turn.totals behind.totals
+      before_turn.inbox with_burst_in_hand.inbox h is_next empty gathered_for some answered_from
       fault is (subst (λ (o : ServeOptions). IsFull o.give_up behind.totals) all_kept full)
 
 -- ---- one burst
@@ -209,8 +269,11 @@ length-burst : (packets : List Packet) → length (burst_of packets) ≡ length 
 length-burst packets = length-burst_from 0 packets
 
 -- the burst was executed, and its answers sent
-pub executed : (inbox : Inbox) (packets : List Packet) (answers : List Datagram) (counts : BurstCounts) (a b : Option (List Event)) (old new : GatewayValue) (before after : Totals) → Holds inbox packets → inbox.is_refused ≡ false
-    → IsWithinLimits inbox.datagrams.items → AnswersBurst old inbox.datagrams.items answers new → CountsBurst old inbox.datagrams.items counts → Happens a b (sent_all (packets_to inbox.senders.items answers))
+pub executed : (inbox : Inbox) (packets : List Packet) (answers : List Datagram) (counts : BurstCounts)
+    (a b : Option (List Event)) (old new : GatewayValue) (before after : Totals) → Holds inbox packets
+    → inbox.is_refused ≡ false
+    → IsWithinLimits inbox.datagrams.items → AnswersBurst old inbox.datagrams.items answers new
+    → CountsBurst old inbox.datagrams.items counts → Happens a b (sent_all (packets_to inbox.senders.items answers))
     → after ≡ with_burst before (length inbox.datagrams.items) counts (length answers)
     → (sent : List Packet) × Happens a b (sent_all sent) × IsAnswered packets sent old new before after
 executed inbox packets answers counts a b old new before after h whole limits answered numbers happened total =
@@ -224,12 +287,14 @@ executed inbox packets answers counts a b old new before after h whole limits an
         subst (λ (l : List Datagram). AnswersBurst old l answers new) same answered,
         subst (λ (l : List Datagram). CountsBurst old l counts) same numbers,
         refl,
-        total ∙ ap (λ (n : ℕ). with_burst before n counts (length answers)) (ap (λ (l : List Datagram). length l) same ∙ length-burst packets),
+        total ∙ ap (λ (n : ℕ). with_burst before n counts (length answers))
+            (ap (λ (l : List Datagram). length l) same ∙ length-burst packets),
       ),
     )
 
 -- it was dropped
-pub dropped : (packets : List Packet) (a : Option (List Event)) (old new : GatewayValue) (before after : Totals) → new ≡ old → after ≡ with_dropped before
+pub dropped : (packets : List Packet) (a : Option (List Event)) (old new : GatewayValue) (before after : Totals)
+    → new ≡ old → after ≡ with_dropped before
     → (sent : List Packet) × Happens a a (sent_all sent) × IsAnswered packets sent old new before after
 dropped packets a old new before after same total = ([], Happens-refl a, inr (refl, same, total))
 
@@ -239,7 +304,8 @@ some_turns : (most : Option ℕ) → IfSome most (λ m. 0 ≤ m)
 some_turns None = tt
 some_turns (Some m) = omega arith
 
-pub not_begun : (options : ServeOptions) (a : Option (List Event)) (gateway : GatewayValue) (fault : ServeFault) → ¬ (fault ≡ Full) → Serves options a a gateway gateway (Err fault)
+pub not_begun : (options : ServeOptions) (a : Option (List Event)) (gateway : GatewayValue) (fault : ServeFault)
+    → ¬ (fault ≡ Full) → Serves options a a gateway gateway (Err fault)
 not_begun options a gateway fault other = record {
   turns = [];
   rest = [];

@@ -14,7 +14,8 @@ use Rattle.gw_front.specs.declared.controllers.Controller.{Controller}
 -- an IP address alone, or with a port
 abbrev pub IsHostText : List ℕ → IpAddr → Option ℕ → Type 0
 IsHostText text host None = IsIpText text host
-IsHostText text host (Some port) = (address : SocketAddr) × IsSocketText text address × (socket_ip address ≡ host) × (socket_port address ≡ port)
+IsHostText text host (Some port) =
+    (address : SocketAddr) × IsSocketText text address × (socket_ip address ≡ host) × (socket_port address ≡ port)
 
 abbrev pub IsControllerText : List ℕ → Controller → Type 0
 IsControllerText text controller = IsHostText text controller.host controller.port
@@ -33,7 +34,8 @@ mapped_front = 0 ∷ (0 ∷ (0 ∷ (0 ∷ (0 ∷ (0xffff ∷ [])))))
 -- the host of an address: an IPv4 address that is mapped into IPv6 is that IPv4 address
 abbrev pub host_of : IpAddr → Host
 host_of (V4 a) = octets (ipv4_octets a)
-host_of (V6 a) = if bytes_eq (take 6 (ipv6_segments a)) mapped_front then octets (low_octets a) else segments (ipv6_segments a)
+host_of (V6 a) =
+    if bytes_eq (take 6 (ipv6_segments a)) mapped_front then octets (low_octets a) else segments (ipv6_segments a)
 
 abbrev pub is_one_host : Host → Host → Bool
 is_one_host (octets a) (octets b) = bytes_eq a b
@@ -51,7 +53,8 @@ is_port (Some expected) port = nat_eq expected port
 
 -- the sender is this controller
 abbrev pub is_from : Controller → SocketAddr → Bool
-is_from controller sender = is_same_host controller.host (socket_ip sender) && is_port controller.port (socket_port sender)
+is_from controller sender =
+    is_same_host controller.host (socket_ip sender) && is_port controller.port (socket_port sender)
 
 -- the sender is one of the controllers, or there are none
 abbrev pub is_admitted : List Controller → SocketAddr → Bool

@@ -5,7 +5,8 @@ use Rattle.gw_front.specs.declared.inbox.Inbox.{Inbox}
 use Rattle.gw_front.specs.Events.{Packet, Event, came_all, Happens}
 use Rattle.gw_front.specs.Serving.{taken, burst_of, senders_of}
 
--- The inbox holds the burst of these datagrams with their senders; or it is marked, since memory was refused to one of them.
+-- The inbox holds the burst of these datagrams with their senders; or it is marked, since memory was refused to one of
+-- them.
 pub record Holds (inbox : Inbox) (packets : List Packet) : Type 0 where
   pub datagrams : inbox.is_refused ≡ false → inbox.datagrams.items ≡ burst_of packets
   pub senders : inbox.is_refused ≡ false → inbox.senders.items ≡ senders_of packets
@@ -15,4 +16,5 @@ pub record Holds (inbox : Inbox) (packets : List Packet) : Type 0 where
 pub record Gathers (controllers : List Controller) (before after : Option (List Event)) (old new : Inbox) : Type 0 where
   pub packets : List Packet
   pub happened : Happens before after (came_all packets)
-  pub holds : (earlier : List Packet) → Holds old (taken controllers earlier) → Holds new (taken controllers (earlier ++ packets))
+  pub holds : (earlier : List Packet) → Holds old (taken controllers earlier)
+      → Holds new (taken controllers (earlier ++ packets))

@@ -1,4 +1,4 @@
--- What reading a part of a record tells (own).
+-- What reading a part of a record answers (own).
 use Rattle.std.specs.Prelude.{◌≡◌, ◌≢◌, ◌∷◌, [], ◌++◌, ℕ, ◌<◌, ◌≤◌, ◌⊎◌, List, length, codes, Option, None, Some, Result, Ok, Err, IfSome}
 use Rattle.std.specs.Io.KnownBytes.{Consumes, IsAtEnd}
 use Rattle.gw_front.specs.declared.replay_fault.ReplayFault.{ReplayFault}
@@ -13,7 +13,7 @@ use Rattle.gw_front.specs.Records.{IsRecord, IsBurst, IsLastBurst, longest_datag
 use Rattle.gw_text.specs.Lexical.{line_feed}
 use Rattle.gw_front.specs.RecordFaults.{IsOtherLine, IsLongLine, IsCutLine, HasFault, IsFirstFault}
 
--- the input has fewer bytes than were asked for, if it is told to be cut
+-- the input has fewer bytes than are read, if the answer is that it is cut
 abbrev pub IsShorter : ℕ → Option (List ℕ) → ReplayFault → Type 0
 IsShorter count input Truncated = IfSome input (λ rest. length rest < count)
 IsShorter count input Read = Unit {0}

@@ -3,7 +3,8 @@ use Rattle.std.specs.Prelude.{◌≡◌, ℕ, List, ◌++◌, take, Option}
 use Rattle.std.specs.Io.KnownBytes.{Appends}
 
 -- The text goes behind what the buffer held: what is out grew by a front of both, and the buffer holds the rest.
-pub record Moves (before : Option (List ℕ)) (held : List ℕ) (after : Option (List ℕ)) (holds text : List ℕ) : Type 0 where
+pub record Moves (before : Option (List ℕ)) (held : List ℕ) (after : Option (List ℕ))
+    (holds text : List ℕ) : Type 0 where
   pub sent : List ℕ
   pub written : Appends before after sent
   pub all : held ++ text ≡ sent ++ holds

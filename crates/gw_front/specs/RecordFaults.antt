@@ -16,7 +16,8 @@ longest_line = 32
 abbrev pub HasNoLineFeed : List ℕ → Type 0
 HasNoLineFeed bytes = list_any (λ b. b == line_feed) bytes ≡ false
 
--- The header line of a datagram that is read, n of its burst before it: it is short enough, and the burst has room for it.
+-- The header line of a datagram that is read, n of its burst before it: it is short enough, and the burst has room for
+-- it.
 pub record IsTaken (n peer len : ℕ) (header : List ℕ) : Type 0 where
   pub form : IsHeaderLine peer len header
   pub short : len ≤ longest_datagram

@@ -18,18 +18,23 @@ pub record CountsMore (old new : Counts) (datagrams replies : ℕ) : Type 0 wher
   pub datagrams_are : new.datagrams ≡ old.datagrams + datagrams
   pub replies_are : new.replies ≡ old.replies + replies
 
--- The burst was carried out, and its answers are out; after a failed write a front of them; after want of memory it was not
--- carried out, and nothing is out.
-abbrev pub IsBurstDone : List Datagram → Counts → Option (List ℕ) → Option (List ℕ) → GatewayValue → GatewayValue → Result Counts ReplayFault → Type 0
-IsBurstDone burst counts before after old new (Ok more) = (replies : List Datagram) × AnswersBurst old burst replies new × Appends before after (answers_text replies) × CountsMore counts more (length burst) (length replies)
-IsBurstDone burst counts before after old new (Err Write) = (replies : List Datagram) × AnswersBurst old burst replies new × ((n : ℕ) × Appends before after (take n (answers_text replies)))
+-- The burst was executed, and its answers are out; after a failed write a front of them; where memory is refused it was
+-- not executed, and nothing is out.
+abbrev pub IsBurstDone : List Datagram → Counts → Option (List ℕ) → Option (List ℕ) → GatewayValue → GatewayValue
+    → Result Counts ReplayFault → Type 0
+IsBurstDone burst counts before after old new (Ok more) =
+    (replies : List Datagram) × AnswersBurst old burst replies new × Appends before after (answers_text replies)
+    × CountsMore counts more (length burst) (length replies)
+IsBurstDone burst counts before after old new (Err Write) =
+    (replies : List Datagram) × AnswersBurst old burst replies new
+    × ((n : ℕ) × Appends before after (take n (answers_text replies)))
 IsBurstDone burst counts before after old new (Err NoMemory) = Keeps before after × (new ≡ old)
 IsBurstDone burst counts before after old new (Err BadHeader) = ⊥
 IsBurstDone burst counts before after old new (Err Truncated) = ⊥
 IsBurstDone burst counts before after old new (Err TooLong) = ⊥
 IsBurstDone burst counts before after old new (Err Read) = ⊥
 
--- Whole bursts were read, carried out and answered, and now is what follows them.
+-- Whole bursts were read, executed and answered, and now is what follows them.
 pub record IsSoFar (input now before after : Option (List ℕ)) (old new : GatewayValue) (counts : Counts) : Type 0 where
   pub bursts : List (List Datagram)
   pub answers : List (List Datagram)

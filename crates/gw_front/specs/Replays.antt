@@ -1,4 +1,4 @@
--- What a replay does: bursts read, carried out and answered, one after another (own).
+-- What a replay does: bursts read, executed and answered, one after another (own).
 use Rattle.std.specs.Prelude.{◌≡◌, ◌⊎◌, ℕ, List, [], ◌∷◌, ◌++◌, length, take, flat_map, Option, Result, Ok, Err, IfSome}
 use Rattle.std.specs.Io.KnownBytes.{Appends}
 use Rattle.gw_base.specs.Lang.{◌▹◌}
@@ -12,12 +12,13 @@ use Rattle.gw_front.specs.Records.{AreWholeBursts, IsBurst, IsLastBurst, AreBurs
 use Rattle.gw_front.specs.RecordFaults.{IsFirstFault}
 use Rattle.gw_front.specs.AnswerTexts.{answers_text, all_answers_text}
 
--- The gateway carries out the bursts one after another, and these are the answers to each.
+-- The gateway executes the bursts one after another, and these are the answers to each.
 abbrev pub AnswersBursts : GatewayValue → List (List Datagram) → List (List Datagram) → GatewayValue → Type 0
 AnswersBursts old [] [] new = new ≡ old
 AnswersBursts old [] (a ∷ more) new = ⊥
 AnswersBursts old (b ∷ bs) [] new = ⊥
-AnswersBursts old (b ∷ bs) (a ∷ more) new = (between : GatewayValue) × AnswersBurst old b a between × AnswersBursts between bs more new
+AnswersBursts old (b ∷ bs) (a ∷ more) new =
+    (between : GatewayValue) × AnswersBurst old b a between × AnswersBursts between bs more new
 
 -- the numbers of bursts, of their datagrams, and of the answers
 pub record AreCounts (counts : Counts) (bursts answers : List (List Datagram)) : Type 0 where
@@ -25,8 +26,9 @@ pub record AreCounts (counts : Counts) (bursts answers : List (List Datagram)) :
   pub datagrams_are : counts.datagrams ≡ length (flat_map (λ burst. burst) bursts)
   pub replies_are : counts.replies ≡ length (flat_map (λ burst. burst) answers)
 
--- All of the input is bursts; each was carried out, and the text of all answers is out.
-pub record IsWholeReplay (input before after : Option (List ℕ)) (old new : GatewayValue) (counts : Counts) : Type 0 where
+-- All of the input is bursts; each was executed, and the text of all answers is out.
+pub record IsWholeReplay (input before after : Option (List ℕ)) (old new : GatewayValue)
+    (counts : Counts) : Type 0 where
   pub bursts : List (List Datagram)
   pub answers : List (List Datagram)
   pub read : IfSome input (AreBursts bursts)
@@ -34,9 +36,10 @@ pub record IsWholeReplay (input before after : Option (List ℕ)) (old new : Gat
   pub written : Appends before after (all_answers_text answers)
   pub counted : AreCounts counts bursts answers
 
--- The input begins with whole bursts, each of which was carried out and its answers written whole. What follows them is as At says, and
--- nothing of it was carried out or is out.
-pub record IsStopped (At : List ℕ → Type 0) (input before after : Option (List ℕ)) (old new : GatewayValue) : Type 0 where
+-- The input begins with whole bursts, each of which was executed and its answers written whole. What follows them is as
+-- At says, and nothing of it was executed or is out.
+pub record IsStopped (At : List ℕ → Type 0) (input before after : Option (List ℕ))
+    (old new : GatewayValue) : Type 0 where
   pub bursts : List (List Datagram)
   pub answers : List (List Datagram)
   pub read : IfSome input (AreWholeBursts bursts ▹ At)
@@ -47,7 +50,7 @@ pub record IsStopped (At : List ℕ → Type 0) (input before after : Option (Li
 abbrev pub BeginsWith : List Datagram → List ℕ → Type 0
 BeginsWith burst text = ((IsBurst burst ▹ (λ rest. Unit {0})) text) ⊎ IsLastBurst burst text
 
--- The same, and the burst that follows them was carried out, and a front of the text of its answers is out.
+-- The same, and the burst that follows them was executed, and a front of the text of its answers is out.
 pub record IsCutShort (input before after : Option (List ℕ)) (old new : GatewayValue) : Type 0 where
   pub bursts : List (List Datagram)
   pub answers : List (List Datagram)
@@ -58,8 +61,9 @@ pub record IsCutShort (input before after : Option (List ℕ)) (old new : Gatewa
   pub carried : AnswersBursts old (bursts ++ burst ∷ []) (answers ++ replies ∷ []) new
   pub written : Appends before after (all_answers_text answers ++ take count (answers_text replies))
 
--- What was read, carried out and written, by how the replay ended.
-abbrev pub IsReplay : Option (List ℕ) → Option (List ℕ) → Option (List ℕ) → GatewayValue → GatewayValue → Result Counts ReplayFault → Type 0
+-- What was read, executed and written, by how the replay ended.
+abbrev pub IsReplay : Option (List ℕ) → Option (List ℕ) → Option (List ℕ) → GatewayValue → GatewayValue
+    → Result Counts ReplayFault → Type 0
 IsReplay input before after old new (Ok counts) = IsWholeReplay input before after old new counts
 IsReplay input before after old new (Err BadHeader) = IsStopped (IsFirstFault BadHeader) input before after old new
 IsReplay input before after old new (Err Truncated) = IsStopped (IsFirstFault Truncated) input before after old new

@@ -2,7 +2,7 @@
 use Rattle.std.specs.Prelude.{◌≡◌}
 use Rattle.gw_front.specs.declared.server.Server.{Server}
 
--- Neither what it was told to do nor what it counted changed.
+-- Neither its options nor what it counted changed.
 pub record HasSame (old new : Server) : Type 0 where
   pub options : new.options ≡ old.options
   pub totals : new.totals ≡ old.totals

@@ -47,7 +47,8 @@ senders_of packets = map (λ p. p.address) packets
 
 -- an answer goes to the sender in the place that is its peer
 abbrev pub packet_to : List SocketAddr → Datagram → Option Packet
-packet_to senders answer = option_map (λ a. record { bytes = answer.bytes; address = a }) (slice_get senders answer.peer)
+packet_to senders answer =
+    option_map (λ a. record { bytes = answer.bytes; address = a }) (slice_get senders answer.peer)
 
 abbrev pub packets_to : List SocketAddr → List Datagram → List Packet
 packets_to senders answers = filter_map (packet_to senders) answers
@@ -63,15 +64,18 @@ pub record Turn : Type 0 where
 abbrev pub IsExecuted : (burst sent : List Packet) → (old new : GatewayValue) → (before after : Totals) → Type 0
 IsExecuted burst sent old new before after =
     (answers : List Datagram) × (counts : BurstCounts)
-    × IsWithinLimits (burst_of burst) × AnswersBurst old (burst_of burst) answers new × CountsBurst old (burst_of burst) counts
-    × (sent ≡ packets_to (senders_of burst) answers) × (after ≡ with_burst before (length burst) counts (length answers))
+    × IsWithinLimits (burst_of burst) × AnswersBurst old (burst_of burst) answers new
+    × CountsBurst old (burst_of burst) counts
+    × (sent ≡ packets_to (senders_of burst) answers)
+    × (after ≡ with_burst before (length burst) counts (length answers))
 
 -- The burst was dropped: nothing was sent, and the gateway is as it was.
 abbrev pub IsDropped : (sent : List Packet) → (old new : GatewayValue) → (before after : Totals) → Type 0
 IsDropped sent old new before after = (sent ≡ []) × (new ≡ old) × (after ≡ with_dropped before)
 
 abbrev pub IsAnswered : (burst sent : List Packet) → (old new : GatewayValue) → (before after : Totals) → Type 0
-IsAnswered burst sent old new before after = IsExecuted burst sent old new before after ⊎ IsDropped sent old new before after
+IsAnswered burst sent old new before after =
+    IsExecuted burst sent old new before after ⊎ IsDropped sent old new before after
 
 -- A turn comes where not too many bursts were dropped, and has a datagram at least that was taken.
 pub record IsTurn (options : ServeOptions) (turn : Turn) (old new : GatewayValue) (before after : Totals) : Type 0 where
@@ -85,7 +89,8 @@ pub record IsTurn (options : ServeOptions) (turn : Turn) (old new : GatewayValue
 abbrev pub GoesBy : ServeOptions → List Turn → (old new : GatewayValue) → (before after : Totals) → Type 0
 GoesBy options [] old new before after = (new ≡ old) × (after ≡ before)
 GoesBy options (turn ∷ later) old new before after =
-    (next : GatewayValue) × (between : Totals) × IsTurn options turn old next before between × GoesBy options later next new between after
+    (next : GatewayValue) × (between : Totals) × IsTurn options turn old next before between
+    × GoesBy options later next new between after
 
 -- what happens in a turn
 abbrev pub events_of : Turn → List Event
@@ -96,10 +101,12 @@ abbrev pub IsForDropped : Option ℕ → Totals → ServeFault → Type 0
 IsForDropped give_up totals Full = IsFull give_up totals
 IsForDropped give_up totals fault = ¬ IsFull give_up totals
 
--- As many turns as were asked for, and what was executed is told; after a fault no more.
+-- As many turns as the options say, and the answer is what was executed; after a fault no more turns.
 abbrev pub IsEnd : ServeOptions → (turns : ℕ) → Totals → Result Totals ServeFault → Type 0
-IsEnd options turns totals (Ok executed) = (options.bursts ≡ Some turns) × (executed ≡ totals) × ¬ IsFull options.give_up totals
-IsEnd options turns totals (Err fault) = IfSome options.bursts (λ most. turns ≤ most) × IsForDropped options.give_up totals fault
+IsEnd options turns totals (Ok executed) =
+    (options.bursts ≡ Some turns) × (executed ≡ totals) × ¬ IsFull options.give_up totals
+IsEnd options turns totals (Err fault) =
+    IfSome options.bursts (λ most. turns ≤ most) × IsForDropped options.give_up totals fault
 
 -- Nothing happened behind the turns; before a fault datagrams may have come that were not executed.
 abbrev pub AreLast : List Packet → Result Totals ServeFault → Type 0
@@ -107,7 +114,8 @@ AreLast rest (Ok executed) = rest ≡ []
 AreLast rest (Err fault) = ⊤
 
 -- Serving went from turn to turn, and nothing else happened.
-pub record Serves (options : ServeOptions) (before after : Option (List Event)) (old new : GatewayValue) (ended : Result Totals ServeFault) : Type 0 where
+pub record Serves (options : ServeOptions) (before after : Option (List Event)) (old new : GatewayValue)
+    (ended : Result Totals ServeFault) : Type 0 where
   pub turns : List Turn
   pub rest : List Packet
   pub totals : Totals
@@ -116,7 +124,7 @@ pub record Serves (options : ServeOptions) (before after : Option (List Event)) 
   pub end : IsEnd options (length turns) totals ended
   pub last : AreLast rest ended
 
--- the same, whatever happened: all that is known of a network that does not tell
+-- the same, whatever happened: all that is known of a network of which no clause says what happens
 abbrev pub ServesSome : ServeOptions → GatewayValue → GatewayValue → Result Totals ServeFault → Type 0
 ServesSome options old new ended = Serves options None None old new ended
 

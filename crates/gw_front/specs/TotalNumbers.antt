@@ -4,7 +4,16 @@ use Rattle.gw_engine.specs.declared.counts.BurstCounts.{BurstCounts}
 use Rattle.gw_front.specs.declared.totals.Totals.{Totals}
 
 abbrev pub no_totals : Totals
-no_totals = record { bursts = 0; datagrams = 0; executed = 0; repeats = 0; over = 0; errors = 0; answers = 0; dropped_in_row = 0 }
+no_totals = record {
+  bursts = 0;
+  datagrams = 0;
+  executed = 0;
+  repeats = 0;
+  over = 0;
+  errors = 0;
+  answers = 0;
+  dropped_in_row = 0;
+}
 
 -- a number that is full stays
 abbrev pub more : ℕ → ℕ → ℕ

@@ -40,7 +40,8 @@ fn write_bare<W: Write>(
 ) -> Result<(), ReplayFault>
     requires { held.old.items ≡ [] }
     ensures whole { OnOk result (Appends (W.contents out.old) (W.contents out.new) (bare_text answers.now)) }
-    ensures front { OnErr result ((n : ℕ) × Appends (W.contents out.old) (W.contents out.new) (take n (bare_text answers.now))) }
+    ensures front { OnErr result ((n : ℕ) × Appends (W.contents out.old) (W.contents out.new)
+        (take n (bare_text answers.now))) }
     ensures fault { IfErr result (λ fault. fault ≡ WriteFault) }
 {
     for answer in answers {
@@ -49,14 +50,14 @@ fn write_bare<W: Write>(
     finish(out, held)
 }
 
-/// Reads an input to its end as one datagram, answers it, and writes the bytes of the answer; nothing where there is none, and of
-/// several one behind the other. One worker carries it out.
+/// Reads an input to its end as one datagram, answers it, and writes the bytes of the answer; nothing where there is
+/// none, and of several one behind the other. One worker carries it out.
 ///
 /// # Errors
 ///
-/// `TooLong` where the input has more than 65,507 bytes, `Read` where a read failed, `NoMemory` where a growth was refused: the
-/// datagram was not carried out, and nothing is out. `Write` where a write failed or took 0 bytes: it was carried out, and a
-/// front of the answers is out.
+/// `TooLong` where the input has more than 65,507 bytes, `Read` where a read failed, `NoMemory` where a growth was
+/// refused: the datagram was not executed, and nothing is out. `Write` where a write failed or took 0 bytes: it was
+/// executed, and a front of the answers is out.
 pub fn answer<T: Threads + Sync, R: Read, W: Write>(
     rt: &T,
     alloc: Global,
@@ -64,7 +65,8 @@ pub fn answer<T: Threads + Sync, R: Read, W: Write>(
     writer: &mut W,
     gateway: &mut Gateway,
 ) -> Result<(), ReplayFault>
-    ensures { IsAnswer (R.remaining reader.old) (W.contents writer.old) (W.contents writer.new) gateway.old gateway.new result }
+    ensures { IsAnswer (R.remaining reader.old) (W.contents writer.old) (W.contents writer.new) gateway.old
+        gateway.new result }
 {
     let bytes = read_input(alloc, reader)?;
     let mut held = Vec::with_capacity(alloc, PIECE)?;

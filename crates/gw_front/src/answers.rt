@@ -15,7 +15,8 @@ use std::io::Write;
 /// Puts a number without leading zeros.
 #[inline(always)]
 fn put_number<W: Write>(out: &mut W, held: &mut Vec<u8>, number: usize) -> Result<(), ReplayFault>
-    ensures whole { OnOk result (Moves (W.contents out.old) held.old.items (W.contents out.new) held.new.items (decimal number)) }
+    ensures whole { OnOk result (Moves (W.contents out.old) held.old.items (W.contents out.new) held.new.items
+        (decimal number)) }
     ensures front { OnErr result (IsFront (W.contents out.old) held.old.items (W.contents out.new) (decimal number)) }
     ensures fault { IfErr result (λ fault. fault ≡ WriteFault) }
 {
@@ -30,8 +31,10 @@ fn put_header<W: Write>(
     peer: u32,
     size: usize,
 ) -> Result<(), ReplayFault>
-    ensures whole { OnOk result (Moves (W.contents out.old) held.old.items (W.contents out.new) held.new.items (header_text peer size)) }
-    ensures front { OnErr result (IsFront (W.contents out.old) held.old.items (W.contents out.new) (header_text peer size)) }
+    ensures whole { OnOk result (Moves (W.contents out.old) held.old.items (W.contents out.new) held.new.items
+        (header_text peer size)) }
+    ensures front { OnErr result (IsFront (W.contents out.old) held.old.items (W.contents out.new)
+        (header_text peer size)) }
     ensures fault { IfErr result (λ fault. fault ≡ WriteFault) }
 {
     put(out, held, b"D ")?;
@@ -47,8 +50,10 @@ fn put_answer<W: Write>(
     held: &mut Vec<u8>,
     answer: &Datagram,
 ) -> Result<(), ReplayFault>
-    ensures whole { OnOk result (Moves (W.contents out.old) held.old.items (W.contents out.new) held.new.items (answer_text answer.now)) }
-    ensures front { OnErr result (IsFront (W.contents out.old) held.old.items (W.contents out.new) (answer_text answer.now)) }
+    ensures whole { OnOk result (Moves (W.contents out.old) held.old.items (W.contents out.new) held.new.items
+        (answer_text answer.now)) }
+    ensures front { OnErr result (IsFront (W.contents out.old) held.old.items (W.contents out.new)
+        (answer_text answer.now)) }
     ensures fault { IfErr result (λ fault. fault ≡ WriteFault) }
 {
     let bytes = answer.bytes.as_slice();
@@ -57,8 +62,8 @@ fn put_answer<W: Write>(
     put(out, held, b"\n")
 }
 
-/// Writes the answers of a burst and the line `.`, and flushes. The buffer, which has nothing before, has nothing then. This
-/// takes no memory.
+/// Writes the answers of a burst and the line `.`, and flushes. The buffer, which has nothing before, has nothing then.
+/// This takes no memory.
 ///
 /// # Errors
 ///
@@ -71,7 +76,8 @@ pub(crate) fn write_answers<W: Write>(
     requires { held.old.items ≡ [] }
     ensures whole { OnOk result (Appends (W.contents out.old) (W.contents out.new) (answers_text answers.now)) }
     ensures empty { OnOk result (held.new.items ≡ []) }
-    ensures front { OnErr result ((n : ℕ) × Appends (W.contents out.old) (W.contents out.new) (take n (answers_text answers.now))) }
+    ensures front { OnErr result ((n : ℕ) × Appends (W.contents out.old) (W.contents out.new)
+        (take n (answers_text answers.now))) }
     ensures fault { IfErr result (λ fault. fault ≡ WriteFault) }
 {
     for answer in answers {

@@ -53,7 +53,8 @@ fn read_datagram<R: Read>(
 ) -> Result<Datagram, ReplayFault>
     ensures peer { IfOk result (λ d. d.peer ≡ peer) }
     ensures size { IfOk result (λ d. length d.bytes ≡ size) }
-    ensures bytes { IfOk result (λ d. Consumes (reader_remaining R.remaining reader.old) (reader_remaining R.remaining reader.new) (d.bytes ++ 10 ∷ [])) }
+    ensures bytes { IfOk result (λ d. Consumes (reader_remaining R.remaining reader.old)
+        (reader_remaining R.remaining reader.new) (d.bytes ++ 10 ∷ [])) }
     ensures fault { IfErr result (λ fault. IsBadDatagram size (reader_remaining R.remaining reader.old) fault) }
 {
     let bytes = Octets::from(read_bytes(alloc, reader, spares, size)?);
@@ -72,7 +73,8 @@ fn next_piece<R: Read>(
     before: usize,
 ) -> Result<Piece, ReplayFault>
     requires { before ≤ most_datagrams }
-    ensures { IsPiece before (reader_remaining R.remaining reader.old) (reader_remaining R.remaining reader.new) result }
+    ensures { IsPiece before (reader_remaining R.remaining reader.old)
+        (reader_remaining R.remaining reader.new) result }
 {
     match read_header(reader)? {
         Some(Header::Stop) => Ok(Piece::Stop),
@@ -90,8 +92,8 @@ fn next_piece<R: Read>(
 /// So many datagrams have room at least in a burst before its list grows.
 const ROOM_AT_FIRST: usize = 16;
 
-/// The next burst, its datagrams in blocks that were kept, as far as there are. Nothing is read behind its line `.`, nor behind the end of
-/// the input.
+/// The next burst, its datagrams in blocks that were kept, as far as there are. Nothing is read behind its line `.`,
+/// nor behind the end of the input.
 ///
 /// # Errors
 ///

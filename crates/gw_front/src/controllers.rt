@@ -41,7 +41,8 @@ impl FromStr for Controller {
     }
 }
 
-/// Whether two addresses are of one host. An IPv4 address that is mapped into IPv6, as `::ffff:10.0.0.9`, is that IPv4 address.
+/// Whether two addresses are of one host. An IPv4 address that is mapped into IPv6, as `::ffff:10.0.0.9`, is that IPv4
+/// address.
 fn is_same_host(a: IpAddr, b: IpAddr) -> bool
     ensures { result ≡ is_same_host a b }
 {

@@ -6,8 +6,8 @@ ghost use Rattle.std.specs.Io.KnownBytes.{ReadConsumes};
 
 use std::io::{self, Error, ErrorKind, Read};
 
-/// A reader that may be read so many times, reads that a signal interrupts included. A read more fails. So a replay of an
-/// input that never ends does end.
+/// A reader that may be read so many times, reads that a signal interrupts included. A read more fails. So a replay of
+/// an input that never ends does end.
 #[derive(Drop)]
 pub(crate) struct Counted<'a, R> {
     reader: &'a mut R,
@@ -32,7 +32,8 @@ impl<R: Read> Read for Counted<'_, R> {
 
     fn read(&mut self, buf: &mut [u8]) -> io::Result<usize>
         ensures bound { ReadsAtMost result buf.new }
-        ensures bytes { ReadConsumes (R.remaining self.old.reader.now) (R.remaining self.new.reader.now) result buf.new }
+        ensures bytes { ReadConsumes (R.remaining self.old.reader.now) (R.remaining self.new.reader.now)
+            result buf.new }
 
         // A read takes one of those that are left; where none is left it fails, and the reader is not read.
         ensures counted { self.new.left ≡ self.old.left - 1 }

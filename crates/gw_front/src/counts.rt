@@ -1,11 +1,11 @@
-//! How much a replay carried out.
+//! How much a replay executed.
 
 ghost use Rattle.std.specs.Prelude.{◌≡◌, ◌+◌, IfSome};
 
-/// How much a replay carried out.
+/// How much a replay executed.
 #[derive(Clone, Copy, Debug, PartialEq, Eq)]
 pub struct Counts {
-    /// How many bursts were read and carried out.
+    /// How many bursts were read and executed.
     pub bursts: u64,
     /// How many datagrams the bursts had.
     pub datagrams: u64,
@@ -14,14 +14,14 @@ pub struct Counts {
 }
 
 impl Counts {
-    /// Nothing was carried out.
+    /// Nothing was executed.
     pub(crate) const NONE: Counts = Counts {
         bursts: 0,
         datagrams: 0,
         replies: 0,
     };
 
-    /// One burst more, of so many datagrams, with so many answers; none where a number is greater than a `u64` can tell.
+    /// One burst more, of so many datagrams, with so many answers; none where a number is greater than a `u64` can be.
     pub(crate) fn with_burst(self, datagrams: usize, replies: usize) -> Option<Counts>
         ensures bursts { IfSome result (λ counts. counts.bursts ≡ self.bursts + 1) }
         ensures datagrams { IfSome result (λ counts. counts.datagrams ≡ self.datagrams + datagrams) }

@@ -13,7 +13,8 @@ use std::net::{Net, SocketAddr};
 
 /// A network as serving sees it: a socket, or what stands in for one.
 pub trait Exchange {
-    /// What happened so far, in order, where it is known: which datagrams were given, and which were handed over to be sent.
+    /// What happened so far, in order, where it is known: which datagrams were given, and which were handed over to be
+    /// sent.
     ghost course: { Self → Option (List Event) } = { λ _. None };
 
     /// Gives the next datagram: its bytes go to the front of the buffer, as many as fit; how many, and who sent it.
@@ -23,7 +24,8 @@ pub trait Exchange {
     /// `WouldBlock` where none is there; others where none could be received.
     fn receive(&mut self, buffer: &mut [u8]) -> io::Result<(usize, SocketAddr)>
         ensures bound { IfOk result (λ r. r.0 ≤ length buffer.new) }
-        ensures came { IfOk result (λ r. Happens (course self.old) (course self.new) (came_all (record { bytes = take r.0 buffer.new; address = r.1 } ∷ []))) }
+        ensures came { IfOk result (λ r. Happens (course self.old) (course self.new)
+            (came_all (record { bytes = take r.0 buffer.new; address = r.1 } ∷ []))) }
         ensures nothing { OnErr result (Happens (course self.old) (course self.new) []) };
 
     /// Hands a datagram over to be sent to that address.
@@ -32,7 +34,8 @@ pub trait Exchange {
     ///
     /// It could not be sent.
     fn send(&mut self, bytes: &[u8], address: SocketAddr) -> io::Result<()>
-        ensures { Happens (course self.old) (course self.new) (sent_all (record { bytes = bytes.now; address = address } ∷ [])) };
+        ensures { Happens (course self.old) (course self.new)
+            (sent_all (record { bytes = bytes.now; address = address } ∷ [])) };
 
     /// Waits until a datagram may be there.
     ///

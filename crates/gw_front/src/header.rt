@@ -59,7 +59,8 @@ fn length_of(text: &[u8]) -> Option<u32>
 
 /// The peer and the length of a datagram's header.
 fn datagram_of(line: &[u8]) -> Option<(u32, u32)>
-    ensures { MatchOption result ((peer len : ℕ) → ¬ IsRecordHeader peer len line.now) (λ h. IsRecordHeader h.0 h.1 line.now) }
+    ensures { MatchOption result ((peer len : ℕ) → ¬ IsRecordHeader peer len line.now)
+        (λ h. IsRecordHeader h.0 h.1 line.now) }
 {
     let (peer, size) = cut(behind(line, b"D ")?)?;
     Some((number_of(peer)?, length_of(size)?))
@@ -67,7 +68,8 @@ fn datagram_of(line: &[u8]) -> Option<(u32, u32)>
 
 /// What the line says, if it is of a form.
 pub(crate) fn header_of(line: &[u8]) -> Option<Header>
-    ensures { MatchOption result ((header : Said) → ¬ SaysHeader header line.now) (λ header. SaysHeader header line.now) }
+    ensures { MatchOption result ((header : Said) → ¬ SaysHeader header line.now)
+        (λ header. SaysHeader header line.now) }
 {
     if line == b".".as_slice() {
         return Some(Header::Stop);
@@ -95,15 +97,17 @@ fn line_in(held: &[u8]) -> Option<&[u8]>
 ///
 /// # Errors
 ///
-/// `BadHeader` where the first 33 bytes have no line feed among them; `Truncated` where the input ends behind fewer, but one
-/// at least; `Read` where a read failed.
+/// `BadHeader` where the first 33 bytes have no line feed among them; `Truncated` where the input ends behind fewer,
+/// but one at least; `Read` where a read failed.
 fn read_line<R: Read>(
     reader: &mut BufReader<R>,
 ) -> Result<Option<ArrayVec<u8, LINE_ROOM>>, ReplayFault>
-    ensures line { IfOk result (λ read. IfSome read (λ line. Consumes (reader_remaining R.remaining reader.old) (reader_remaining R.remaining reader.new) (line.items ++ 10 ∷ []))) }
+    ensures line { IfOk result (λ read. IfSome read (λ line. Consumes (reader_remaining R.remaining reader.old)
+        (reader_remaining R.remaining reader.new) (line.items ++ 10 ∷ []))) }
     ensures plain { IfOk result (λ read. IfSome read (λ line. HasNoLineFeed line.items)) }
     ensures short { IfOk result (λ read. IfSome read (λ line. length line.items ≤ longest_line)) }
-    ensures end { IfOk result (λ read. IfNone read (Ends (reader_remaining R.remaining reader.old) (reader_remaining R.remaining reader.new))) }
+    ensures end { IfOk result (λ read. IfNone read (Ends (reader_remaining R.remaining reader.old)
+        (reader_remaining R.remaining reader.new))) }
     ensures fault { IfErr result (λ fault. IsBadLine (reader_remaining R.remaining reader.old) fault) }
 {
     let mut line = ArrayVec::new();
@@ -135,8 +139,8 @@ fn read_apart<R: Read>(reader: &mut BufReader<R>) -> Result<Option<Header>, Repl
 ///
 /// # Errors
 ///
-/// `BadHeader` where the first 33 bytes have no line feed among them, or the line is of no form; `Truncated` where the input ends
-/// behind fewer, but one at least; `Read` where a read failed.
+/// `BadHeader` where the first 33 bytes have no line feed among them, or the line is of no form; `Truncated` where the
+/// input ends behind fewer, but one at least; `Read` where a read failed.
 pub(crate) fn read_header<R: Read>(reader: &mut BufReader<R>) -> Result<Option<Header>, ReplayFault>
     ensures { IsHeaderRead (reader_remaining R.remaining reader.old) (reader_remaining R.remaining reader.new) result }
 {

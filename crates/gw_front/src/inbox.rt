@@ -82,7 +82,8 @@ impl Inbox {
     fn push(&mut self, alloc: Global, bytes: &[u8], sender: SocketAddr) -> Result<(), AllocError>
         requires short { length bytes.now ≤ 65507 }
         requires room { length self.old.senders.items < 256 }
-        ensures datagrams { OnOk result (self.new.datagrams.items ≡ self.old.datagrams.items ++ record { peer = length self.old.senders.items; bytes = bytes.now } ∷ []) }
+        ensures datagrams { OnOk result (self.new.datagrams.items ≡ self.old.datagrams.items
+            ++ record { peer = length self.old.senders.items; bytes = bytes.now } ∷ []) }
         ensures senders { OnOk result (self.new.senders.items ≡ self.old.senders.items ++ sender ∷ []) }
         ensures mark { self.new.is_refused ≡ self.old.is_refused }
         ensures grown { length self.new.senders.items ≤ length self.old.senders.items + 1 }
@@ -98,7 +99,8 @@ impl Inbox {
     pub(crate) fn take(&mut self, alloc: Global, bytes: &[u8], sender: SocketAddr)
         requires short { length bytes.now ≤ 65507 }
         requires room { length self.old.senders.items < 256 }
-        ensures taken { (packets : List Packet) → Holds self.old packets → Holds self.new (packets ++ record { bytes = bytes.now; address = sender } ∷ []) }
+        ensures taken { (packets : List Packet) → Holds self.old packets
+            → Holds self.new (packets ++ record { bytes = bytes.now; address = sender } ∷ []) }
         ensures grown { length self.new.senders.items ≤ length self.old.senders.items + 1 }
     {
         if self.push(alloc, bytes, sender).is_err() {
@@ -164,7 +166,8 @@ impl Inbox {
         gateway: &mut Gateway,
     ) -> Result<BurstAnswers, NoMemory>
         ensures limits { IsWithinLimits self.now.datagrams.items }
-        ensures answers { IfOk result (λ done. AnswersBurst gateway.old self.now.datagrams.items done.answers gateway.new) }
+        ensures answers { IfOk result (λ done. AnswersBurst gateway.old self.now.datagrams.items done.answers
+            gateway.new) }
         ensures counts { IfOk result (λ done. CountsBurst gateway.old self.now.datagrams.items done.counts) }
         ensures whole { OnOk result (self.now.is_refused ≡ false) }
         ensures refused { OnErr result (gateway.new ≡ gateway.old) }

@@ -1,4 +1,5 @@
-//! What an operator hands to the gateway: configurations as text, bursts of datagrams to replay, and controllers over UDP.
+//! What an operator hands to the gateway: configurations as text, bursts of datagrams to replay, and controllers over
+//! UDP.
 #![tactic(auto)]
 
 mod answering;

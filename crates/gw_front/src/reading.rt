@@ -13,7 +13,8 @@ use std::io::{BufRead, BufReader, ErrorKind, Read};
 
 /// So many of the bytes that were read ahead are taken.
 pub(crate) fn pass<R: Read>(reader: &mut BufReader<R>, count: usize)
-    ensures { Consumes (reader_remaining R.remaining reader.old) (reader_remaining R.remaining reader.new) (take count (reader_buffer reader.old)) }
+    ensures { Consumes (reader_remaining R.remaining reader.old) (reader_remaining R.remaining reader.new)
+        (take count (reader_buffer reader.old)) }
 {
     reader.consume(count);
 }
@@ -21,7 +22,8 @@ pub(crate) fn pass<R: Read>(reader: &mut BufReader<R>, count: usize)
 /// A read that no signal interrupted: how many bytes it gave. None only at the end of the input.
 fn read_some<R: Read>(reader: &mut R, place: &mut [u8]) -> Result<usize, ReplayFault>
     ensures bound { IfOk result (λ count. count ≤ length place.new) }
-    ensures bytes { IfOk result (λ count. Consumes (R.remaining reader.old) (R.remaining reader.new) (take count place.new)) }
+    ensures bytes { IfOk result (λ count. Consumes (R.remaining reader.old) (R.remaining reader.new)
+        (take count place.new)) }
     ensures end { IfOk result (λ count. count ≡ 0 → 0 < length place.old → IsAtEnd (R.remaining reader.new)) }
     ensures fault { IfErr result (λ fault. fault ≡ ReplayFault.Read) }
 {
@@ -37,8 +39,10 @@ fn read_some<R: Read>(reader: &mut R, place: &mut [u8]) -> Result<usize, ReplayF
 
 /// The next byte; none at the end of the input.
 pub(crate) fn read_byte<R: Read>(reader: &mut BufReader<R>) -> Result<Option<u8>, ReplayFault>
-    ensures byte { IfOk result (λ byte. IfSome byte (λ b. Consumes (reader_remaining R.remaining reader.old) (reader_remaining R.remaining reader.new) (b ∷ []))) }
-    ensures end { IfOk result (λ byte. IfNone byte (Consumes (reader_remaining R.remaining reader.old) (reader_remaining R.remaining reader.new) [] × IsAtEnd (reader_remaining R.remaining reader.new))) }
+    ensures byte { IfOk result (λ byte. IfSome byte (λ b. Consumes (reader_remaining R.remaining reader.old)
+        (reader_remaining R.remaining reader.new) (b ∷ []))) }
+    ensures end { IfOk result (λ byte. IfNone byte (Consumes (reader_remaining R.remaining reader.old)
+        (reader_remaining R.remaining reader.new) [] × IsAtEnd (reader_remaining R.remaining reader.new))) }
     ensures fault { IfErr result (λ fault. fault ≡ ReplayFault.Read) }
 {
     if let Some(first) = reader.buffer().first() {
@@ -80,7 +84,8 @@ pub(crate) fn read_bytes<R: Read>(
     spares: &mut Spares,
     count: usize,
 ) -> Result<Items<u8>, ReplayFault>
-    ensures bytes { IfOk result (λ bytes. Consumes (reader_remaining R.remaining reader.old) (reader_remaining R.remaining reader.new) bytes) }
+    ensures bytes { IfOk result (λ bytes. Consumes (reader_remaining R.remaining reader.old)
+        (reader_remaining R.remaining reader.new) bytes) }
     ensures all { IfOk result (λ bytes. length bytes ≡ count) }
     ensures fault { IfErr result (λ fault. IsShorter count (reader_remaining R.remaining reader.old) fault) }
 {

@@ -9,11 +9,15 @@ ghost use Rattle.gw_front.specs.RecordFaults.{IsFirstFault};
 
 /// A text is one list of bursts at most.
 pub fn bursts_are_one()
-    ensures { (bursts others : List (List DatagramOf)) (text : List ℕ) → AreBursts bursts text → AreBursts others text → bursts ≡ others }
+    ensures { (bursts others : List (List DatagramOf)) (text : List ℕ) → AreBursts bursts text → AreBursts others text
+        → bursts ≡ others }
 {}
 
 /// A text has one first fault at most, and none where it is bursts.
 pub fn first_faults_are_one()
-    ensures one { (fault other : FaultOf) (bursts others : List (List DatagramOf)) (text : List ℕ) → (AreWholeBursts bursts ▹ IsFirstFault fault) text → (AreWholeBursts others ▹ IsFirstFault other) text → fault ≡ other }
-    ensures none { (fault : FaultOf) (bursts others : List (List DatagramOf)) (text : List ℕ) → AreBursts bursts text → ¬ (AreWholeBursts others ▹ IsFirstFault fault) text }
+    ensures one { (fault other : FaultOf) (bursts others : List (List DatagramOf)) (text : List ℕ)
+        → (AreWholeBursts bursts ▹ IsFirstFault fault) text → (AreWholeBursts others ▹ IsFirstFault other) text
+        → fault ≡ other }
+    ensures none { (fault : FaultOf) (bursts others : List (List DatagramOf)) (text : List ℕ) → AreBursts bursts text
+        → ¬ (AreWholeBursts others ▹ IsFirstFault fault) text }
 {}

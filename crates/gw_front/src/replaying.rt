@@ -1,4 +1,4 @@
-//! Replays: bursts read from an input, carried out, and answered to an output.
+//! Replays: bursts read from an input, executed, and answered to an output.
 
 ghost use Rattle.std.specs.Prelude.{◌≡◌, ◌≤◌, [], OnOk};
 ghost use Rattle.std.specs.Io.Buffered.{reader_remaining};
@@ -34,11 +34,12 @@ fn carry_out<T: Threads + Sync, G: Gate, W: Write>(
     counts: Counts,
 ) -> Result<Counts, ReplayFault>
     requires { held.old.items ≡ [] }
-    ensures done { IsBurstDone burst.now counts (W.contents out.old) (W.contents out.new) gateway.old gateway.new result }
+    ensures done { IsBurstDone burst.now counts (W.contents out.old) (W.contents out.new) gateway.old
+        gateway.new result }
     ensures empty { OnOk result (held.new.items ≡ []) }
 {
     let answers = workers.run(alloc, gateway, burst)?.answers;
-    // No replay lives to see so many answers. They could not be told, so this burst's are not written.
+    // No replay lives to see so many answers. They could not be counted, so this burst's are not written.
     let Some(counts) = counts.with_burst(burst.len(), answers.len()) else {
         return Err(ReplayFault::Write);
     };
@@ -46,7 +47,7 @@ fn carry_out<T: Threads + Sync, G: Gate, W: Write>(
     Ok(counts)
 }
 
-/// Carries out the bursts of an input, one after another.
+/// Executes the bursts of an input, one after another.
 fn replay_all<T: Threads + Sync, G: Gate, R: Read, W: Write>(
     workers: &Workers<'_, T, G>,
     alloc: Global,
@@ -57,7 +58,8 @@ fn replay_all<T: Threads + Sync, G: Gate, R: Read, W: Write>(
     gateway: &mut Gateway,
 ) -> Result<Counts, ReplayFault>
     requires { held.old.items ≡ [] }
-    ensures { IsReplay (reader_remaining R.remaining input.old) (W.contents out.old) (W.contents out.new) gateway.old gateway.new result }
+    ensures { IsReplay (reader_remaining R.remaining input.old) (W.contents out.old) (W.contents out.new) gateway.old
+        gateway.new result }
 {
     let mut counts = Counts::NONE;
     for _turn in 0..u64::MAX {
@@ -75,18 +77,19 @@ fn replay_all<T: Threads + Sync, G: Gate, R: Read, W: Write>(
     Err(ReplayFault::Read)
 }
 
-/// Carries out the bursts of an input, one after another, and writes the answers of each, when all of them stand, in the form
-/// in which bursts are read: `D <peer> <length>` and a line feed, so many bytes, a line feed; `.` and a line feed end a burst.
-/// The transactions of a burst are carried out by so many workers, 1 to 64, each of which passes the gate before each; how many
-/// makes no difference to what is answered. At most one burst is kept in memory, and blocks of at most 2 MB for the next one. Reads and writes that a signal interrupts are tried
-/// again.
+/// Executes the bursts of an input, one after another, and writes the answers of each, when all of them stand, in
+/// the form in which bursts are read: `D <peer> <length>` and a line feed, so many bytes, a line feed; `.` and a line
+/// feed end a burst. The transactions of a burst are executed by so many workers, 1 to 64, each of which passes the
+/// gate before each; how many makes no difference to what is answered. At most one burst is kept in memory, and blocks
+/// of at most 2 MB for the next one. Reads and writes that a signal interrupts are tried again.
 ///
 /// # Errors
 ///
-/// The bursts before the fault were carried out, and their answers are out whole. `BadHeader`, `Truncated` and `TooLong` where
-/// that is wrong first in what follows them; `Read` where a read failed, or after 4,294,967,295 reads; `NoMemory` where a growth
-/// was refused: of the burst in hand nothing was carried out, and nothing is out. `Write` where a write failed or took 0 bytes:
-/// the burst in hand was carried out, and a front of the text of its answers is out.
+/// The bursts before the fault were executed, and their answers are out whole. `BadHeader`, `Truncated` and
+/// `TooLong` where that is wrong first in what follows them; `Read` where a read failed, or after 4,294,967,295 reads;
+/// `NoMemory` where a growth was refused: of the burst in hand nothing was executed, and nothing is out. `Write`
+/// where a write failed or took 0 bytes: the burst in hand was executed, and a front of the text of its answers is
+/// out.
 pub fn replay<T: Threads + Sync, R: Read, W: Write, G: Gate>(
     rt: &T,
     alloc: Global,
@@ -98,7 +101,8 @@ pub fn replay<T: Threads + Sync, R: Read, W: Write, G: Gate>(
 ) -> Result<Counts, ReplayFault>
     requires some { 1 ≤ workers }
     requires limit { workers ≤ 64 }
-    ensures { IsReplay (R.remaining reader.old) (W.contents writer.old) (W.contents writer.new) gateway.old gateway.new result }
+    ensures { IsReplay (R.remaining reader.old) (W.contents writer.old) (W.contents writer.new) gateway.old
+        gateway.new result }
 {
     let Ok(mut input) = BufReader::with_capacity(alloc, READ_AHEAD, Counted::new(reader)) else {
         return Err(ReplayFault::NoMemory);

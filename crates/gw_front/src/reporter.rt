@@ -48,8 +48,8 @@ impl Reporter {
         Instant::now(rt).ok()
     }
 
-    /// Whether a report is due after a burst that took from then to now. The time to the next one begins now where one is, and where the
-    /// clock went back.
+    /// Whether a report is due after a burst that took from then to now. The time to the next one begins now where one
+    /// is, and where the clock went back.
     pub(crate) fn is_due(&mut self, begun: Option<Instant>, now: Option<Instant>) -> bool {
         let Some(every) = self.every else {
             return false;

@@ -11,8 +11,10 @@ pub struct ServeOptions<'a> {
     pub bursts: Option<u64>,
     /// Whose datagrams are taken; where there is none, those of every sender.
     pub controllers: &'a [Controller],
-    /// A report is written after a burst where so many seconds have gone since the last one; without a number there is none.
+    /// A report is written after a burst where so many seconds have gone since the last one; without a number there is
+    /// none.
     pub report: Option<u64>,
-    /// After so many bursts in a row that were dropped for memory, one at the least, serving ends; without a number it goes on.
+    /// After so many bursts in a row that were dropped for memory, one at the least, serving ends; without a number it
+    /// goes on.
     pub give_up: Option<u64>,
 }

@@ -49,7 +49,7 @@ enum Received {
 }
 
 impl<'a> Server<'a> {
-    /// Room for a burst, and for a datagram. One byte more than a datagram may have tells that it has more.
+    /// Room for a burst, and for a datagram. One byte more than a datagram may have shows that it has more.
     pub(crate) fn new(
         rt: &impl Clock,
         alloc: Global,
@@ -78,7 +78,8 @@ impl<'a> Server<'a> {
         out: &mut W,
     ) -> Result<Received, ServeFault>
         requires { length self.old.inbox.senders.items < 256 }
-        ensures gathered { Gathers self.old.options.controllers.now (S.course exchange.old) (S.course exchange.new) self.old.inbox self.new.inbox }
+        ensures gathered { Gathers self.old.options.controllers.now (S.course exchange.old) (S.course exchange.new)
+            self.old.inbox self.new.inbox }
         ensures grown { length self.new.inbox.senders.items ≤ length self.old.inbox.senders.items + 1 }
         ensures stranger { IfOk result (λ received. received ≡ Received.Stranger → self.new.inbox ≡ self.old.inbox) }
         ensures fault { IfErr result (λ fault. fault ≡ Receive) }
@@ -103,8 +104,8 @@ impl<'a> Server<'a> {
         }
     }
 
-    /// Takes the datagrams that are there, as many as a burst may have; whether there are no more. Those that are from no controller
-    /// count in no limit of a burst: of them 1,024 are dropped before the burst goes on.
+    /// Takes the datagrams that are there, as many as a burst may have; whether there are no more. Those that are from
+    /// no controller count in no limit of a burst: of them 1,024 are dropped before the burst goes on.
     fn receive_burst<S: Exchange, W: Write>(
         &mut self,
         alloc: Global,
@@ -112,7 +113,8 @@ impl<'a> Server<'a> {
         out: &mut W,
     ) -> Result<bool, ServeFault>
         requires { self.old.inbox.senders.items ≡ [] }
-        ensures gathered { Gathers self.old.options.controllers.now (S.course exchange.old) (S.course exchange.new) self.old.inbox self.new.inbox }
+        ensures gathered { Gathers self.old.options.controllers.now (S.course exchange.old) (S.course exchange.new)
+            self.old.inbox self.new.inbox }
         ensures fault { IfErr result (λ fault. fault ≡ Receive) }
         ensures same { HasSame self.old self.new }
     {
@@ -137,7 +139,8 @@ impl<'a> Server<'a> {
         out: &mut W,
     ) -> Result<(), ServeFault>
         requires { self.old.inbox.senders.items ≡ [] }
-        ensures gathered { Gathers self.old.options.controllers.now (S.course exchange.old) (S.course exchange.new) self.old.inbox self.new.inbox }
+        ensures gathered { Gathers self.old.options.controllers.now (S.course exchange.old) (S.course exchange.new)
+            self.old.inbox self.new.inbox }
         ensures some { OnOk result ((packets : List Packet) → Holds self.new.inbox packets → 0 < length packets) }
         ensures fault { IfErr result (λ fault. ¬ IsAtStart fault × ¬ (fault ≡ HasEnough)) }
         ensures same { HasSame self.old self.new }
@@ -154,9 +157,11 @@ impl<'a> Server<'a> {
         Ok(())
     }
 
-    /// Sends an answer to where its datagram came from. Where it cannot be sent it is lost, as a datagram may be on its way.
+    /// Sends an answer to where its datagram came from. Where it cannot be sent it is lost, as a datagram may be on its
+    /// way.
     fn send_one<S: Exchange, W: Write>(&mut self, exchange: &mut S, answer: &Datagram, out: &mut W)
-        ensures sent { Happens (S.course exchange.old) (S.course exchange.new) (sent_all (packets_to self.old.inbox.senders.items (answer.now ∷ []))) }
+        ensures sent { Happens (S.course exchange.old) (S.course exchange.new)
+            (sent_all (packets_to self.old.inbox.senders.items (answer.now ∷ []))) }
         ensures inbox { self.new.inbox ≡ self.old.inbox }
         ensures same { HasSame self.old self.new }
     {
@@ -170,7 +175,8 @@ impl<'a> Server<'a> {
 
     /// Sends the answers, one after another.
     fn send<S: Exchange, W: Write>(&mut self, exchange: &mut S, answers: &[Datagram], out: &mut W)
-        ensures sent { Happens (S.course exchange.old) (S.course exchange.new) (sent_all (packets_to self.old.inbox.senders.items answers.now)) }
+        ensures sent { Happens (S.course exchange.old) (S.course exchange.new)
+            (sent_all (packets_to self.old.inbox.senders.items answers.now)) }
         ensures inbox { self.new.inbox ≡ self.old.inbox }
         ensures same { HasSame self.old self.new }
     {
@@ -186,8 +192,10 @@ impl<'a> Server<'a> {
         done: &BurstAnswers,
         out: &mut W,
     )
-        ensures sent { Happens (S.course exchange.old) (S.course exchange.new) (sent_all (packets_to self.old.inbox.senders.items done.now.answers)) }
-        ensures totals { self.new.totals ≡ with_burst self.old.totals (length self.old.inbox.datagrams.items) done.now.counts (length done.now.answers) }
+        ensures sent { Happens (S.course exchange.old) (S.course exchange.new)
+            (sent_all (packets_to self.old.inbox.senders.items done.now.answers)) }
+        ensures totals { self.new.totals ≡ with_burst self.old.totals (length self.old.inbox.datagrams.items)
+            done.now.counts (length done.now.answers) }
         ensures options { self.new.options ≡ self.old.options }
     {
         let answers = done.answers.as_slice();
@@ -220,7 +228,8 @@ impl<'a> Server<'a> {
         out: &mut W,
     ) -> Result<(), ServeFault>
         ensures answered { (packets : List Packet) → Holds self.old.inbox packets
-            → (sent : List Packet) × Happens (S.course exchange.old) (S.course exchange.new) (sent_all sent) × IsAnswered packets sent gateway.old gateway.new self.old.totals self.new.totals }
+            → (sent : List Packet) × Happens (S.course exchange.old) (S.course exchange.new) (sent_all sent)
+            × IsAnswered packets sent gateway.old gateway.new self.old.totals self.new.totals }
         ensures options { self.new.options ≡ self.old.options }
         ensures holds { Holds self.new.inbox [] }
         ensures senders { self.new.inbox.senders.items ≡ [] }

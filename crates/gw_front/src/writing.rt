@@ -23,7 +23,8 @@ fn write_some<W: Write>(out: &mut W, text: &[u8]) -> Result<usize, ReplayFault>
     }
 }
 
-/// Writes the text. After a fault a front of it is out: a write that failed wrote nothing, and one that took 0 bytes neither.
+/// Writes the text. After a fault a front of it is out: a write that failed wrote nothing, and one that took 0 bytes
+/// neither.
 fn write_whole<W: Write>(out: &mut W, text: &[u8]) -> Result<(), ReplayFault>
     ensures whole { OnOk result (Appends (W.contents out.old) (W.contents out.new) text.now) }
     ensures front { OnErr result ((n : ℕ) × Appends (W.contents out.old) (W.contents out.new) (take n text.now)) }
@@ -41,7 +42,8 @@ fn write_whole<W: Write>(out: &mut W, text: &[u8]) -> Result<(), ReplayFault>
 
 /// Writes what the buffer holds, which holds nothing then.
 fn write_held<W: Write>(out: &mut W, held: &mut Vec<u8>) -> Result<(), ReplayFault>
-    ensures whole { OnOk result (Appends (W.contents out.old) (W.contents out.new) held.old.items × (held.new.items ≡ [])) }
+    ensures whole { OnOk result (Appends (W.contents out.old) (W.contents out.new) held.old.items
+        × (held.new.items ≡ [])) }
     ensures front { OnErr result ((n : ℕ) × Appends (W.contents out.old) (W.contents out.new) (take n held.old.items)) }
     ensures fault { IfErr result (λ fault. fault ≡ WriteFault) }
 {
@@ -60,11 +62,12 @@ fn hold(held: &mut Vec<u8>, piece: &[u8]) -> bool
     held.extend_from_slice(piece).is_ok()
 }
 
-/// The piece goes behind what was written and what the buffer holds, for which it has no room. Kept out of `put`, so that a piece
-/// that fits costs its copy alone.
+/// The piece goes behind what was written and what the buffer holds, for which it has no room. Kept out of `put`, so
+/// that a piece that fits costs its copy alone.
 #[inline(never)]
 fn put_past<W: Write>(out: &mut W, held: &mut Vec<u8>, piece: &[u8]) -> Result<(), ReplayFault>
-    ensures whole { OnOk result (Moves (W.contents out.old) held.old.items (W.contents out.new) held.new.items piece.now) }
+    ensures whole { OnOk result (Moves (W.contents out.old) held.old.items (W.contents out.new)
+        held.new.items piece.now) }
     ensures front { OnErr result (IsFront (W.contents out.old) held.old.items (W.contents out.new) piece.now) }
     ensures fault { IfErr result (λ fault. fault ≡ WriteFault) }
 {
@@ -82,7 +85,8 @@ pub(crate) fn put<W: Write>(
     held: &mut Vec<u8>,
     piece: &[u8],
 ) -> Result<(), ReplayFault>
-    ensures whole { OnOk result (Moves (W.contents out.old) held.old.items (W.contents out.new) held.new.items piece.now) }
+    ensures whole { OnOk result (Moves (W.contents out.old) held.old.items (W.contents out.new)
+        held.new.items piece.now) }
     ensures front { OnErr result (IsFront (W.contents out.old) held.old.items (W.contents out.new) piece.now) }
     ensures fault { IfErr result (λ fault. fault ≡ WriteFault) }
 {
@@ -94,7 +98,8 @@ pub(crate) fn put<W: Write>(
 
 /// Writes what the buffer holds, and flushes.
 pub(crate) fn finish<W: Write>(out: &mut W, held: &mut Vec<u8>) -> Result<(), ReplayFault>
-    ensures whole { OnOk result (Appends (W.contents out.old) (W.contents out.new) held.old.items × (held.new.items ≡ [])) }
+    ensures whole { OnOk result (Appends (W.contents out.old) (W.contents out.new) held.old.items
+        × (held.new.items ≡ [])) }
     ensures front { OnErr result ((n : ℕ) × Appends (W.contents out.old) (W.contents out.new) (take n held.old.items)) }
     ensures fault { IfErr result (λ fault. fault ≡ WriteFault) }
 {

@@ -21,19 +21,31 @@ use Rattle.gw_program.specs.declared.job.Serving.{Serving}
 use Rattle.gw_program.specs.declared.fault.Fault.{Fault}
 use Rattle.gw_program.specs.declared.fault.Fault.TheVariants as why
 
-pub stopped : (audit : Bool) (old new : GatewayValue) (input out after : Option (List ℕ)) (told : Fault) (fault : ReplayFault) → told ≡ of_replay fault → IsReplay input out after old new (Err fault) → IsReplayJob audit old input out after (Err told)
-stopped audit old new input out after told fault e h = inl (record { replay_fault = fault; new = new; replayed = h; becomes = e })
+pub stopped : (audit : Bool) (old new : GatewayValue) (input out after : Option (List ℕ)) (told : Fault)
+    (fault : ReplayFault) → told ≡ of_replay fault → IsReplay input out after old new (Err fault)
+    → IsReplayJob audit old input out after (Err told)
+stopped audit old new input out after told fault e h =
+    inl (record { replay_fault = fault; new = new; replayed = h; becomes = e })
 
-pub untold : (audit : Bool) (old new : GatewayValue) (input out between after : Option (List ℕ)) (told : Fault) (counts : Counts) → audit ≡ true → IsReplay input out between old new (Ok counts) → IsUntoldFor told between after → IsReplayJob audit old input out after (Err told)
-untold audit old new input out between after told counts asked h cause = inr (record { asked = asked; counts = counts; new = new; between = between; replayed = h; cause = cause })
+pub untold : (audit : Bool) (old new : GatewayValue) (input out between after : Option (List ℕ)) (told : Fault)
+    (counts : Counts) → audit ≡ true → IsReplay input out between old new (Ok counts) → IsUntoldFor told between after
+    → IsReplayJob audit old input out after (Err told)
+untold audit old new input out between after told counts asked h cause =
+    inr (record { asked = asked; counts = counts; new = new; between = between; replayed = h; cause = cause })
 
-pub plain : (old new : GatewayValue) (input out after : Option (List ℕ)) (counts : Counts) → IsReplay input out after old new (Ok counts) → IsReplayJob false old input out after (Ok tt)
-plain old new input out after counts h = record { counts = counts; new = new; between = after; replayed = h; audited = Appends-nil after }
+pub plain : (old new : GatewayValue) (input out after : Option (List ℕ)) (counts : Counts)
+    → IsReplay input out after old new (Ok counts) → IsReplayJob false old input out after (Ok tt)
+plain old new input out after counts h =
+    record { counts = counts; new = new; between = after; replayed = h; audited = Appends-nil after }
 
-pub with_tables : (old new : GatewayValue) (input out between after : Option (List ℕ)) (counts : Counts) → IsReplay input out between old new (Ok counts) → Appends between after (audit_text new) → IsReplayJob true old input out after (Ok tt)
-with_tables old new input out between after counts h audited = record { counts = counts; new = new; between = between; replayed = h; audited = audited }
+pub with_tables : (old new : GatewayValue) (input out between after : Option (List ℕ)) (counts : Counts)
+    → IsReplay input out between old new (Ok counts) → Appends between after (audit_text new)
+    → IsReplayJob true old input out after (Ok tt)
+with_tables old new input out between after counts h audited =
+    record { counts = counts; new = new; between = between; replayed = h; audited = audited }
 
-pub unbound : (serving : Serving) (options : ServeOptions) (gateway : GatewayValue) (out : Option (List ℕ)) → AreOptions serving options → IsServeJob serving gateway out out (Err why.ServeBind)
+pub unbound : (serving : Serving) (options : ServeOptions) (gateway : GatewayValue) (out : Option (List ℕ))
+    → AreOptions serving options → IsServeJob serving gateway out out (Err why.ServeBind)
 unbound serving options gateway out are = record {
   options = options;
   are_options = are;
@@ -46,7 +58,8 @@ unbound serving options gateway out are = record {
 }
 
 -- however it ended, where the text is an address
-pub served_at : (listen : List ℕ) (address : SocketAddr) (served : Result Totals ServeFault) → IsSocketText listen address → IsServedAt listen served
+pub served_at : (listen : List ℕ) (address : SocketAddr) (served : Result Totals ServeFault)
+    → IsSocketText listen address → IsServedAt listen served
 served_at listen address (Ok done) is = (address, is)
 served_at listen address (Err Bind) is = tt
 served_at listen address (Err Poll) is = (address, is)

@@ -23,23 +23,38 @@ listen_rule = record (new_rule (codes "ADDR")) { long = Some (codes "listen"); d
 
 -- `--bursts N`, a number of 64 bits
 abbrev pub bursts_rule : Rule
-bursts_rule = record (new_rule (codes "N")) { long = Some (codes "bursts"); parser = Some (Unsigned 0 18446744073709551615) }
+bursts_rule =
+    record (new_rule (codes "N")) { long = Some (codes "bursts"); parser = Some (Unsigned 0 18446744073709551615) }
 
 -- `--controller ADDR`, any number of times
 abbrev pub controller_rule : Rule
-controller_rule = record (new_rule (codes "CONTROLLER")) { long = Some (codes "controller"); value_names = 1; action = Some Append }
+controller_rule =
+    record (new_rule (codes "CONTROLLER")) { long = Some (codes "controller"); value_names = 1; action = Some Append }
 
 -- `--report SECONDS`, a number of 64 bits
 abbrev pub report_rule : Rule
-report_rule = record (new_rule (codes "REPORT")) { long = Some (codes "report"); value_names = 1; parser = Some (Unsigned 0 18446744073709551615) }
+report_rule = record (new_rule (codes "REPORT")) {
+  long = Some (codes "report");
+  value_names = 1;
+  parser = Some (Unsigned 0 18446744073709551615);
+}
 
 -- `--give-up N`, a number of 64 bits, from 1 on
 abbrev pub give_up_rule : Rule
-give_up_rule = record (new_rule (codes "GIVE_UP")) { long = Some (codes "give-up"); value_names = 1; parser = Some (Unsigned 1 18446744073709551615) }
+give_up_rule = record (new_rule (codes "GIVE_UP")) {
+  long = Some (codes "give-up");
+  value_names = 1;
+  parser = Some (Unsigned 1 18446744073709551615);
+}
 
 -- `--workers N`, a number from 1 to 64; 1 without it
 abbrev pub workers_rule : Rule
-workers_rule = record (new_rule (codes "WORKERS")) { long = Some (codes "workers"); value_names = 1; parser = Some (Unsigned 1 64); defaults = codes "1" ∷ [] }
+workers_rule = record (new_rule (codes "WORKERS")) {
+  long = Some (codes "workers");
+  value_names = 1;
+  parser = Some (Unsigned 1 64);
+  defaults = codes "1" ∷ [];
+}
 
 -- a command with these arguments
 abbrev pub command_of : List ℕ → List Rule → Shape
@@ -59,7 +74,10 @@ abbrev pub replay_command : Shape
 replay_command = command_of (codes "replay") (file_rule ∷ (audit_rule ∷ (workers_rule ∷ [])))
 
 abbrev pub serve_command : Shape
-serve_command = command_of (codes "serve") (file_rule ∷ (listen_rule ∷ (workers_rule ∷ (bursts_rule ∷ (controller_rule ∷ (report_rule ∷ (give_up_rule ∷ [])))))))
+serve_command =
+    command_of (codes "serve")
+    (file_rule ∷ (listen_rule ∷ (workers_rule ∷ (bursts_rule
+    ∷ (controller_rule ∷ (report_rule ∷ (give_up_rule ∷ [])))))))
 
 -- the program: its words come without its name, and it has a version
 abbrev pub program_app : App

@@ -1,5 +1,5 @@
--- Forms of the command line that docs/OPERATIONS.md shows, and what each asks for (own): `serve` with two at most of an address, a number of
--- workers and one of bursts.
+-- Forms of the command line that docs/OPERATIONS.md shows, and what each asks for (own): `serve` with two at most of an
+-- address, a number of workers and one of bursts.
 use Rattle.std.specs.Prelude.{◌≢◌, ⊤, ℕ, Bool, true, false, List, [], ◌∷◌, codes, Option, Some, None, option_map}
 use Rattle.std.specs.Str.Parse.{digits_value, without_leading_plus}
 use Rattle.clap.specs.Values.{IsUnsignedIn}
@@ -34,7 +34,13 @@ request_of (job.Answer file) = answer (option_map (λ f. f.now) file)
 request_of (job.Check file) = check file.now
 request_of (job.Replay file audit workers) = replay file.now audit workers.count
 request_of (job.Serve s) =
-    serve s.file.now s.listen.now (record { workers = s.workers.count; bursts = s.bursts; controllers = s.controllers.items; report = s.report; give_up = s.give_up })
+    serve s.file.now s.listen.now (record {
+      workers = s.workers.count;
+      bursts = s.bursts;
+      controllers = s.controllers.items;
+      report = s.report;
+      give_up = s.give_up;
+    })
 
 -- the word does not begin with a hyphen
 abbrev pub IsPlain : Text → Type 0
@@ -60,16 +66,34 @@ everywhere = codes "0.0.0.0:2944"
 pub data Asks : List Text → Request → Type 0 where
   nothing : Asks [] built_in
   answers : Asks (codes "answer" ∷ []) (answer None)
-  answers_by : (file : Text) → IsPlain file → Asks (codes "answer" ∷ (codes "--config" ∷ (file ∷ []))) (answer (Some file))
+  answers_by : (file : Text) → IsPlain file → Asks (codes "answer" ∷ (codes "--config" ∷ (file ∷ [])))
+      (answer (Some file))
   checks : (file : Text) → IsPlain file → Asks (codes "check" ∷ (file ∷ [])) (check file)
   replays : (file : Text) → IsPlain file → Asks (codes "replay" ∷ (file ∷ [])) (replay file false 1)
-  replays_and_tells : (file : Text) → IsPlain file → Asks (codes "replay" ∷ (file ∷ (codes "--audit" ∷ []))) (replay file true 1)
-  replays_by : (file workers : Text) → IsPlain file → IsPlain workers → IsCrew workers → Asks (codes "replay" ∷ (file ∷ (codes "--workers" ∷ (workers ∷ [])))) (replay file false (number_of workers))
-  replays_and_tells_by : (file workers : Text) → IsPlain file → IsPlain workers → IsCrew workers → Asks (codes "replay" ∷ (file ∷ (codes "--audit" ∷ (codes "--workers" ∷ (workers ∷ []))))) (replay file true (number_of workers))
+  replays_and_tells : (file : Text) → IsPlain file
+      → Asks (codes "replay" ∷ (file ∷ (codes "--audit" ∷ []))) (replay file true 1)
+  replays_by : (file workers : Text) → IsPlain file → IsPlain workers → IsCrew workers
+      → Asks (codes "replay" ∷ (file ∷ (codes "--workers" ∷ (workers ∷ []))))
+      (replay file false (number_of workers))
+  replays_and_tells_by : (file workers : Text) → IsPlain file → IsPlain workers → IsCrew workers
+      → Asks (codes "replay" ∷ (file ∷ (codes "--audit" ∷ (codes "--workers" ∷ (workers ∷ [])))))
+      (replay file true (number_of workers))
   serves : (file : Text) → IsPlain file → Asks (codes "serve" ∷ (file ∷ [])) (serve file everywhere plain)
-  serves_at : (file listen : Text) → IsPlain file → IsPlain listen → Asks (codes "serve" ∷ (file ∷ (codes "--listen" ∷ (listen ∷ [])))) (serve file listen plain)
-  serves_by : (file workers : Text) → IsPlain file → IsPlain workers → IsCrew workers → Asks (codes "serve" ∷ (file ∷ (codes "--workers" ∷ (workers ∷ [])))) (serve file everywhere (record plain { workers = number_of workers }))
-  serves_at_by : (file listen workers : Text) → IsPlain file → IsPlain listen → IsPlain workers → IsCrew workers → Asks (codes "serve" ∷ (file ∷ (codes "--listen" ∷ (listen ∷ (codes "--workers" ∷ (workers ∷ [])))))) (serve file listen (record plain { workers = number_of workers }))
-  serves_so_long : (file bursts : Text) → IsPlain file → IsPlain bursts → IsCount bursts → Asks (codes "serve" ∷ (file ∷ (codes "--bursts" ∷ (bursts ∷ [])))) (serve file everywhere (record plain { bursts = Some (number_of bursts) }))
-  serves_by_so_long : (file workers bursts : Text) → IsPlain file → IsPlain workers → IsCrew workers → IsPlain bursts → IsCount bursts → Asks (codes "serve" ∷ (file ∷ (codes "--workers" ∷ (workers ∷ (codes "--bursts" ∷ (bursts ∷ [])))))) (serve file everywhere (record plain { workers = number_of workers; bursts = Some (number_of bursts) }))
-  serves_at_so_long : (file listen bursts : Text) → IsPlain file → IsPlain listen → IsPlain bursts → IsCount bursts → Asks (codes "serve" ∷ (file ∷ (codes "--listen" ∷ (listen ∷ (codes "--bursts" ∷ (bursts ∷ [])))))) (serve file listen (record plain { bursts = Some (number_of bursts) }))
+  serves_at : (file listen : Text) → IsPlain file → IsPlain listen
+      → Asks (codes "serve" ∷ (file ∷ (codes "--listen" ∷ (listen ∷ [])))) (serve file listen plain)
+  serves_by : (file workers : Text) → IsPlain file → IsPlain workers → IsCrew workers
+      → Asks (codes "serve" ∷ (file ∷ (codes "--workers" ∷ (workers ∷ []))))
+      (serve file everywhere (record plain { workers = number_of workers }))
+  serves_at_by : (file listen workers : Text) → IsPlain file → IsPlain listen → IsPlain workers → IsCrew workers
+      → Asks (codes "serve" ∷ (file ∷ (codes "--listen" ∷ (listen ∷ (codes "--workers" ∷ (workers ∷ []))))))
+      (serve file listen (record plain { workers = number_of workers }))
+  serves_so_long : (file bursts : Text) → IsPlain file → IsPlain bursts → IsCount bursts
+      → Asks (codes "serve" ∷ (file ∷ (codes "--bursts" ∷ (bursts ∷ []))))
+      (serve file everywhere (record plain { bursts = Some (number_of bursts) }))
+  serves_by_so_long : (file workers bursts : Text) → IsPlain file → IsPlain workers → IsCrew workers → IsPlain bursts
+      → IsCount bursts
+      → Asks (codes "serve" ∷ (file ∷ (codes "--workers" ∷ (workers ∷ (codes "--bursts" ∷ (bursts ∷ []))))))
+      (serve file everywhere (record plain { workers = number_of workers; bursts = Some (number_of bursts) }))
+  serves_at_so_long : (file listen bursts : Text) → IsPlain file → IsPlain listen → IsPlain bursts → IsCount bursts
+      → Asks (codes "serve" ∷ (file ∷ (codes "--listen" ∷ (listen ∷ (codes "--bursts" ∷ (bursts ∷ []))))))
+      (serve file listen (record plain { bursts = Some (number_of bursts) }))

@@ -1,4 +1,5 @@
--- What the program's jobs do (own). What a file holds is what the type of an opened file says of it, where that is known.
+-- What the program's jobs do (own). What a file holds is what the type of an opened file says of it, where that is
+-- known.
 use Rattle.std.specs.Prelude.{◌≡◌, ⊤, ◌⊎◌, ℕ, Bool, List, [], ◌++◌, length, codes, decimal, false, true, if◌then◌else◌, Option, None, Some, Result, Ok, Err, IfSome, IfErr}
 use Rattle.std.specs.Option.{option_map}
 use Rattle.std.specs.Io.KnownBytes.{Appends, Keeps}
@@ -51,7 +52,8 @@ IsUnread name _ = ⊥
 abbrev pub IsConfigIn : {F : Type 0} → (F → Option (List ℕ)) → List ℕ → Result Config Fault → Type 0
 IsConfigIn held name (Ok config) = (text : List ℕ) × IsTextOf held text × IsConfigReading text (Ok config)
 IsConfigIn held name (Err (why.CannotRead file)) = file.now ≡ name
-IsConfigIn held name (Err (why.ConfigLine number)) = (text : List ℕ) × IsTextOf held text × IsConfigReading text (Err (Line number))
+IsConfigIn held name (Err (why.ConfigLine number)) =
+    (text : List ℕ) × IsTextOf held text × IsConfigReading text (Err (Line number))
 IsConfigIn held name (Err why.NoMemory) = ⊤
 IsConfigIn held name (Err _) = ⊥
 
@@ -88,12 +90,15 @@ IsStart held (Some name) made = IsGatewayIn held name made
 -- the line of `check`
 abbrev pub check_text : Config → List ℕ
 check_text c =
-    codes "ok terms=" ++ decimal (length c.terms) ++ codes " contexts=" ++ decimal c.contexts ++ codes " slots=" ++ decimal c.slots
-    ++ codes " members=" ++ decimal c.members ++ codes " keep=" ++ decimal c.keep ++ codes "\n"
+    codes "ok terms=" ++ decimal (length c.terms) ++ codes " contexts=" ++ decimal c.contexts
+    ++ codes " slots=" ++ decimal c.slots ++ codes " members=" ++ decimal c.members
+    ++ codes " keep=" ++ decimal c.keep ++ codes "\n"
 
 -- `check`: the numbers of the file's configuration, which makes a gateway; or why it makes none, and nothing is out
-abbrev pub IsCheck : {F : Type 0} → (F → Option (List ℕ)) → List ℕ → (out out′ : Option (List ℕ)) → Result Unit Fault → Type 0
-IsCheck held name out out′ (Ok done) = (config : Config) × IsTaken held name config × Appends out out′ (check_text config)
+abbrev pub IsCheck : {F : Type 0} → (F → Option (List ℕ)) → List ℕ → (out out′ : Option (List ℕ)) → Result Unit Fault
+    → Type 0
+IsCheck held name out out′ (Ok done) =
+    (config : Config) × IsTaken held name config × Appends out out′ (check_text config)
 IsCheck held name out out′ (Err why.ReplayWrite) = (config : Config) × IsTaken held name config
 IsCheck held name out out′ (Err fault) = IsGatewayIn held name (Err fault) × Keeps out out′
 
@@ -132,7 +137,8 @@ told_tables audit gateway = if audit then audit_text gateway else []
 -- `replay`, from this gateway on
 abbrev pub IsReplayJob : Bool → GatewayValue → (input out out′ : Option (List ℕ)) → Result Unit Fault → Type 0
 IsReplayJob audit old input out out′ (Ok done) = IsToEnd (told_tables audit) old input out out′
-IsReplayJob audit old input out out′ (Err fault) = IsStoppedBy fault old input out out′ ⊎ IsUntold audit fault old input out out′
+IsReplayJob audit old input out out′ (Err fault) =
+    IsStoppedBy fault old input out out′ ⊎ IsUntold audit fault old input out out′
 
 -- what becomes of a run below
 abbrev pub ended_by : {A E : Type 0} → (E → Fault) → Result A E → Result Unit Fault
@@ -140,7 +146,8 @@ ended_by becomes (Ok done) = Ok tt
 ended_by becomes (Err fault) = Err (becomes fault)
 
 -- one datagram, answered by this gateway
-pub record IsAnswerJob (old : GatewayValue) (input out out′ : Option (List ℕ)) (ended : Result Unit Fault) : Type 0 where
+pub record IsAnswerJob (old : GatewayValue) (input out out′ : Option (List ℕ))
+    (ended : Result Unit Fault) : Type 0 where
   pub answered : Result Unit ReplayFault
   pub new : GatewayValue
   pub done : IsAnswer input out out′ old new answered
@@ -159,8 +166,10 @@ pub record AreOptions (serving : Serving) (options : ServeOptions) : Type 0 wher
   pub report : options.report ≡ serving.report
   pub give_up : options.give_up ≡ serving.give_up
 
--- controllers, served by this gateway; nothing is out where the address could not be bound, nor where memory was refused at the start
-pub record IsServeJob (serving : Serving) (old : GatewayValue) (out out′ : Option (List ℕ)) (ended : Result Unit Fault) : Type 0 where
+-- controllers, served by this gateway; nothing is out where the address could not be bound, nor where memory was
+-- refused at the start
+pub record IsServeJob (serving : Serving) (old : GatewayValue) (out out′ : Option (List ℕ))
+    (ended : Result Unit Fault) : Type 0 where
   pub options : ServeOptions
   pub are_options : AreOptions serving options
   pub served : Result Totals ServeFault
@@ -196,12 +205,15 @@ IsBegun job input out out′ ended (Ok gateway) = IsDoneWith job gateway input o
 IsBegun job input out out′ ended (Err fault) = IsNotBegun fault out out′ ended
 
 -- what a job does, where opened files hold what is told of them
-abbrev pub IsJob : {F : Type 0} → (F → Option (List ℕ)) → Job → (input out out′ : Option (List ℕ)) → Result Unit Fault → Type 0
+abbrev pub IsJob : {F : Type 0} → (F → Option (List ℕ)) → Job → (input out out′ : Option (List ℕ)) → Result Unit Fault
+    → Type 0
 IsJob held (job.Check file) input out out′ ended = IsCheck held file.now out out′ ended
-IsJob held asked input out out′ ended = (made : Result GatewayValue Fault) × IsStart held (file_of asked) made × IsBegun asked input out out′ ended made
+IsJob held asked input out out′ ended =
+    (made : Result GatewayValue Fault) × IsStart held (file_of asked) made × IsBegun asked input out out′ ended made
 
 -- the job that the words ask for was done, up to a fault that it has, and its end was told
-pub record IsJobEnd {F : Type 0} (held : F → Option (List ℕ)) (words : List (List ℕ)) (input out out′ : Option (List ℕ)) (err err′ : Standing) (ended : Ended) : Type 0 where
+pub record IsJobEnd {F : Type 0} (held : F → Option (List ℕ)) (words : List (List ℕ)) (input out out′ : Option (List ℕ))
+    (err err′ : Standing) (ended : Ended) : Type 0 where
   pub asked : Job
   pub is_asked : IsAsked words asked
   pub done : Result Unit Fault
@@ -209,5 +221,7 @@ pub record IsJobEnd {F : Type 0} (held : F → Option (List ℕ)) (words : List 
   pub told : IsTold done err err′ ended
 
 -- how the program ends on these words: the job that they ask for was done, or they ask for none
-abbrev pub IsEnd : {F : Type 0} → (F → Option (List ℕ)) → List (List ℕ) → (input out out′ : Option (List ℕ)) → (err err′ : Standing) → Ended → Type 0
-IsEnd held words input out out′ err err′ ended = IsJobEnd held words input out out′ err err′ ended ⊎ IsExplained words ended out out′ err err′
+abbrev pub IsEnd : {F : Type 0} → (F → Option (List ℕ)) → List (List ℕ) → (input out out′ : Option (List ℕ))
+    → (err err′ : Standing) → Ended → Type 0
+IsEnd held words input out out′ err err′ ended =
+    IsJobEnd held words input out out′ err err′ ended ⊎ IsExplained words ended out out′ err err′

@@ -22,7 +22,8 @@ status_of (Misused told) = 2
 
 -- The fault's line was handed to standard error, once and whole, and nothing else.
 abbrev pub IsFailure : Fault → (err err′ : Standing) → Ended → Type 0
-IsFailure fault err err′ ended = (told : Bool) × (ended ≡ Failed fault told) × Tells (line_of fault ++ codes "\n") told err err′
+IsFailure fault err err′ ended =
+    (told : Bool) × (ended ≡ Failed fault told) × Tells (line_of fault ++ codes "\n") told err err′
 
 -- How a job ended, and what standard error is told: nothing where the job was done, else the fault's line.
 abbrev pub IsTold : Result Unit Fault → (err err′ : Standing) → Ended → Type 0
@@ -41,15 +42,17 @@ IsShown kind = (kind ≡ asked.DisplayHelp) ⊎ (kind ≡ asked.DisplayVersion)
 abbrev pub IsMistake : ErrorKind → Type 0
 IsMistake kind = (kind ≢ asked.OutOfMemory) × (kind ≢ asked.DisplayHelp) × (kind ≢ asked.DisplayVersion)
 
--- What is said of words with a mistake of that kind: help and the version, which standard error says nothing of, a mistake, or want
--- of memory.
+-- What is said of words with a mistake of that kind: help and the version, which standard error says nothing of, a
+-- mistake, or want of memory.
 abbrev pub IsExplainedBy : ErrorKind → Ended → (out out′ : Option (List ℕ)) → (err err′ : Standing) → Type 0
 IsExplainedBy kind Done out out′ err err′ = IsShown kind × IsSilent err err′
-IsExplainedBy kind (Failed fault told) out out′ err err′ = (fault ≡ why.NoMemory) × Keeps out out′ × Tells (line_of fault ++ codes "\n") told err err′
+IsExplainedBy kind (Failed fault told) out out′ err err′ =
+    (fault ≡ why.NoMemory) × Keeps out out′ × Tells (line_of fault ++ codes "\n") told err err′
 IsExplainedBy kind (Misused told) out out′ err err′ = IsMistake kind × Keeps out out′ × Says told err err′
 
 -- The words ask for no job, since they have such a mistake, or memory was refused.
-pub record IsExplained (words : List Text) (ended : Ended) (out out′ : Option (List ℕ)) (err err′ : Standing) : Type 0 where
+pub record IsExplained (words : List Text) (ended : Ended) (out out′ : Option (List ℕ))
+    (err err′ : Standing) : Type 0 where
   pub kind : ErrorKind
   pub is_one : IsKindOf words kind
   pub explained : IsExplainedBy kind ended out out′ err err′
@@ -57,4 +60,6 @@ pub record IsExplained (words : List Text) (ended : Ended) (out out′ : Option 
 -- The words could not be read: memory was refused to them, or one of them is no text, which standard error is told.
 abbrev pub IsUnreadable : ReadFault → (err err′ : Standing) → Ended → Type 0
 IsUnreadable OutOfMemory err err′ ended = IsFailure why.NoMemory err err′ ended
-IsUnreadable _ err err′ ended = (told : Bool) × (ended ≡ Misused told) × Tells (codes "error: a word of the command line is not UTF-8\n") told err err′
+IsUnreadable _ err err′ ended =
+    (told : Bool) × (ended ≡ Misused told)
+    × Tells (codes "error: a word of the command line is not UTF-8\n") told err err′

@@ -3,8 +3,8 @@ use Rattle.std.specs.Prelude.{◌≡◌, ⊤, ℕ, Bool, List, [], ◌∷◌, �
 use Rattle.std.specs.Bool.{OnTrue}
 use Rattle.std.specs.Io.KnownBytes.{Appends, Keeps}
 
--- How it stands with standard error: what it holds, and which texts were handed to it, in order, each by one call and whole; each
--- where it is known.
+-- How it stands with standard error: what it holds, and which texts were handed to it, in order, each by one call and
+-- whole; each where it is known.
 pub record Standing : Type 0 where
   pub contents : Option (List ℕ)
   pub handed : Option (List (List ℕ))

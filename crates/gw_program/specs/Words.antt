@@ -60,9 +60,12 @@ pub record IsServing (rows : List Row) (serving : Serving) : Type 0 where
 -- what a command with these arguments asks for
 abbrev pub IsAskedBy : Text → List Row → Job → Type 0
 IsAskedBy name rows job.BuiltIn = ⊥
-IsAskedBy name rows (job.Answer file) = (name ≡ codes "answer") × (option_map (λ f. f.now) file ≡ first_of (codes "CONFIG") rows)
+IsAskedBy name rows (job.Answer file) =
+    (name ≡ codes "answer") × (option_map (λ f. f.now) file ≡ first_of (codes "CONFIG") rows)
 IsAskedBy name rows (job.Check file) = (name ≡ codes "check") × (file.now ≡ given (codes "FILE") rows)
-IsAskedBy name rows (job.Replay file audit workers) = (name ≡ codes "replay") × (file.now ≡ given (codes "FILE") rows) × IsFlag (one_of (codes "audit") rows) audit × AreAsked (one_of (codes "WORKERS") rows) workers.count
+IsAskedBy name rows (job.Replay file audit workers) =
+    (name ≡ codes "replay") × (file.now ≡ given (codes "FILE") rows) × IsFlag (one_of (codes "audit") rows) audit
+    × AreAsked (one_of (codes "WORKERS") rows) workers.count
 IsAskedBy name rows (job.Serve serving) = (name ≡ codes "serve") × IsServing rows serving
 
 -- the job of the command that was found, or the built-in replay where none was
@@ -94,7 +97,8 @@ IsUnnamedIn (Some found) made = IsUnnamed (controller_texts found.1) made
 -- why the words ask for no job
 abbrev pub IsMistaken : List Text → Mistake → Type 0
 IsMistaken words (mistake.Words error) = HasKind (mistakes words) error
-IsMistaken words (mistake.Controller text) = (mistakes words ≡ []) × IsUnnamedIn (subcommand_of program_app words) (mistake.Controller text)
+IsMistaken words (mistake.Controller text) =
+    (mistakes words ≡ []) × IsUnnamedIn (subcommand_of program_app words) (mistake.Controller text)
 IsMistaken words mistake.NoMemory = ⊤
 
 -- the kind of a mistake
@@ -106,9 +110,12 @@ mistake_kind mistake.NoMemory = asked.OutOfMemory
 -- a controller of the words is no address
 abbrev pub HasNoAddress : Option (Text × List Row) → Type 0
 HasNoAddress None = ⊥
-HasNoAddress (Some found) = (text : Text) × Contains (controller_texts found.1) text × ((c : Controller) → ¬ IsControllerText text c)
+HasNoAddress (Some found) =
+    (text : Text) × Contains (controller_texts found.1) text × ((c : Controller) → ¬ IsControllerText text c)
 
 -- The words have a mistake of that kind, or ask for help or the version; or memory was refused.
 abbrev pub IsKindOf : List Text → ErrorKind → Type 0
 IsKindOf words kind =
-    (kind ≡ asked.OutOfMemory) ⊎ (IsAmong kind (mistakes words) ⊎ ((kind ≡ asked.ValueValidation) × HasNoAddress (subcommand_of program_app words)))
+    (kind ≡ asked.OutOfMemory)
+    ⊎ (IsAmong kind (mistakes words)
+    ⊎ ((kind ≡ asked.ValueValidation) × HasNoAddress (subcommand_of program_app words)))

@@ -23,8 +23,9 @@ const EVERYWHERE: &str = "0.0.0.0:2944";
 const ABOUT: &str =
     "The command side of an H.248 (Megaco) media gateway, version 1 in the text encoding (RFC 3525)
 
-Datagrams from controllers go in, a reply goes out for each transaction. With no words the program replays standard input with a
-configuration of its own: terminations T/1 to T/4, 8 contexts of at most 3 members, 4 slots, 4 kept replies.";
+Datagrams from controllers go in, a reply goes out for each transaction. With no words the program replays standard
+input with a configuration of its own: terminations T/1 to T/4, 8 contexts of at most 3 members, 4 slots, 4 kept
+replies.";
 
 const AFTER: &str = "Exit status:
   0  done; help too
@@ -41,8 +42,8 @@ const ANSWER: &str = "Answers one datagram";
 
 const ANSWER_LONG: &str = "Answers one datagram
 
-Reads standard input to its end as one datagram, answers it, and writes the reply as it is to standard output; nothing where there is
-no answer. The gateway is a new one: that of FILE, or the built-in one.";
+Reads standard input to its end as one datagram, answers it, and writes the reply as it is to standard output; nothing
+where there is no answer. The gateway is a new one: that of FILE, or the built-in one.";
 
 const CHECK: &str = "Reads a configuration and prints its numbers";
 
@@ -55,20 +56,21 @@ const REPLAY: &str = "Answers recorded datagrams";
 
 const REPLAY_LONG: &str = "Answers recorded datagrams
 
-Reads FILE and makes its gateway. Reads bursts of datagrams from standard input and writes the answers to standard output, both as
+Reads FILE and makes its gateway. Reads bursts of datagrams from standard input and writes the answers to standard
+output, both as
   D <peer> <length>   a line, then so many bytes and a line feed: a datagram from, or to, a peer
   .                   a line: the burst ends, and is answered
-With --audit the tables follow behind the last answers. How many threads carry out the transactions of a burst makes no difference
-to what is answered.";
+With --audit the tables follow behind the last answers. How many threads execute the transactions of a burst makes no
+difference to what is answered.";
 
 const SERVE: &str = "Answers controllers over UDP";
 
 const SERVE_LONG: &str = "Answers controllers over UDP
 
-Reads FILE and makes its gateway. Binds the address, writes a line `listening` to standard output, and answers each datagram to
-where it came from, until it is ended by a signal. The calls of a gateway that ends are lost. With --controller only the datagrams
-of these controllers are read, and all others are dropped. What is dropped is said on standard output at the 1st, 2nd, 4th, 8th, ..
-time.";
+Reads FILE and makes its gateway. Binds the address, writes a line `listening` to standard output, and answers each
+datagram to where it came from, until it is ended by a signal. The calls of a gateway that ends are lost. What a sender
+sends that is no --controller is dropped, where there is one. What is dropped is written to standard output at the 1st,
+2nd, 4th, 8th, .. time.";
 
 /// The configuration file of a command.
 fn file<'a>(alloc: Global) -> Arg<'a>
@@ -122,7 +124,7 @@ fn audit<'a>(alloc: Global) -> Arg<'a>
         .help("Writes the tables behind the last answers")
 }
 
-/// How many workers carry a burst out.
+/// How many workers execute a burst.
 fn workers<'a>(alloc: Global) -> Arg<'a>
     ensures rule { rule_of result ≡ workers_rule }
     ensures own { result.global ≡ false }
@@ -132,7 +134,7 @@ fn workers<'a>(alloc: Global) -> Arg<'a>
         .value_name("N")
         .value_parser(value_parser!(u64).range(1..=64))
         .default_value("1")
-        .help("How many threads carry out the transactions of a burst, 1 to 64")
+        .help("How many threads execute the transactions of a burst, 1 to 64")
 }
 
 fn replay<'a>(alloc: Global) -> Result<Command<'a>, AllocError>
@@ -276,7 +278,8 @@ fn workers_in(matches: &ArgMatches<'_>) -> Workers
 ///
 /// The first text that names none, or out of memory.
 fn controllers_of<'a>(alloc: Global, texts: &[&'a str]) -> Result<Vec<Controller>, Mistake<'a>>
-    ensures named { IfOk result (λ controllers. AllZip IsControllerText (map (λ t. t.now) texts.now) controllers.items) }
+    ensures named { IfOk result (λ controllers. AllZip IsControllerText (map (λ t. t.now) texts.now)
+        controllers.items) }
     ensures mistaken { IfErr result (IsUnnamed (map (λ t. t.now) texts.now)) }
 {
     let mut controllers = Vec::with_capacity(alloc, texts.len())?;
@@ -295,7 +298,8 @@ fn controllers_in<'a>(
     alloc: Global,
     matches: &ArgMatches<'a>,
 ) -> Result<Vec<Controller>, Mistake<'a>>
-    ensures named { IfOk result (λ controllers. AllZip IsControllerText (controller_texts (rows_of (found_of matches.now))) controllers.items) }
+    ensures named { IfOk result (λ controllers. AllZip IsControllerText
+        (controller_texts (rows_of (found_of matches.now))) controllers.items) }
     ensures mistaken { IfErr result (IsUnnamed (controller_texts (rows_of (found_of matches.now)))) }
 {
     match matches.get_strs("CONTROLLER") {

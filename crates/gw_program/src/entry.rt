@@ -121,7 +121,8 @@ fn run_built_in<'a, R: Files + Threads + Sync, I: Read, W: Write>(
     reader: &mut I,
     out: &mut W,
 ) -> Result<(), Fault<'a>>
-    ensures { IsJob R.File.Read.remaining Job.BuiltIn (I.remaining reader.old) (W.contents out.old) (W.contents out.new) result }
+    ensures { IsJob R.File.Read.remaining Job.BuiltIn (I.remaining reader.old) (W.contents out.old)
+        (W.contents out.new) result }
 {
     let mut gateway = start(rt, alloc, None)?;
     replay_with(rt, alloc, &mut gateway, false, Workers::ONE, reader, out)
@@ -135,7 +136,8 @@ fn run_answer<'a, R: Files + Threads + Sync, I: Read, W: Write>(
     reader: &mut I,
     out: &mut W,
 ) -> Result<(), Fault<'a>>
-    ensures { IsJob R.File.Read.remaining (Job.Answer file.entry) (I.remaining reader.old) (W.contents out.old) (W.contents out.new) result }
+    ensures { IsJob R.File.Read.remaining (Job.Answer file.entry) (I.remaining reader.old) (W.contents out.old)
+        (W.contents out.new) result }
 {
     let mut gateway = start(rt, alloc, file)?;
     answer_with(rt, alloc, &mut gateway, reader, out)
@@ -151,7 +153,8 @@ fn run_replay<'a, R: Files + Threads + Sync, I: Read, W: Write>(
     reader: &mut I,
     out: &mut W,
 ) -> Result<(), Fault<'a>>
-    ensures { IsJob R.File.Read.remaining (Job.Replay file.entry audit workers) (I.remaining reader.old) (W.contents out.old) (W.contents out.new) result }
+    ensures { IsJob R.File.Read.remaining (Job.Replay file.entry audit workers) (I.remaining reader.old)
+        (W.contents out.old) (W.contents out.new) result }
 {
     let mut gateway = start(rt, alloc, Some(file))?;
     replay_with(rt, alloc, &mut gateway, audit, workers, reader, out)
@@ -164,7 +167,8 @@ fn run_serve<'a, R: Files + Net + Wait + Threads + Clock + Sync, W: Write>(
     serving: &Serving<'a>,
     out: &mut W,
 ) -> Result<(), Fault<'a>>
-    ensures { (input : Option (List ℕ)) → IsJob R.File.Read.remaining (Job.Serve serving.now) input (W.contents out.old) (W.contents out.new) result }
+    ensures { (input : Option (List ℕ)) → IsJob R.File.Read.remaining (Job.Serve serving.now) input (W.contents out.old)
+        (W.contents out.new) result }
 {
     let mut gateway = start(rt, alloc, Some(serving.file))?;
     serve_with(rt, alloc, &mut gateway, serving, out)
@@ -178,7 +182,8 @@ fn run<'a, R: Files + Net + Wait + Threads + Clock + Sync, I: Read, W: Write>(
     reader: &mut I,
     out: &mut W,
 ) -> Result<(), Fault<'a>>
-    ensures { IsJob R.File.Read.remaining job.entry (I.remaining reader.old) (W.contents out.old) (W.contents out.new) result }
+    ensures { IsJob R.File.Read.remaining job.entry (I.remaining reader.old) (W.contents out.old)
+        (W.contents out.new) result }
 {
     match job {
         Job::BuiltIn => run_built_in(rt, alloc, reader, out),
@@ -202,7 +207,8 @@ fn end_of<
     W: Write,
     E: StandardError,
 >(rt: &R, alloc: Global, words: &'a [S], reader: &mut I, out: &mut W, err: &mut E) -> Ended<'a>
-    ensures { IsEnd R.File.Read.remaining (map S.text words.entry.now) (I.remaining reader.old) (W.contents out.old) (W.contents out.new) (E.standing err.old) (E.standing err.new) result }
+    ensures { IsEnd R.File.Read.remaining (map S.text words.entry.now) (I.remaining reader.old) (W.contents out.old)
+        (W.contents out.new) (E.standing err.old) (E.standing err.new) result }
 {
     let job = match read_words(alloc, words) {
         Ok(job) => job,
@@ -212,9 +218,9 @@ fn end_of<
     told(done, err)
 }
 
-/// Runs the program on the words behind its name, and answers its exit status: 0 when what they ask for is done, help and the
-/// version too; 1 after a fault, whose one line goes to `err`; 2 where the words ask for nothing that there is, which is told on
-/// `err`. With no words it replays with the built-in configuration.
+/// Runs the program on the words behind its name, and answers its exit status: 0 when what they ask for is done, help
+/// and the version too; 1 after a fault, whose one line goes to `err`; 2 where the words ask for nothing that there is,
+/// which is told on `err`. With no words it replays with the built-in configuration.
 pub fn program<
     R: Files + Net + Wait + Threads + Clock + Sync + AllocGlobal,
     S: AsStr,
@@ -222,7 +228,9 @@ pub fn program<
     W: Write,
     E: StandardError,
 >(rt: &R, words: &[S], reader: &mut I, out: &mut W, err: &mut E) -> u8
-    ensures { (ended : Ending) × (result ≡ status_of ended) × IsEnd R.File.Read.remaining (map S.text words.now) (I.remaining reader.old) (W.contents out.old) (W.contents out.new) (E.standing err.old) (E.standing err.new) ended }
+    ensures { (ended : Ending) × (result ≡ status_of ended)
+        × IsEnd R.File.Read.remaining (map S.text words.now) (I.remaining reader.old) (W.contents out.old)
+        (W.contents out.new) (E.standing err.old) (E.standing err.new) ended }
 {
     end_of(rt, rt.alloc(), words, reader, out, err).status()
 }

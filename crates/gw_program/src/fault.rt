@@ -15,8 +15,8 @@ use std::fmt;
 pub enum Fault<'a> {
     /// The configuration file of that name cannot be read, or has more than 16,777,216 bytes.
     CannotRead(&'a str),
-    /// The first line of the configuration, from 1, that is of no form or repeats a keyword; where a keyword is missing, the number
-    /// of lines plus 1.
+    /// The first line of the configuration, from 1, that is of no form or repeats a keyword; where a keyword is
+    /// missing, the number of lines plus 1.
     ConfigLine(u32),
     /// A limit of the configuration is not kept.
     ConfigLimit,

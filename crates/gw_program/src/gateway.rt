@@ -45,7 +45,8 @@ fn name(text: &[u8]) -> TermName
     }
 }
 
-/// The gateway `[10.0.0.1]:2944`: four terminations T/1 to T/4, 8 contexts of at most 3 members, 4 slots, 4 kept replies.
+/// The gateway `[10.0.0.1]:2944`: four terminations T/1 to T/4, 8 contexts of at most 3 members, 4 slots, 4 kept
+/// replies.
 pub fn gateway(alloc: Global) -> Result<Gateway, Fault<'static>>
     ensures made { IfOk result (λ gateway. gateway ≡ start) }
     ensures fault { IfErr result (λ fault. fault ≡ NoMemory) }

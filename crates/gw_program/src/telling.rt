@@ -35,21 +35,24 @@ const MISTAKE: &str = "error: the words ask for nothing that there is\n";
 
 /// Tells a mistake in the words.
 fn misused<E: StandardError>(text: &str, err: &mut E) -> Ended<'static>
-    ensures { (is_told : Bool) × (result ≡ Ended.Misused is_told) × Says is_told (E.standing err.old) (E.standing err.new) }
+    ensures { (is_told : Bool) × (result ≡ Ended.Misused is_told)
+        × Says is_told (E.standing err.old) (E.standing err.new) }
 {
     let said = if text.is_empty() { MISTAKE } else { text };
     let is_told = err.tell(said);
     Ended::Misused { is_told }
 }
 
-/// How the program ends where the reader of the command line says so: help and the version go to `out`, a mistake is said on `err`.
+/// How the program ends where the reader of the command line says so: help and the version go to `out`, a mistake is
+/// said on `err`.
 fn answered<W: Write, E: StandardError>(
     alloc: Global,
     error: &Error,
     out: &mut W,
     err: &mut E,
 ) -> Ended<'static>
-    ensures { IsExplainedBy (kind_of error.now) result (W.contents out.old) (W.contents out.new) (E.standing err.old) (E.standing err.new) }
+    ensures { IsExplainedBy (kind_of error.now) result (W.contents out.old) (W.contents out.new) (E.standing err.old)
+        (E.standing err.new) }
 {
     match error.kind() {
         ErrorKind::OutOfMemory => told(Err(Fault::NoMemory), err),
@@ -66,7 +69,8 @@ fn answered<W: Write, E: StandardError>(
 
 /// What is said of a controller that is no address.
 fn not_a_controller<E: StandardError>(alloc: Global, text: &str, err: &mut E) -> Ended<'static>
-    ensures { (out : Option (List ℕ)) → IsExplainedBy NotAValue result out out (E.standing err.old) (E.standing err.new) }
+    ensures { (out : Option (List ℕ)) → IsExplainedBy NotAValue result out out (E.standing err.old)
+        (E.standing err.new) }
 {
     match format!(in alloc;
         "error: invalid value '{text}' for '--controller <ADDR>': no IP address, and none with a port\n\n\
@@ -84,7 +88,8 @@ pub(crate) fn explained<W: Write, E: StandardError>(
     out: &mut W,
     err: &mut E,
 ) -> Ended<'static>
-    ensures { IsExplainedBy (mistake_kind mistake.now) result (W.contents out.old) (W.contents out.new) (E.standing err.old) (E.standing err.new) }
+    ensures { IsExplainedBy (mistake_kind mistake.now) result (W.contents out.old) (W.contents out.new)
+        (E.standing err.old) (E.standing err.new) }
 {
     match mistake {
         Mistake::Words(error) => answered(alloc, error, out, err),
@@ -109,7 +114,8 @@ fn refused<E: StandardError>(error: &io::Error, err: &mut E) -> Ended<'static>
 
 /// The exit status where the words could not be read: 1 where memory was refused, else 2, and `err` says why.
 pub fn unreadable_words<E: StandardError>(error: &io::Error, err: &mut E) -> u8
-    ensures { (ended : Ending) × (result ≡ status_of ended) × IsUnreadable (error_kind error.now) (E.standing err.old) (E.standing err.new) ended }
+    ensures { (ended : Ending) × (result ≡ status_of ended)
+        × IsUnreadable (error_kind error.now) (E.standing err.old) (E.standing err.new) ended }
 {
     refused(error, err).status()
 }

@@ -14,7 +14,8 @@ impl Workers {
     /// A thread alone, that of the caller.
     pub(crate) const ONE: Workers = Workers { count: 1 };
 
-    /// As many as a number says; one where there is none. The command line's reader lets no other number than 1 to 64 through.
+    /// As many as a number says; one where there is none. The command line's reader lets no other number than 1 to 64
+    /// through.
     pub(crate) fn of(number: Option<u64>) -> Workers
         ensures said { (count : ℕ) → number ≡ Some count → 1 ≤ count → count ≤ 64 → result.count ≡ count }
         ensures alone { number ≡ None → result.count ≡ 1 }

@@ -9,8 +9,8 @@ use std::sync::Wait;
 use std::thread::Threads;
 use std::time::{Clock, Duration};
 
-/// A runtime whose network gives this socket where this address is to be bound, and fails where another one is. All else is that of the
-/// runtime behind it.
+/// A runtime whose network gives this socket where this address is to be bound, and fails where another one is. All
+/// else is that of the runtime behind it.
 #[derive(Drop)]
 pub(crate) struct OneSocket<'a, R> {
     pub(crate) rt: &'a R,

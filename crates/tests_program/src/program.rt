@@ -1,5 +1,5 @@
-//! The program by its words: the texts of the command line's reader, and files of every length. What else it does on words is cases
-//! (`cases_engine`, subject programs).
+//! The program by its words: the texts of the command line's reader, and files of every length. What else it does on
+//! words is cases (`cases_engine`, subject programs).
 
 use crate::places::new_file;
 use crate::runs::Run;
@@ -50,7 +50,7 @@ fn words_and_their_statuses(rt: HostRuntime) -> Result<(), Fail> {
         (&["serve", MISSING, "--workers", "x"], b"'x'"),
         (
             &["serve", MISSING, "--give-up", "0"],
-            b"1..=18446744073709551615",
+            b"0 is not in 1..18446744073709551615",
         ),
         (&["serve", MISSING, "--report", "-1"], b"-1"),
         (

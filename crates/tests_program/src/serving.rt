@@ -1,5 +1,5 @@
-//! Serving over the loopback. What is to wait when the gateway first looks is sent from within the line `listening`, which it writes
-//! once it is bound: so each burst is what a test says, without a thread.
+//! Serving over the loopback. What is to wait when the gateway first looks is sent from within the line `listening`,
+//! which it writes once it is bound: so each burst is what a test says, without a thread.
 
 use crate::networks::OneSocket;
 use crate::places::{file_of, free_address};
@@ -104,8 +104,8 @@ fn words_of<'a>(
     Ok(words)
 }
 
-/// Runs the program on an address that nobody has, until it ends after so many bursts; whether it could bind the address, which somebody
-/// may have taken meanwhile. It is sent these datagrams first, and says this.
+/// Runs the program on an address that nobody has, until it ends after so many bursts; whether it could bind the
+/// address, which somebody may have taken meanwhile. It is sent these datagrams first, and says this.
 fn is_served<R: Files + Net + Wait + Threads + Clock + Sync + AllocGlobal>(
     rt: &R,
     service: Service<'_>,
@@ -196,7 +196,9 @@ const IPV4: IpAddr = IpAddr::V4(Ipv4Addr::LOCALHOST);
 const IPV6: IpAddr = IpAddr::V6(Ipv6Addr::LOCALHOST);
 
 /// Another address of the loopback.
-const NEAR: IpAddr = IpAddr::V4(Ipv4Addr::new(127, 0, 0, 2));
+fn near() -> IpAddr {
+    IpAddr::V4(Ipv4Addr::new(127, 0, 0, 2))
+}
 
 #[test]
 fn two_senders_in_one_burst(rt: HostRuntime) -> Result<(), Fail> {
@@ -218,7 +220,7 @@ fn two_senders_in_one_burst(rt: HostRuntime) -> Result<(), Fail> {
 
 #[test]
 fn two_senders_on_two_addresses(rt: HostRuntime) -> Result<(), Fail> {
-    let (one, near) = (client(&rt, IPV4)?, client(&rt, NEAR)?);
+    let (one, near) = (client(&rt, IPV4)?, client(&rt, near())?);
     let sent = [
         Sent {
             from: &one,
@@ -236,7 +238,7 @@ fn two_senders_on_two_addresses(rt: HostRuntime) -> Result<(), Fail> {
 
 #[test]
 fn a_controller_and_a_stranger(rt: HostRuntime) -> Result<(), Fail> {
-    let (stranger, controller) = (client(&rt, IPV4)?, client(&rt, NEAR)?);
+    let (stranger, controller) = (client(&rt, IPV4)?, client(&rt, near())?);
     let sent = [
         Sent {
             from: &stranger,
@@ -258,7 +260,8 @@ fn a_controller_and_a_stranger(rt: HostRuntime) -> Result<(), Fail> {
     has_answers(&controller, 1, ANSWERED)
 }
 
-/// Asks again when the first answer has come, so that a burst follows another; whether each answer is the one that is wanted.
+/// Asks again when the first answer has come, so that a burst follows another; whether each answer is the one that is
+/// wanted.
 fn is_answered_twice(client: &UdpSocket) -> io::Result<bool> {
     let mut buffer = [0u8; 1024];
     let (length, server) = client.recv_from(&mut buffer)?;
@@ -285,7 +288,8 @@ fn two_bursts(rt: HostRuntime) -> Result<(), Fail> {
     is_so(asked?, "an answer in each burst")
 }
 
-/// How many datagrams wait when one more is sent than a burst may have: all of them, or as many as a socket's buffer holds here.
+/// How many datagrams wait when one more is sent than a burst may have: all of them, or as many as a socket's buffer
+/// holds here.
 fn waiting(rt: &impl Net) -> Result<u32, Fail> {
     let (held, sender) = (client(rt, IPV4)?, client(rt, IPV4)?);
     let address = held.local_addr()?;
@@ -380,8 +384,10 @@ fn an_address_that_cannot_be_bound(rt: HostRuntime) -> Result<(), Fail> {
     Ok(fs::remove_file(&rt, file.as_str())?)
 }
 
-/// Where no address is named.
-const EVERYWHERE: SocketAddr = SocketAddr::new(IpAddr::V4(Ipv4Addr::UNSPECIFIED), 2944);
+/// The address that is bound where the words name none.
+fn everywhere() -> SocketAddr {
+    SocketAddr::new(IpAddr::V4(Ipv4Addr::UNSPECIFIED), 2944)
+}
 
 // Of each address, the family and the port are those that the words name.
 #[test]
@@ -390,9 +396,9 @@ fn the_address_that_is_bound(rt: HostRuntime) -> Result<(), Fail> {
     let socket = client(&rt, IPV4)?;
     let named = IpAddr::V6(Ipv6Addr::new(0x2001, 0xdb8, 0, 0, 0, 0, 0, 1));
     let table: [(&str, SocketAddr); 5] = [
-        ("0.0.0.0:2944", EVERYWHERE),
+        ("0.0.0.0:2944", everywhere()),
         ("127.0.0.1:2945", SocketAddr::new(IPV4, 2945)),
-        ("127.0.0.2:0", SocketAddr::new(NEAR, 0)),
+        ("127.0.0.2:0", SocketAddr::new(near(), 0)),
         ("[::1]:2944", SocketAddr::new(IPV6, 2944)),
         ("[2001:db8::1]:65535", SocketAddr::new(named, 65535)),
     ];
@@ -407,14 +413,15 @@ fn the_address_that_is_bound(rt: HostRuntime) -> Result<(), Fail> {
     }
     let network = OneSocket {
         rt: &rt,
-        address: EVERYWHERE,
+        address: everywhere(),
         socket: &socket,
     };
     Run::of(&network, &["serve", file.as_str(), "--bursts", "0"]).explains(SERVING)?;
     Ok(fs::remove_file(&rt, file.as_str())?)
 }
 
-/// The program serves two bursts over the network of a runtime, and ends with a fault: this was said, and this is its line.
+/// The program serves two bursts over the network of a runtime, and ends with a fault: this was said, and this is its
+/// line.
 fn fails_at<R: Files + Net + Wait + Threads + Clock + Sync + AllocGlobal>(
     rt: &R,
     said: &[u8],
@@ -431,25 +438,25 @@ fn a_socket_that_cannot_be_waited_for(rt: HostRuntime) -> Result<(), Fail> {
     let socket = UdpSocket::from(OwnedFd::from(File::open(&rt, "/dev/null")?));
     let network = OneSocket {
         rt: &rt,
-        address: EVERYWHERE,
+        address: everywhere(),
         socket: &socket,
     };
     fails_at(&network, b"", b"h248gw: serve poll\n")
 }
 
-// A socket with one peer is told when that has gone, at the receipt behind what was sent to it. The peer has another address of the
-// loopback, at the client's port, so that nobody takes it meanwhile.
+// A socket with one peer is told when that has gone, at the receipt behind what was sent to it. The peer has another
+// address of the loopback, at the client's port, so that nobody takes it meanwhile.
 #[test]
 fn a_datagram_that_cannot_be_received(rt: HostRuntime) -> Result<(), Fail> {
     let (server, client) = (client(&rt, IPV4)?, client(&rt, IPV4)?);
-    let peer = rt.bind_udp(SocketAddr::from((NEAR, client.local_addr()?.port())))?;
+    let peer = rt.bind_udp(SocketAddr::from((near(), client.local_addr()?.port())))?;
     client.send_to(ASKED, server.local_addr()?)?;
     peer.send_to(OTHER, server.local_addr()?)?;
     server.connect(peer.local_addr()?)?;
     drop(peer);
     let network = OneSocket {
         rt: &rt,
-        address: EVERYWHERE,
+        address: everywhere(),
         socket: &server,
     };
     fails_at(&network, SERVING, b"h248gw: serve receive\n")?;

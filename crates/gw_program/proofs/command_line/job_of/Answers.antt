@@ -5,10 +5,17 @@ use Rattle.gw_program.proofs.Asking.{flag_given}
 use Rattle.gw_program.proofs.command_line.job_of.Goals as goal
 
 pub returns-in-answer-clause-asked : goal.returns-in-answer-clause-asked
-returns-in-answer-clause-asked c = (c.in-answer.is, c.get_str.ensures ∙ first_value-rows (found_of c.args.matches.now) (codes "CONFIG"))
+returns-in-answer-clause-asked c =
+    (c.in-answer.is, c.get_str.ensures ∙ first_value-rows (found_of c.args.matches.now) (codes "CONFIG"))
 
 pub returns-in-replay-clause-asked : goal.returns-in-replay-clause-asked
-returns-in-replay-clause-asked c = (c.in-replay.is, c.text_of-file.ensures, flag_given (found_of c.args.matches.now) (codes "audit") c.get_flag.result c.get_flag.ensures.none c.get_flag.ensures.value c.get_flag.ensures.other, c.workers_in.ensures)
+returns-in-replay-clause-asked c = (
+  c.in-replay.is,
+  c.text_of-file.ensures,
+  flag_given (found_of c.args.matches.now)
+      (codes "audit") c.get_flag.result c.get_flag.ensures.none c.get_flag.ensures.value c.get_flag.ensures.other,
+  c.workers_in.ensures,
+)
 
 pub returns-in_ok-serving_of-in_default-clause-asked : goal.returns-in_ok-serving_of-in_default-clause-asked
 returns-in_ok-serving_of-in_default-clause-asked c = (

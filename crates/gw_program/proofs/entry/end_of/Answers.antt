@@ -3,7 +3,19 @@ use Rattle.gw_program.proofs.Asking.{kind_of_mistake}
 use Rattle.gw_program.proofs.entry.end_of.Goals as goal
 
 pub returns : goal.returns
-returns g c = inl (record { asked = c.in-Ok.job; is_asked = c.in-Ok.ensures.asked; done = c.run-done.result; is_job = c.run-done.ensures; told = c.told.ensures })
+returns g c =
+    inl (record {
+      asked = c.in-Ok.job;
+      is_asked = c.in-Ok.ensures.asked;
+      done = c.run-done.result;
+      is_job = c.run-done.ensures;
+      told = c.told.ensures;
+    })
 
 pub returns-in-Err : goal.returns-in-Err
-returns-in-Err g c = inr (record { kind = _; is_one = kind_of_mistake _ c.in-Err.mistake c.in-Err.ensures.mistaken; explained = c.explained.ensures })
+returns-in-Err g c =
+    inr (record {
+      kind = _;
+      is_one = kind_of_mistake _ c.in-Err.mistake c.in-Err.ensures.mistaken;
+      explained = c.explained.ensures;
+    })

@@ -8,7 +8,8 @@ abbrev pub invariant-loop : goal.invariant-loop
 invariant-loop g l = record {
   can_next : (goal.iterator-loop g).can_next l.iterator';
   is_finite : (goal.iterator-loop g).is_finite l.iterator';
-  gathered : Gathers l.initial.self.options.controllers.now (g.S.Exchange.course l.initial.exchange) (g.S.Exchange.course l.exchange) l.initial.self.inbox l.self.inbox;
+  gathered : Gathers l.initial.self.options.controllers.now (g.S.Exchange.course l.initial.exchange)
+      (g.S.Exchange.course l.exchange) l.initial.self.inbox l.self.inbox;
   senders : l.self.inbox.senders.items ≡ [];
   same : HasSame l.initial.self l.self;
 }

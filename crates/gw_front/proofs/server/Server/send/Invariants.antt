@@ -9,5 +9,6 @@ abbrev pub invariant-loop-answer : goal.invariant-loop-answer
 invariant-loop-answer g l = record {
   inbox : l.self.inbox ≡ l.initial.self.inbox;
   same : HasSame l.initial.self l.self;
-  sent : Happens (g.S.Exchange.course l.initial.exchange) (g.S.Exchange.course l.exchange) (sent_all (packets_to l.initial.self.inbox.senders.items (take l.answer-index l.answers)));
+  sent : Happens (g.S.Exchange.course l.initial.exchange) (g.S.Exchange.course l.exchange)
+      (sent_all (packets_to l.initial.self.inbox.senders.items (take l.answer-index l.answers)));
 }
