@@ -389,28 +389,52 @@ fn everywhere() -> SocketAddr {
     SocketAddr::new(IpAddr::V4(Ipv4Addr::UNSPECIFIED), 2944)
 }
 
-// Of each address, the family and the port are those that the words name.
+/// Where `--listen` names an address, it is bound: the family and the port are those that the words name.
+fn binds(
+    rt: &HostRuntime,
+    socket: &UdpSocket,
+    file: &str,
+    listen: &str,
+    address: SocketAddr,
+) -> Result<(), Fail> {
+    let network = OneSocket {
+        rt,
+        address,
+        socket,
+    };
+    let words = ["serve", file, "--listen", listen, "--bursts", "0"];
+    Run::of(&network, words.as_slice()).explains(SERVING)
+}
+
 #[test]
 fn the_address_that_is_bound(rt: HostRuntime) -> Result<(), Fail> {
     let file = file_of(&rt, CONFIGURATION)?;
     let socket = client(&rt, IPV4)?;
     let named = IpAddr::V6(Ipv6Addr::new(0x2001, 0xdb8, 0, 0, 0, 0, 0, 1));
-    let table: [(&str, SocketAddr); 5] = [
-        ("0.0.0.0:2944", everywhere()),
-        ("127.0.0.1:2945", SocketAddr::new(IPV4, 2945)),
-        ("127.0.0.2:0", SocketAddr::new(near(), 0)),
-        ("[::1]:2944", SocketAddr::new(IPV6, 2944)),
-        ("[2001:db8::1]:65535", SocketAddr::new(named, 65535)),
-    ];
-    for (listen, address) in table {
-        let network = OneSocket {
-            rt: &rt,
-            address,
-            socket: &socket,
-        };
-        let words = ["serve", file.as_str(), "--listen", listen, "--bursts", "0"];
-        Run::of(&network, words.as_slice()).explains(SERVING)?;
-    }
+    let other = SocketAddr::new(named, 65535);
+    binds(&rt, &socket, file.as_str(), "0.0.0.0:2944", everywhere())?;
+    binds(
+        &rt,
+        &socket,
+        file.as_str(),
+        "127.0.0.1:2945",
+        SocketAddr::new(IPV4, 2945),
+    )?;
+    binds(
+        &rt,
+        &socket,
+        file.as_str(),
+        "127.0.0.2:0",
+        SocketAddr::new(near(), 0),
+    )?;
+    binds(
+        &rt,
+        &socket,
+        file.as_str(),
+        "[::1]:2944",
+        SocketAddr::new(IPV6, 2944),
+    )?;
+    binds(&rt, &socket, file.as_str(), "[2001:db8::1]:65535", other)?;
     let network = OneSocket {
         rt: &rt,
         address: everywhere(),
