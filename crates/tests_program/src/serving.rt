@@ -390,8 +390,8 @@ fn everywhere() -> SocketAddr {
 }
 
 /// Where `--listen` names an address, it is bound: the family and the port are those that the words name.
-fn binds(
-    rt: &HostRuntime,
+fn binds<R: Files + Net + Wait + Threads + Clock + Sync + AllocGlobal>(
+    rt: &R,
     socket: &UdpSocket,
     file: &str,
     listen: &str,
