@@ -389,52 +389,53 @@ fn everywhere() -> SocketAddr {
     SocketAddr::new(IpAddr::V4(Ipv4Addr::UNSPECIFIED), 2944)
 }
 
-/// Where `--listen` names an address, it is bound: the family and the port are those that the words name.
-fn binds<R: Files + Net + Wait + Threads + Clock + Sync + AllocGlobal>(
-    rt: &R,
-    socket: &UdpSocket,
-    file: &str,
-    listen: &str,
-    address: SocketAddr,
-) -> Result<(), Fail> {
-    let network = OneSocket {
-        rt,
-        address,
-        socket,
-    };
-    let words = ["serve", file, "--listen", listen, "--bursts", "0"];
-    Run::of(&network, words.as_slice()).explains(SERVING)
-}
-
+// Of each address, the family and the port are those that the words name.
 #[test]
 fn the_address_that_is_bound(rt: HostRuntime) -> Result<(), Fail> {
     let file = file_of(&rt, CONFIGURATION)?;
     let socket = client(&rt, IPV4)?;
-    let named = IpAddr::V6(Ipv6Addr::new(0x2001, 0xdb8, 0, 0, 0, 0, 0, 1));
-    let other = SocketAddr::new(named, 65535);
-    binds(&rt, &socket, file.as_str(), "0.0.0.0:2944", everywhere())?;
-    binds(
-        &rt,
-        &socket,
+    let network = OneSocket {
+        rt: &rt,
+        address: SocketAddr::new(IPV4, 2945),
+        socket: &socket,
+    };
+    let words = [
+        "serve",
         file.as_str(),
+        "--listen",
         "127.0.0.1:2945",
-        SocketAddr::new(IPV4, 2945),
-    )?;
-    binds(
-        &rt,
-        &socket,
+        "--bursts",
+        "0",
+    ];
+    Run::of(&network, words.as_slice()).explains(SERVING)?;
+    let network = OneSocket {
+        rt: &rt,
+        address: SocketAddr::new(near(), 0),
+        socket: &socket,
+    };
+    let words = [
+        "serve",
         file.as_str(),
+        "--listen",
         "127.0.0.2:0",
-        SocketAddr::new(near(), 0),
-    )?;
-    binds(
-        &rt,
-        &socket,
+        "--bursts",
+        "0",
+    ];
+    Run::of(&network, words.as_slice()).explains(SERVING)?;
+    let network = OneSocket {
+        rt: &rt,
+        address: SocketAddr::new(IPV6, 2944),
+        socket: &socket,
+    };
+    let words = [
+        "serve",
         file.as_str(),
+        "--listen",
         "[::1]:2944",
-        SocketAddr::new(IPV6, 2944),
-    )?;
-    binds(&rt, &socket, file.as_str(), "[2001:db8::1]:65535", other)?;
+        "--bursts",
+        "0",
+    ];
+    Run::of(&network, words.as_slice()).explains(SERVING)?;
     let network = OneSocket {
         rt: &rt,
         address: everywhere(),
