@@ -7,5 +7,5 @@ use Rattle.cases_board.proofs.bench.write_only.Goals as goal
 pub write_tree-requires-clause-unused : goal.write_tree-requires-clause-unused
 write_tree-requires-clause-unused c =
     first_unused (maps_of c.args.tables) c.in-Ok-asks_in.asked.items c.one-item.result
-        (subst (λ (l : List Asked). 0 < length l) c.as_slice.ensures.value (omega (arith, c.in-len1.len_at_least)))
-        (c.one-item.is ∙ ap (λ (l : List Asked). get_or l 0 c.one-item.result) c.as_slice.ensures.value) c.in-Ok-asks_in.ensures
+    (subst (λ (l : List Asked). 0 < length l) c.as_slice.ensures.value (omega (arith, c.in-len1.len_at_least)))
+    (c.one-item.is ∙ ap (λ (l : List Asked). get_or l 0 c.one-item.result) c.as_slice.ensures.value) c.in-Ok-asks_in.ensures
