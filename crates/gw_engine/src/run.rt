@@ -139,7 +139,7 @@ impl Gateway {
     ///
     /// With one worker each request is carried out by itself, in order of arrival, and passes the gate with number 0. With more, requests
     /// are carried out in waves, each of them all whose footprints meet no earlier one's that waits; one that is meant for all is a wave
-    /// by itself. The tables are not copied: a request changes them in place, or, in a wave, lays what it changes beside the entries that
+    /// by itself. The tables are not copied: a request changes them in place, or, in a wave, in a copy of the entries that
     /// it may touch, which leave the tables for that time; and the originals are kept until the burst is over.
     ///
     /// The requests of a wave are carried out by so many workers, 1 to 64, in threads; the caller is one of them and waits for the
