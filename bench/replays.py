@@ -272,12 +272,12 @@ def records(folder):
     return any(found > limit for _, found, limit in lines)
 
 
-PARTS = ["--rates", "--tables", "--bursts", "--samples", "--waves", "--records"]
+CHOICES = ["--rates", "--tables", "--bursts", "--samples", "--waves", "--records"]
 
 
 def main():
     with tempfile.TemporaryDirectory() as folder:
-        chosen = usage.words(__doc__, lambda word: word in PARTS) or PARTS
+        chosen = usage.words(__doc__, lambda word: word in CHOICES) or CHOICES
         for word, measure in (("--rates", rates), ("--tables", tables), ("--bursts", repeats)):
             if word in chosen:
                 measure(folder)
