@@ -205,7 +205,7 @@ impl Draft {
     ///
     /// # Errors
     ///
-    /// Out of memory. The draft is as it was.
+    /// Out of memory. Nothing is known of the draft then but its keys.
     pub fn set_service(&mut self, name: &TermName, service: Service) -> Result<(), NoMemory>
         requires { holds self.old.keys (Term name.now) ≡ true }
         ensures maps { OnOk result (self.new.maps ≡ put_service service name.now self.old.maps (term self.old.maps name.now)) }
@@ -219,7 +219,7 @@ impl Draft {
     ///
     /// # Errors
     ///
-    /// Out of memory. The termination may then be gone from the draft.
+    /// Out of memory. Nothing is known of the draft then but its keys.
     pub fn set_service_at(
         &mut self,
         guide: Guide,
@@ -246,7 +246,7 @@ impl Draft {
     ///
     /// # Errors
     ///
-    /// Out of memory. The draft is as it was.
+    /// Out of memory. Nothing is known of the draft then but its keys.
     pub fn join(
         &mut self,
         alloc: Global,
@@ -271,7 +271,7 @@ impl Draft {
     ///
     /// # Errors
     ///
-    /// Out of memory. The name may then have left.
+    /// Out of memory. Nothing is known of the draft then but its keys.
     pub fn leave(&mut self, number: CtxNum, name: &TermName) -> Result<(), NoMemory>
         requires { holds self.old.keys (Ctx number) ≡ true }
         ensures maps { OnOk result (self.new.maps ≡ without_member number name.now self.old.maps) }

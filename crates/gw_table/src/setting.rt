@@ -126,7 +126,7 @@ impl Draft {
     ///
     /// # Errors
     ///
-    /// Out of memory. The draft is as it was.
+    /// Out of memory. Nothing is known of the draft then but its keys.
     pub fn set_property(&mut self, number: CtxNum, setting: Setting) -> Result<(), NoMemory>
         requires { holds self.old.keys (Ctx number) ≡ true }
         ensures maps { OnOk result (self.new.maps ≡ put_setting setting number self.old.maps (ctx self.old.maps number)) }
