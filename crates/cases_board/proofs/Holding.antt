@@ -12,7 +12,7 @@ use Rattle.gw_board.specs.Results.{is_open, is_open_at, NothingIsOpen}
 use Rattle.gw_board.specs.declared.asked.Asked.{Asked}
 use Rattle.gw_board.specs.declared.manner.Manner.{Manner}
 use Rattle.gw_board.proofs.SeatFacts.{length-pending}
-use Rattle.gw_table.specs.Maps.{Maps}
+use Rattle.gw_table.specs.Stored.{Stored}
 use Rattle.cases_board.specs.Held.{IsHeld, AreHeld, job_in}
 
 -- ---- entries that are set
@@ -198,8 +198,8 @@ pending_shut [] i = refl
 pending_shut (x ∷ xs) zero = refl
 pending_shut (x ∷ xs) (suc i) = pending_shut xs i
 
-pub held_begun : (manner : Manner) (asked : List Asked) (m : Maps) (b : Seen) (held : List (Option Handed)) → b ≡ begun_board manner asked m → list_all is_none held ≡ true → length held ≡ length asked → AreHeld b held
-held_begun manner asked m b held is none count =
+pub held_begun : (manner : Manner) (asked : List Asked) (s : Stored) (b : Seen) (held : List (Option Handed)) → b ≡ begun_board manner asked s → list_all is_none held ≡ true → length held ≡ length asked → AreHeld b held
+held_begun manner asked s b held is none count =
     record {
       count = count ∙ sym (length-pending asked) ∙ sym (ap (λ (x : Seen). length x.places) is);
       each = λ i. at i (slice_get held i) (none_at held i none) (ap (λ (x : Seen). is_open_at (slice_get x.places i)) is ∙ pending_shut asked i);

@@ -14,6 +14,7 @@ use Rattle.gw_board.specs.declared.manner.Manner.{Manner}
 use Rattle.gw_board.proofs.WaveJobs.{Reply}
 use Rattle.gw_reserve.specs.Owned.{paired}
 use Rattle.gw_table.specs.Maps.{Maps}
+use Rattle.gw_table.specs.Stored.{Stored, maps_of}
 use Rattle.gw_table.specs.Parts.{Parted}
 use Rattle.gw_table.specs.Unused.{owned, AreUnused}
 use Rattle.gw_table.specs.WellFormed.{AreWellFormed}
@@ -39,17 +40,17 @@ asked_pending : (asked : List Asked) → asked_of (map pending asked) ≡ asked
 asked_pending [] = refl
 asked_pending (a ∷ more) = ap (λ (l : List Asked). a ∷ l) (asked_pending more)
 
-module _ (manner : Manner) (asked : List Asked) (m : Maps) (b : Seen) (begun : b ≡ begun_board manner asked m) where
+module _ (manner : Manner) (asked : List Asked) (s : Stored) (b : Seen) (begun : b ≡ begun_board manner asked s) where
   pub none_yet : NothingIsOpen (core_of b)
   none_yet = ap (λ (x : Seen). list_any (λ (p : Place). is_open p.standing) x.places) begun ∙ pending_shut asked
 
   -- whatever was opened and closed since
-  pub comes_to : (d : Seen) → IsSameBurst b d → (carried d.manner (asked_of d.places) d.begun).maps ≡ (carried manner asked m).maps
+  pub comes_to : (d : Seen) → IsSameBurst b d → (carried d.manner (asked_of d.places) (maps_of d.start)).maps ≡ (carried manner asked (maps_of s)).maps
   comes_to d same =
       let manners : d.manner ≡ manner = same.manner ∙ ap (λ (x : Seen). x.manner) begun in
       let these : asked_of d.places ≡ asked = same.asked ∙ ap (λ (x : Seen). asked_of x.places) begun ∙ asked_pending asked in
-      let maps : d.begun ≡ m = same.begun ∙ ap (λ (x : Seen). x.begun) begun in
-      λ i. (carried (manners i) (these i) (maps i)).maps
+      let start : d.start ≡ s = same.start ∙ ap (λ (x : Seen). x.start) begun in
+      λ i. (carried (manners i) (these i) (maps_of (start i))).maps
 
 -- ---- an answer for each job
 

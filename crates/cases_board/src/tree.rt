@@ -55,7 +55,7 @@ pub fn write_tree(
     requires unused { AreFreeSlots (maps_of tables) owned.now.slots }
 {
     let alloc = out.alloc();
-    let mut draft = Draft::of_tables(tables, Originals::with_room(alloc, 0));
+    let mut draft = Draft::of_tables(tables, Originals::new(alloc));
     let done: Result<TxReply, NoMemory> = transaction(alloc, rules, &mut draft, request, owned);
     match done {
         Ok(reply) => write_replies(&reply, out),

@@ -53,7 +53,7 @@ fn add_context(tables: &Tables, at: At, keys: &mut Vec<Key>) -> Result<(), NoMem
         At::Live(number) | At::Unmade(number) => {
             keys.push(Key::Ctx(number))?;
             match tables.find_ctx(number) {
-                Some(context) => add_names(context.members(), keys),
+                Some(context) => add_names(context.members().as_slice(), keys),
                 None => Ok(()),
             }
         }

@@ -1,9 +1,10 @@
 -- Where the changes of a draft of whole tables began, as the draft tells it.
-use Rattle.std.proofs.Common.{◌≡◌, List, true, ap, sym, subst, ◌∙◌}
+use Rattle.std.proofs.Common.{◌≡◌, List, [], true, ap, sym, subst, ◌∙◌}
+use Rattle.gw_base.specs.declared.key.Key.{Key}
 use Rattle.gw_table.specs.declared.originals.Write.{Write}
 use Rattle.gw_table.specs.Originals.{before_all, undone as taken}
 use Rattle.gw_table.specs.Parts.{PartKeys, Parted, Over, start_of}
-use Rattle.gw_table.specs.Stored.{Stored, maps_of, is_ready, KeepReady}
+use Rattle.gw_table.specs.Stored.{Stored, maps_of, is_ready, KeepReady, NoOtherReady}
 use Rattle.gw_table.proofs.InPlace.{begun_ready, maps_before_all}
 
 module _ (tables : Stored) (earlier : List Write) (first : Parted) (keys : PartKeys) (made : first ≡ record { keys = Over (before_all earlier tables); maps = maps_of tables }) (same : keys ≡ first.keys) where
@@ -15,6 +16,10 @@ module _ (tables : Stored) (earlier : List Write) (first : Parted) (keys : PartK
 
   pub kept_since : (t : Stored) → KeepReady (start_of keys) t → KeepReady tables t
   kept_since t kept k h = kept k (subst (λ (s : Stored). is_ready s k ≡ true) (sym start_is) (begun_ready earlier tables k h))
+
+  -- where there were no earlier writes
+  pub alone_since : (ws : List Key) (t : Stored) → earlier ≡ [] → NoOtherReady ws (start_of keys) t → NoOtherReady ws tables t
+  alone_since ws t none alone k h r = subst (λ (s : Stored). is_ready s k ≡ true) (start_is ∙ ap (λ (e : List Write). before_all e tables) none) (alone k h r)
 
   -- the keys are those of whole tables
   pub still_over : keys ≡ Over (start_of keys)

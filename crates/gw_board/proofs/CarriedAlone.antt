@@ -10,7 +10,7 @@ use Rattle.gw_reserve.specs.Owned.{AreFreeSlots}
 use Rattle.gw_table.specs.Locality.{KeepsTo}
 use Rattle.gw_table.specs.Maps.{Maps, Outcome}
 use Rattle.gw_table.specs.Parts.{restricted, cut, overlaid}
-use Rattle.gw_table.specs.Stored.{Stored, names_entry, AreReady, KeepReady, NoneIsOut}
+use Rattle.gw_table.specs.Stored.{Stored, names_entry, AreReady, KeepReady, NoneIsOut, maps_of}
 use Rattle.gw_table.specs.WellFormed.{AreWellFormed}
 use Rattle.gw_board.specs.Alone.{is_unclosed_at, TakesLast, Off, Fresh}
 use Rattle.gw_board.specs.BoardView.{IsOnTheWay, IsKeptIn}
@@ -140,7 +140,7 @@ module _ (b : Seen) (w : IsOnTheWay b) (none : NothingIsOpen (core_of b)) (i : �
   alone_fewer = unclosed-less b.places i (pending a) closed pends refl refl
 
   pub alone_same : (front : List Original) (last : Original) → IsSameBurst b (with_alone b i a front last)
-  alone_same front last = record { manner = refl; begun = refl; asked = asked-set b.places i (pending a) closed pends refl }
+  alone_same front last = record { manner = refl; start = refl; asked = asked-set b.places i (pending a) closed pends refl }
 
   pub alone_kept : (front : List Original) (last : Original) (s t : Stored) → Each (λ o. AreReady o.keys s) front → NoneIsOut t → KeepReady s t → AreReady last.keys t → IsKeptIn t (with_alone b i a front last)
   alone_kept front last s t kept here ready new = record {
@@ -149,7 +149,7 @@ module _ (b : Seen) (w : IsOnTheWay b) (none : NothingIsOpen (core_of b)) (i : �
   }
 
   -- the journal leads from the maps as they are to those of the start
-  pub led_back : undone b.originals b.maps ≡ b.begun
+  pub led_back : undone b.originals b.maps ≡ (maps_of b.start)
   led_back = ap (undone b.originals) whole_is ∙ w.back
 
   module _ (first : AllClosed (take i b.places)) where
@@ -192,15 +192,15 @@ module _ (b : Seen) (w : IsOnTheWay b) (none : NothingIsOpen (core_of b)) (i : �
     whole_after : way.fits.whole ≡ o.maps
     whole_after = sym (cut_none (out ended.places) way.fits.whole (out_of_none ended.places none_ended)) ∙ sym way.fits.maps ∙ same_outcome
 
-    is_ended : ended ≡ record { manner = b.manner; begun = b.begun; maps = o.maps; places = slice_set b.places i closed; originals = ended.originals }
-    is_ended = λ j. record { manner = b.manner; begun = b.begun; maps = same_outcome j; places = same_places j; originals = ended.originals }
+    is_ended : ended ≡ record { manner = b.manner; start = b.start; maps = o.maps; places = slice_set b.places i closed; originals = ended.originals }
+    is_ended = λ j. record { manner = b.manner; start = b.start; maps = same_outcome j; places = same_places j; originals = ended.originals }
 
     -- with the place closed the way goes on, by the journal that opening and closing it leaves
-    pub alone_goes_on : MayGoOn b.manner b.begun o.maps (slice_set b.places i closed)
+    pub alone_goes_on : MayGoOn b.manner b.start o.maps (slice_set b.places i closed)
     alone_goes_on = record { originals = ended.originals; way = subst IsOnTheWay is_ended way; none = alone_none }
 
     -- whichever keys changed: the last original leads to maps that those before it lead on from
-    pub alone_way : (front : List Original) (last : Original) (m : Maps) → led_to last o.maps ≡ m → undone front m ≡ b.begun → IsOnTheWay (with_alone b i a front last)
+    pub alone_way : (front : List Original) (last : Original) (m : Maps) → led_to last o.maps ≡ m → undone front m ≡ (maps_of b.start) → IsOnTheWay (with_alone b i a front last)
     alone_way front last m is led =
         let c : Seen = with_alone b i a front last in
         record {
@@ -209,7 +209,7 @@ module _ (b : Seen) (w : IsOnTheWay b) (none : NothingIsOpen (core_of b)) (i : �
           outcome =
               ap (λ (l : List Place). carried_on b.manner l way.fits.whole) (sym same_places)
               ∙ way.outcome
-              ∙ ap (λ (l : List Place). carried b.manner (asked_of l) b.begun) same_places;
+              ∙ ap (λ (l : List Place). carried b.manner (asked_of l) (maps_of b.start)) same_places;
           back =
               undone-append front (last ∷ []) way.fits.whole
               ∙ ap (λ (n : Maps). undone front (led_to last n)) whole_after

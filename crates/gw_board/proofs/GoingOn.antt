@@ -7,7 +7,7 @@ use Rattle.gw_base.proofs.Booleans.{neither}
 use Rattle.gw_reserve.specs.Owned.{AreFreeSlots}
 use Rattle.gw_table.specs.Maps.{Maps}
 use Rattle.gw_table.specs.Parts.{Over, Parted}
-use Rattle.gw_table.specs.Stored.{Stored}
+use Rattle.gw_table.specs.Stored.{Stored, maps_of}
 use Rattle.gw_table.specs.WellFormed.{AreWellFormed}
 use Rattle.gw_tx.specs.Footprints.{Covers}
 use Rattle.gw_board.specs.declared.manner.Manner.{Manner}
@@ -84,15 +84,15 @@ pub whole_there : (b : Seen) (w : IsOnTheWay b) → NothingIsOpen (core_of b) �
 whole_there b w none = w.fits.maps ∙ cut_none (out b.places) w.fits.whole (out_of_none b.places none)
 
 -- the journal leads from the maps to those of the start
-pub led_from : (b : Seen) (w : IsOnTheWay b) → NothingIsOpen (core_of b) → undone b.originals b.maps ≡ b.begun
+pub led_from : (b : Seen) (w : IsOnTheWay b) → NothingIsOpen (core_of b) → undone b.originals b.maps ≡ (maps_of b.start)
 led_from b w none = ap (undone b.originals) (whole_there b w none) ∙ w.back
 
-module _ (manner : Manner) (begun maps : Maps) (places : List Place) (g : MayGoOn manner begun maps places) where
+module _ (manner : Manner) (start : Stored) (maps : Maps) (places : List Place) (g : MayGoOn manner start maps places) where
   abbrev b : Seen
-  b = record { manner = manner; begun = begun; maps = maps; places = places; originals = g.originals }
+  b = record { manner = manner; start = start; maps = maps; places = places; originals = g.originals }
 
   -- any other journal that leads back is as good
-  pub with_journal : (originals : List Original) → undone originals maps ≡ begun → IsOnTheWay (record { manner = manner; begun = begun; maps = maps; places = places; originals = originals })
+  pub with_journal : (originals : List Original) → undone originals maps ≡ maps_of start → IsOnTheWay (record { manner = manner; start = start; maps = maps; places = places; originals = originals })
   with_journal originals led = record {
     begun = record { well = g.way.begun.well; unused = g.way.begun.unused };
     fits = g.way.fits;

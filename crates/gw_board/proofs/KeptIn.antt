@@ -62,16 +62,16 @@ module _ (places : List Place) (i : ℕ) (x : Place) (e : slice_get places i ≡
   abbrev pub others : List Place
   others = take i places ++ drop (suc i) places
 
-  was_out : (q : Key) → has (out places) q ≡ (has (out_at x.standing) q || has (out others) q)
+  pub was_out : (q : Key) → has (out places) q ≡ (has (out_at x.standing) q || has (out others) q)
   was_out q = ap (λ (l : List Place). has (out l) q) (parts_at places i x e) ∙ out-place (take i places) (drop (suc i) places) x q
 
-  now_out : (new : Place) (q : Key) → has (out (slice_set places i new)) q ≡ (has (out_at new.standing) q || has (out others) q)
+  pub now_out : (new : Place) (q : Key) → has (out (slice_set places i new)) q ≡ (has (out_at new.standing) q || has (out others) q)
   now_out new q = ap (λ (l : List Place). has (out l) q) (parts_set places i x new e) ∙ out-place (take i places) (drop (suc i) places) new q
 
 -- ---- at the start
 
-pub begun_kept : (manner : _) (asked : List Asked) (m : _) (s : Stored) → NoneIsOut s → IsKeptIn s (begun_board manner asked m)
-begun_kept manner asked m s h = record { out = λ k. h k ∙ ap (λ b. b && names_entry k) (sym (nothing_out asked k)); ready = tt }
+pub begun_kept : (manner : _) (asked : List Asked) (start s : Stored) → NoneIsOut s → IsKeptIn s (begun_board manner asked start)
+begun_kept manner asked start s h = record { out = λ k. h k ∙ ap (λ b. b && names_entry k) (sym (nothing_out asked k)); ready = tt }
 
 -- ---- a place is opened
 

@@ -22,6 +22,7 @@ pub mod Planning
 pub mod Requests
 pub mod SeatFacts
 pub mod Slices
+pub mod Spare
 pub mod Started
 pub mod States
 pub mod Steps

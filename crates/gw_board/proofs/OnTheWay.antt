@@ -9,6 +9,7 @@ use Rattle.gw_table.specs.Maps.{Maps, Outcome}
 use Rattle.gw_table.specs.Parts.{Only, restricted}
 use Rattle.gw_table.specs.Unused.{AreUnused}
 use Rattle.gw_table.specs.WellFormed.{AreWellFormed}
+use Rattle.gw_table.specs.Stored.{Stored, maps_of}
 use Rattle.gw_table.proofs.PartLookups.{sound_whole}
 use Rattle.gw_tx.specs.Footprints.{footprint_of, Covers}
 use Rattle.gw_foot.proofs.OutAndBack.{part_unused}
@@ -45,11 +46,11 @@ set_twice (z ∷ zs) (suc i) x y = ap (λ l. z ∷ l) (set_twice zs i x y)
 
 -- ---- at the start
 
-pub begun_way : (manner : Manner) (asked : List Asked) (m : Maps) → AreWellFormed manner.rules.members m → AreUnused m [] (slots_of asked) → IsOnTheWay (begun_board manner asked m)
-begun_way manner asked m w u = record {
-  begun = record { well = w; unused = subst (λ (l : List Asked). AreUnused m [] (slots_of l)) (sym (asked-pending asked)) u };
-  fits = kept_start manner 0 asked m w u;
-  outcome = carried_start manner asked m ∙ ap (λ (l : List Asked). carried manner l m) (sym (asked-pending asked));
+pub begun_way : (manner : Manner) (asked : List Asked) (s : Stored) → AreWellFormed manner.rules.members (maps_of s) → AreUnused (maps_of s) [] (slots_of asked) → IsOnTheWay (begun_board manner asked s)
+begun_way manner asked s w u = record {
+  begun = record { well = w; unused = subst (λ (l : List Asked). AreUnused (maps_of s) [] (slots_of l)) (sym (asked-pending asked)) u };
+  fits = kept_start manner 0 asked (maps_of s) w u;
+  outcome = carried_start manner asked (maps_of s) ∙ ap (λ (l : List Asked). carried manner l (maps_of s)) (sym (asked-pending asked));
   back = refl;
 }
 
@@ -64,14 +65,14 @@ module _ (b : Seen) (w : IsOnTheWay b) (i : ℕ) (a : Asked) where
   s = core_of b
 
   -- the requests that are carried out are the same
-  still : (places : List Place) → asked_of places ≡ asked_of b.places → carried manner (asked_of b.places) b.begun ≡ carried manner (asked_of places) b.begun
-  still places e = ap (λ (l : List Asked). carried manner l b.begun) (sym e)
+  still : (places : List Place) → asked_of places ≡ asked_of b.places → carried manner (asked_of b.places) (maps_of b.start) ≡ carried manner (asked_of places) (maps_of b.start)
+  still places e = ap (λ (l : List Asked). carried manner l (maps_of b.start)) (sym e)
 
   -- what the board was given is as fit for them
-  pub begun_still : (c : Seen) → c.manner ≡ b.manner → c.begun ≡ b.begun → asked_of c.places ≡ asked_of b.places → IsBegun c
+  pub begun_still : (c : Seen) → c.manner ≡ b.manner → c.start ≡ b.start → asked_of c.places ≡ asked_of b.places → IsBegun c
   begun_still c m n e = record {
-    well = subst (λ (r : Manner). AreWellFormed r.rules.members c.begun) (sym m) (subst (λ (x : Maps). AreWellFormed b.manner.rules.members x) (sym n) w.begun.well);
-    unused = subst (λ (l : List Asked). AreUnused c.begun [] (slots_of l)) (sym e) (subst (λ (x : Maps). AreUnused x [] (slots_of (asked_of b.places))) (sym n) w.begun.unused);
+    well = subst (λ (r : Manner). AreWellFormed r.rules.members (maps_of c.start)) (sym m) (subst (λ (x : Stored). AreWellFormed b.manner.rules.members (maps_of x)) (sym n) w.begun.well);
+    unused = subst (λ (l : List Asked). AreUnused (maps_of c.start) [] (slots_of l)) (sym e) (subst (λ (x : Stored). AreUnused (maps_of x) [] (slots_of (asked_of b.places))) (sym n) w.begun.unused);
   }
 
   -- ---- a place is opened

@@ -5,6 +5,7 @@ use Rattle.std.specs.List.{list_any}
 use Rattle.std.proofs.lemmas.Option.{slice_get_past}
 use Rattle.gw_base.proofs.Booleans.{neither}
 use Rattle.gw_table.specs.Maps.{Outcome}
+use Rattle.gw_table.specs.Stored.{maps_of}
 use Rattle.gw_board.specs.Boards.{Seen, core_of, asked_of, is_closed, AllClosed, GivesTheFold, reply_of, reply_at}
 use Rattle.gw_board.specs.Carried.{carried}
 use Rattle.gw_board.specs.Core.{Standing, Pending, Opened, Closed, Place}
@@ -39,7 +40,7 @@ stands (p ∷ ps) zero h = (here p.standing (neither (not (is_closed p.standing)
 stands (p ∷ ps) (suc i) h = stands ps i (neither (not (is_closed p.standing)) (list_any (λ q. not (is_closed q.standing)) ps) h).1
 
 -- it is what carrying out all requests, one after another, answers there
-pub reply_is : (b : Seen) → GivesTheFold b → AllClosed b.places → (i : ℕ) → reply_at (slice_get b.places i) ≡ slice_get (carried b.manner (asked_of b.places) b.begun).answer i
+pub reply_is : (b : Seen) → GivesTheFold b → AllClosed b.places → (i : ℕ) → reply_at (slice_get b.places i) ≡ slice_get (carried b.manner (asked_of b.places) (maps_of b.start)).answer i
 reply_is b fold h i =
     stands b.places i h
     ∙ ap (λ (o : Outcome (List Text)). slice_get o.answer i) (sym (all_closed b.manner (core_of b) (texts_at b.places) (are_closed b.places h)) ∙ fold)

@@ -119,7 +119,7 @@ module _ (b c : Seen) (i : ℕ) (h : Handed) (o : Opens b i h c) where
   pub same_opened : IsSameBurst b c
   same_opened = record {
     manner = manner_is;
-    begun = ap (λ (x : Seen). x.begun) o.board;
+    start = ap (λ (x : Seen). x.start) o.board;
     asked = ap asked_of places_are ∙ asked-set b.places i (pending h.asked) (open_with h.asked (job_of h)) o.may.pends refl;
   }
 
@@ -190,7 +190,7 @@ module _ (b d : Seen) (front : List Handed) (h : Handed) (a : AreOpen b (front +
     open_still = one_closed b d h (pending h.asked) (ap (λ (x : Seen). x.manner) is) (ap (λ (x : Seen). x.places) is) refl front a;
     same = record {
       manner = ap (λ (x : Seen). x.manner) is;
-      begun = ap (λ (x : Seen). x.begun) is;
+      start = ap (λ (x : Seen). x.start) is;
       asked = ap (λ (x : Seen). asked_of x.places) is ∙ asked-set b.places h.place (open_with h.asked (job_of h)) (pending h.asked) mine.stands refl;
     };
   }
@@ -203,7 +203,7 @@ module _ (b d : Seen) (front : List Handed) (h : Handed) (a : AreOpen b (front +
     open_still = one_closed b d h (closed_with h.asked (outcome_of h).answer) (ap (λ (x : Seen). x.manner) is) (ap (λ (x : Seen). x.places) is) refl front a;
     same = record {
       manner = ap (λ (x : Seen). x.manner) is;
-      begun = ap (λ (x : Seen). x.begun) is;
+      start = ap (λ (x : Seen). x.start) is;
       asked = ap (λ (x : Seen). asked_of x.places) is ∙ asked-set b.places h.place (open_with h.asked (job_of h)) (closed_with h.asked (outcome_of h).answer) mine.stands refl;
     };
   }
@@ -274,10 +274,10 @@ all_are_closed b none empty = by (list_any (λ p. not (is_closed p.standing)) b.
 -- ---- one after another
 
 pub same_still : (b c d : Seen) → IsSameBurst b c → IsSameBurst c d → IsSameBurst b d
-same_still b c d s t = record { manner = t.manner ∙ s.manner; begun = t.begun ∙ s.begun; asked = t.asked ∙ s.asked }
+same_still b c d s t = record { manner = t.manner ∙ s.manner; start = t.start ∙ s.start; asked = t.asked ∙ s.asked }
 
 pub same_itself : (b : Seen) → IsSameBurst b b
-same_itself b = record { manner = refl; begun = refl; asked = refl }
+same_itself b = record { manner = refl; start = refl; asked = refl }
 
 -- ---- nothing was taken
 

@@ -6,17 +6,18 @@ use Rattle.gw_base.specs.declared.key.Key.{Key}
 use Rattle.gw_board.specs.Texts.{Text}
 use Rattle.gw_table.specs.Maps.{Maps, Outcome}
 use Rattle.gw_table.specs.Parts.{restricted}
+use Rattle.gw_table.specs.Stored.{Stored, maps_of}
 use Rattle.gw_board.specs.Carried.{Asked, keys_of, done, carried}
 use Rattle.gw_board.specs.Core.{Standing, Pending, Opened, Closed, Place, Job, Core, pending, open_with, meets_at, meets_any, MayOpen, after_open, after_close, after_return}
 use Rattle.gw_board.specs.Journal.{Original, Laid}
 use Rattle.gw_board.specs.Results.{result_of}
 use Rattle.gw_board.specs.Waves.{is_pending}
 
--- The manner, and the maps that it was given; the maps as they are, without the entries that are out; the places, from 0; and of each
+-- The manner, and the tables that it was given; the maps as they are, without the entries that are out; the places, from 0; and of each
 -- job that was closed with its result, in the order of closing, the keys and the part that their entries were taken out into.
 pub record Seen : Type 0 where
   pub manner : Manner
-  pub begun : Maps
+  pub start : Stored
   pub maps : Maps
   pub places : List Place
   pub originals : List Original
@@ -30,13 +31,13 @@ abbrev pub asked_of : List Place → List Asked
 asked_of places = map (λ p. p.asked) places
 
 -- nothing is carried out
-abbrev pub begun_board : Manner → List Asked → Maps → Seen
-begun_board manner asked m = record { manner = manner; begun = m; maps = m; places = map pending asked; originals = [] }
+abbrev pub begun_board : Manner → List Asked → Stored → Seen
+begun_board manner asked s = record { manner = manner; start = s; maps = maps_of s; places = map pending asked; originals = [] }
 
 -- what is open is put back, and what is not closed carried out, one place after another: that gives the maps and replies of carrying
 -- out all requests, one after another, on the maps that the board was given
 abbrev pub GivesTheFold : Seen → Type 0
-GivesTheFold b = result_of b.manner (core_of b) ≡ carried b.manner (asked_of b.places) b.begun
+GivesTheFold b = result_of b.manner (core_of b) ≡ carried b.manner (asked_of b.places) (maps_of b.start)
 
 -- ---- jobs
 

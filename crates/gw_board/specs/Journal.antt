@@ -1,8 +1,10 @@
 -- The way back (own): of each job that was closed with its result, the entries as they were before it; of requests that were carried
 -- out one after another, their writes.
-use Rattle.std.specs.Prelude.{List, [], ◌∷◌, ◌++◌}
+use Rattle.std.specs.Prelude.{Bool, List, [], ◌∷◌, ◌++◌}
+use Rattle.std.specs.List.{list_any}
 use Rattle.gw_board.specs.declared.manner.Manner.{Manner}
 use Rattle.gw_base.specs.declared.key.Key.{Key}
+use Rattle.gw_base.specs.Keys.{has}
 use Rattle.gw_table.specs.declared.originals.Write.{Write}
 use Rattle.gw_table.specs.Maps.{Maps}
 use Rattle.gw_table.specs.Originals.{undone as taken}
@@ -26,6 +28,10 @@ led_by (Taken writes) keys m = taken writes m
 -- where it leads back to
 abbrev pub led : Original → Maps → Maps
 led o m = led_by o.way o.keys m
+
+-- it is a key of one of the originals
+abbrev pub in_journal : List Original → Key → Bool
+in_journal originals k = list_any (λ o. has o.keys k) originals
 
 -- that of no change
 abbrev pub no_original : Original

@@ -29,5 +29,5 @@ AreAnswers jobs answers = AllZip IsAnswer jobs answers
 -- the burst is the same, and so are the tables of its start
 pub record IsSameBurst (b c : Seen) : Type 0 where
   pub manner : c.manner ≡ b.manner
-  pub begun : c.begun ≡ b.begun
+  pub start : c.start ≡ b.start
   pub asked : asked_of c.places ≡ asked_of b.places

@@ -1,13 +1,14 @@
-//! Carrying places out one after another, on the tables where they lie.
+//! Executing places one after another, on the tables where they lie.
 
-ghost use Rattle.std.specs.Prelude.{◌≡◌, ◌+◌, ◌<◌, true, length, map, take, vec_len, IfErr, IfOk, IfSome, OnErr, OnOk, slice_get};
+ghost use Rattle.std.specs.Prelude.{◌≡◌, ◌+◌, ◌<◌, true, false, not, [], length, map, take, drop, vec_len, Decides, IfErr, IfOk, IfSome, IsSomeAnd, IsTrue, OnErr, OnOk, slice_get};
+ghost use Rattle.std.specs.List.{list_any};
 ghost use Rattle.gw_reserve.specs.Owned.{AreFreeSlots};
 ghost use Rattle.gw_table.specs.Maps.{Maps};
 ghost use Rattle.gw_table.specs.Originals.{keys_written};
 ghost use Rattle.gw_table.specs.Parts.{Over, start_of};
-ghost use Rattle.gw_table.specs.Stored.{maps_of, AreReady, NoneIsOut};
+ghost use Rattle.gw_table.specs.Stored.{maps_of, AreReady, NoneIsOut, Stored};
 ghost use Rattle.gw_table.specs.WellFormed.{AreWellFormed};
-ghost use Rattle.gw_board.specs.Alone.{FindsFirst, WasCarried, AreAsBegun};
+ghost use Rattle.gw_board.specs.Alone.{FindsFirst, IsWholeTable, WasCarried, AreAsBegun};
 ghost use Rattle.gw_board.specs.GoingOn.{MayGoOn};
 ghost use Rattle.gw_board.specs.Boards.{asked_of, begun_board, core_of, is_closed, is_pending_at, AllClosed, GivesTheFold, unclosed};
 ghost use Rattle.gw_board.specs.OpenJobs.{IsSameBurst};
@@ -28,18 +29,7 @@ use gw_table::{Draft, Originals, Tables};
 use std::alloc::Global;
 use std::mem;
 
-/// A transaction of every day writes so many entries, since several of a call write the same.
-const WRITES_OF_ONE: usize = 2;
-
-/// For so many writes room is made at first, at most.
-const MOST_AT_FIRST: usize = 1_024;
-
-/// For how many writes room is made at first, where there are so many places.
-fn room_for(places: usize) -> usize {
-    places.min(MOST_AT_FIRST / WRITES_OF_ONE) * WRITES_OF_ONE
-}
-
-/// What carrying a request out left.
+/// What executing a request left.
 #[derive(Drop)]
 struct Left {
     tables: Tables,
@@ -47,13 +37,14 @@ struct Left {
     text: Items<u8>,
 }
 
-/// Carries a request out, alone, on the tables where they lie, with the originals of earlier changes: the tables then, what stood there
-/// before all these changes, and the text of the reply. The caller knows that the tables are well-formed, that nothing is out, that each
-/// key of the originals has a place, and that the slots that the request owns are unused.
+/// Executes a request, alone, on the tables where they lie, with the originals of earlier changes: the tables then,
+/// what stood there before all these changes, and the text of the reply. The caller knows that the tables are
+/// well-formed, that nothing is out, that each key of the originals has a place, and that the slots that the request
+/// owns are unused.
 ///
 /// # Errors
 ///
-/// Want of memory. The tables come back as they were before all these changes.
+/// Out of memory. The tables come back as they were before all these changes.
 fn carry_in_place(
     alloc: Global,
     manner: &Manner,
@@ -87,7 +78,22 @@ fn is_closed(seat: &Seat<'_, '_, '_>) -> bool
     matches!(seat.stage, Stage::Closed(_))
 }
 
-/// What a place asks, if it is pending.
+/// Whether one of these places is not closed.
+fn any_unclosed(seats: &[Seat<'_, '_, '_>]) -> bool
+    ensures { result ≡ list_any (λ s. not (is_closed (standing_of s.stage))) seats.now }
+{
+    seats.iter().any(|seat| !is_closed(seat))
+}
+
+/// Whether a log is continued, or all keys are swept anyway: then keys may be prepared that it does not have.
+fn continues(sweeps_all: bool, earlier: &Originals) -> bool
+    ensures before { result ≡ false → sweeps_all ≡ false }
+    ensures none { result ≡ false → earlier.now ≡ [] }
+{
+    sweeps_all || !earlier.is_empty()
+}
+
+/// What a place requests, if it is pending.
 pub(crate) fn pending_at<'b, 'h, 'a>(
     seats: &[Seat<'b, 'h, 'a>],
     place: usize,
@@ -101,13 +107,13 @@ pub(crate) fn pending_at<'b, 'h, 'a>(
     }
 }
 
-/// Carries out the request of a place, if it is pending, on a draft of whole tables, and closes the place with its reply. The gate is
-/// passed before. Texts are gathered in the block, whatever it has. The caller knows that nothing is open, that all
-/// earlier places are closed, and that what is pending may be carried out from the draft's maps on.
+/// Executes the request of a place, if it is pending, on a draft of whole tables, and closes the place with its
+/// reply. The gate is passed before. Texts are gathered in the block, whatever it has. The caller knows that nothing
+/// is open, that all earlier places are closed, and that what is pending may be executed from the draft's maps on.
 ///
 /// # Errors
 ///
-/// Want of memory. The place stays pending, and nothing is known of the draft but its keys.
+/// Out of memory. The place stays pending, and nothing is known of the draft but its keys.
 fn carry_place<G: Gate>(
     alloc: Global,
     manner: &Manner,
@@ -119,9 +125,9 @@ fn carry_place<G: Gate>(
 ) -> Result<(), NoMemory>
     requires inside { place < length seats.old.items }
     requires over { draft.old.keys ≡ Over (start_of draft.old.keys) }
-    requires goes_on { (begun : Maps) × MayGoOn manner.now begun draft.old.maps (map place_of seats.old.items) }
+    requires goes_on { (start : Stored) × MayGoOn manner.now start draft.old.maps (map place_of seats.old.items) }
     requires first { AllClosed (take place (map place_of seats.old.items)) }
-    ensures goes_on { OnOk result ((begun : Maps) → MayGoOn manner.now begun draft.old.maps (map place_of seats.old.items) → MayGoOn manner.now begun draft.new.maps (map place_of seats.new.items)) }
+    ensures goes_on { OnOk result ((start : Stored) → MayGoOn manner.now start draft.old.maps (map place_of seats.old.items) → MayGoOn manner.now start draft.new.maps (map place_of seats.new.items)) }
     ensures closed { OnOk result (AllClosed (take (place + 1) (map place_of seats.new.items))) }
     ensures asked { asked_of (map place_of seats.new.items) ≡ asked_of (map place_of seats.old.items) }
     ensures len { vec_len seats.new ≡ vec_len seats.old }
@@ -136,12 +142,12 @@ fn carry_place<G: Gate>(
     Ok(())
 }
 
-/// Carries out what is pending, one place after another, on a draft of whole tables. The caller knows that nothing is open, and that what
-/// is pending may be carried out from the draft's maps on.
+/// Executes what is pending, one place after another, on a draft of whole tables. The caller knows that nothing is
+/// open, and that what is pending may be executed from the draft's maps on.
 ///
 /// # Errors
 ///
-/// Want of memory. Some places may be closed then, and nothing is known of the draft but its keys.
+/// Out of memory. Some places may be closed then, and nothing is known of the draft but its keys.
 fn carry_each<G: Gate>(
     alloc: Global,
     manner: &Manner,
@@ -150,8 +156,8 @@ fn carry_each<G: Gate>(
     gate: &G,
 ) -> Result<(), NoMemory>
     requires over { draft.old.keys ≡ Over (start_of draft.old.keys) }
-    requires goes_on { (begun : Maps) × MayGoOn manner.now begun draft.old.maps (map place_of seats.old.items) }
-    ensures goes_on { OnOk result ((begun : Maps) → MayGoOn manner.now begun draft.old.maps (map place_of seats.old.items) → MayGoOn manner.now begun draft.new.maps (map place_of seats.new.items)) }
+    requires goes_on { (start : Stored) × MayGoOn manner.now start draft.old.maps (map place_of seats.old.items) }
+    ensures goes_on { OnOk result ((start : Stored) → MayGoOn manner.now start draft.old.maps (map place_of seats.old.items) → MayGoOn manner.now start draft.new.maps (map place_of seats.new.items)) }
     ensures closed { OnOk result (AllClosed (map place_of seats.new.items)) }
     ensures asked { asked_of (map place_of seats.new.items) ≡ asked_of (map place_of seats.old.items) }
     ensures len { vec_len seats.new ≡ vec_len seats.old }
@@ -165,8 +171,8 @@ fn carry_each<G: Gate>(
 }
 
 impl Board<'_, '_, '_> {
-    /// The first place that is not closed. The caller knows that those before the place `from` are closed, which are not looked at. While
-    /// nothing is open, the place that is found is pending.
+    /// The first place that is not closed. The caller knows that those before the place `from` are closed, which are
+    /// not looked at. While nothing is open, the place that is found is pending.
     pub fn first_unclosed(&self, from: usize) -> Option<usize>
         requires { AllClosed (take from self.now.places) }
         ensures first { FindsFirst self.now.places result }
@@ -180,33 +186,38 @@ impl Board<'_, '_, '_> {
         None
     }
 
-    /// Whether the request of a place is meant for all: it has an action for each context, or a command that stands for all. Its keys
-    /// are then all that there are, so that it is in a wave only as the first place that is pending, and alone. Of one whose tree is not
-    /// kept it is not looked for.
-    pub fn is_for_all(&self, place: usize) -> bool {
+    /// Whether the request of a place is whole-table: it has an action for each context, or a command that stands for
+    /// all. Its keys are then all that there are, so that it is in a wave only as the first place that is pending,
+    /// and alone. Of one whose tree is not kept it is not looked for.
+    pub fn is_for_all(&self, place: usize) -> bool
+        ensures { IsTrue result → IsSomeAnd (slice_get self.now.places place) IsWholeTable }
+    {
         match self.seats.get(place) {
             Some(seat) => is_seen_for_all(seat.task.task().get()),
             None => false,
         }
     }
 
-    /// Whether all places behind this one are closed: there is nothing that it could be carried out beside.
-    pub fn is_last(&self, place: usize) -> bool {
-        self.seats
-            .iter()
-            .skip(place.saturating_add(1))
-            .all(is_closed)
+    /// Whether all places behind this one are closed: there is nothing that it could be executed beside.
+    pub fn is_last(&self, place: usize) -> bool
+        ensures { Decides result (AllClosed (drop (place + 1) self.now.places)) }
+    {
+        if place < self.seats.len() {
+            !any_unclosed(&self.seats[place + 1..])
+        } else {
+            true
+        }
     }
 
-    /// Carries out the first place that is not closed, on the tables where they lie, and closes it with its reply: what opening the
-    /// place, carrying its job out and closing it with the result come to. No footprint is told, and no entry is taken out: what stood
-    /// where the commands write goes to the journal, once for each key of the places that are carried out so one after another. So the
-    /// work is that of the commands. The caller knows that nothing is open, that all earlier places are closed, and that this one is
-    /// pending.
+    /// Executes the first place that is not closed, on the tables where they lie, and closes it with its reply: what
+    /// opening the place, executing its job and closing it with the result come to. No footprint is gathered, and no
+    /// entry is taken out: what stood where the commands write goes to the journal, once for each key of the places
+    /// that are executed so one after another. So the work is that of the commands. The caller knows that nothing is
+    /// open, that all earlier places are closed, and that this one is pending.
     ///
     /// # Errors
     ///
-    /// Want of memory. The board is as it was when it was made: every place is pending.
+    /// Out of memory. The board is as it was when it was made: every place is pending.
     pub fn carry_alone(&mut self, alloc: Global, place: usize) -> Result<(), NoMemory>
         requires open { NothingIsOpen (core_of self.old) }
         requires first { AllClosed (take place self.old.places) }
@@ -216,14 +227,14 @@ impl Board<'_, '_, '_> {
         ensures left { OnOk result (unclosed self.new.places + 1 ≡ unclosed self.old.places) }
         ensures same { IsSameBurst self.old self.new }
         ensures outcome { GivesTheFold self.new }
-        ensures err { OnErr result (self.new ≡ begun_board self.old.manner (asked_of self.old.places) self.old.begun) }
+        ensures err { OnErr result (self.new ≡ begun_board self.old.manner (asked_of self.old.places) self.old.start) }
     {
         let Some(task) = self.pending_task(place) else {
             unreachable!()
         };
         let tables = mem::replace(&mut self.tables, Tables::new(alloc));
-        let writes = room_for(self.seats.len());
-        let earlier = last_alone(alloc, writes, &mut self.originals);
+        let earlier = last_alone(alloc, &mut self.originals);
+        self.sweeps_all = continues(self.sweeps_all, &earlier);
         let left = match carry_in_place(alloc, &self.manner, tables, earlier, task.get()) {
             Ok(left) => left,
             Err(tables) => {
@@ -241,26 +252,27 @@ impl Board<'_, '_, '_> {
         Ok(())
     }
 
-    /// Carries out all that is pending, one place after another, as `carry_alone` does each of them; the gate is passed with the number 0
-    /// before each. The tables are moved into a draft once for all. The caller knows that nothing is open.
+    /// Executes all that is pending, one place after another, as `carry_alone` does each of them; the gate is passed
+    /// with the number 0 before each. The tables are moved into a draft once for all. The caller knows that nothing
+    /// is open.
     ///
     /// # Errors
     ///
-    /// Want of memory. The board is as it was when it was made: every place is pending.
+    /// Out of memory. The board is as it was when it was made: every place is pending.
     pub fn carry_rest<G: Gate>(&mut self, alloc: Global, gate: &G) -> Result<(), NoMemory>
         requires open { NothingIsOpen (core_of self.old) }
         ensures none { NothingIsOpen (core_of self.new) }
         ensures closed { OnOk result (AllClosed self.new.places) }
         ensures same { IsSameBurst self.old self.new }
         ensures outcome { GivesTheFold self.new }
-        ensures err { OnErr result (self.new ≡ begun_board self.old.manner (asked_of self.old.places) self.old.begun) }
+        ensures err { OnErr result (self.new ≡ begun_board self.old.manner (asked_of self.old.places) self.old.start) }
     {
         if self.first_unclosed(0).is_none() {
             return Ok(());
         }
         let tables = mem::replace(&mut self.tables, Tables::new(alloc));
-        let writes = room_for(self.seats.len());
-        let earlier = last_alone(alloc, writes, &mut self.originals);
+        let earlier = last_alone(alloc, &mut self.originals);
+        self.sweeps_all = continues(self.sweeps_all, &earlier);
         let mut draft = Draft::of_tables(tables, earlier);
         let Ok(()) = carry_each(alloc, &self.manner, &mut self.seats, &mut draft, gate) else {
             self.tables = draft.undone();

@@ -1,4 +1,4 @@
-//! What a burst asks: its requests, each with what it owns.
+//! What a burst requests, each with what it owns.
 
 ghost use Rattle.std.specs.Prelude.{◌≡◌, true, IfOk, IfSome, IsTrue};
 ghost use Rattle.gw_base.specs.declared.key.Key.TheVariants.{Whole};
@@ -13,7 +13,8 @@ use gw_msg::{Passage, Request, Sender};
 use gw_reserve::Owned;
 use std::marker::Model;
 
-/// A request, lent by the message that it came in, which keeps its tree, or where its text begins. Contracts see the request itself.
+/// A request, borrowed from the message that it came in, which keeps its tree, or where its text begins. Contracts
+/// see the request itself.
 #[derive(Drop)]
 pub struct Lent<'h, 'a> {
     passage: &'h Passage<'a>,
@@ -28,14 +29,14 @@ impl<'h, 'a> Model for Lent<'h, 'a> {
 }
 
 impl<'h, 'a> Lent<'h, 'a> {
-    /// The request, lent.
+    /// The request, borrowed.
     pub fn new(passage: &'h Passage<'a>) -> Self
         ensures { result ≡ passage.now }
     {
         Lent { passage }
     }
 
-    /// The same, lent once more.
+    /// The same, borrowed once more.
     pub fn again(&self) -> Self
         ensures { result ≡ self.now }
     {
@@ -62,7 +63,7 @@ impl<'h, 'a> Lent<'h, 'a> {
     ///
     /// # Errors
     ///
-    /// Want of memory, where it is read again.
+    /// Out of memory, where it is read again.
     pub fn tree<'s>(&'s self, bump: &'s Bump) -> Result<&'s Request<'s>, NoMemory>
         ensures { IfOk result (λ tree. tree.now ≡ self.now) }
     {
@@ -70,7 +71,7 @@ impl<'h, 'a> Lent<'h, 'a> {
     }
 }
 
-/// A request that is to be carried out, with what it owns.
+/// A request that is to be executed, with what it owns.
 #[derive(Drop)]
 pub struct Asked<'h, 'a> {
     /// The sender.
@@ -81,7 +82,7 @@ pub struct Asked<'h, 'a> {
     pub owned: Owned,
 }
 
-/// Whether the tree of what is asked is kept and shows that it is meant for all, so that its keys are all that there are.
+/// Whether the tree of the request is kept and shows that it is whole-table, so that its keys are all that there are.
 pub(crate) fn is_seen_for_all(asked: &Asked<'_, '_>) -> bool
     ensures { IsTrue result → (m : Maps) → has (keys_of asked.now m) Whole ≡ true }
 {
@@ -91,7 +92,7 @@ pub(crate) fn is_seen_for_all(asked: &Asked<'_, '_>) -> bool
     }
 }
 
-/// What is asked, lent once more. Contracts see what is asked.
+/// A request with what it owns, borrowed. Contracts see these.
 #[derive(Drop)]
 pub(crate) struct Task<'b, 'h, 'a> {
     asked: &'b Asked<'h, 'a>,
@@ -118,7 +119,7 @@ impl<'b, 'h, 'a> Task<'b, 'h, 'a> {
         self.asked
     }
 
-    /// The same, lent once more.
+    /// The same, borrowed once more.
     pub(crate) fn again(&self) -> Task<'b, 'h, 'a>
         ensures { result ≡ self.now }
     {

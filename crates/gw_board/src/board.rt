@@ -1,4 +1,4 @@
-//! The board: the tables of a burst that is carried out, and how its places stand.
+//! The board: the tables of a burst that is executed, and how its places stand.
 
 ghost use Rattle.std.specs.Prelude.{◌≡◌, [], IfOk, IfErr, length};
 ghost use Rattle.gw_table.specs.Stored.{maps_of, NoneIsOut};
@@ -19,16 +19,18 @@ use std::alloc::Global;
 use std::marker::Model;
 use std::snapshot::Snapshot;
 
-/// Tables, and the places of a burst: which requests are pending, open or closed. A place is the number of a request in the burst,
-/// from 0. The entries that an open job may touch are out of the tables. Contracts see the maps, the places, and the way back to the
-/// maps that the board was given.
+/// Tables, and the places of a burst: which requests are pending, open or closed. A place is the number of a request
+/// in the burst, from 0. The entries that an open job may touch are out of the tables. Contracts see the maps, the
+/// places, the tables that the board was given, and the way back to their maps.
 #[derive(Drop)]
 pub struct Board<'b, 'h, 'a> {
     pub(crate) tables: Tables,
     pub(crate) manner: Manner,
     pub(crate) seats: Vec<Seat<'b, 'h, 'a>>,
-    /// The names of all places are told.
+    /// The names of all places were gathered.
     pub(crate) is_named: bool,
+    /// Keys may be prepared that are neither those of the journal nor of open jobs.
+    pub(crate) sweeps_all: bool,
     pub(crate) originals: Vec<Original>,
     pub(crate) replies: Vec<Items<u8>>,
     pub(crate) start: Snapshot<Tables>,
@@ -37,11 +39,12 @@ pub struct Board<'b, 'h, 'a> {
 impl<'b, 'h, 'a> Model for Board<'b, 'h, 'a> {
     ghost use Rattle.std.specs.Coded.{codes};
     ghost use Rattle.gw_table.specs.Maps.{coded_maps};
+    ghost use Rattle.gw_table.specs.Stored.{coded_stored};
     ghost use Rattle.gw_board.specs.Boards.{Seen};
 
     ghost Value = { Seen };
 
-    ghost coded = { Prim.hlevel (codes, coded_maps) };
+    ghost coded = { Prim.hlevel (codes, coded_maps, coded_stored) };
 
     ghost use Rattle.gw_board.specs.BoardView.{value_of, IsBoard};
 
@@ -51,12 +54,13 @@ impl<'b, 'h, 'a> Model for Board<'b, 'h, 'a> {
 }
 
 impl<'b, 'h, 'a> Board<'b, 'h, 'a> {
-    /// A board on which every request is pending. The caller knows that the tables are well-formed, that nothing is out, and that the
-    /// slots that the requests own are distinct and unused. Room for the replies and for the originals is made here.
+    /// A board on which every request is pending. The caller knows that the tables are well-formed, that nothing is
+    /// out, and that the slots that the requests own are distinct and unused. Room for the replies and for the
+    /// originals is made here.
     ///
     /// # Errors
     ///
-    /// Want of memory. The tables come back as they were.
+    /// Out of memory. The tables come back as they were.
     pub fn new(
         alloc: Global,
         tables: Tables,
@@ -66,7 +70,7 @@ impl<'b, 'h, 'a> Board<'b, 'h, 'a> {
         requires whole { AreWellFormed manner.rules.members (maps_of tables) }
         requires here { NoneIsOut tables }
         requires unused { AreUnused (maps_of tables) [] (slots_of asked.now) }
-        ensures board { IfOk result (λ board. board ≡ begun_board manner asked.now (maps_of tables)) }
+        ensures board { IfOk result (λ board. board ≡ begun_board manner asked.now tables) }
         ensures outcome { IfOk result GivesTheFold }
         ensures fault { IfErr result (HandsBack tables) }
     {
@@ -85,6 +89,7 @@ impl<'b, 'h, 'a> Board<'b, 'h, 'a> {
             manner,
             seats,
             is_named: false,
+            sweeps_all: false,
             originals,
             replies,
             start,

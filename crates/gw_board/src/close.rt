@@ -1,9 +1,10 @@
 //! Closing a job, and the end of a board. Nothing here takes memory.
 
-ghost use Rattle.std.specs.Prelude.{◌≡◌};
-ghost use Rattle.gw_table.specs.Stored.{maps_of, NoneIsOut};
+ghost use Rattle.std.specs.Prelude.{◌≡◌, true};
+ghost use Rattle.gw_table.specs.Stored.{maps_of, AreSwept, AreSweptAmong, KeepReady, NoneIsOut};
 ghost use Rattle.gw_board.specs.Boards.{asked_of, after_end, AllClosed, core_of, GivesTheFold, HasOpen, outcome_of, unchanged, with_result};
 ghost use Rattle.gw_board.specs.Carried.{carried};
+ghost use Rattle.gw_board.specs.Fitting.{Each};
 ghost use Rattle.gw_board.specs.Jobs.{new_part};
 ghost use Rattle.gw_board.specs.Results.{NothingIsOpen};
 
@@ -15,19 +16,27 @@ use crate::seat::{Seat, Stage, set_stage};
 use gw_base::Items;
 use gw_table::{Part, Tables};
 
-/// Gives up the places that were made for keys of the journal and have no entry.
-fn sweep_journal(tables: &mut Tables, originals: &[Original])
+/// Ends the preparation of keys that have no entry: of those of the journal, or of all.
+fn sweep_journal(tables: &mut Tables, originals: &[Original], all: bool)
     requires { NoneIsOut tables.old }
     ensures maps { maps_of tables.new ≡ maps_of tables.old }
     ensures here { NoneIsOut tables.new }
+    ensures swept { Each (λ o. AreSweptAmong o.keys tables.new) originals.now }
+    ensures all { all ≡ true → AreSwept tables.new }
+    ensures fewer { KeepReady tables.new tables.old }
 {
+    if all {
+        tables.sweep();
+        return;
+    }
     for original in originals {
         original.sweep(tables);
     }
 }
 
 impl<'b, 'h, 'a> Board<'b, 'h, 'a> {
-    /// The job's new entries go into the tables, and its reply stands at its place. The part that it had goes to the journal.
+    /// The job's new entries go into the tables, and its reply stands at its place. The part that it had goes to the
+    /// journal.
     fn close_with(&mut self, job: Job<'_, '_, '_>, part: Part, reply: Items<u8>)
         requires open { HasOpen self.old job }
         requires part { part ≡ new_part job }
@@ -61,12 +70,13 @@ impl<'b, 'h, 'a> Board<'b, 'h, 'a> {
             part: back,
         } = job;
         self.tables.put_back(back);
+        self.sweeps_all = true;
         set_stage(&mut self.seats, place, Stage::Pending);
     }
 
-    /// Closes a job. With its result, its new entries go into the tables, its reply stands at its place, and the part that it had goes
-    /// to the board's journal; unchanged, its entries go back and its place is pending again. The caller knows that this board has the
-    /// job open. The work is a look-up for each of its keys.
+    /// Closes a job. With its result, its new entries go into the tables, its reply stands at its place, and the part
+    /// that it had goes to the board's journal; unchanged, its entries go back and its place is pending again. The
+    /// caller knows that this board has the job open. The work is a look-up for each of its keys.
     pub fn close(&mut self, done: Done<'_, '_, '_>)
         requires { HasOpen self.old done.job }
         ensures board { self.new ≡ after_end self.old done.entry }
@@ -79,42 +89,47 @@ impl<'b, 'h, 'a> Board<'b, 'h, 'a> {
         }
     }
 
-    /// The tables as they were when the board was made: the originals of the journal go back, the last one first. The caller knows that
-    /// nothing is open. No place stays that has no entry. The work is a look-up for each key of the journal, and one pass over all
-    /// places.
+    /// The tables as they were when the board was made: the originals of the journal go back, the last one first. The
+    /// caller knows that nothing is open. No key without an entry stays prepared. The work is a look-up for each key
+    /// of the journal, and one pass over all rows.
     pub fn undo(self) -> Tables
         requires { NothingIsOpen (core_of self) }
-        ensures maps { maps_of result ≡ self.entry.begun }
+        ensures maps { maps_of result ≡ (maps_of self.entry.start) }
         ensures here { NoneIsOut result }
+        ensures swept { AreSwept result }
     {
         let Board {
             mut tables,
             manner: _,
             seats: _,
             is_named: _,
+            sweeps_all: _,
             mut originals,
             replies: _,
             start: _,
         } = self;
         put_all_back(&mut tables, &mut originals);
-        tables.sweep();
         tables
     }
 
-    /// The tables, and the texts of the replies in the order of the places: what carrying the requests out one after another gives, on the tables
-    /// that the board was made with. The caller knows that every place is closed with a reply. Places that were made for its keys and
-    /// have no entry are given up: the work is a look-up for each key of a job, and for each that was left without an entry.
+    /// The tables, and the texts of the replies in the order of the places: what executing the requests one after
+    /// another gives, on the tables that the board was made with. The caller knows that every place is closed with a
+    /// reply. Where each prepared key had an entry then, each has one now: the work is a look-up for each key of the
+    /// journal, or one pass over all rows, where places that were executed alone wrote many keys, where their log was
+    /// continued, or where a job was closed unchanged.
     pub fn finish(self) -> (Tables, Vec<Items<u8>>)
         requires { AllClosed self.places }
-        ensures maps { maps_of result.0 ≡ (carried self.entry.manner (asked_of self.entry.places) self.entry.begun).maps }
-        ensures replies { result.1.items ≡ (carried self.entry.manner (asked_of self.entry.places) self.entry.begun).answer }
+        ensures maps { maps_of result.0 ≡ (carried self.entry.manner (asked_of self.entry.places) (maps_of self.entry.start)).maps }
+        ensures replies { result.1.items ≡ (carried self.entry.manner (asked_of self.entry.places) (maps_of self.entry.start)).answer }
         ensures here { NoneIsOut result.0 }
+        ensures swept { AreSwept self.entry.start → AreSwept result.0 }
     {
         let Board {
             mut tables,
             manner: _,
             seats,
             is_named: _,
+            sweeps_all,
             originals,
             mut replies,
             start: _,
@@ -128,7 +143,7 @@ impl<'b, 'h, 'a> Board<'b, 'h, 'a> {
                 unreachable!()
             };
         }
-        sweep_journal(&mut tables, &originals);
+        sweep_journal(&mut tables, &originals, sweeps_all);
         (tables, replies)
     }
 }

@@ -18,8 +18,8 @@ use std::alloc::Global;
 use std::marker::Model;
 use std::mem;
 
-/// A request of an open place, with the entries that it may touch, which are out of the tables meanwhile. It may be carried out
-/// wherever its holder likes.
+/// A request of an open place, with the entries that it may touch, which are out of the tables meanwhile. It may be
+/// executed wherever its owner likes.
 #[derive(Drop)]
 pub struct Job<'b, 'h, 'a> {
     pub(crate) place: usize,
@@ -54,12 +54,12 @@ impl Job<'_, '_, '_> {
     }
 }
 
-/// Carries a request out on a draft that covers it, and writes the reply. What is behind the limit of a reply is carried out, and not
-/// told. Texts are gathered in the block, which is left for the next request, whatever it has.
+/// Executes a request on a draft that covers it, and writes the reply. What is behind the limit of a reply is
+/// executed, and not written. Texts are gathered in the block, which is left for the next request, whatever it has.
 ///
 /// # Errors
 ///
-/// Want of memory. Nothing is known of the draft then but its keys.
+/// Out of memory. Nothing is known of the draft then but its keys.
 pub(crate) fn carry_on(
     alloc: Global,
     manner: &Manner,
@@ -92,12 +92,12 @@ pub(crate) fn carry_on(
     Ok(text)
 }
 
-/// Carries a job's request out on a copy of its part, and writes the reply; the job stays as it is. The work is that of the
-/// commands and of the copy. What is behind the limit of a reply is carried out, and not told.
+/// Executes a job's request on a copy of its part, and writes the reply; the job stays as it is. The work is that of
+/// the commands and of the copy. What is behind the limit of a reply is executed, and not written.
 ///
 /// # Errors
 ///
-/// Want of memory.
+/// Out of memory.
 pub fn carry(alloc: Global, job: &Job<'_, '_, '_>) -> Result<(Part, Items<u8>), NoMemory>
     ensures part { IfOk result (λ new. new.0 ≡ new_part job.now) }
     ensures reply { IfOk result (λ new. new.1 ≡ (outcome_of job.now).answer) }
@@ -132,7 +132,8 @@ impl<'b, 'h, 'a> Model for Done<'b, 'h, 'a> {
 }
 
 impl<'b, 'h, 'a> Done<'b, 'h, 'a> {
-    /// The job with its result. The caller knows that part and text are what its request does on its part, as `carry` answers them.
+    /// The job with its result. The caller knows that part and text are what its request does on its part, as `carry`
+    /// answers them.
     pub fn new(job: Job<'b, 'h, 'a>, part: Part, reply: Items<u8>) -> Self
         requires part { part ≡ new_part job }
         requires reply { reply ≡ (outcome_of job).answer }

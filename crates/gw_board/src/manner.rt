@@ -1,8 +1,8 @@
-//! How requests are carried out and answered.
+//! How requests are executed and answered.
 
 use gw_base::{Mid, Rules};
 
-/// The rules by which commands are carried out, and the mId that replies are sent from.
+/// The rules by which commands are executed, and the mId that replies are sent from.
 #[derive(Clone, Copy)]
 pub struct Manner {
     /// The rules of commands.

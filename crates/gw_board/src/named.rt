@@ -108,9 +108,10 @@ fn add_link(
     Ok(())
 }
 
-/// What is asked, with what it names by itself, and the earlier places that name such a thing too: both are empty until they are told
-/// for the first wave. Those before the watched one were seen not to wait any more. Besides, one earlier place that was seen to have a
-/// context in common with this one. Each link is looked at anew each time, so any numbers will do.
+/// A request, with what it names by itself, and the earlier places that name such a thing too: both are empty until
+/// they are gathered for the first wave. Those before the watched one were seen not to wait any more. Besides, one
+/// earlier place that was seen to have a context in common with this one. Each link is looked at anew each time, so
+/// any numbers will do.
 #[derive(Drop)]
 pub(crate) struct Named<'b, 'h, 'a> {
     task: Task<'b, 'h, 'a>,
@@ -132,7 +133,7 @@ impl<'b, 'h, 'a> Model for Named<'b, 'h, 'a> {
 }
 
 impl<'b, 'h, 'a> Named<'b, 'h, 'a> {
-    /// What is asked, of which no name is told yet. It takes no memory.
+    /// A request whose names are not gathered yet. It takes no memory.
     pub(crate) fn new(alloc: Global, asked: &'b Asked<'h, 'a>) -> Self
         ensures { result ≡ asked.now }
     {
@@ -145,7 +146,7 @@ impl<'b, 'h, 'a> Named<'b, 'h, 'a> {
         }
     }
 
-    /// Tells the names and the links of a place, where the namers know of the earlier places.
+    /// Gathers the names and the links of a place, where the index knows of the earlier places.
     pub(crate) fn tell_names(
         &mut self,
         alloc: Global,
@@ -187,7 +188,7 @@ impl<'b, 'h, 'a> Named<'b, 'h, 'a> {
         self.beside.get()
     }
 
-    /// Looks for such a place among those that were noted, and notes this one.
+    /// Looks for such a place among those that were logged, and logs this one.
     pub(crate) fn watch_contexts(
         &self,
         tables: &Tables,
@@ -199,7 +200,8 @@ impl<'b, 'h, 'a> Named<'b, 'h, 'a> {
         Ok(())
     }
 
-    /// Whether the link shows that both name a thing, or things in one context, so that their keys meet in the tables as they are.
+    /// Whether the link shows that both name a thing, or things in one context, so that their keys meet in the tables
+    /// as they are.
     pub(crate) fn is_linked(&self, tables: &Tables, other: &Named<'_, '_, '_>, link: Link) -> bool
         ensures { IsTrue result → meets (keys_of other.now (maps_of tables.now)) (keys_of self.now (maps_of tables.now)) ≡ true }
     {

@@ -11,7 +11,8 @@ pub(crate) struct Naming {
     pub(crate) at: usize,
 }
 
-/// Where each context and each termination was named last. No clause speaks of it: what it tells is looked at anew where it is used.
+/// Where each context and each termination was named last. No clause speaks of it: what it answers is looked at anew
+/// where it is used.
 #[derive(Drop)]
 pub(crate) struct Namers {
     terms: BTreeMap<TermName, Naming>,
@@ -27,7 +28,7 @@ impl Namers {
         }
     }
 
-    /// Notes where a thing is named, and tells where it was named last before. With n things the work is log n.
+    /// Logs where a thing is named, and answers where it was named last before. With n things the work is log n.
     pub(crate) fn note(&mut self, key: &Key, naming: Naming) -> Result<Option<Naming>, NoMemory> {
         let last = match key {
             Key::Term(name) => self.terms.insert(*name, naming)?,

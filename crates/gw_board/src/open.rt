@@ -111,7 +111,7 @@ fn first_met(
 }
 
 impl<'b, 'h, 'a> Board<'b, 'h, 'a> {
-    /// What a pending place asks.
+    /// What a pending place requests.
     pub(crate) fn pending_task(&self, place: usize) -> Option<Task<'b, 'h, 'a>>
         ensures { PendsAt (slice_get self.now.places place) result }
     {
@@ -151,7 +151,10 @@ impl<'b, 'h, 'a> Board<'b, 'h, 'a> {
         ensures err { OnErr result (self.new ≡ self.old) }
     {
         let listed = Vec::from_slice(alloc, keys.list())?;
-        self.tables.reserve_slots(&listed)?;
+        let Ok(()) = self.tables.reserve_slots(&listed) else {
+            self.sweeps_all = true;
+            return Err(NoMemory);
+        };
         let part = self.tables.take_out(keys);
         let shown = Snapshot::of(&part);
         let manner = self.manner;
@@ -171,14 +174,14 @@ impl<'b, 'h, 'a> Board<'b, 'h, 'a> {
         })
     }
 
-    /// Opens a pending place whose keys, in the tables as they are, meet those of no earlier place that is pending or open: their
-    /// entries go out of the tables into the job. Room for what may come into being at these keys is made here, so that closing takes
-    /// no memory. The footprint of each earlier pending place is looked at.
+    /// Opens a pending place whose keys, in the tables as they are, meet those of no earlier place that is pending or
+    /// open: their entries go out of the tables into the job. Room for what may come into being at these keys is made
+    /// here, so that closing takes no memory. The footprint of each earlier pending place is looked at.
     ///
     /// # Errors
     ///
-    /// `NotPending` where the place is open, closed or not there; else `Meets` with the first earlier place that is met; want of memory.
-    /// The board is as it was.
+    /// `NotPending` where the place is open, closed or not there; else `Meets` with the first earlier place that is
+    /// met; out of memory. The board is as it was.
     pub fn open(&mut self, alloc: Global, place: usize) -> Result<Job<'b, 'h, 'a>, OpenFault>
         ensures job { IfOk result (λ job. Opens self.old place job self.new) }
         ensures outcome { OnOk result (GivesTheFold self.new) }
@@ -192,13 +195,13 @@ impl<'b, 'h, 'a> Board<'b, 'h, 'a> {
         Ok(self.hand_out(alloc, place, task, keys)?)
     }
 
-    /// Opens a place as it was planned. The caller knows that it may be opened with the keys that it has there, as those of
-    /// `plan_wave` may while nothing else is open, one after another. No other place is looked at, and the tables only at these keys.
-    /// Room is made as by `open`.
+    /// Opens a place as it was planned. The caller knows that it may be opened with the keys that it has there, as
+    /// those of `plan_wave` may while nothing else is open, one after another. No other place is looked at, and the
+    /// tables only at these keys. Room is made as by `open`.
     ///
     /// # Errors
     ///
-    /// Want of memory. The board is as it was.
+    /// Out of memory. The board is as it was.
     pub fn open_planned(
         &mut self,
         alloc: Global,

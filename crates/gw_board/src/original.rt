@@ -3,7 +3,7 @@
 ghost use Rattle.std.specs.Prelude.{◌≡◌, IfOk, IfErr};
 ghost use Rattle.gw_board.specs.Journal.{led};
 ghost use Rattle.gw_board.specs.Seats.{original_of_part, original_of_writes};
-ghost use Rattle.gw_table.specs.Stored.{maps_of, AreReady, AreIn, AreAsReady, AreAsOut, NoneIsOut};
+ghost use Rattle.gw_table.specs.Stored.{maps_of, AreReady, AreIn, AreAsReady, AreAsOut, AreSweptAmong, KeepReady, NoneIsOut};
 
 use gw_table::{Originals, Part, Tables};
 use std::marker::Model;
@@ -13,7 +13,7 @@ use std::marker::Model;
 pub(crate) enum Stood {
     /// The part that its job took out.
     OfJob(Part),
-    /// What its writes found, where it was carried out alone.
+    /// What its writes found, where it was executed alone.
     OfWrites(Originals),
 }
 
@@ -46,7 +46,7 @@ impl Original {
         }
     }
 
-    /// Of a place that was carried out alone.
+    /// Of a place that was executed alone.
     pub(crate) fn of_writes(originals: Originals) -> Original
         ensures { result ≡ original_of_writes originals }
     {
@@ -55,7 +55,7 @@ impl Original {
         }
     }
 
-    /// What writes found, where the place was carried out alone; else it comes back.
+    /// What writes found, where the place was executed alone; else it comes back.
     pub(crate) fn into_writes(self) -> Result<Originals, Original>
         ensures ok { IfOk result (λ originals. original_of_writes originals ≡ self) }
         ensures err { IfErr result (λ original. original ≡ self) }
@@ -82,12 +82,13 @@ impl Original {
         }
     }
 
-    /// Gives up the places of its keys that have no entry: a job's keys take a look-up each, and of the others those that were left
-    /// without an entry.
+    /// Ends the preparation of its keys that have no entry. A key takes a look-up.
     pub(crate) fn sweep(&self, tables: &mut Tables)
         requires { NoneIsOut tables.old }
         ensures maps { maps_of tables.new ≡ maps_of tables.old }
         ensures here { NoneIsOut tables.new }
+        ensures swept { AreSweptAmong self.now.keys tables.new }
+        ensures fewer { KeepReady tables.new tables.old }
     {
         match &self.stood {
             Stood::OfJob(part) => tables.sweep_keys(part.keys()),

@@ -26,8 +26,8 @@ use gw_base::NoMemory;
 use gw_table::{Keys, Tables};
 use std::alloc::Global;
 
-/// The keys of a place that is pending and meets none of those that wait. If it is pending, it waits from now on. One that is meant for
-/// all meets whatever waits, so that its keys are not told then.
+/// The keys of a place that is pending and meets none of those that wait. If it is pending, it waits from now on. One
+/// that is whole-table meets whatever waits, so that its keys are not gathered then.
 fn join_waiting(
     alloc: Global,
     tables: &Tables,
@@ -62,8 +62,8 @@ fn note_place(planned: &mut Vec<Planned>, place: usize, found: Option<Keys>) -> 
     Ok(())
 }
 
-/// Whether a place is pending and the link shows that it names what this one names, or something in one context with it, so that
-/// their keys meet.
+/// Whether a place is pending and the link shows that it names what this one names, or something in one context with
+/// it, so that their keys meet.
 fn is_ahead(tables: &Tables, seat: &Seat<'_, '_, '_>, mine: &Seat<'_, '_, '_>, link: Link) -> bool
     ensures { IsTrue result → (is_pending (standing_of seat.now.stage) && meets (keys_of seat.now.task (maps_of tables.now)) (keys_of mine.now.task (maps_of tables.now))) ≡ true }
 {
@@ -84,8 +84,9 @@ fn waits_for(tables: &Tables, seats: &[Seat<'_, '_, '_>], at: usize, link: Link)
     is_ahead(tables, &seats[link.place], &seats[at], link)
 }
 
-/// Whether a place waits for an earlier one that names what it names. Of the places that name a thing it is enough to look at the last
-/// before this one, since it waits for those before it. One that does not wait any more is not looked at again.
+/// Whether a place waits for an earlier one that names what it names. Of the places that name a thing it is enough to
+/// look at the last before this one, since it waits for those before it. One that does not wait any more is not
+/// looked at again.
 fn waits_by_name(tables: &Tables, seats: &[Seat<'_, '_, '_>], at: usize) -> bool
     requires { at < length seats.now }
     ensures { IsTrue result → IsNoneOfWave (maps_of tables.now) (map place_of seats.now) at }
@@ -102,8 +103,8 @@ fn waits_by_name(tables: &Tables, seats: &[Seat<'_, '_, '_>], at: usize) -> bool
     false
 }
 
-/// Whether a place is not in the wave, as far as its links show: it is not pending, or it waits for an earlier pending place that names
-/// what it names, or for the one that was seen to have a context in common with it.
+/// Whether a place is not in the wave, as far as its links show: it is not pending, or it waits for an earlier
+/// pending place that names what it names, or for the one that was seen to have a context in common with it.
 fn waits(tables: &Tables, seats: &[Seat<'_, '_, '_>], at: usize) -> bool
     requires { at < length seats.now }
     ensures { IsTrue result → IsNoneOfWave (maps_of tables.now) (map place_of seats.now) at }
@@ -158,13 +159,13 @@ fn places_of(alloc: Global, planned: &[Planned]) -> Result<Vec<usize>, NoMemory>
 }
 
 impl Board<'_, '_, '_> {
-    /// The next wave: in rising order, all pending places whose keys, in the tables as they are, meet those of no earlier pending
-    /// place. While nothing is open, the places of the wave may be opened in this order, one after another. The work is that of
-    /// `plan_wave`.
+    /// The next wave: in rising order, all pending places whose keys, in the tables as they are, meet those of no
+    /// earlier pending place. While nothing is open, the places of the wave may be opened in this order, one after
+    /// another. The work is that of `plan_wave`.
     ///
     /// # Errors
     ///
-    /// Want of memory.
+    /// Out of memory.
     pub fn plan(&self, alloc: Global) -> Result<Vec<usize>, NoMemory>
         ensures { IfOk result (λ places. places.items ≡ wave (core_of self.now)) }
     {
@@ -172,15 +173,16 @@ impl Board<'_, '_, '_> {
         places_of(alloc, &planned)
     }
 
-    /// The next wave, as of `plan`, each place with its keys. While nothing is open, `open_planned` opens them in this order, one
-    /// after another. Nothing behind a place that has the whole of the tables is looked at, nor are the keys of such a place told, where
-    /// one before it is pending. Once `open_wave` has told the names of requests, a place that waits for an earlier one which names a
-    /// context or a termination that it names is not looked at in the tables either, but where a later one may be in the wave. With n
-    /// keys of the places that are looked at the work is n log n.
+    /// The next wave, as of `plan`, each place with its keys. While nothing is open, `open_planned` opens them in
+    /// this order, one after another. Nothing behind a whole-table place is looked at, nor are the keys of such a
+    /// place gathered, where one before it is pending. Once `open_wave` has gathered the names of requests, a place
+    /// that waits for an earlier one which names a context or a termination that it names is not looked at in the
+    /// tables either, but where a later one may be in the wave. With n keys of the places that are looked at the work
+    /// is n log n.
     ///
     /// # Errors
     ///
-    /// Want of memory.
+    /// Out of memory.
     pub fn plan_wave(&self, alloc: Global) -> Result<Vec<Planned>, NoMemory>
         ensures plan { IfOk result (λ planned. IsPlan self.now planned.items) }
         ensures in_turn { IfOk result (λ planned. NothingIsOpen (core_of self.now) → MayOpenInTurn self.now planned.items) }

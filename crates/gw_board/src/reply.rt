@@ -4,6 +4,7 @@ ghost use Rattle.std.specs.Prelude.{◌≡◌, IfOk, option_copied, slice_get};
 ghost use Rattle.gw_reply.specs.Messages.{reply_text};
 ghost use Rattle.gw_reply.specs.declared.reply.TxReply.{TxReply};
 ghost use Rattle.gw_tx.specs.Told.{within};
+ghost use Rattle.gw_table.specs.Stored.{maps_of};
 ghost use Rattle.gw_board.specs.Boards.{AllClosed, asked_of, reply_of, reply_at};
 ghost use Rattle.gw_board.specs.Carried.{carried};
 ghost use Rattle.gw_board.specs.Limits.{reply_limit};
@@ -26,8 +27,8 @@ pub(crate) fn reply_limit(mid: &Mid) -> usize
     LONGEST_MESSAGE - b"MEGACO/1 \n".len() - mid.as_bytes().len()
 }
 
-/// The text of the reply to the transaction of this number, of which this was told within the limit: where it is too long, that of
-/// error 533 in its place.
+/// The text of the reply to the transaction of this number, of which this was written within the limit: where it is
+/// too long, that of error 533 in its place.
 pub(crate) fn text_told(
     alloc: Global,
     mid: &Mid,
@@ -62,11 +63,11 @@ fn text_in(stage: &Stage) -> Option<&[u8]>
 }
 
 impl Board<'_, '_, '_> {
-    /// The text of the reply at a place that was closed with its result. Where every place is closed, that is what carrying out all
-    /// requests one after another answers there.
+    /// The text of the reply at a place that was closed with its result. Where every place is closed, that is what
+    /// executing all requests one after another answers there.
     pub fn reply_at(&self, place: usize) -> Option<&[u8]>
         ensures reply { option_copied result ≡ reply_at (slice_get self.now.places place) }
-        ensures all { AllClosed self.now.places → option_copied result ≡ slice_get (carried self.now.manner (asked_of self.now.places) self.now.begun).answer place }
+        ensures all { AllClosed self.now.places → option_copied result ≡ slice_get (carried self.now.manner (asked_of self.now.places) (maps_of self.now.start)).answer place }
     {
         match self.seats.get(place) {
             Some(seat) => text_in(&seat.stage),

@@ -23,11 +23,11 @@ pub(crate) enum Stage {
         keys: Vec<Key>,
         part: Snapshot<Part>,
     },
-    /// Its request was carried out; the text of the reply.
+    /// Its request was executed; the text of the reply.
     Closed(Items<u8>),
 }
 
-/// A place of a burst: what it asks, and how it stands.
+/// A place of a burst: its request, and how it stands.
 #[derive(Drop)]
 pub(crate) struct Seat<'b, 'h, 'a> {
     pub(crate) task: Named<'b, 'h, 'a>,
@@ -66,7 +66,7 @@ fn tell_names_at(
     seat.task.tell_names(alloc, place, namers)
 }
 
-/// Tells the names and the links of all places. The places stay as they are, also after want of memory.
+/// Gathers the names and the links of all places. The places stay as they are, also out of memory.
 pub(crate) fn tell_names(alloc: Global, seats: &mut Vec<Seat<'_, '_, '_>>) -> Result<(), NoMemory>
     ensures places { map place_of seats.new.items ≡ map place_of seats.old.items }
     ensures len { vec_len seats.new ≡ vec_len seats.old }

@@ -9,8 +9,8 @@ use crate::open::is_same;
 use gw_base::{CtxNum, Key, NoMemory};
 use gw_table::Tables;
 
-/// An earlier place that names what this one names, or something in one context with it: which of this place's names it is, the
-/// place, and which of its names.
+/// An earlier place that names what this one names, or something in one context with it: which of this place's names
+/// it is, the place, and which of its names.
 #[derive(Clone, Copy, Drop)]
 pub(crate) struct Link {
     pub(crate) mine: usize,
@@ -75,7 +75,8 @@ fn later(found: Option<Link>, mine: usize, holder: Option<Naming>) -> Option<Lin
     })
 }
 
-/// Notes in which contexts the names of a place are, and finds the last earlier place of which a name is in one of them.
+/// Notes in which contexts the names of a place are, and finds the last earlier place of which a name is in one of
+/// them.
 pub(crate) fn note_contexts(
     tables: &Tables,
     names: &[Key],

@@ -13,8 +13,8 @@ use gw_base::{Key, NoMemory, TermName};
 use std::alloc::Global;
 use std::collections::BTreeSet;
 
-/// The keys of places that wait, and whether one of them has the whole of the tables. Then all keys are waited for, and no more are
-/// noted.
+/// The keys of places that wait, and whether one of them is whole-table. Then all keys are waited for, and no more
+/// are logged.
 #[derive(Drop)]
 pub(crate) struct Waiting {
     terms: BTreeSet<TermName>,
@@ -43,7 +43,7 @@ impl Waiting {
         self.is_any
     }
 
-    /// Whether a place that waits has the whole of the tables.
+    /// Whether a place that waits is whole-table.
     pub(crate) fn is_whole(&self) -> bool
         ensures { result ≡ self.now.is_whole }
     {
@@ -99,7 +99,7 @@ impl Waiting {
         Ok(())
     }
 
-    /// One more place waits, which has the whole of the tables.
+    /// One more place waits, which is whole-table.
     pub(crate) fn add_whole(&mut self)
         ensures { (k : List AKey) → meet_waiting self.new k ≡ true }
     {

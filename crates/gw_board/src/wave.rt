@@ -15,7 +15,7 @@ use gw_base::{Items, NoMemory};
 use gw_table::Part;
 use std::alloc::Global;
 
-/// What a job came to: its new entries and the text of its reply, unless memory was wanting.
+/// What a job came to: its new entries and the text of its reply, unless it was out of memory.
 type Answer = Result<(Part, Items<u8>), NoMemory>;
 
 fn are_all_ok(answers: &[Answer]) -> bool
@@ -36,7 +36,7 @@ fn result_in(answer: Option<Answer>) -> (Part, Items<u8>)
 }
 
 impl<'b, 'h, 'a> Board<'b, 'h, 'a> {
-    /// Tells the names and the links of all places, if that was not done yet.
+    /// Gathers the names and the links of all places, if that was not done yet.
     fn tell_names(&mut self, alloc: Global) -> Result<(), NoMemory>
         ensures { self.new ≡ self.old }
     {
@@ -47,7 +47,8 @@ impl<'b, 'h, 'a> Board<'b, 'h, 'a> {
         Ok(())
     }
 
-    /// The next wave, as of `plan_wave`, where places that wait for earlier ones by name are not looked at in the tables.
+    /// The next wave, as of `plan_wave`, where places that wait for earlier ones by name are not looked at in the
+    /// tables.
     fn plan_by_names(&mut self, alloc: Global) -> Result<Vec<Planned>, NoMemory>
         ensures plan { IfOk result (λ planned. IsPlan self.old planned.items) }
         ensures in_turn { IfOk result (λ planned. NothingIsOpen (core_of self.old) → MayOpenInTurn self.old planned.items) }
@@ -57,12 +58,13 @@ impl<'b, 'h, 'a> Board<'b, 'h, 'a> {
         self.plan_wave(alloc)
     }
 
-    /// Plans the next wave, and opens its places: the jobs are all that is open then. There are none only where every place is closed.
-    /// The caller knows that nothing is open. What the requests name by themselves is told before the first wave.
+    /// Plans the next wave, and opens its places: the jobs are all that is open then. There are none only where every
+    /// place is closed. The caller knows that nothing is open. What the requests name by themselves is gathered
+    /// before the first wave.
     ///
     /// # Errors
     ///
-    /// Want of memory. Nothing is open then.
+    /// Out of memory. Nothing is open then.
     pub fn open_wave(&mut self, alloc: Global) -> Result<Vec<Job<'b, 'h, 'a>>, NoMemory>
         requires { NothingIsOpen (core_of self.old) }
         ensures open { IfOk result (λ jobs. AreOpen self.new jobs.items) }
@@ -85,7 +87,8 @@ impl<'b, 'h, 'a> Board<'b, 'h, 'a> {
         Ok(jobs)
     }
 
-    /// Closes all jobs as if they had not been opened. The caller knows that they are all that is open. It takes no memory.
+    /// Closes all jobs as if they had not been opened. The caller knows that they are all that is open. It takes no
+    /// memory.
     pub fn close_unchanged(&mut self, mut jobs: Vec<Job<'b, 'h, 'a>>)
         requires { AreOpen self.old jobs.items }
         ensures none { NothingIsOpen (core_of self.new) }
@@ -97,12 +100,13 @@ impl<'b, 'h, 'a> Board<'b, 'h, 'a> {
         }
     }
 
-    /// Closes all jobs with their results, if all have one, and else as if they had not been opened. The caller knows that they are all
-    /// that is open, and that each answer is that of its job, as `carry` gives it. It takes no memory.
+    /// Closes all jobs with their results, if all have one, and else as if they had not been opened. The caller knows
+    /// that they are all that is open, and that each answer is that of its job, as `carry` gives it. It takes no
+    /// memory.
     ///
     /// # Errors
     ///
-    /// Want of memory, where an answer is that.
+    /// Out of memory, where an answer is that.
     pub fn close_wave(
         &mut self,
         mut jobs: Vec<Job<'b, 'h, 'a>>,

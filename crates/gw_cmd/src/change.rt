@@ -1,6 +1,6 @@
 //! What a command makes of a termination.
 
-use gw_base::{CtxNum, Held, Items};
+use gw_base::{CtxNum, Items};
 use gw_reply::ReplyPart;
 use gw_term::{Filled, Termination};
 
@@ -10,13 +10,13 @@ pub(crate) enum Change {
     /// Nothing.
     Stays,
     /// Its record becomes this one, in the same place.
-    Becomes(Held<Termination>),
+    Becomes(Termination),
     /// It joins the context, with this record.
-    Joins(CtxNum, Held<Termination>),
+    Joins(CtxNum, Termination),
     /// It leaves the first context and joins the second, with this record.
-    Crosses(CtxNum, CtxNum, Held<Termination>),
+    Crosses(CtxNum, CtxNum, Termination),
     /// It leaves the context, and has this record, or none.
-    Leaves(CtxNum, Option<Held<Termination>>),
+    Leaves(CtxNum, Option<Termination>),
 }
 
 /// What becomes of a termination that is not refused.

@@ -83,7 +83,7 @@ fn merged(
         return Err(Refusal::Code(code));
     }
     let mut record = record;
-    record.get_mut().set_place(place);
+    record.set_place(place);
     Ok(Applied { record, filled })
 }
 
@@ -157,7 +157,7 @@ fn subtracted(alloc: Global, number: CtxNum, old: &Termination) -> Result<Plan, 
         return Err(Refusal::Code(code));
     }
     Ok(Plan {
-        change: Change::Leaves(number, what_remains(alloc, old)?),
+        change: Change::Leaves(number, what_remains(old)),
         filled: Items::new(alloc),
     })
 }

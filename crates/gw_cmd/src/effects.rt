@@ -22,9 +22,9 @@ use crate::decide::{decided, refusal_elsewhere};
 use crate::prepared::Prepared;
 use crate::refusal::Refusal;
 use crate::task::{Act, Task};
-use gw_base::{Code, CtxNum, Held, Items, NoMemory, Rules, Service, TermName};
+use gw_base::{Code, CtxNum, Items, NoMemory, Rules, Service, TermName};
 use gw_reply::ReplyPart;
-use gw_table::{Draft, Guide};
+use gw_table::{Draft, Guide, Target};
 use gw_term::Termination;
 use std::alloc::Global;
 
@@ -33,7 +33,7 @@ fn put(
     draft: &mut Draft,
     guide: Guide,
     name: &TermName,
-    entry: Option<Held<Termination>>,
+    entry: Option<Termination>,
 ) -> Result<(), NoMemory>
     requires { holds draft.old.keys (Term name.now) ≡ true }
     ensures maps { OnOk result (draft.new.maps ≡ put_term draft.old.maps name.now entry) }
@@ -74,25 +74,26 @@ fn changed(
     }
 }
 
-/// Does this to the termination of a name.
+/// Does this to a termination.
 fn act_on(
     alloc: Global,
     draft: &mut Draft,
     act: Act,
     prepared: &mut Prepared<'_, '_>,
-    name: &TermName,
+    target: &Target,
     wanted: bool,
 ) -> Result<Items<ReplyPart>, Refusal>
     requires sound { IsSound draft.old.keys draft.old.maps }
-    requires term_key { HoldsFound draft.old.keys name.now draft.old.maps }
+    requires term_key { HoldsFound draft.old.keys target.now draft.old.maps }
     requires ctx_key { HoldsPlace draft.old.keys (act_place act) }
-    requires moved_key { HoldsMoved draft.old.keys (act_verb act) (place_of (term draft.old.maps name.now)) }
+    requires moved_key { HoldsMoved draft.old.keys (act_verb act) (place_of (term draft.old.maps target.now)) }
     requires does { Does (does.Act act) prepared.old.command.now }
-    ensures gives { Gives result draft.new.maps (answered wanted (on_name prepared.old.rules.now (act_place act) prepared.old.command.now name.now draft.old.maps)) }
+    ensures gives { Gives result draft.new.maps (answered wanted (on_name prepared.old.rules.now (act_place act) prepared.old.command.now target.now draft.old.maps)) }
     ensures keys { draft.new.keys ≡ draft.old.keys }
     ensures same { IsSameCommand prepared.old prepared.new }
 {
-    let Some((old, guide)) = draft.term_at(prepared.guide, name) else {
+    let name = target.name();
+    let Some((old, guide)) = draft.term_at(target.guide(), name) else {
         return Err(Refusal::Code(Code::UnknownTermination));
     };
     let decided = decided(alloc, draft, act, &mut prepared.merger, old, wanted)?;
@@ -100,20 +101,20 @@ fn act_on(
     Ok(decided.parts)
 }
 
-/// Gives the termination of a name, if it is in this place, the service state, if there is one for it.
+/// Gives a termination, if it is in this place, the service state, if there is one for it.
 fn serve(
     alloc: Global,
     draft: &mut Draft,
-    guide: Guide,
     place: Option<CtxNum>,
     service: Option<Service>,
-    name: &TermName,
+    target: &Target,
 ) -> Result<Items<ReplyPart>, Refusal>
-    requires { HoldsFound draft.old.keys name.now draft.old.maps }
-    ensures gives { (rules : TheRules) (c : Command) (wanted : Bool) → Does (does.Serve place service) c → Gives result draft.new.maps (answered wanted (on_name rules place c name.now draft.old.maps)) }
+    requires { HoldsFound draft.old.keys target.now draft.old.maps }
+    ensures gives { (rules : TheRules) (c : Command) (wanted : Bool) → Does (does.Serve place service) c → Gives result draft.new.maps (answered wanted (on_name rules place c target.now draft.old.maps)) }
     ensures keys { draft.new.keys ≡ draft.old.keys }
 {
-    let Some((old, guide)) = draft.term_at(guide, name) else {
+    let name = target.name();
+    let Some((old, guide)) = draft.term_at(target.guide(), name) else {
         return Err(Refusal::Code(Code::UnknownTermination));
     };
     if let Some(code) = refusal_elsewhere(place, old.place()) {
@@ -124,27 +125,27 @@ fn serve(
     Ok(Items::new(alloc))
 }
 
-/// Does the task to the termination of a name. What its reply has is found only where it is wanted.
+/// Does the task to a termination. What its reply has is found only where it is wanted.
 pub(crate) fn on_name(
     alloc: Global,
     draft: &mut Draft,
     task: Task,
     prepared: &mut Prepared<'_, '_>,
-    name: &TermName,
+    target: &Target,
     wanted: bool,
 ) -> Result<Items<ReplyPart>, Refusal>
     requires sound { IsSound draft.old.keys draft.old.maps }
-    requires term_key { HoldsFound draft.old.keys name.now draft.old.maps }
+    requires term_key { HoldsFound draft.old.keys target.now draft.old.maps }
     requires ctx_key { HoldsPlace draft.old.keys (task_place task) }
-    requires moved_key { HoldsMoved draft.old.keys (task_verb task) (place_of (term draft.old.maps name.now)) }
+    requires moved_key { HoldsMoved draft.old.keys (task_verb task) (place_of (term draft.old.maps target.now)) }
     requires does { Does task prepared.old.command.now }
-    ensures gives { Gives result draft.new.maps (answered wanted (on_name prepared.old.rules.now (task_place task) prepared.old.command.now name.now draft.old.maps)) }
+    ensures gives { Gives result draft.new.maps (answered wanted (on_name prepared.old.rules.now (task_place task) prepared.old.command.now target.now draft.old.maps)) }
     ensures keys { draft.new.keys ≡ draft.old.keys }
     ensures same { IsSameCommand prepared.old prepared.new }
 {
     match task {
-        Task::Act(act) => act_on(alloc, draft, act, prepared, name, wanted),
-        Task::Serve(place, service) => serve(alloc, draft, prepared.guide, place, service, name),
+        Task::Act(act) => act_on(alloc, draft, act, prepared, target, wanted),
+        Task::Serve(place, service) => serve(alloc, draft, place, service, target),
     }
 }
 

@@ -35,7 +35,7 @@ use gw_base::{Code, Items, NoMemory, Rules, TermName, TermRef};
 use gw_msg::Command;
 use gw_refusal::{At, targets};
 use gw_reply::{CommandReply, ReplyWriter};
-use gw_table::{Draft, slot_name};
+use gw_table::{Draft, Guide, Target, slot_name};
 use std::alloc::Global;
 use std::slice;
 
@@ -46,7 +46,7 @@ fn on_names(
     draft: &mut Draft,
     execution: Execution,
     prepared: &mut Prepared<'_, '_>,
-    named: &[TermName],
+    named: &[Target],
     writer: ReplyWriter<CommandReply>,
 ) -> Result<CmdWritten, NoMemory>
     requires sound { IsSound draft.old.keys draft.old.maps }
@@ -81,12 +81,12 @@ fn on_one(
     draft: &mut Draft,
     execution: Execution,
     prepared: &mut Prepared<'_, '_>,
-    name: &TermName,
+    target: &Target,
     writer: ReplyWriter<CommandReply>,
 ) -> Result<CmdWritten, NoMemory>
     requires sound { IsSound draft.old.keys draft.old.maps }
     requires ready { IsReady draft.old.keys execution.at prepared.old.command.now draft.old.maps }
-    requires named { prepared.old.command.now.term ≡ Name name.now }
+    requires named { prepared.old.command.now.term ≡ Name target.now }
     requires allowed { IsAllowed execution.at prepared.old.command.now execution.task }
     ensures maps { OnOk result (draft.new.maps ≡ (on_names prepared.old.rules.now execution.at prepared.old.command.now draft.old.maps).maps) }
     ensures answer { IfOk result (λ done. done ≡ outcome_behind writer (on_names prepared.old.rules.now execution.at prepared.old.command.now draft.old.maps).answer) }
@@ -95,7 +95,7 @@ fn on_one(
 {
     Ok(outcome_of(
         execution.at,
-        on_target(alloc, draft, execution.task, prepared, name, writer)?,
+        on_target(alloc, draft, execution.task, prepared, target, writer)?,
     ))
 }
 
@@ -164,7 +164,7 @@ fn executed(
     draft: &mut Draft,
     execution: Execution,
     prepared: &mut Prepared<'_, '_>,
-    named: &[TermName],
+    named: &[Target],
     writer: ReplyWriter<CommandReply>,
 ) -> Result<CmdWritten, NoMemory>
     requires sound { IsSound draft.old.keys draft.old.maps }
@@ -182,8 +182,21 @@ fn executed(
     match &command.term {
         TermRef::Root => on_root(alloc, draft, execution, command, writer),
         TermRef::Choose => on_slot(alloc, draft, execution, prepared, writer),
-        TermRef::Name(name) => on_one(alloc, draft, execution, prepared, name, writer),
+        TermRef::Name(_) => {
+            let Some(target) = named.first() else {
+                unreachable!()
+            };
+            on_one(alloc, draft, execution, prepared, target, writer)
+        }
         _ => on_names(alloc, draft, execution, prepared, named, writer),
+    }
+}
+
+/// Where the first target may stand.
+fn guide_of(named: &[Target]) -> Guide {
+    match named.first() {
+        Some(target) => target.guide(),
+        None => Guide::none(),
     }
 }
 
@@ -193,7 +206,7 @@ fn on_allowed(
     draft: &mut Draft,
     execution: Execution,
     prepared: &mut Prepared<'_, '_>,
-    named: &[TermName],
+    named: &[Target],
     writer: ReplyWriter<CommandReply>,
 ) -> Result<CmdWritten, NoMemory>
     requires sound { IsSound draft.old.keys draft.old.maps }
@@ -211,6 +224,7 @@ fn on_allowed(
         execution.at,
         execution.slot,
         prepared,
+        guide_of(named),
         !named.is_empty(),
     ) {
         return refused(writer, execution.at, prepared.command, code);
@@ -250,8 +264,8 @@ pub fn command_written(
     };
     let execution = Execution { at, slot, task };
     if let TermRef::Name(name) = &command.term {
-        prepared.found_at(draft.guide(name));
-        let named = slice::from_ref(name);
+        let target = Target::found(*name, draft.guide(name));
+        let named = slice::from_ref(&target);
         return on_allowed(alloc, draft, execution, prepared, named, writer);
     }
     if is_idle(draft, execution, prepared, &writer) {

@@ -77,7 +77,7 @@ pub(crate) fn parts_if(
     match change {
         Change::Stays | Change::Leaves(_, _) => audit(alloc, old, descriptors),
         Change::Becomes(new) | Change::Joins(_, new) | Change::Crosses(_, _, new) => {
-            parts_of(alloc, descriptors, filled, new.get())
+            parts_of(alloc, descriptors, filled, new)
         }
     }
 }

@@ -12,7 +12,6 @@ use gw_base::{Code, CtxNum, Rules, Service};
 use gw_desc::check;
 use gw_msg::Command;
 use gw_refusal::{At, refusal_by_form, service_asked};
-use gw_table::Guide;
 use gw_term::Merger;
 
 /// A command under the gateway's rules, with what is found of it once for all contexts and terminations.
@@ -30,8 +29,6 @@ pub struct Prepared<'a, 'b> {
     service: Option<Service>,
     /// Its descriptors, as they are merged into records.
     pub(crate) merger: Merger<'a, 'b>,
-    /// Where the termination that it names stands, if it was looked for.
-    pub(crate) guide: Guide,
     ghost refused: { (n : CtxNum) → refused_in_each ≡ refusal_by_form (Each n) command.now },
     ghost checked: { wrong ≡ check_code command.now.verb command.now.descriptors },
     ghost served: { service ≡ service_asked command.now.descriptors },
@@ -73,15 +70,7 @@ impl<'a, 'b> Prepared<'a, 'b> {
             wrong: wrong_with(command),
             service: service_asked(command.descriptors.as_slice()),
             merger: Merger::new(rules, command.descriptors.as_slice()),
-            guide: Guide::none(),
         }
-    }
-
-    /// The same, once the termination that it names was looked for.
-    pub(crate) fn found_at(&mut self, guide: Guide)
-        ensures { IsSameCommand self.old self.new }
-    {
-        self.guide = guide;
     }
 
     /// Why its form is refused.

@@ -8,7 +8,7 @@ ghost use Rattle.gw_cmd.specs.Refusals.{has_ended, missing, refusal_by_tables};
 use crate::prepared::Prepared;
 use gw_base::{Code, TermRef};
 use gw_refusal::At;
-use gw_table::Draft;
+use gw_table::{Draft, Guide};
 
 /// Whether the action's context has ended.
 fn has_ended(draft: &Draft, at: At) -> bool
@@ -26,13 +26,14 @@ fn missing(
     at: At,
     slot: Option<u16>,
     prepared: &Prepared<'_, '_>,
+    guide: Guide,
     any: bool,
 ) -> Option<Code>
     requires { any ≡ is_some_list (targets at prepared.now.command.now draft.now.maps) }
     ensures { result ≡ missing at slot prepared.now.command.now draft.now.maps prepared.now.command.now.term }
 {
     match prepared.command.term {
-        TermRef::Name(name) if draft.term_at(prepared.guide, &name).is_none() => {
+        TermRef::Name(name) if draft.term_at(guide, &name).is_none() => {
             Some(Code::UnknownTermination)
         }
         TermRef::All | TermRef::Under(_) if !any => Some(Code::NoWildcardMatch),
@@ -42,13 +43,15 @@ fn missing(
 }
 
 /// Why a command is refused whose form is allowed: the first of `UnknownContext` (the action's context has ended), what
-/// is missing, and what is wrong with its descriptors. The caller says whether the command is for any termination.
+/// is missing, and what is wrong with its descriptors. The caller says whether the command is for any termination,
+/// and where the one that it names may stand.
 #[tactic(auto, unfolding(crate::specs::Refusals::refusal_by_tables))]
 pub(crate) fn refusal_by_tables(
     draft: &Draft,
     at: At,
     slot: Option<u16>,
     prepared: &Prepared<'_, '_>,
+    guide: Guide,
     any: bool,
 ) -> Option<Code>
     requires { any ≡ is_some_list (targets at prepared.now.command.now draft.now.maps) }
@@ -57,7 +60,7 @@ pub(crate) fn refusal_by_tables(
     if has_ended(draft, at) {
         return Some(Code::UnknownContext);
     }
-    if let Some(code) = missing(draft, at, slot, prepared, any) {
+    if let Some(code) = missing(draft, at, slot, prepared, guide, any) {
         return Some(code);
     }
     prepared.wrong

@@ -20,46 +20,51 @@ use crate::prepared::Prepared;
 use crate::refusal::Refusal;
 use crate::replies::{writes_none, written};
 use crate::task::Task;
-use gw_base::{NoMemory, TermName, TermRef};
+use gw_base::{NoMemory, TermRef};
 use gw_reply::{CommandReply, ReplyWriter};
-use gw_table::Draft;
+use gw_table::{Draft, Target};
 use std::alloc::Global;
 
-/// Does the task to the termination of a name, and writes the reply. Once the writer is full, nothing is audited.
+/// Does the task to a termination, and writes the reply. Once the writer is full, nothing is audited.
 pub(crate) fn on_target(
     alloc: Global,
     draft: &mut Draft,
     task: Task,
     prepared: &mut Prepared<'_, '_>,
-    name: &TermName,
+    target: &Target,
     writer: ReplyWriter<CommandReply>,
 ) -> Result<Seen, NoMemory>
     requires sound { IsSound draft.old.keys draft.old.maps }
-    requires term_key { HoldsFound draft.old.keys name.now draft.old.maps }
+    requires term_key { HoldsFound draft.old.keys target.now draft.old.maps }
     requires ctx_key { HoldsPlace draft.old.keys (task_place task) }
-    requires moved_key { HoldsMoved draft.old.keys (task_verb task) (place_of (term draft.old.maps name.now)) }
+    requires moved_key { HoldsMoved draft.old.keys (task_verb task) (place_of (term draft.old.maps target.now)) }
     requires does { Does task prepared.old.command.now }
-    ensures maps { OnOk result (draft.new.maps ≡ (on_name prepared.old.rules.now (task_place task) prepared.old.command.now name.now draft.old.maps).maps) }
-    ensures answer { IfOk result (λ done. done ≡ seen writer (reply prepared.old.command.now (Name name.now) (on_name prepared.old.rules.now (task_place task) prepared.old.command.now name.now draft.old.maps).answer ∷ [])) }
+    ensures maps { OnOk result (draft.new.maps ≡ (on_name prepared.old.rules.now (task_place task) prepared.old.command.now target.now draft.old.maps).maps) }
+    ensures answer { IfOk result (λ done. done ≡ seen writer (reply prepared.old.command.now (Name target.now) (on_name prepared.old.rules.now (task_place task) prepared.old.command.now target.now draft.old.maps).answer ∷ [])) }
     ensures keys { draft.new.keys ≡ draft.old.keys }
     ensures same { IsSameCommand prepared.old prepared.new }
 {
     let wanted = !writes_none(&writer);
-    let answer = match on_name(alloc, draft, task, prepared, name, wanted) {
+    let answer = match on_name(alloc, draft, task, prepared, target, wanted) {
         Ok(parts) => Ok(parts),
         Err(Refusal::Code(code)) => Err(code),
         Err(Refusal::NoMemory) => return Err(NoMemory),
     };
-    written(writer, prepared.command, TermRef::Name(*name), answer)
+    written(
+        writer,
+        prepared.command,
+        TermRef::Name(*target.name()),
+        answer,
+    )
 }
 
-/// Does the task to the terminations of these names, one after another; none stops the others.
+/// Does the task to these terminations, one after another; none stops the others.
 pub(crate) fn on_targets(
     alloc: Global,
     draft: &mut Draft,
     task: Task,
     prepared: &mut Prepared<'_, '_>,
-    named: &[TermName],
+    named: &[Target],
     writer: ReplyWriter<CommandReply>,
 ) -> Result<Seen, NoMemory>
     requires sound { IsSound draft.old.keys draft.old.maps }
@@ -75,8 +80,8 @@ pub(crate) fn on_targets(
     let mut written = writer;
     let mut first_error = None;
     let mut any_done = false;
-    for name in named {
-        let one = on_target(alloc, draft, task, prepared, name, written)?;
+    for target in named {
+        let one = on_target(alloc, draft, task, prepared, target, written)?;
         written = one.written;
         any_done = any_done || one.any_done;
         first_error = first_error.or(one.first_error);

@@ -2,4 +2,3 @@ pub mod Fits
 pub mod Lists
 pub mod Numbers
 pub mod Places
-pub mod Singles

@@ -1,11 +1,9 @@
 -- Places of names, once one of them is gone and the last one has taken its place.
-use Rattle.std.proofs.Common.{◌≡◌, ℕ, ◌+◌, ◌-◌, ◌<◌, nat_eq, Bool, false, cond, ◌⊎◌, inl, inr, List, length, get_or, map, bytes_eq, arith, ap, sym, ◌∙◌}
+use Rattle.std.proofs.Common.{◌≡◌, ℕ, ◌+◌, ◌-◌, ◌<◌, Bool, false, cond, ◌⊎◌, inl, inr, List, length, get_or, bytes_eq, arith, ap, sym, ◌∙◌}
 use Rattle.std.specs.Prelude.{AllPairs}
 use Rattle.std.proofs.lemmas.Bool.{cases_eq, eq-eqb, ne_eqb}
-use Rattle.std.proofs.lemmas.List.{map-id}
 use Rattle.gw_base.proofs.NamesInLists.{other_way}
-use Rattle.gw_ctx.specs.Places.{Pair, moved, pair_of, renumbered}
-use Rattle.gw_ctx.proofs.Lists.{map_agree}
+use Rattle.gw_ctx.specs.Places.{moved}
 
 -- a list without the element at a place, which the last one has taken
 pub record IsSwapped {X : Type 0} (old new : List X) (g : ℕ) : Type 0 where
@@ -17,28 +15,6 @@ moved_cases : (last g x : ℕ) → ((x ≡ last) × (moved last g x ≡ g)) ⊎ 
 moved_cases last g x = elim (cases_eq x last) [
   | inl e ↦ inl (e, ap (λ (b : Bool). cond b g x) (eq-eqb x last e))
   | inr n ↦ inr (n, ap (λ (b : Bool). cond b g x) (ne_eqb x last n))
-]
-
--- where the last one is gone, no other moves
-stays_there : (g x : ℕ) → moved g g x ≡ x
-stays_there g x = elim (moved_cases g g x) [ inl h ↦ h.1 ∙ sym h.0 | inr h ↦ h.1 ]
-
-pub stay_there : (g : ℕ) (pairs : List Pair) → map (renumbered g g) pairs ≡ pairs
-stay_there g pairs = map_agree (renumbered g g) (λ p. p) pairs (λ k d h.
-    let p : Pair = get_or pairs k d in
-    ap (λ (n : ℕ). pair_of n (moved g g p.b) p.flow) (stays_there g p.a) ∙ ap (λ (n : ℕ). pair_of p.a n p.flow) (stays_there g p.b)) ∙ map-id pairs
-
--- two places that move to one were one
-moved_one : (last g x y : ℕ) → (x ≡ g → ⊥) → (y ≡ g → ⊥) → moved last g x ≡ moved last g y → x ≡ y
-moved_one last g x y n m e = elim (moved_cases last g x) [
-  | inl a ↦ elim (moved_cases last g y) [ inl b ↦ a.0 ∙ sym b.0 | inr b ↦ absurd (m (sym b.1 ∙ sym e ∙ a.1)) ]
-  | inr a ↦ elim (moved_cases last g y) [ inl b ↦ absurd (n (sym a.1 ∙ e ∙ b.1)) | inr b ↦ sym a.1 ∙ e ∙ b.1 ]
-]
-
-pub moved_same : (last g x y : ℕ) → (x ≡ g → ⊥) → (y ≡ g → ⊥) → nat_eq (moved last g x) (moved last g y) ≡ nat_eq x y
-moved_same last g x y n m = elim (cases_eq x y) [
-  | inl e ↦ eq-eqb (moved last g x) (moved last g y) (ap (moved last g) e) ∙ sym (eq-eqb x y e)
-  | inr d ↦ ne_eqb (moved last g x) (moved last g y) (λ e. d (moved_one last g x y n m e)) ∙ sym (ne_eqb x y d)
 ]
 
 module _ {X : Type 0} (old new : List X) (g : ℕ) (s : IsSwapped old new g) (inside : g < length old) where

@@ -2,22 +2,22 @@
 use Rattle.std.proofs.Common.{◌≡◌, ℕ, ◌<◌, nat_eq, Bool, true, false, not, ◌&&◌, ◌||◌, cond, inl, inr, List, [], ◌∷◌, ◌++◌, length, get_or, map, filter, bytes_eq, All, None, Some, arith, ap, refl, sym, subst, ◌∙◌, length-append}
 use Rattle.std.specs.Prelude.{AllPairs}
 use Rattle.std.specs.List.{position}
-use Rattle.std.proofs.lemmas.Bool.{cases_order, eq-eqb, ne_eqb, eqb-false, not-true, or_parts, and_left, and_right, both_ways, false_from_ne_true}
-use Rattle.std.proofs.lemmas.List.{get_or_append_left, get_or-map, length-map, map_push}
-use Rattle.std.proofs.lemmas.List.Elements.{All-filter, All-push, All-weaker, All-map, filter_passes}
+use Rattle.std.proofs.lemmas.Bool.{cases_order, eq-eqb, ne_eqb, eqb-false, not-true, or_parts, both_ways, false_from_ne_true}
+use Rattle.std.proofs.lemmas.List.{get_or_append_left, map-append}
+use Rattle.std.proofs.lemmas.List.Elements.{All-filter, All-push, All-append, All-weaker, All-map, filter_passes}
 use Rattle.std.proofs.lemmas.List.Folds.{list_any_at, list_any_none}
-use Rattle.std.proofs.lemmas.List.Kept.{AllPairs-filter}
 use Rattle.std.proofs.lemmas.List.Quantifiers.{all_pairs_push, position-Some}
 use Rattle.gw_base.specs.NameLists.{is_in}
 use Rattle.gw_base.specs.declared.context_words.Flow.{Flow}
+use Rattle.gw_base.specs.declared.context_words.Flow.TheVariants.{Bothway, Isolate, Oneway}
 use Rattle.gw_base.specs.declared.context_words.Link.{Link}
 use Rattle.gw_base.proofs.NamesInLists.{other_way, itself}
 use Rattle.gw_base.proofs.NameTests.{same_name}
-use Rattle.gw_ctx.specs.Contexts.{is_apart_from, is_other_pair, links_without, links_beside}
-use Rattle.gw_ctx.specs.Places.{Pair, link_at, links_at, is_off, joins, joins_others, IsWithin, IsSingle, AreKept, with_name, moved, renumbered}
+use Rattle.gw_ctx.specs.declared.pairs.Pair.{Pair}
+use Rattle.gw_ctx.specs.Contexts.{is_apart_from, is_other_pair, links_without, links_beside, kept_link}
+use Rattle.gw_ctx.specs.Places.{link_at, links_at, is_off, joins_others, kept_pair, IsWithin, AreKept, with_name, renumbered}
 use Rattle.gw_ctx.proofs.Lists.{map_agree, map_through, filter_all, filter_through, none_passes, place_within}
-use Rattle.gw_ctx.proofs.Singles.{single_push}
-use Rattle.gw_ctx.proofs.Numbers.{IsSwapped, moved_same, moved_within, moved_there, apart_swapped}
+use Rattle.gw_ctx.proofs.Numbers.{IsSwapped, moved_within, moved_there, apart_swapped}
 
 -- a name stands where the place of it is, and nowhere else
 apart_at : (names : List (List ℕ)) (i k : ℕ) → AllPairs (λ s t. bytes_eq s t ≡ false) names → i < length names → k < length names → bytes_eq (get_or names i []) (get_or names k []) ≡ nat_eq k i
@@ -57,9 +57,6 @@ neither_is false true e f = absurd cc
 
 same_neither : (a b c d : Bool) → a ≡ c → b ≡ d → not (a || b) ≡ not (c || d)
 same_neither a b c d e f = ap (λ (t : Bool). not (t || b)) e ∙ ap (λ (t : Bool). not (c || t)) f
-
-same_or : (a b c d : Bool) → a ≡ c → b ≡ d → (a || b) ≡ (c || d)
-same_or a b c d e f = ap (λ (t : Bool). t || b) e ∙ ap (λ (t : Bool). c || t) f
 
 same_both : (a b c d : Bool) → a ≡ c → b ≡ d → (a && b) ≡ (c && d)
 same_both a b c d e f = ap (λ (t : Bool). t && b) e ∙ ap (λ (t : Bool). c && t) f
@@ -105,33 +102,12 @@ module _ (names : List (List ℕ)) (pairs : List Pair) (kept : AreKept names pai
   pub beside_there : (link : Link) (a b : ℕ) → a < length names → b < length names → get_or names a [] ≡ link.a → get_or names b [] ≡ link.b → links_beside link (links_at names pairs) ≡ links_at names (filter (joins_others a b) pairs)
   beside_there link a b l m e f = filter_through (is_other_pair link) (joins_others a b) (link_at names) pairs (beside_at link a b l m e f)
 
-  pub beside_no_first : (link : Link) → position (bytes_eq link.a) names ≡ None → links_beside link (links_at names pairs) ≡ links_at names pairs
-  beside_no_first link e =
-      filter_all (is_other_pair link) (links_at names pairs)
-      (All-map (λ l. is_other_pair link l ≡ true) (link_at names) pairs (λ k d h.
-      let p : Pair = get_or pairs k d in
-      let first : bytes_eq link.a (get_or names p.a []) ≡ false = untold link.a e p.a (kept.within k d h).first in
-      let second : bytes_eq link.a (get_or names p.b []) ≡ false = untold link.a e p.b (kept.within k d h).second in
-      neither_is (bytes_eq link.a (get_or names p.a []) && bytes_eq link.b (get_or names p.b [])) (bytes_eq link.a (get_or names p.b []) && bytes_eq link.b (get_or names p.a []))
-      (and_left (bytes_eq link.a (get_or names p.a [])) (bytes_eq link.b (get_or names p.b [])) first) (and_left (bytes_eq link.a (get_or names p.b [])) (bytes_eq link.b (get_or names p.a [])) second)))
-
-  pub beside_no_second : (link : Link) → position (bytes_eq link.b) names ≡ None → links_beside link (links_at names pairs) ≡ links_at names pairs
-  beside_no_second link e =
-      filter_all (is_other_pair link) (links_at names pairs)
-      (All-map (λ l. is_other_pair link l ≡ true) (link_at names) pairs (λ k d h.
-      let p : Pair = get_or pairs k d in
-      let first : bytes_eq link.b (get_or names p.a []) ≡ false = untold link.b e p.a (kept.within k d h).first in
-      let second : bytes_eq link.b (get_or names p.b []) ≡ false = untold link.b e p.b (kept.within k d h).second in
-      neither_is (bytes_eq link.a (get_or names p.a []) && bytes_eq link.b (get_or names p.b [])) (bytes_eq link.a (get_or names p.b []) && bytes_eq link.b (get_or names p.a []))
-      (and_right (bytes_eq link.a (get_or names p.a [])) (bytes_eq link.b (get_or names p.b [])) second) (and_right (bytes_eq link.a (get_or names p.b [])) (bytes_eq link.b (get_or names p.a [])) first)))
-
   -- ---- what stays kept
 
   pub kept_filtered : (p : Pair → Bool) → AreKept names (filter p pairs)
   kept_filtered p = record {
     apart = kept.apart;
     within = All-filter p (IsWithin (length names)) pairs kept.within;
-    single = AllPairs-filter (λ earlier later. joins later.a later.b earlier ≡ false) p pairs kept.single;
   }
 
   grown_by : (name : List ℕ) (b : Bool) → is_in name names ≡ b → AreKept (cond b names (names ++ name ∷ [])) pairs × (links_at (cond b names (names ++ name ∷ [])) pairs ≡ links_at names pairs)
@@ -140,7 +116,6 @@ module _ (names : List (List ℕ)) (pairs : List Pair) (kept : AreKept names pai
     record {
       apart = all_pairs_push (λ s t. bytes_eq s t ≡ false) names name kept.apart (λ k d h. other_way name (get_or names k d) (false_from_ne_true (bytes_eq name (get_or names k d)) (λ f. both_ways (is_in name names) e (list_any_at (bytes_eq name) names k d h f))));
       within = All-weaker (IsWithin (length names)) (IsWithin (length (names ++ name ∷ []))) (λ p w. record { first = omega (arith, w.first, length-append names (name ∷ [])); second = omega (arith, w.second, length-append names (name ∷ [])) }) pairs kept.within;
-      single = kept.single;
     },
     map_agree (link_at (names ++ name ∷ [])) (link_at names) pairs (λ k d h.
         let p : Pair = get_or pairs k d in
@@ -158,19 +133,6 @@ module _ (names : List (List ℕ)) (pairs : List Pair) (kept : AreKept names pai
 
   -- ---- a name less
 
-  single_moved : (last g : ℕ) → All (λ p. is_off g p ≡ true) pairs → IsSingle (map (renumbered last g) pairs)
-  single_moved last g off i j d l h =
-      let m : j < length pairs = omega (arith, h, length-map pairs (renumbered last g)) in
-      let n : i < length pairs = omega (arith, l, m) in
-      let p : Pair = get_or pairs i d in let q : Pair = get_or pairs j d in
-      let po = off_parts g p (off i d n) in let qo = off_parts g q (off j d m) in
-      ap (λ (x : Pair). joins (get_or (map (renumbered last g) pairs) j d).a (get_or (map (renumbered last g) pairs) j d).b x) (get_or-map (renumbered last g) pairs i d d n)
-      ∙ ap (λ (y : Pair). joins y.a y.b (renumbered last g p)) (get_or-map (renumbered last g) pairs j d d m)
-      ∙ same_or (nat_eq (moved last g p.a) (moved last g q.a) && nat_eq (moved last g p.b) (moved last g q.b)) (nat_eq (moved last g p.b) (moved last g q.a) && nat_eq (moved last g p.a) (moved last g q.b)) (nat_eq p.a q.a && nat_eq p.b q.b) (nat_eq p.b q.a && nat_eq p.a q.b)
-      (same_both (nat_eq (moved last g p.a) (moved last g q.a)) (nat_eq (moved last g p.b) (moved last g q.b)) (nat_eq p.a q.a) (nat_eq p.b q.b) (moved_same last g p.a q.a po.0 qo.0) (moved_same last g p.b q.b po.1 qo.1))
-      (same_both (nat_eq (moved last g p.b) (moved last g q.a)) (nat_eq (moved last g p.a) (moved last g q.b)) (nat_eq p.b q.a) (nat_eq p.a q.b) (moved_same last g p.b q.a po.1 qo.0) (moved_same last g p.a q.b po.0 qo.1))
-      ∙ kept.single i j d l m
-
   pub forgotten_kept : (new : List (List ℕ)) (g : ℕ) → IsSwapped names new g → g < length names → All (λ p. is_off g p ≡ true) pairs → AreKept new (map (renumbered (length new) g) pairs)
   forgotten_kept new g s l off = record {
     apart = apart_swapped names new g s kept.apart;
@@ -178,7 +140,6 @@ module _ (names : List (List ℕ)) (pairs : List Pair) (kept : AreKept names pai
         let p : Pair = get_or pairs k d in
         let o = off_parts g p (off k d h) in
         record { first = moved_within names new g s l p.a (kept.within k d h).first o.0; second = moved_within names new g s l p.b (kept.within k d h).second o.1 });
-    single = single_moved (length new) g off;
   }
 
   pub forgotten_same : (new : List (List ℕ)) (g : ℕ) → IsSwapped names new g → g < length names → All (λ p. is_off g p ≡ true) pairs → links_at new (map (renumbered (length new) g) pairs) ≡ links_at names pairs
@@ -195,13 +156,21 @@ grown_at name names k h = by (is_in name names)
     by true = (h, refl)
     by false = (omega (arith, h, length-append names (name ∷ [])), get_or_append_left names (name ∷ []) [] k h)
 
--- one more link, where that of its pair is gone
-pub kept_pushed : (names : List (List ℕ)) (pairs : List Pair) (new : Pair) → AreKept names pairs → IsWithin (length names) new → AreKept names (filter (joins_others new.a new.b) pairs ++ new ∷ [])
-kept_pushed names pairs new kept in' =
-    let old = kept_filtered names pairs kept (joins_others new.a new.b) in
-    record { apart = kept.apart; within = All-push (IsWithin (length names)) (filter (joins_others new.a new.b) pairs) new old.within in'; single = single_push new pairs old.single }
+-- one more link, unless it is both ways
+within_kept : (n : ℕ) (new : Pair) (w : Flow) → IsWithin n new → All (IsWithin n) (kept_pair new w)
+within_kept n new Bothway h = λ k d l. absurd (omega arith)
+within_kept n new Isolate h = All-push (IsWithin n) [] new (λ k d l. absurd (omega arith)) h
+within_kept n new Oneway h = All-push (IsWithin n) [] new (λ k d l. absurd (omega arith)) h
 
--- a link more: its names are put last where they are not there, and it takes the place of the one of its pair
+kept_more : (names : List (List ℕ)) (pairs : List Pair) (new : Pair) (w : Flow) → AreKept names pairs → IsWithin (length names) new → AreKept names (pairs ++ kept_pair new w)
+kept_more names pairs new w kept in' = record { apart = kept.apart; within = All-append (IsWithin (length names)) pairs (kept_pair new w) kept.within (within_kept (length names) new w in') }
+
+link_kept : (names : List (List ℕ)) (new : Pair) (link : Link) (w : Flow) → link_at names new ≡ link → links_at names (kept_pair new w) ≡ kept_link link w
+link_kept names new link Bothway e = refl
+link_kept names new link Isolate e = ap (λ (l : Link). l ∷ []) e
+link_kept names new link Oneway e = ap (λ (l : Link). l ∷ []) e
+
+-- a link more: its names are put last where they are not there, and it takes the place of the one of its pair, unless it is both ways
 module _ (names : List (List ℕ)) (pairs : List Pair) (kept : AreKept names pairs) (link : Link) (first second : List (List ℕ)) (is_first : first ≡ with_name link.a names) (is_second : second ≡ with_name link.b first)
     (a b : ℕ) (a_below : a < length first) (a_there : get_or first a [] ≡ link.a) (b_below : b < length second) (b_there : get_or second b [] ≡ link.b) where
   kept_first : AreKept first pairs
@@ -217,14 +186,23 @@ module _ (names : List (List ℕ)) (pairs : List Pair) (kept : AreKept names pai
   a_still : (a < length second) × (get_or second a [] ≡ link.a)
   a_still = let at = grown_at link.b first a a_below in (subst (λ (l : List (List ℕ)). a < length l) (sym is_second) at.0, ap (λ (l : List (List ℕ)). get_or l a []) is_second ∙ at.1 ∙ a_there)
 
-  pub joined_kept : AreKept second (filter (joins_others a b) pairs ++ record { a = a; b = b; flow = link.flow } ∷ [])
-  joined_kept = kept_pushed second pairs (record { a = a; b = b; flow = link.flow }) kept_second (record { first = a_still.0; second = b_below })
+  abbrev new : Pair
+  new = record { a = a; b = b; flow = link.flow }
 
-  pub joined_same : links_at second (filter (joins_others a b) pairs ++ record { a = a; b = b; flow = link.flow } ∷ []) ≡ links_beside link (links_at names pairs) ++ link ∷ []
-  joined_same =
-      map_push (link_at second) (filter (joins_others a b) pairs) (record { a = a; b = b; flow = link.flow })
-      ∙ ap (λ (l : List Link). l ++ link_at second (record { a = a; b = b; flow = link.flow }) ∷ []) (sym (beside_there second pairs kept_second link a b a_still.0 b_below a_still.1 b_there) ∙ ap (λ (l : List Link). links_beside link l) same_second)
-      ∙ ap (λ (l : Link). links_beside link (links_at names pairs) ++ l ∷ []) (same_link link.flow a_still.1 b_there)
+  abbrev others : List Pair
+  others = filter (joins_others a b) pairs
+
+  abbrev put : List Pair
+  put = others ++ kept_pair new link.flow
+
+  pub put_kept : AreKept second put
+  put_kept = kept_more second others new link.flow (kept_filtered second pairs kept_second (joins_others a b)) (record { first = a_still.0; second = b_below })
+
+  pub put_same : links_at second put ≡ links_beside link (links_at names pairs) ++ kept_link link link.flow
+  put_same =
+      map-append (link_at second) others (kept_pair new link.flow)
+      ∙ ap (λ (l : List Link). l ++ links_at second (kept_pair new link.flow)) (sym (beside_there second pairs kept_second link a b a_still.0 b_below a_still.1 b_there) ∙ ap (λ (l : List Link). links_beside link l) same_second)
+      ∙ ap (λ (l : List Link). links_beside link (links_at names pairs) ++ l) (link_kept second new link link.flow (same_link link.flow a_still.1 b_there))
 
 -- what is left once a name is gone with its pairs, and the last one has taken its place
 pub gone_there : (names : List (List ℕ)) (pairs : List Pair) → AreKept names pairs → (name : List ℕ) (g : ℕ) → position (bytes_eq name) names ≡ Some g

@@ -1,4 +1,3 @@
 pub mod Contexts
 pub mod Fitting
-pub mod PairLaw
 pub mod Places

@@ -1,21 +1,10 @@
 -- How links are kept (own): a list of names, each once, and of each link the places of its two names in that list.
-use Rattle.std.specs.Prelude.{◌≡◌, ℕ, ◌+◌, ◌%◌, ◌^◌, ◌<◌, Bool, false, not, ◌&&◌, ◌||◌, ◌==◌, if◌then◌else◌, List, [], ◌∷◌, ◌++◌, length, map, slice_index_or, bytes_eq, All, AllPairs}
+use Rattle.std.specs.Prelude.{◌≡◌, ℕ, ◌<◌, Bool, false, not, ◌&&◌, ◌||◌, ◌==◌, if◌then◌else◌, List, [], ◌∷◌, ◌++◌, length, map, slice_index_or, bytes_eq, All, AllPairs}
 use Rattle.gw_base.specs.NameLists.{is_in}
 use Rattle.gw_base.specs.declared.context_words.Flow.{Flow}
+use Rattle.gw_base.specs.declared.context_words.Flow.TheVariants.{Bothway, Isolate, Oneway}
 use Rattle.gw_base.specs.declared.context_words.Link.{Link}
-
--- the places of a link's two names, the first that was named before the second, and how media flow between them
-pub record Pair : Type 0 where
-  pub a : ℕ
-  pub b : ℕ
-  pub flow : Flow
-
-abbrev pub pair_of : ℕ → ℕ → Flow → Pair
-pair_of a b flow = record { a = a; b = b; flow = flow }
-
--- the sum of two places, as far as 16 bits hold it
-abbrev pub sum_of : ℕ → ℕ → ℕ
-sum_of a b = (a + b) % 2 ^ 64 % 2 ^ 16
+use Rattle.gw_ctx.specs.declared.pairs.Pair.{Pair}
 
 -- the link of the names at two places
 abbrev pub link_at : List (List ℕ) → Pair → Link
@@ -28,27 +17,25 @@ links_at names pairs = map (link_at names) pairs
 abbrev pub is_off : ℕ → Pair → Bool
 is_off place p = not (p.a == place || p.b == place)
 
--- it is about these two places, in either order
-abbrev pub joins : ℕ → ℕ → Pair → Bool
-joins a b p = (p.a == a && p.b == b) || (p.b == a && p.a == b)
-
+-- it is about other two places than these, whatever their order
 abbrev pub joins_others : ℕ → ℕ → Pair → Bool
-joins_others a b p = not (joins a b p)
+joins_others a b p = not ((p.a == a && p.b == b) || (p.b == a && p.a == b))
+
+-- of both ways none is kept
+abbrev pub kept_pair : Pair → Flow → List Pair
+kept_pair p Bothway = []
+kept_pair p Isolate = p ∷ []
+kept_pair p Oneway = p ∷ []
 
 -- both of its names are in a list of so many
 pub record IsWithin (count : ℕ) (p : Pair) : Type 0 where
   pub first : p.a < count
   pub second : p.b < count
 
--- no two are about the same two places
-abbrev pub IsSingle : List Pair → Type 0
-IsSingle pairs = AllPairs (λ earlier later. joins later.a later.b earlier ≡ false) pairs
-
--- each name stands once, each link is about names of the list, and there is at most one of a pair
+-- each name stands once, and each link is about names of the list
 pub record AreKept (names : List (List ℕ)) (pairs : List Pair) : Type 0 where
   pub apart : AllPairs (λ s t. bytes_eq s t ≡ false) names
   pub within : All (IsWithin (length names)) pairs
-  pub single : IsSingle pairs
 
 -- a name goes last, unless it is there
 abbrev pub with_name : List ℕ → List (List ℕ) → List (List ℕ)

@@ -1,23 +1,20 @@
 //! A context: its members and its properties.
 
-ghost use Rattle.std.specs.Prelude.{◌≡◌, ◌<◌, ◌≤◌, ◌↔◌, length, slice_index_or, IfOk, OnOk, OnErr, IsErrOf, true, false};
-ghost use Rattle.gw_base.specs.NameLists.{is_in, NoDoubles};
+ghost use Rattle.std.specs.Prelude.{◌≡◌, ◌≤◌, ◌↔◌, length, IfOk, OnOk, OnErr, IsErrOf, true, false};
+ghost use Rattle.gw_base.specs.NameLists.{is_in};
 ghost use Rattle.gw_ctx.specs.Contexts.{new_context, joined, left, prioritized, marked, linked};
 
 use crate::fault::JoinFault;
-use crate::links::Links;
-use crate::names::place_of;
-use gw_base::{Items, Link, NoMemory, TermName};
+use crate::links::{LinkIter, Links};
+use gw_base::{Link, NoMemory, TermName};
+use indexmap::IndexSet;
 use std::alloc::{AllocError, Global};
 use std::marker::Model;
-
-/// How many members the first one takes memory for: a context of two is the rule.
-const FIRST_ROOM: usize = 2;
 
 /// A context (RFC 3525, section 6.1): its members in joining order, its priority, whether it is marked as an emergency, and the
 /// links between members in the order in which they were made. Contracts see it as the record of `specs/Contexts.antt`.
 pub struct Context {
-    members: Vec<TermName>,
+    members: IndexSet<TermName>,
     priority: u8,
     emergency: bool,
     links: Links,
@@ -42,7 +39,7 @@ impl Model for Context {
 
     ghost coded = { coded_context };
 
-    ghost view = { λ a. record { members = a.members.items; priority = a.priority; emergency = a.emergency; links = a.links } };
+    ghost view = { λ a. record { members = a.members.keys; priority = a.priority; emergency = a.emergency; links = a.links } };
 }
 
 impl Clone for Context {
@@ -59,7 +56,7 @@ impl Context {
         ensures { result ≡ new_context }
     {
         Context {
-            members: Vec::new(alloc),
+            members: IndexSet::new(alloc),
             priority: 0,
             emergency: false,
             links: Links::new(alloc),
@@ -67,8 +64,8 @@ impl Context {
     }
 
     /// The members in joining order.
-    pub fn members(&self) -> &[TermName]
-        ensures { result.now ≡ self.now.members }
+    pub fn members(&self) -> &IndexSet<TermName>
+        ensures { result.now.keys ≡ self.now.members }
     {
         &self.members
     }
@@ -87,33 +84,14 @@ impl Context {
         self.emergency
     }
 
-    /// How many links there are between members (RFC 3525, section 7.1.18): none at first.
-    pub fn link_count(&self) -> usize
-        ensures { result ≡ length self.now.links }
+    /// The links between members (RFC 3525, section 7.1.18), one by one, in the order in which they were made: none at first.
+    pub fn links(&self) -> LinkIter<'_>
+        ensures { result ≡ self.now.links }
     {
-        self.links.count()
+        self.links.iter()
     }
 
-    /// The link at this place, in the order in which they were made.
-    pub fn link_at(&self, place: usize) -> Link
-        requires { place < length self.now.links }
-        ensures { result ≡ slice_index_or self.now.links place result }
-    {
-        self.links.at(place)
-    }
-
-    /// All links, in the order in which they were made.
-    ///
-    /// # Errors
-    ///
-    /// Want of memory.
-    pub fn links(&self, alloc: Global) -> Result<Items<Link>, AllocError>
-        ensures { IfOk result (λ links. links ≡ self.now.links) }
-    {
-        self.links.list(alloc)
-    }
-
-    /// The name joins as the last member. The caller knows that it is none yet. The first takes memory for two.
+    /// The name joins as the last member. The caller knows that it is none yet.
     ///
     /// # Errors
     ///
@@ -127,25 +105,18 @@ impl Context {
         if limit <= self.members.len() {
             return Err(JoinFault::Full);
         }
-        if self.members.is_empty() {
-            self.members.reserve_exact(FIRST_ROOM)?;
-        }
-        self.members.push(name)?;
+        self.members.insert(name)?;
         Ok(())
     }
 
-    /// The name leaves with its links, and the order of the others stays. Tells whether it was a member. The work is that of comparing
-    /// the members and the names that are linked, and a pass of the links where one is about it.
+    /// The name leaves with its links, and the order of the others stays. Answers whether it was a member. The work is one pass of the
+    /// members and of the names that were linked, and one of the links where it is among those.
     pub fn leave(&mut self, name: &TermName) -> bool
         ensures left { self.new ≡ left name.now self.old }
         ensures there { result ≡ is_in name.now self.old.members }
     {
         self.links.drop_of(name);
-        let Some(place) = place_of(&self.members, name) else {
-            return false;
-        };
-        self.members.remove(place);
-        true
+        self.members.shift_remove(name)
     }
 
     /// Sets the priority: 0 to 15 by the profile, which the caller keeps.
@@ -171,7 +142,7 @@ impl Context {
     }
 
     /// How media flow between two names from now on: the link of the pair, in either order, goes, and this one goes last, unless it
-    /// is both ways. The work is one pass of the names that are linked, and one of the links.
+    /// is both ways. The work is one pass of the names that were linked, and one of the links.
     ///
     /// # Errors
     ///
@@ -191,9 +162,8 @@ impl Context {
     pub fn copy(&self) -> Result<Context, AllocError>
         ensures { IfOk result (λ copy. copy ≡ self.now) }
     {
-        let alloc = *self.members.allocator();
         Ok(Context {
-            members: Vec::from_slice(alloc, &self.members)?,
+            members: self.members.clone()?,
             priority: self.priority,
             emergency: self.emergency,
             links: self.links.copy()?,

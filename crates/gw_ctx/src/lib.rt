@@ -11,3 +11,4 @@ mod pairs;
 pub use context::Context;
 pub use fault::JoinFault;
 pub use laws::contexts_stay_fit;
+pub use links::LinkIter;

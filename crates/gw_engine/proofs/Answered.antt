@@ -22,8 +22,8 @@ use Rattle.gw_reserve.proofs.Fresh.{free_unused}
 use Rattle.gw_reserve.proofs.Choices.{owned_choices}
 use Rattle.gw_tx.specs.KeptForms.{AreSlots, IsAskedRequest}
 use Rattle.gw_tx.proofs.FormsKept.{transaction_kept}
-use Rattle.gw_engine.specs.declared.heard.Heard.{Heard}
-use Rattle.gw_engine.specs.Bursts.{Progress, Step, owned_by, reply_to, entry_for, key_of_request, over_reply, new_step, over_step, request_step, item_step, in_turn, message_step, heard_step, start_of, burst_outcome}
+use Rattle.gw_engine.specs.declared.reading.ReadDatagram.{ReadDatagram}
+use Rattle.gw_engine.specs.Bursts.{Progress, Step, owned_by, reply_to, entry_for, key_of_request, over_reply, new_step, over_step, request_step, item_step, in_turn, message_step, datagram_step, start_of, burst_outcome}
 use Rattle.gw_engine.specs.Forms.{IsItemInForm, IsMessageInForm, IsInForm, AreInForm}
 use Rattle.gw_engine.specs.Readable.{Question, question_in, questions_in, questions, IsAnswerTo}
 use Rattle.gw_engine.specs.State.{Settings, GatewayValue, IsKeptReply, IsWellFormed}
@@ -107,11 +107,11 @@ module _ (s : Settings) (is_mid : IsMid s.mid) (address : IsAddress s.rules.medi
   message_answered peer (Ok m) p asked h = turn_answered (item_step s peer m.mid) (question_in peer) IsItemInForm (item_answered peer m.mid) m.items p asked h
   message_answered peer (Err code) p asked h = record { answers = (record { peer = refl; text = fault_is_error s.mid code is_mid }, tt); after = h }
 
-  heard_answered : (h : Heard) (p : Progress) → IsInForm h → IsSound s p → IsAnswered s (questions_in h.peer h.message) (heard_step s h p)
-  heard_answered h p asked sound = message_answered h.peer h.message p asked sound
+  datagram_answered : (h : ReadDatagram) (p : Progress) → IsInForm h → IsSound s p → IsAnswered s (questions_in h.peer h.message) (datagram_step s h p)
+  datagram_answered h p asked sound = message_answered h.peer h.message p asked sound
 
-pub all_answered : (g : GatewayValue) (heard : List Heard) → IsWellFormed g.settings g.state → g.settings.slots ≤ 4096 → AreInForm heard → IsAnswered g.settings (questions heard) (burst_outcome g heard)
+pub all_answered : (g : GatewayValue) (messages : List ReadDatagram) → IsWellFormed g.settings g.state → g.settings.slots ≤ 4096 → AreInForm messages → IsAnswered g.settings (questions messages) (burst_outcome g messages)
 unfolding burst_outcome
-all_answered g heard w few forms =
+all_answered g messages w few forms =
     let start : IsSound g.settings (start_of g) = record { maps = w.forms; replies = w.replies; slots = (free_unused g.state.maps g.state.slot_cursor g.settings.slots w.slot_cursor few).slots_small } in
-    turn_answered g.settings w.mid w.address (heard_step g.settings) (λ (h : Heard). questions_in h.peer h.message) IsInForm (heard_answered g.settings w.mid w.address) heard (start_of g) forms start
+    turn_answered g.settings w.mid w.address (datagram_step g.settings) (λ (h : ReadDatagram). questions_in h.peer h.message) IsInForm (datagram_answered g.settings w.mid w.address) messages (start_of g) forms start

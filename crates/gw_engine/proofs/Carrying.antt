@@ -19,6 +19,7 @@ use Rattle.gw_reserve.specs.Owned.{paired}
 use Rattle.gw_table.proofs.Folding.{rest_of}
 use Rattle.gw_table.specs.Parts.{Parted}
 use Rattle.gw_table.specs.Maps.{Maps}
+use Rattle.gw_table.specs.Stored.{Stored, maps_of}
 use Rattle.gw_table.specs.Unused.{owned, AreUnused}
 use Rattle.gw_table.specs.WellFormed.{AreWellFormed}
 use Rattle.gw_tx.specs.Transactions.{paired_transaction}
@@ -106,17 +107,17 @@ closed_shut (p ∷ ps) h =
 pub none_open : (b : Seen) → AllClosed b.places → NothingIsOpen (core_of b)
 none_open b h = closed_shut b.places h
 
-module _ (manner : Manner) (jobs : List Asked) (m : Maps) (b : Seen) (begun : b ≡ begun_board manner jobs m) where
+module _ (manner : Manner) (jobs : List Asked) (s : Stored) (b : Seen) (begun : b ≡ begun_board manner jobs s) where
   pub none_yet : NothingIsOpen (core_of b)
   none_yet = ap (λ (x : Seen). list_any (λ (p : Place). is_open p.standing) x.places) begun ∙ pending_shut jobs
 
   -- whatever was opened and closed since
-  pub comes_to : (d : Seen) → IsSameBurst b d → board.carried d.manner (asked_of d.places) d.begun ≡ board.carried manner jobs m
+  pub comes_to : (d : Seen) → IsSameBurst b d → board.carried d.manner (asked_of d.places) (maps_of d.start) ≡ board.carried manner jobs (maps_of s)
   comes_to d same =
       let manners : d.manner ≡ manner = same.manner ∙ ap (λ (x : Seen). x.manner) begun in
       let asked : asked_of d.places ≡ jobs = same.asked ∙ ap (λ (x : Seen). asked_of x.places) begun ∙ asked_pending jobs in
-      let maps : d.begun ≡ m = same.begun ∙ ap (λ (x : Seen). x.begun) begun in
-      λ i. board.carried (manners i) (asked i) (maps i)
+      let start : d.start ≡ s = same.start ∙ ap (λ (x : Seen). x.start) begun in
+      λ i. board.carried (manners i) (asked i) (maps_of (start i))
 
 pub on_err : {T E P : Type 0} (r : Result T E) → P → OnErr r P
 on_err (Ok x) p = tt

@@ -9,8 +9,8 @@ use Rattle.gw_msg.specs.declared.message.Item.TheVariants as item
 use Rattle.gw_msg.specs.declared.message.Message.{Message}
 use Rattle.gw_tx.proofs.Asked.{request_asked}
 use Rattle.gw_engine.specs.declared.datagram.Datagram.{Datagram}
-use Rattle.gw_engine.specs.declared.heard.Heard.{Heard}
-use Rattle.gw_engine.specs.Bursts.{IsMessageOf, IsHeard}
+use Rattle.gw_engine.specs.declared.reading.ReadDatagram.{ReadDatagram}
+use Rattle.gw_engine.specs.Bursts.{IsMessageOf, IsReadAs}
 use Rattle.gw_engine.specs.Forms.{IsItemInForm, IsMessageInForm, IsInForm, AreInForm}
 
 item_asked : (i : Item) (text : List ℕ) → SpellsItem i text → IsItemInForm i
@@ -27,8 +27,8 @@ message_asked : (m : Result Message Code) (text : List ℕ) → IsMessageOf text
 message_asked (Ok m) text h = let body = h.second.second.second in items_asked m.items body.front body.first
 message_asked (Err code) text h = tt
 
-pub heard_asked : (burst : List Datagram) (heard : List Heard) → AllZip IsHeard burst heard → AreInForm heard
-heard_asked [] [] all = All-nil IsInForm
-heard_asked [] (h ∷ hs) all = absurd all
-heard_asked (d ∷ ds) [] all = absurd all
-heard_asked (d ∷ ds) (h ∷ hs) all = All-cons IsInForm h hs (message_asked h.message d.bytes all.0.message) (heard_asked ds hs all.1)
+pub datagrams_in_form : (burst : List Datagram) (messages : List ReadDatagram) → AllZip IsReadAs burst messages → AreInForm messages
+datagrams_in_form [] [] all = All-nil IsInForm
+datagrams_in_form [] (h ∷ hs) all = absurd all
+datagrams_in_form (d ∷ ds) [] all = absurd all
+datagrams_in_form (d ∷ ds) (h ∷ hs) all = All-cons IsInForm h hs (message_asked h.message d.bytes all.0.message) (datagrams_in_form ds hs all.1)

@@ -15,16 +15,16 @@ use Rattle.gw_reserve.specs.declared.owners.Cursors.{Cursors}
 use Rattle.gw_table.specs.Maps.{Maps, Outcome}
 use Rattle.gw_table.specs.Unused.{AreUnused}
 use Rattle.gw_table.specs.WellFormed.{AreWellFormed}
-use Rattle.gw_engine.specs.declared.asked.Sent.{Sent}
-use Rattle.gw_engine.specs.declared.classify.Task.{Task}
+use Rattle.gw_engine.specs.declared.items.Sent.{Sent}
+use Rattle.gw_engine.specs.declared.items.BurstItem.{BurstItem}
 use Rattle.gw_engine.specs.declared.datagram.Datagram.{Datagram}
-use Rattle.gw_engine.specs.declared.heard.Heard.{Heard}
+use Rattle.gw_engine.specs.declared.reading.ReadDatagram.{ReadDatagram}
 use Rattle.gw_board.specs.Results.{slots_of}
 use Rattle.gw_board.specs.declared.asked.Asked.{Asked}
 use Rattle.gw_engine.specs.Bursts.{cursors_of, burst_outcome}
 use Rattle.gw_engine.specs.Carried.{carried}
 use Rattle.gw_engine.specs.Forms.{AreInForm}
-use Rattle.gw_engine.specs.Phases.{asks_of, told, new_of, tasks_in, turns_of, requests_of, ids_in, paired_job, paired_requests, AreJobs, cursors_behind, done_by, kept_of, entries_of, answers_of, adopted, phased, IsOutcome}
+use Rattle.gw_engine.specs.Phases.{table_of, new_of, turns_of, requests_of, ids_in, paired_job, paired_requests, AreJobs, cursors_behind, done_by, kept_of, entries_of, texts_of, answers_of, adopted, phased, IsOutcome}
 use Rattle.gw_engine.specs.Readable.{IsAnswerTo, questions}
 use Rattle.gw_engine.specs.State.{State, GatewayValue, IsKeptReply, IsWellFormed}
 use Rattle.gw_engine.proofs.Answered.{all_answered}
@@ -44,38 +44,38 @@ jobs_unused g new jobs are w small =
 
 -- ---- what the phases gave
 
-pub record ComesOf (g : GatewayValue) (heard : List Heard) (tasks : List Task) (jobs : List Asked) (cursors : Cursors) (m : Maps) (turns : List Turn) (entries : List Entry) (answers : List Datagram) : Type 0 where
-  pub tasks_are : tasks ≡ tasks_in 0 (told g.state.kept (asks_of heard))
-  pub jobs_are : AreJobs (new_of g heard) (ids_in g (new_of g heard)) jobs
-  pub cursors_are : cursors ≡ cursors_behind g heard
+pub record ComesOf (g : GatewayValue) (messages : List ReadDatagram) (items : List BurstItem) (jobs : List Asked) (cursors : Cursors) (m : Maps) (turns : List Turn) (entries : List Entry) (answers : List Datagram) : Type 0 where
+  pub items_are : items ≡ table_of g messages
+  pub jobs_are : AreJobs (new_of g messages) (ids_in g (new_of g messages)) jobs
+  pub cursors_are : cursors ≡ cursors_behind g messages
   pub maps_are : m ≡ (done_by g.settings.rules jobs g.state.maps).maps
   pub entries_are : entries ≡ kept_of g jobs
-  pub turns_are : turns ≡ turns_of g heard
-  pub answers_are : answers ≡ answers_of g.settings.mid g.state.kept entries tasks
+  pub turns_are : turns ≡ turns_of g messages
+  pub answers_are : answers ≡ answers_of g.settings.mid g.state.kept (texts_of entries) items
   pub whole : AreWellFormed g.settings.rules.members m
   pub within : AreWithin g.settings.contexts g.settings.slots cursors
 
 -- the pairs of the new requests
-abbrev new_entries : GatewayValue → List Heard → List Entry
-new_entries g heard = entries_of g.settings.mid (new_of g heard) (carried g.settings.rules (paired_requests (new_of g heard) (ids_in g (new_of g heard))) g.state.maps).answer
+abbrev new_entries : GatewayValue → List ReadDatagram → List Entry
+new_entries g messages = entries_of g.settings.mid (new_of g messages) (carried g.settings.rules (paired_requests (new_of g messages) (ids_in g (new_of g messages))) g.state.maps).answer
 
-pub outcome : (g : GatewayValue) (heard : List Heard) (tasks : List Task) (jobs : List Asked) (cursors : Cursors) (m : Maps) (turns : List Turn) (entries : List Entry) (answers : List Datagram) → IsWellFormed g.settings g.state → g.settings.slots ≤ 4096 → AreInForm heard → ComesOf g heard tasks jobs cursors m turns entries answers
-    → IsOutcome g heard answers m cursors (changes_of turns entries)
+pub outcome : (g : GatewayValue) (messages : List ReadDatagram) (items : List BurstItem) (jobs : List Asked) (cursors : Cursors) (m : Maps) (turns : List Turn) (entries : List Entry) (answers : List Datagram) → IsWellFormed g.settings g.state → g.settings.slots ≤ 4096 → AreInForm messages → ComesOf g messages items jobs cursors m turns entries answers
+    → IsOutcome g messages answers m cursors (changes_of turns entries)
 unfolding phased
-outcome g heard tasks jobs cursors m turns entries answers w small forms c =
+outcome g messages items jobs cursors m turns entries answers w small forms c =
     let bounded : length g.state.kept.pairs ≤ g.state.kept.most = omega (arith, w.kept, w.most) in
-    let done : carried g.settings.rules (map paired_job jobs) g.state.maps ≡ carried g.settings.rules (paired_requests (new_of g heard) (ids_in g (new_of g heard))) g.state.maps = ap (λ (l : List (Request × List OwnedAction)). carried g.settings.rules l g.state.maps) c.jobs_are.pairs in
-    let kept : entries ≡ new_entries g heard = c.entries_are ∙ (λ i. entries_of g.settings.mid (c.jobs_are.sent i) (done i).answer) in
+    let done : carried g.settings.rules (map paired_job jobs) g.state.maps ≡ carried g.settings.rules (paired_requests (new_of g messages) (ids_in g (new_of g messages))) g.state.maps = ap (λ (l : List (Request × List OwnedAction)). carried g.settings.rules l g.state.maps) c.jobs_are.pairs in
+    let kept : entries ≡ new_entries g messages = c.entries_are ∙ (λ i. entries_of g.settings.mid (c.jobs_are.sent i) (done i).answer) in
     let changes : List Change = changes_of turns entries in
-    let changed : changes ≡ (phased g heard).changes = λ i. changes_of (c.turns_are i) (kept i) in
-    let are : answers ≡ (burst_outcome g heard).answers = c.answers_are ∙ (λ i. answers_of g.settings.mid g.state.kept (kept i) (c.tasks_are i)) ∙ phased_answers g heard w.distinct in
-    let state : adopted g.state m cursors changes ≡ (burst_outcome g heard).after.state = (λ i. adopted g.state ((c.maps_are ∙ ap (λ (o : Outcome (List TxReply)). o.maps) done) i) (c.cursors_are i) (changed i)) ∙ phased_state g heard w.distinct in
-    let new : AreNew g.state.kept changes = subst (λ (l : List Change). AreNew g.state.kept l) (sym changed) (phased_new g heard w.distinct) in
-    let answered = all_answered g heard w small forms in
+    let changed : changes ≡ (phased g messages).changes = λ i. changes_of (c.turns_are i) (kept i) in
+    let are : answers ≡ (burst_outcome g messages).answers = c.answers_are ∙ (λ i. answers_of g.settings.mid g.state.kept (texts_of (kept i)) (c.items_are i)) ∙ phased_answers g messages w.distinct in
+    let state : adopted g.state m cursors changes ≡ (burst_outcome g messages).after.state = (λ i. adopted g.state ((c.maps_are ∙ ap (λ (o : Outcome (List TxReply)). o.maps) done) i) (c.cursors_are i) (changed i)) ∙ phased_state g messages w.distinct in
+    let new : AreNew g.state.kept changes = subst (λ (l : List Change). AreNew g.state.kept l) (sym changed) (phased_new g messages w.distinct) in
+    let answered = all_answered g messages w small forms in
     let few : length (kept_after g.state.kept changes).pairs ≤ g.state.kept.most = few_after g.state.kept changes bounded in
     record {
       answers_are = are;
-      readable = subst (λ (l : List Datagram). AllZip (IsAnswerTo g.settings.mid) (questions heard) l) (sym are) answered.answers;
+      readable = subst (λ (l : List Datagram). AllZip (IsAnswerTo g.settings.mid) (questions messages) l) (sym are) answered.answers;
       state = state;
       new = new;
       fits = record {
@@ -93,19 +93,19 @@ outcome g heard tasks jobs cursors m turns entries answers w small forms c =
     }
 
 -- the same of what is kept and answered of jobs
-pub outcome_of_jobs : (g : GatewayValue) (heard : List Heard) (tasks : List Task) (jobs : List Asked) (cursors : Cursors) (turns : List Turn) → IsWellFormed g.settings g.state → g.settings.slots ≤ 4096 → AreInForm heard
-    → tasks ≡ tasks_in 0 (told g.state.kept (asks_of heard)) → AreJobs (new_of g heard) (ids_in g (new_of g heard)) jobs → cursors ≡ cursors_behind g heard → AreWithin g.settings.contexts g.settings.slots cursors → turns ≡ turns_of g heard
-    → IsOutcome g heard (answers_of g.settings.mid g.state.kept (kept_of g jobs) tasks) (done_by g.settings.rules jobs g.state.maps).maps cursors (changes_of turns (kept_of g jobs))
-outcome_of_jobs g heard tasks jobs cursors turns w small forms tasks_are jobs_are cursors_are within turns_are =
-    outcome g heard tasks jobs cursors (done_by g.settings.rules jobs g.state.maps).maps turns (kept_of g jobs) (answers_of g.settings.mid g.state.kept (kept_of g jobs) tasks) w small forms
+pub outcome_of_jobs : (g : GatewayValue) (messages : List ReadDatagram) (items : List BurstItem) (jobs : List Asked) (cursors : Cursors) (turns : List Turn) → IsWellFormed g.settings g.state → g.settings.slots ≤ 4096 → AreInForm messages
+    → items ≡ table_of g messages → AreJobs (new_of g messages) (ids_in g (new_of g messages)) jobs → cursors ≡ cursors_behind g messages → AreWithin g.settings.contexts g.settings.slots cursors → turns ≡ turns_of g messages
+    → IsOutcome g messages (answers_of g.settings.mid g.state.kept (texts_of (kept_of g jobs)) items) (done_by g.settings.rules jobs g.state.maps).maps cursors (changes_of turns (kept_of g jobs))
+outcome_of_jobs g messages items jobs cursors turns w small forms items_are jobs_are cursors_are within turns_are =
+    outcome g messages items jobs cursors (done_by g.settings.rules jobs g.state.maps).maps turns (kept_of g jobs) (answers_of g.settings.mid g.state.kept (texts_of (kept_of g jobs)) items) w small forms
     (record {
-      tasks_are = tasks_are;
+      items_are = items_are;
       jobs_are = jobs_are;
       cursors_are = cursors_are;
       maps_are = refl;
       entries_are = refl;
       turns_are = turns_are;
       answers_are = refl;
-      whole = stay_whole g.settings.rules jobs g.state.maps w.maps (jobs_unused g (new_of g heard) jobs jobs_are w small);
+      whole = stay_whole g.settings.rules jobs g.state.maps w.maps (jobs_unused g (new_of g messages) jobs jobs_are w small);
       within = within;
     })

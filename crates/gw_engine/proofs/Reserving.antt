@@ -1,19 +1,21 @@
 -- What new requests own, one after another.
-use Rattle.std.proofs.Common.{◌≡◌, ℕ, List, [], ◌∷◌, ◌++◌, map, drop, take, refl, sym, ap, ◌∙◌, append_assoc, append-nil}
+use Rattle.std.proofs.Common.{◌≡◌, ℕ, List, [], ◌∷◌, ◌++◌, map, drop, Option, None, Some, refl, sym, ap, subst, ◌∙◌, append_assoc, append-nil}
+use Rattle.std.specs.Option.{option_to_list}
 use Rattle.gw_reserve.specs.Ids.{Ids}
 use Rattle.gw_msg.specs.declared.message.Request.{Request}
 use Rattle.gw_reserve.specs.declared.owned.Owned.{Owned}
 use Rattle.gw_reserve.specs.declared.owners.Cursors.{Cursors}
-use Rattle.gw_reserve.specs.Owned.{OwnedAction, paired, with_ids}
+use Rattle.gw_reserve.specs.Owned.{OwnedAction, with_ids}
 use Rattle.gw_reserve.specs.Owners.{ids_of, number_choices, slot_choices, owners_of, owners, owned_slots, new_cursors}
 use Rattle.gw_reserve.specs.Reservations.{Reserving, begun, numbers_left, slots_left}
 use Rattle.gw_reserve.proofs.Choices.{owned_choices}
 use Rattle.gw_table.specs.Maps.{Maps}
 use Rattle.gw_table.specs.Unused.{owned}
-use Rattle.gw_engine.specs.declared.asked.Sent.{Sent}
+use Rattle.gw_engine.specs.declared.items.Sent.{Sent}
 use Rattle.gw_board.specs.Results.{slots_of}
 use Rattle.gw_board.specs.declared.asked.Asked.{Asked}
 use Rattle.gw_engine.specs.Bursts.{cursors_of}
+use Rattle.gw_engine.specs.Owning.{IsOwned, IsReserved}
 use Rattle.gw_engine.specs.Phases.{requests_of, ids_in, paired_job, paired_requests, sent_of, AreJobs}
 use Rattle.gw_engine.specs.State.{GatewayValue}
 use Rattle.gw_engine.proofs.Cursors.{cursors-cons}
@@ -38,14 +40,6 @@ begins g v all jobs is none = record {
   slots_are = λ i. slots_of (none i) ++ owned_slots (left_for g.state.maps (is i) all);
   cursors_are = λ i. new_cursors (is i).cursors (left_for g.state.maps (is i) all);
 }
-
--- what was given to one, and what is left then
-pub record IsOwned (m : Maps) (r : Request) (v w : Reserving) (o : Owned) : Type 0 where
-  pub pairs : paired r o ≡ with_ids r (ids_of r (numbers_left m v) (slots_left m v))
-  pub slots_are : owned o.slots ≡ take (slot_choices r) (slots_left m v)
-  pub numbers : numbers_left m w ≡ drop (number_choices r) (numbers_left m v)
-  pub slots : slots_left m w ≡ drop (slot_choices r) (slots_left m v)
-  pub cursors : w.cursors ≡ new_cursors v.cursors (ids_of r (numbers_left m v) (slots_left m v) ∷ [])
 
 map-push : {A B : Type 0} (f : A → B) (xs : List A) (x : A) (rest : List B) → map f (xs ++ x ∷ []) ++ rest ≡ map f xs ++ f x ∷ rest
 map-push f [] x rest = refl
@@ -84,6 +78,14 @@ goes_on g all left rest x v w o jobs more j split c own is pushed =
           ∙ ap (λ (l : List Ids). new_cursors v.cursors l) first
           ∙ ap (λ (l : List Sent). new_cursors v.cursors (left_for m v l)) (sym split) ∙ c.cursors_are;
     }
+
+-- one item on
+pub item_on : (g : GatewayValue) (all left rest : List Sent) (o : Option Sent) (v w : Reserving) (jobs more : List Asked) → left ≡ option_to_list o ++ rest → IsReserving g all left v jobs → IsReserved g.state.maps o v w jobs more → IsReserving g all rest w more
+item_on g all left rest None v w jobs more split c r = subst (λ (k : Reserving). IsReserving g all rest k more) (sym r.0) (subst (λ (l : List Asked). IsReserving g all rest v l) (sym r.1) (subst (λ (l : List Sent). IsReserving g all l v jobs) split c))
+item_on g all left rest (Some x) v w jobs more split c r =
+    let job : Asked = r.0 in
+    let is : sent_of job ≡ x = r.1 in
+    goes_on g all left rest x v w job.owned jobs more job split c r.2 (λ i. record { mid = (is i).mid; request = (is i).request; owned = job.owned }) r.3
 
 -- none is left
 module _ (g : GatewayValue) (all left : List Sent) (v : Reserving) (jobs : List Asked) (none : left ≡ []) (c : IsReserving g all left v jobs) where

@@ -1,5 +1,6 @@
--- What a gateway answers to a burst of datagrams, and the state that it leaves: the items in order of arrival, one after another
--- (RFC 3525, section 8; the order between transactions, who owns identifiers, and the kept replies are own).
+-- What a gateway answers to a burst of datagrams, and the state that it leaves: the items in order of arrival, one
+-- after another (RFC 3525, section 8; the order between transactions, who owns identifiers, and the kept replies are
+-- own).
 use Rattle.std.specs.Prelude.{◌≡◌, ◌+◌, nat_lt, ℕ, if◌then◌else◌, List, [], ◌∷◌, ◌++◌, drop, Option, None, Some, Result, Ok, Err}
 use Rattle.std.specs.List.{AllZip}
 use Rattle.gw_base.specs.declared.code.Code.{Code}
@@ -25,7 +26,7 @@ use Rattle.gw_tx.specs.Transactions.{transaction}
 use Rattle.gw_reserve.specs.declared.owners.Cursors.{Cursors}
 use Rattle.gw_reserve.specs.Owners.{free_numbers, free_slots, ids_of, new_cursors, number_choices, slot_choices}
 use Rattle.gw_engine.specs.declared.datagram.Datagram.{Datagram}
-use Rattle.gw_engine.specs.declared.heard.Heard.{Heard}
+use Rattle.gw_engine.specs.declared.reading.ReadDatagram.{ReadDatagram}
 use Rattle.gw_engine.specs.State.{State, Settings, GatewayValue}
 
 -- ---- the messages of datagrams
@@ -38,14 +39,14 @@ IsMessageOf text (Err SyntaxError) = IsReadingOf text (Err Syntax)
 IsMessageOf text (Err _) = ⊥
 
 -- who sent the datagram, and its message or error
-pub record IsHeard (d : Datagram) (h : Heard) : Type 0 where
+pub record IsReadAs (d : Datagram) (h : ReadDatagram) : Type 0 where
   pub peer : h.peer ≡ d.peer
   pub message : IsMessageOf d.bytes h.message
 
 -- ---- between two items
 
--- Where a burst stands: the state so far; what its requests so far have left of the numbers and slots that were free at its
--- start; and how many of them were new.
+-- Where a burst stands: the state so far; what its requests so far have left of the numbers and slots that were free
+-- at its start; and how many of them were new.
 pub record Progress : Type 0 where
   pub state : State
   pub numbers : List CtxNum
@@ -98,7 +99,7 @@ state_after s mid r p = record {
   kept = with_pair p.state.kept (entry_for mid r (reply_to s r p));
 }
 
--- It is carried out, and its reply is kept.
+-- It is executed, and its reply is kept.
 abbrev pub new_step : Settings → (peer : ℕ) → (mid : List ℕ) → Request → Progress → Step
 new_step s peer mid r p = record {
   answers = answer_to peer (reply_to s r p);
@@ -127,8 +128,8 @@ over_reply r = record { id = r.id; result = Err InsufficientResources }
 abbrev pub over_step : Settings → (peer : ℕ) → Request → Progress → Step
 over_step s peer r p = unchanged p (answer_to peer (reply_text s.mid (over_reply r)))
 
--- A request whose reply is among the kept ones is a repeat: it gets that reply. Any other is new, if fewer than so many new ones
--- came before it.
+-- A request whose reply is among the kept ones is a repeat: it gets that reply. Any other is new, if fewer than so
+-- many new ones came before it.
 abbrev pub request_step : Settings → (peer : ℕ) → (mid : List ℕ) → Request → Progress → Option (List ℕ) → Step
 request_step s peer mid r p (Some bytes) = unchanged p (answer_to peer bytes)
 request_step s peer mid r p None = if nat_lt p.count most_new then new_step s peer mid r p else over_step s peer r p
@@ -155,8 +156,8 @@ abbrev pub message_step : Settings → (peer : ℕ) → Result Message Code → 
 message_step s peer (Ok m) p = in_turn (item_step s peer m.mid) m.items p
 message_step s peer (Err code) p = unchanged p (answer_to peer (fault_text s.mid code))
 
-abbrev pub heard_step : Settings → Heard → Progress → Step
-heard_step s h p = message_step s h.peer h.message p
+abbrev pub datagram_step : Settings → ReadDatagram → Progress → Step
+datagram_step s h p = message_step s h.peer h.message p
 
 -- ---- a burst
 
@@ -169,12 +170,13 @@ start_of g = record {
   count = 0;
 }
 
-unfoldable pub burst_outcome : GatewayValue → List Heard → Step
-burst_outcome g heard = in_turn (heard_step g.settings) heard (start_of g)
+unfoldable pub burst_outcome : GatewayValue → List ReadDatagram → Step
+burst_outcome g messages = in_turn (datagram_step g.settings) messages (start_of g)
 
--- The answers, in order of arrival and each for the peer that asked, and the state afterwards, are those of the burst's messages.
+-- The answers, in order of arrival and each for the peer that sent what it answers, and the state afterwards, are
+-- those of the burst's messages.
 pub record AnswersBurst (old : GatewayValue) (burst : List Datagram) (answers : List Datagram) (new : GatewayValue) : Type 0 where
-  pub heard : List Heard
-  pub read : AllZip IsHeard burst heard
-  pub answers_are : answers ≡ (burst_outcome old heard).answers
-  pub state : new ≡ record { settings = old.settings; state = (burst_outcome old heard).after.state }
+  pub messages : List ReadDatagram
+  pub read : AllZip IsReadAs burst messages
+  pub answers_are : answers ≡ (burst_outcome old messages).answers
+  pub state : new ≡ record { settings = old.settings; state = (burst_outcome old messages).after.state }

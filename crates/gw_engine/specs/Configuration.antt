@@ -1,4 +1,5 @@
--- Which configurations make a gateway, which fault another has, and the gateway that is made (limits and their order: own).
+-- Which configurations make a gateway, which fault another has, and the gateway that is made (limits and their order:
+-- own).
 use Rattle.std.specs.Prelude.{◌≡◌, ℕ, Bool, true, false, ◌&&◌, if◌then◌else◌, nat_le, length, Option, None, Some}
 use Rattle.std.specs.List.{list_any}
 use Rattle.gw_base.specs.declared.config.Config.{Config}

@@ -6,7 +6,7 @@ use Rattle.gw_msg.specs.declared.message.Item.{Item}
 use Rattle.gw_msg.specs.declared.message.Item.TheVariants as item
 use Rattle.gw_msg.specs.declared.message.Message.{Message}
 use Rattle.gw_tx.specs.KeptForms.{IsAskedRequest}
-use Rattle.gw_engine.specs.declared.heard.Heard.{Heard}
+use Rattle.gw_engine.specs.declared.reading.ReadDatagram.{ReadDatagram}
 
 -- what a request names and describes has its forms
 abbrev pub IsItemInForm : Item → Type 0
@@ -18,9 +18,9 @@ abbrev pub IsMessageInForm : Result Message Code → Type 0
 IsMessageInForm (Ok m) = All IsItemInForm m.items
 IsMessageInForm (Err code) = Unit {0}
 
-abbrev pub IsInForm : Heard → Type 0
+abbrev pub IsInForm : ReadDatagram → Type 0
 IsInForm h = IsMessageInForm h.message
 
 -- so it has in all messages
-abbrev pub AreInForm : List Heard → Type 0
-AreInForm heard = All IsInForm heard
+abbrev pub AreInForm : List ReadDatagram → Type 0
+AreInForm messages = All IsInForm messages

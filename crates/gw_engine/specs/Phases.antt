@@ -1,7 +1,8 @@
--- A burst in phases (own), each over the whole burst before the next begins: what is asked; the classes, from keys and
--- acknowledgements alone; who owns which identifiers; the transactions; their texts, answered; what changes in the kept replies.
-use Rattle.std.specs.Prelude.{◌≡◌, ◌+◌, ℕ, List, [], ◌∷◌, ◌++◌, map, length, flat_map, Option, None, Some, Result, Ok, Err}
-use Rattle.std.specs.List.{zip, AllZip}
+-- A burst in phases (own), each over the whole table of its items before the next begins: the classes, from keys and
+-- acknowledgements alone; who owns which identifiers; the transactions; the answers; what changes in the kept replies.
+use Rattle.std.specs.Prelude.{◌≡◌, ◌+◌, ℕ, List, [], ◌∷◌, map, length, flat_map, Option, None, Some, Result, Ok, Err}
+use Rattle.std.specs.List.{zip, slice_get, AllZip}
+use Rattle.std.specs.Option.{option_to_list}
 use Rattle.gw_base.specs.declared.code.Code.{Code}
 use Rattle.gw_base.specs.declared.code.Code.TheVariants.{InsufficientResources}
 use Rattle.gw_base.specs.declared.command_words.Rules.{Rules}
@@ -10,10 +11,10 @@ use Rattle.gw_board.specs.Results.{slots_of}
 use Rattle.gw_board.specs.declared.asked.Asked.{Asked}
 use Rattle.gw_kept.specs.Classes.{classes_of}
 use Rattle.gw_kept.specs.Changes.{Change, changes_of, kept_after, AreNew}
-use Rattle.gw_kept.specs.Pairs.{KeptList}
-use Rattle.gw_kept.specs.Repeats.{bytes_of}
+use Rattle.gw_kept.specs.Pairs.{KeptList, bytes_at}
 use Rattle.gw_kept.specs.declared.class.Class.{Class}
 use Rattle.gw_kept.specs.declared.class.Class.TheVariants.{New, Repeat, Over, Nothing}
+use Rattle.gw_kept.specs.declared.class.Source.{Source}
 use Rattle.gw_kept.specs.declared.class.Source.TheVariants as source
 use Rattle.gw_kept.specs.declared.entry.Entry.{Entry}
 use Rattle.gw_kept.specs.declared.change.Turn.{Turn}
@@ -31,94 +32,88 @@ use Rattle.gw_reserve.specs.Owned.{OwnedAction, with_ids, paired}
 use Rattle.gw_reserve.specs.Owners.{owners, owned_slots, new_cursors}
 use Rattle.gw_reserve.specs.declared.owners.Cursors.{Cursors}
 use Rattle.gw_table.specs.Maps.{Maps, Outcome}
-use Rattle.gw_engine.specs.declared.asked.Ask.{Ask}
-use Rattle.gw_engine.specs.declared.asked.Said.{Said}
-use Rattle.gw_engine.specs.declared.asked.Said.TheVariants as said
-use Rattle.gw_engine.specs.declared.asked.Sent.{Sent}
-use Rattle.gw_engine.specs.declared.classify.Task.{Task}
-use Rattle.gw_engine.specs.declared.classify.Work.{Work}
-use Rattle.gw_engine.specs.declared.classify.Work.TheVariants as work
+use Rattle.gw_engine.specs.declared.items.BurstItem.{BurstItem}
+use Rattle.gw_engine.specs.declared.items.Content.{Content}
+use Rattle.gw_engine.specs.declared.items.Content.TheVariants as content
+use Rattle.gw_engine.specs.declared.items.Sent.{Sent}
 use Rattle.gw_engine.specs.declared.datagram.Datagram.{Datagram}
-use Rattle.gw_engine.specs.declared.heard.Heard.{Heard}
+use Rattle.gw_engine.specs.declared.reading.ReadDatagram.{ReadDatagram}
 use Rattle.gw_engine.specs.Bursts.{cursors_of, entry_for, key_of_request, burst_outcome}
 use Rattle.gw_engine.specs.Carried.{carried}
 use Rattle.gw_engine.specs.Readable.{IsAnswerTo, questions}
 use Rattle.gw_engine.specs.State.{State, GatewayValue, IsWellFormed}
 
--- ---- what is asked
+-- ---- the table of a burst
 
--- a request is to be answered, an acknowledgement changes what is kept, and no other item asks anything
-abbrev pub asks_in : (peer : ℕ) → (mid : List ℕ) → Item → List Ask
-asks_in peer mid (item.Request r) = record { peer = peer; said = said.Request (record { mid = mid; request = r }) } ∷ []
-asks_in peer mid (item.Ack ranges) = record { peer = peer; said = said.Ack (record { mid = mid; ranges = ranges }) } ∷ []
-asks_in peer mid item.Ignored = []
+-- an item as it is read: it has no class yet
+abbrev pub item_of : (peer : ℕ) → Content → BurstItem
+item_of peer x = record { peer = peer; content = x; class = Nothing; before = 0 }
 
--- a text that is no message is to be answered
-abbrev pub asks_from : (peer : ℕ) → Result Message Code → List Ask
-asks_from peer (Ok m) = flat_map (asks_in peer m.mid) m.items
-asks_from peer (Err code) = record { peer = peer; said = said.Fault code } ∷ []
+-- a request and an acknowledgement are items of a burst, and no other item of a message is
+abbrev pub items_in : (peer : ℕ) → (mid : List ℕ) → Item → List BurstItem
+items_in peer mid (item.Request r) = item_of peer (content.Request (record { mid = mid; request = r })) ∷ []
+items_in peer mid (item.Ack ranges) = item_of peer (content.Ack (record { mid = mid; ranges = ranges })) ∷ []
+items_in peer mid item.Ignored = []
 
--- what a burst asks, in order of arrival
-abbrev pub asks_of : List Heard → List Ask
-asks_of heard = flat_map (λ h. asks_from h.peer h.message) heard
+-- a text that is no message is one
+abbrev pub items_from : (peer : ℕ) → Result Message Code → List BurstItem
+items_from peer (Ok m) = flat_map (items_in peer m.mid) m.items
+items_from peer (Err code) = item_of peer (content.Fault code) ∷ []
+
+-- the items of a burst, in order of arrival
+abbrev pub items_of : List ReadDatagram → List BurstItem
+items_of messages = flat_map (λ d. items_from d.peer d.message) messages
 
 -- ---- classes
 
 -- what it is to the kept replies
-abbrev pub point_of : Said → Point
-point_of (said.Request s) = point.Request (key_of_request s.mid s.request)
-point_of (said.Ack r) = point.Ack r
-point_of (said.Fault code) = point.Nothing
+abbrev pub point_of : Content → Point
+point_of (content.Request s) = point.Request (key_of_request s.mid s.request)
+point_of (content.Ack r) = point.Ack r
+point_of (content.Fault code) = point.Nothing
 
-abbrev pub points_of : List Ask → List Point
-points_of asks = map (λ a. point_of a.said) asks
+abbrev pub points_of : List BurstItem → List Point
+points_of items = map (λ i. point_of i.content) items
 
--- each with its class, told from keys and acknowledgements alone
-abbrev pub told : KeptList → List Ask → List (Ask × Class)
-told k asks = zip asks (classes_of k (points_of asks))
+-- the request, if it is new
+abbrev pub new_for : Content → Class → Option Sent
+new_for (content.Request s) New = Some s
+new_for (content.Request s) (Repeat from) = None
+new_for (content.Request s) Over = None
+new_for (content.Request s) Nothing = None
+new_for (content.Ack r) class = None
+new_for (content.Fault code) class = None
 
--- the request, if it is carried out
-abbrev pub new_for : Said → Class → List Sent
-new_for (said.Request s) New = s ∷ []
-new_for (said.Request s) (Repeat from) = []
-new_for (said.Request s) Over = []
-new_for (said.Request s) Nothing = []
-new_for (said.Ack r) class = []
-new_for (said.Fault code) class = []
+-- an item with its class, and so many new requests before it
+abbrev pub with_class : BurstItem → Class → (before : ℕ) → BurstItem
+with_class i class before = record { peer = i.peer; content = i.content; class = class; before = before }
 
--- the requests that are carried out, in order
-abbrev pub new_in : List (Ask × Class) → List Sent
-new_in asked = flat_map (λ a. new_for a.0.said a.1) asked
+-- so many new requests come before the next item
+abbrev pub count_behind : BurstItem → Class → (before : ℕ) → ℕ
+count_behind i class before = before + length (option_to_list (new_for i.content class))
+
+-- items with these classes, and so many new requests before them
+abbrev pub classified : (before : ℕ) → List BurstItem → List Class → List BurstItem
+classified before [] classes = []
+classified before (i ∷ rest) [] = i ∷ rest
+classified before (i ∷ rest) (c ∷ classes) = with_class i c before ∷ classified (count_behind i c before) rest classes
+
+-- the requests that are executed, in order
+abbrev pub new_in : List BurstItem → List Sent
+new_in items = flat_map (λ i. option_to_list (new_for i.content i.class)) items
 
 -- What it changes in the kept replies: that of a new request is kept, and an acknowledgement removes what it names.
-abbrev pub turns_for : Said → Class → List Turn
-turns_for (said.Request s) New = turn.Keep ∷ []
-turns_for (said.Request s) (Repeat from) = []
-turns_for (said.Request s) Over = []
-turns_for (said.Request s) Nothing = []
-turns_for (said.Ack r) class = turn.Forget r ∷ []
-turns_for (said.Fault code) class = []
+abbrev pub turn_for : Content → Class → Option Turn
+turn_for (content.Request s) New = Some turn.Keep
+turn_for (content.Request s) (Repeat from) = None
+turn_for (content.Request s) Over = None
+turn_for (content.Request s) Nothing = None
+turn_for (content.Ack r) class = Some (turn.Forget r)
+turn_for (content.Fault code) class = None
 
 -- all that changes in the kept replies, in order
-abbrev pub turns_in : List (Ask × Class) → List Turn
-turns_in asked = flat_map (λ a. turns_for a.0.said a.1) asked
-
-abbrev pub task_for : (peer : ℕ) → Work → List Task
-task_for peer w = record { peer = peer; work = w } ∷ []
-
--- How one is answered that has so many new requests before it: with an error, or with a reply, a new request with its own.
-abbrev pub tasks_for : (before : ℕ) → (peer : ℕ) → Said → Class → List Task
-tasks_for before peer (said.Request s) New = task_for peer (work.Reply (source.Place before))
-tasks_for before peer (said.Request s) (Repeat from) = task_for peer (work.Reply from)
-tasks_for before peer (said.Request s) Over = task_for peer (work.Over s.request.id)
-tasks_for before peer (said.Request s) Nothing = []
-tasks_for before peer (said.Ack r) class = []
-tasks_for before peer (said.Fault code) class = task_for peer (work.Fault code)
-
--- how all are answered
-abbrev pub tasks_in : (before : ℕ) → List (Ask × Class) → List Task
-tasks_in before [] = []
-tasks_in before (a ∷ rest) = tasks_for before a.0.peer a.0.said a.1 ++ tasks_in (before + length (new_for a.0.said a.1)) rest
+abbrev pub turns_in : List BurstItem → List Turn
+turns_in items = flat_map (λ i. option_to_list (turn_for i.content i.class)) items
 
 -- ---- who owns what
 
@@ -169,18 +164,33 @@ entries_of mid new replies = map (entry_of mid) (zip new replies)
 abbrev pub refusal_of : TxId → TxReply
 refusal_of id = record { id = id; result = Err InsufficientResources }
 
--- the text of an error, of a reply, or of a refusal
-abbrev pub text_of : List ℕ → KeptList → List Entry → Work → Option (List ℕ)
-text_of mid k entries (work.Fault code) = Some (fault_text mid code)
-text_of mid k entries (work.Reply from) = bytes_of from k entries
-text_of mid k entries (work.Over id) = Some (reply_text mid (refusal_of id))
+-- the texts that are kept in pairs
+abbrev pub texts_of : List Entry → List (List ℕ)
+texts_of entries = map (λ e. e.bytes) entries
+
+-- the reply that a source names: of a pair that was kept at the burst's start, or one of these, to its new requests
+abbrev pub reply_from : Source → KeptList → (replies : List (List ℕ)) → Option (List ℕ)
+reply_from (source.Kept place) k replies = bytes_at place k.pairs
+reply_from (source.Place place) k replies = slice_get replies place
+
+-- the text of an item's answer: an error, a reply, or a refusal
+abbrev pub text_by : List ℕ → KeptList → List (List ℕ) → Content → Class → (before : ℕ) → Option (List ℕ)
+text_by mid k replies (content.Fault code) class before = Some (fault_text mid code)
+text_by mid k replies (content.Request s) New before = slice_get replies before
+text_by mid k replies (content.Request s) (Repeat from) before = reply_from from k replies
+text_by mid k replies (content.Request s) Over before = Some (reply_text mid (refusal_of s.request.id))
+text_by mid k replies (content.Request s) Nothing before = None
+text_by mid k replies (content.Ack r) class before = None
+
+abbrev pub text_for : List ℕ → KeptList → List (List ℕ) → BurstItem → Option (List ℕ)
+text_for mid k replies i = text_by mid k replies i.content i.class i.before
 
 abbrev pub answer_for : (peer : ℕ) → Option (List ℕ) → List Datagram
 answer_for peer None = []
 answer_for peer (Some bytes) = record { peer = peer; bytes = bytes } ∷ []
 
-abbrev pub answers_of : List ℕ → KeptList → List Entry → List Task → List Datagram
-answers_of mid k entries tasks = flat_map (λ t. answer_for t.peer (text_of mid k entries t.work)) tasks
+abbrev pub answers_of : List ℕ → KeptList → List (List ℕ) → List BurstItem → List Datagram
+answers_of mid k replies items = flat_map (λ i. answer_for i.peer (text_for mid k replies i)) items
 
 -- ---- a burst
 
@@ -188,19 +198,23 @@ answers_of mid k entries tasks = flat_map (λ t. answer_for t.peer (text_of mid 
 abbrev pub adopted : State → Maps → Cursors → List Change → State
 adopted s m cursors changes = record { maps = m; context_cursor = cursors.context; slot_cursor = cursors.slot; kept = kept_after s.kept changes }
 
+-- the table of a burst, each item with its class: these follow from keys and acknowledgements alone
+abbrev pub table_of : GatewayValue → List ReadDatagram → List BurstItem
+table_of g messages = classified 0 (items_of messages) (classes_of g.state.kept (points_of (items_of messages)))
+
 -- the new requests of a burst
-abbrev pub new_of : GatewayValue → List Heard → List Sent
-new_of g heard = new_in (told g.state.kept (asks_of heard))
+abbrev pub new_of : GatewayValue → List ReadDatagram → List Sent
+new_of g messages = new_in (table_of g messages)
 
 -- what a burst changes in the kept replies
-abbrev pub turns_of : GatewayValue → List Heard → List Turn
-turns_of g heard = turns_in (told g.state.kept (asks_of heard))
+abbrev pub turns_of : GatewayValue → List ReadDatagram → List Turn
+turns_of g messages = turns_in (table_of g messages)
 
 -- where the next burst's search for identifiers begins
-abbrev pub cursors_behind : GatewayValue → List Heard → Cursors
-cursors_behind g heard = new_cursors (cursors_of g.state) (ids_in g (new_of g heard))
+abbrev pub cursors_behind : GatewayValue → List ReadDatagram → Cursors
+cursors_behind g messages = new_cursors (cursors_of g.state) (ids_in g (new_of g messages))
 
--- what is kept of jobs that are carried out on the tables of the gateway
+-- what is kept of jobs that are executed on the tables of the gateway
 abbrev pub kept_of : GatewayValue → List Asked → List Entry
 kept_of g jobs = entries_of g.settings.mid (map sent_of jobs) (done_by g.settings.rules jobs g.state.maps).answer
 
@@ -210,22 +224,22 @@ pub record Phased : Type 0 where
   pub changes : List Change
   pub state : State
 
-unfoldable pub phased : GatewayValue → List Heard → Phased
-phased g heard =
-    let new = new_of g heard in
+unfoldable pub phased : GatewayValue → List ReadDatagram → Phased
+phased g messages =
+    let new = new_of g messages in
     let done = carried g.settings.rules (paired_requests new (ids_in g new)) g.state.maps in
     let entries = entries_of g.settings.mid new done.answer in
-    let changes = changes_of (turns_of g heard) entries in
+    let changes = changes_of (turns_of g messages) entries in
     record {
-      answers = answers_of g.settings.mid g.state.kept entries (tasks_in 0 (told g.state.kept (asks_of heard)));
+      answers = answers_of g.settings.mid g.state.kept (texts_of entries) (table_of g messages);
       changes = changes;
-      state = adopted g.state done.maps (cursors_behind g heard) changes;
+      state = adopted g.state done.maps (cursors_behind g messages) changes;
     }
 
 -- What came of a burst is what comes of its items one after another: it can be read, and may be adopted.
-pub record IsOutcome (g : GatewayValue) (heard : List Heard) (answers : List Datagram) (m : Maps) (cursors : Cursors) (changes : List Change) : Type 0 where
-  pub answers_are : answers ≡ (burst_outcome g heard).answers
-  pub readable : AllZip (IsAnswerTo g.settings.mid) (questions heard) answers
-  pub state : adopted g.state m cursors changes ≡ (burst_outcome g heard).after.state
+pub record IsOutcome (g : GatewayValue) (messages : List ReadDatagram) (answers : List Datagram) (m : Maps) (cursors : Cursors) (changes : List Change) : Type 0 where
+  pub answers_are : answers ≡ (burst_outcome g messages).answers
+  pub readable : AllZip (IsAnswerTo g.settings.mid) (questions messages) answers
+  pub state : adopted g.state m cursors changes ≡ (burst_outcome g messages).after.state
   pub new : AreNew g.state.kept changes
   pub fits : IsWellFormed g.settings (adopted g.state m cursors changes)

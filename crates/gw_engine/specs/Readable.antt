@@ -1,4 +1,5 @@
--- That what this gateway sends can be read: which message of the grammar each answer is (RFC 3525, section 8 and Annex B.2).
+-- That what this gateway sends can be read: which message of the grammar each answer is (RFC 3525, section 8 and Annex
+-- B.2).
 use Rattle.std.specs.Prelude.{◌≡◌, ℕ, List, [], ◌∷◌, flat_map, Result, Ok, Err}
 use Rattle.std.specs.List.{AllZip}
 use Rattle.gw_base.specs.Codes.{number_of}
@@ -14,8 +15,8 @@ use Rattle.gw_msg.specs.declared.message.Item.TheVariants as item
 use Rattle.gw_msg.specs.declared.message.Message.{Message}
 use Rattle.gw_reply_law.specs.Spellings.{IsReplyMessage}
 use Rattle.gw_engine.specs.declared.datagram.Datagram.{Datagram}
-use Rattle.gw_engine.specs.declared.heard.Heard.{Heard}
-use Rattle.gw_engine.specs.Bursts.{IsHeard}
+use Rattle.gw_engine.specs.declared.reading.ReadDatagram.{ReadDatagram}
+use Rattle.gw_engine.specs.Bursts.{IsReadAs}
 
 -- errorDescriptor of this number
 abbrev pub SpellsErrorOf : ℕ → List ℕ → Type 0
@@ -32,35 +33,35 @@ error_message mid = record { mid = mid; items = [] }
 -- what is to be answered, and to whom: the request of this number, or a text that has this error
 pub record Question : Type 0 where
   pub peer : ℕ
-  pub asks : Result ℕ Code
+  pub subject : Result ℕ Code
 
 -- each request is to be answered, and no other item
 abbrev pub question_in : ℕ → Item → List Question
-question_in peer (item.Request r) = record { peer = peer; asks = Ok r.id.0 } ∷ []
+question_in peer (item.Request r) = record { peer = peer; subject = Ok r.id.0 } ∷ []
 question_in peer (item.Ack ranges) = []
 question_in peer item.Ignored = []
 
 abbrev pub questions_in : ℕ → Result Message Code → List Question
 questions_in peer (Ok m) = flat_map (question_in peer) m.items
-questions_in peer (Err code) = record { peer = peer; asks = Err code } ∷ []
+questions_in peer (Err code) = record { peer = peer; subject = Err code } ∷ []
 
 -- in order of arrival
-abbrev pub questions : List Heard → List Question
-questions heard = flat_map (λ h. questions_in h.peer h.message) heard
+abbrev pub questions : List ReadDatagram → List Question
+questions messages = flat_map (λ h. questions_in h.peer h.message) messages
 
 -- a message with the reply of the request's number, or with the error
 abbrev pub IsAnswerText : List ℕ → Result ℕ Code → List ℕ → Type 0
 IsAnswerText mid (Ok id) bytes = IsReplyMessage mid id bytes
 IsAnswerText mid (Err code) bytes = IsErrorMessage mid (number_of code) bytes
 
--- it goes to the peer that asked
+-- it goes to the peer that sent what it answers
 pub record IsAnswerTo (mid : List ℕ) (q : Question) (d : Datagram) : Type 0 where
   pub peer : d.peer ≡ q.peer
-  pub text : IsAnswerText mid q.asks d.bytes
+  pub text : IsAnswerText mid q.subject d.bytes
 
--- Each request of the burst has one answer, a message from this mId with the reply of its number; each text that is no message has
--- one, a message with the error; in order of arrival; and there are no others.
+-- Each request of the burst has one answer, a message from this mId with the reply of its number; each text that is no
+-- message has one, a message with the error; in order of arrival; and there are no others.
 pub record CanBeRead (mid : List ℕ) (burst : List Datagram) (answers : List Datagram) : Type 0 where
-  pub heard : List Heard
-  pub read : AllZip IsHeard burst heard
-  pub answers_are : AllZip (IsAnswerTo mid) (questions heard) answers
+  pub messages : List ReadDatagram
+  pub read : AllZip IsReadAs burst messages
+  pub answers_are : AllZip (IsAnswerTo mid) (questions messages) answers

@@ -1,18 +1,15 @@
 -- Where the replies to the new requests of a burst are (own): on the board, until they are kept.
-use Rattle.std.specs.Prelude.{◌≡◌, List, [], ◌∷◌, map}
+use Rattle.std.specs.Prelude.{List, [], ◌∷◌}
 use Rattle.gw_board.specs.Boards.{Seen, asked_of}
 use Rattle.gw_board.specs.Carried.{carried}
 use Rattle.gw_board.specs.Texts.{Text}
 use Rattle.gw_board.specs.declared.asked.Asked.{Asked}
 use Rattle.gw_kept.specs.declared.entry.Entry.{Entry}
+use Rattle.gw_table.specs.Stored.{maps_of}
 
 -- the texts that all requests of a board come to
-abbrev pub texts_of : Seen → List Text
-texts_of b = (carried b.manner (asked_of b.places) b.begun).answer
-
--- what is kept holds these texts
-abbrev pub AreTold : Seen → List Entry → Type 0
-AreTold b entries = map (λ e. e.bytes) entries ≡ texts_of b
+abbrev pub board_texts : Seen → List Text
+board_texts b = (carried b.manner (asked_of b.places) (maps_of b.start)).answer
 
 -- the pair of each request and its text
 abbrev pub entries_with : List Asked → List Text → List Entry

@@ -12,7 +12,8 @@ use Rattle.gw_reply_law.specs.Spellings.{IsReplyMessage}
 use Rattle.gw_table.specs.Maps.{Maps, coded_maps}
 use Rattle.gw_table.specs.WellFormed.{AreWellFormed}
 
--- What changes: the tables, where the search for free numbers and slots begins, and the replies that are kept, oldest first.
+-- What changes: the tables, where the search for free numbers and slots begins, and the replies that are kept, oldest
+-- first.
 pub record State : Type 0 where
   pub maps : Maps
   pub context_cursor : ℕ
@@ -36,8 +37,9 @@ pub record GatewayValue : Type 0 where
 abbrev pub IsKeptReply : List ℕ → Entry → Type 0
 IsKeptReply mid e = IsReplyMessage mid e.id.0 e.bytes
 
--- The gateway's own mId and the address of its media have their forms; the tables fit together, and what they keep as sent has its
--- form; the cursors are within the limits; no more replies are kept than may be, each to another transaction, and can be read.
+-- The gateway's own mId and the address of its media have their forms; the tables fit together, and what they keep as
+-- sent has its form; the cursors are within the limits; no more replies are kept than may be, each to another
+-- transaction, and can be read.
 pub record IsWellFormed (settings : Settings) (state : State) : Type 0 where
   pub mid : IsMid settings.mid
   pub address : IsAddress settings.rules.media

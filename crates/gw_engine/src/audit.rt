@@ -31,13 +31,13 @@ fn write_kept(count: u32, out: &mut Vec<u8>) -> Result<(), AllocError>
 }
 
 impl Gateway {
-    /// The tables and cursors as text: a line `cursors <contexts> <slots>`, a line `context <number> <members>` for each
-    /// context, a line `term <name> <context or -> <service state>` for each termination, and a line `kept <count>`. The work is
-    /// linear in the text, but for a look-up for each line.
+    /// The tables and cursors as text: a line `cursors <contexts> <slots>`, a line `context <number> <members>` for
+    /// each context, a line `term <name> <context or -> <service state>` for each termination, and a line `kept
+    /// <count>`. The work is linear in the text, but for a look-up for each line.
     ///
     /// # Errors
     ///
-    /// Want of memory.
+    /// Out of memory.
     pub fn audit_tables(&self, alloc: Global) -> Result<Vec<u8>, NoMemory>
         ensures text { IfOk result (λ text. text.items ≡ audit_text self.now) }
         ensures fits { IsWellFormed self.now.settings self.now.state }

@@ -1,21 +1,20 @@
-//! Carrying out the new requests of a burst: by one worker one after another, by several in waves.
+//! Executing the new requests of a burst: by one worker one after another, by several in waves.
 
-ghost use Rattle.std.specs.Prelude.{◌≡◌, [], map, IfOk, IfErr, OnOk, OnErr, List, length, vec_len, vec_capacity, ◌<◌, ◌≤◌, ◌+◌};
+ghost use Rattle.std.specs.Prelude.{◌≡◌, [], map, IfOk, IfErr, OnOk, OnErr, length, vec_capacity, ◌<◌, ◌≤◌, ◌+◌};
 ghost use Rattle.gw_board.specs.Boards.{core_of, AllClosed, unclosed};
 ghost use Rattle.gw_board.specs.OpenJobs.{IsSameBurst};
 ghost use Rattle.gw_board.specs.Results.{NothingIsOpen, slots_of};
-ghost use Rattle.gw_kept.specs.declared.entry.Entry.{Entry as Pair};
 ghost use Rattle.gw_table.specs.Stored.{maps_of, NoneIsOut};
 ghost use Rattle.gw_table.specs.Unused.{AreUnused};
 ghost use Rattle.gw_table.specs.WellFormed.{AreWellFormed};
-ghost use Rattle.gw_engine.specs.Phases.{sent_of, done_by, entries_of, answers_of};
-ghost use Rattle.gw_engine.specs.Replies.{AreTold, entries_with};
+ghost use Rattle.gw_engine.specs.Phases.{sent_of, done_by, entries_of, texts_of, answers_of};
+ghost use Rattle.gw_engine.specs.Replies.{board_texts, entries_with};
 
-use crate::answer::answers;
-use crate::classify::Task;
-use crate::crew::Crew;
+use crate::answers::answers;
 use crate::datagram::Datagram;
+use crate::items::BurstItem;
 use crate::wave::answers_to;
+use crate::workers::Workers;
 use gw_base::{Items, NoMemory};
 use gw_board::{Asked, Board, BoardFault, Manner};
 use gw_draw::Gate;
@@ -33,14 +32,14 @@ pub(crate) struct Done {
     pub(crate) answers: Items<Datagram>,
 }
 
-/// Carries out the next wave: all that may be carried out side by side. The caller knows that nothing is open, and that a place is not
-/// closed.
+/// Executes the next wave: all that may be executed side by side. The caller knows that nothing is open, and that a
+/// place is not closed.
 ///
 /// # Errors
 ///
-/// Want of memory. Nothing is open then.
+/// Out of memory. Nothing is open then.
 fn carry_wave<R: Threads + Sync, G: Gate>(
-    crew: &Crew<'_, R, G>,
+    workers: &Workers<'_, R, G>,
     alloc: Global,
     board: &mut Board<'_, '_, '_>,
 ) -> Result<(), NoMemory>
@@ -51,22 +50,23 @@ fn carry_wave<R: Threads + Sync, G: Gate>(
     ensures same { IsSameBurst board.old board.new }
 {
     let jobs = board.open_wave(alloc)?;
-    let Ok(answers) = answers_to(crew, alloc, &jobs) else {
+    let Ok(answers) = answers_to(workers, alloc, &jobs) else {
         board.close_unchanged(jobs);
         return Err(NoMemory);
     };
     board.close_wave(jobs, answers)
 }
 
-/// Carries out what is pending on the board. One worker carries out each request by itself, in order of arrival, and passes the gate with
-/// the number 0. Several go wave after wave, but for a request that is meant for all, which is a wave by itself, and for the last that is
-/// pending: these are carried out in that way, too. The caller knows that nothing is open. There are at most as many waves as requests.
+/// Executes what is pending on the board. One worker executes each request by itself, in order of arrival, and passes
+/// the gate with the number 0. Several go wave after wave, but for a request that is whole-table, which is a wave by
+/// itself, and for the last that is pending: these are executed in that way, too. The caller knows that nothing is
+/// open. There are at most as many waves as requests.
 ///
 /// # Errors
 ///
-/// Want of memory. Nothing is open then.
+/// Out of memory. Nothing is open then.
 fn carry_all<R: Threads + Sync, G: Gate>(
-    crew: &Crew<'_, R, G>,
+    workers: &Workers<'_, R, G>,
     alloc: Global,
     board: &mut Board<'_, '_, '_>,
 ) -> Result<(), NoMemory>
@@ -75,40 +75,40 @@ fn carry_all<R: Threads + Sync, G: Gate>(
     ensures err { OnErr result (NothingIsOpen (core_of board.new)) }
     ensures same { IsSameBurst board.old board.new }
 {
-    if crew.workers == 1 {
-        return board.carry_rest(alloc, crew.gate);
+    if workers.count == 1 {
+        return board.carry_rest(alloc, workers.gate);
     }
     let mut closed = 0;
     while let Some(place) = board.first_unclosed(closed) {
         if board.is_for_all(place) || board.is_last(place) {
-            crew.gate.pass(0);
+            workers.gate.pass(0);
             board.carry_alone(alloc, place)?;
             closed = place;
         } else {
-            carry_wave(crew, alloc, board)?;
+            carry_wave(workers, alloc, board)?;
             closed = 0;
         }
     }
     Ok(())
 }
 
-/// Carries out what is pending on the board, and writes the answers.
+/// Executes what is pending on the board, and writes the answers.
 fn answered<R: Threads + Sync, G: Gate>(
-    crew: &Crew<'_, R, G>,
+    workers: &Workers<'_, R, G>,
     alloc: Global,
     manner: &Manner,
     kept: &Kept,
-    tasks: &[Task],
+    items: &[BurstItem<'_, '_>],
     board: &mut Board<'_, '_, '_>,
 ) -> Result<Items<Datagram>, NoMemory>
     requires { NothingIsOpen (core_of board.old) }
     ensures closed { OnOk result (AllClosed board.new.places) }
-    ensures answers { (entries : List Pair) → AreTold board.new entries → IfOk result (λ answers. answers ≡ answers_of manner.now.mid kept.now entries tasks.now) }
+    ensures answers { IfOk result (λ answers. answers ≡ answers_of manner.now.mid kept.now (board_texts board.new) items.now) }
     ensures err { OnErr result (NothingIsOpen (core_of board.new)) }
     ensures same { IsSameBurst board.old board.new }
 {
-    carry_all(crew, alloc, board)?;
-    answers(crew, alloc, &manner.mid, kept, board, tasks)
+    carry_all(workers, alloc, board)?;
+    answers(workers, alloc, &manner.mid, kept, board, items)
 }
 
 /// The pair of each request and its text. The caller knows that there is room for all, and none yet.
@@ -131,19 +131,19 @@ fn with_texts(mut entries: Vec<Entry>, jobs: &[Asked<'_, '_>], texts: Vec<Items<
     entries
 }
 
-/// Carries requests out and writes the answers of a burst, with a board that has the tables for that time. The caller knows that the
-/// tables are well-formed, that nothing is out, and that the slots that are owned are unused.
+/// Executes requests and writes the answers of a burst, with a board that has the tables for that time. The caller
+/// knows that the tables are well-formed, that nothing is out, and that the slots that are owned are unused.
 ///
 /// # Errors
 ///
-/// Want of memory, which hands the tables back as they were.
+/// Out of memory, which hands the tables back as they were.
 pub(crate) fn carried_out<R: Threads + Sync, G: Gate>(
-    crew: &Crew<'_, R, G>,
+    workers: &Workers<'_, R, G>,
     alloc: Global,
     tables: Tables,
     manner: Manner,
     kept: &Kept,
-    tasks: &[Task],
+    items: &[BurstItem<'_, '_>],
     jobs: &[Asked<'_, '_>],
 ) -> Result<Done, Tables>
     requires whole { AreWellFormed manner.rules.members (maps_of tables) }
@@ -151,7 +151,7 @@ pub(crate) fn carried_out<R: Threads + Sync, G: Gate>(
     requires unused { AreUnused (maps_of tables) [] (slots_of jobs.now) }
     ensures tables { IfOk result (λ done. maps_of done.tables ≡ (done_by manner.rules jobs.now (maps_of tables)).maps) }
     ensures entries { IfOk result (λ done. done.entries.items ≡ entries_of manner.mid (map sent_of jobs.now) (done_by manner.rules jobs.now (maps_of tables)).answer) }
-    ensures answers { IfOk result (λ done. done.answers ≡ answers_of manner.mid kept.now done.entries.items tasks.now) }
+    ensures answers { IfOk result (λ done. done.answers ≡ answers_of manner.mid kept.now (texts_of done.entries.items) items.now) }
     ensures here { IfOk result (λ done. NoneIsOut done.tables) }
     ensures back { IfErr result (λ back. maps_of back ≡ maps_of tables) }
     ensures back_here { IfErr result (λ back. NoneIsOut back) }
@@ -163,7 +163,7 @@ pub(crate) fn carried_out<R: Threads + Sync, G: Gate>(
         Ok(board) => board,
         Err(BoardFault::NoMemory(tables)) => return Err(tables),
     };
-    match answered(crew, alloc, &manner, kept, tasks, &mut board) {
+    match answered(workers, alloc, &manner, kept, items, &mut board) {
         Ok(answers) => {
             let (tables, texts) = board.finish();
             Ok(Done {

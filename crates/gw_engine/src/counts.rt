@@ -3,7 +3,7 @@
 ghost use Rattle.std.specs.Prelude.{◌≡◌, count_by};
 ghost use Rattle.gw_engine.specs.Counts.{counts_in, is_new, is_repeat, is_over, is_fault};
 
-use crate::asked::{Ask, Said};
+use crate::items::{BurstItem, Content};
 use gw_kept::Class;
 
 /// What a burst was, by the classes of its requests.
@@ -46,24 +46,25 @@ fn over_in(classes: &[Class]) -> usize
         .count()
 }
 
-fn errors_in(asks: &[Ask<'_, '_>]) -> usize
-    ensures { result ≡ count_by is_fault asks.now }
+fn errors_in(items: &[BurstItem<'_, '_>]) -> usize
+    ensures { result ≡ count_by is_fault items.now }
 {
-    asks.iter()
-        .filter(|ask| matches!(ask.said, Said::Fault(_)))
+    items
+        .iter()
+        .filter(|item| matches!(item.content, Content::Fault(_)))
         .count()
 }
 
 impl BurstCounts {
     /// The counts of a burst: what it requests, and the class of each.
-    pub(crate) fn of(asks: &[Ask<'_, '_>], classes: &[Class]) -> BurstCounts
-        ensures { result ≡ counts_in asks.now classes.now }
+    pub(crate) fn of(items: &[BurstItem<'_, '_>], classes: &[Class]) -> BurstCounts
+        ensures { result ≡ counts_in items.now classes.now }
     {
         BurstCounts {
             executed: new_in(classes),
             repeats: repeats_in(classes),
             over: over_in(classes),
-            errors: errors_in(asks),
+            errors: errors_in(items),
         }
     }
 }

@@ -14,7 +14,7 @@ pub struct Datagram {
     pub bytes: Octets,
 }
 
-// Written out, so that a function that lets a datagram go does so by one call.
+// Written out, so that a function that drops a datagram does so by one call.
 impl Drop for Datagram {
     fn drop(self) {
         let Datagram { peer: _, bytes: _ } = self;
@@ -22,16 +22,15 @@ impl Drop for Datagram {
 }
 
 impl Datagram {
-    /// Its bytes alone, in a block that no other datagram has: that which they lie in, or a copy where others lie in it too, as those of
-    /// other answers of the burst may.
+    /// Its bytes alone.
     ///
     /// # Errors
     ///
-    /// `AllocError` where the memory of a copy was refused.
-    pub fn into_bytes(self, alloc: Global) -> Result<Items<u8>, AllocError>
+    /// None.
+    pub fn into_bytes(self, _alloc: Global) -> Result<Items<u8>, AllocError>
         ensures { IfOk result (λ bytes. bytes ≡ self.bytes) }
     {
         let Datagram { peer: _, bytes } = self;
-        bytes.into_bytes(alloc)
+        Ok(bytes.into_block())
     }
 }

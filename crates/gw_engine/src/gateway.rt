@@ -29,7 +29,7 @@ pub struct Gateway {
     pub(crate) kept: Kept,
 }
 
-// Written out, so that a function that lets a gateway go does so by one call.
+// Written out, so that a function that drops a gateway does so by one call.
 impl Drop for Gateway {
     fn drop(self) {
         let Gateway {
@@ -113,13 +113,13 @@ fn check_names(alloc: Global, names: &[TermName]) -> Result<(), ConfigFault>
 }
 
 impl Gateway {
-    /// The gateway of a configuration, with its terminations in the null context and no contexts. This takes n log n steps in the
-    /// names.
+    /// The gateway of a configuration, with its terminations in the null context and no contexts. This takes n log n
+    /// steps in the names.
     ///
     /// # Errors
     ///
-    /// The first that applies: a limit that is not kept, in the order of `LimitName`; a reserved name; a name given twice.
-    /// Want of memory at any growth.
+    /// The first that applies: a limit that is not kept, in the order of `LimitName`; a reserved name; a name given
+    /// twice. Out of memory at any allocation.
     pub fn new(alloc: Global, config: Config) -> Result<Gateway, ConfigFault>
         ensures ok { IfOk result (λ gateway. IsAccepted config × (gateway ≡ new_gateway config)) }
         ensures fault { IfErr result (IsFault config) }

@@ -1,25 +1,24 @@
 //! The gateway: its state, and what it answers.
 #![tactic(auto)]
 
-mod answer;
-mod asked;
+mod answers;
 mod audit;
 mod carry;
 mod classify;
 mod counts;
-mod crew;
 mod datagram;
 mod drawn;
 mod fault;
 mod gateway;
-mod heard;
+mod items;
 mod laws;
 mod octets;
+mod reading;
 mod reserve;
 mod run;
-mod texts;
 mod usage;
 mod wave;
+mod workers;
 
 pub use counts::BurstCounts;
 pub use datagram::Datagram;

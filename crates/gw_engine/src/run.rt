@@ -7,18 +7,18 @@ ghost use Rattle.gw_reserve.specs.Owners.{AreWithin};
 ghost use Rattle.gw_table.specs.Unused.{AreUnused};
 ghost use Rattle.gw_engine.specs.Bursts.{AnswersBurst};
 ghost use Rattle.gw_engine.specs.Counts.{counts_of, CountsBurst};
-ghost use Rattle.gw_engine.specs.Phases.{asks_of, told, new_of, ids_in, tasks_in, turns_of, AreJobs, cursors_behind, done_by, kept_of, answers_of, adopted};
+ghost use Rattle.gw_engine.specs.Phases.{table_of, new_of, ids_in, turns_of, AreJobs, cursors_behind, done_by, kept_of, texts_of, answers_of, adopted};
 ghost use Rattle.gw_engine.specs.Readable.{CanBeRead};
 ghost use Rattle.gw_engine.specs.State.{IsWellFormed};
 
-use crate::asked::asks_of;
 use crate::carry::{Done, carried_out};
-use crate::classify::{Task, classify};
+use crate::classify::classify;
 use crate::counts::BurstCounts;
-use crate::crew::Crew;
 use crate::datagram::Datagram;
 use crate::gateway::Gateway;
-use crate::heard::{Heard, arena_for, hear, keeps_trees};
+use crate::items::{BurstItem, items_of, turns_of};
+use crate::reading::{ReadDatagram, arena_for, keeps_trees, read_burst};
+use crate::workers::Workers;
 use gw_base::{Items, NoMemory};
 use gw_board::{Asked, Manner};
 use gw_draw::Gate;
@@ -29,10 +29,10 @@ use std::alloc::Global;
 use std::mem;
 use std::thread::Threads;
 
-/// What is to be carried out of a burst, and how all is answered.
+/// What is known of a burst before its first transaction.
 #[derive(Drop)]
 struct Plan<'h, 'a> {
-    tasks: Items<Task>,
+    items: Vec<BurstItem<'h, 'a>>,
     jobs: Items<Asked<'h, 'a>>,
     cursors: Cursors,
     turns: Items<Turn<'h>>,
@@ -49,44 +49,49 @@ pub struct BurstAnswers {
 }
 
 impl Gateway {
-    /// Tells what is to be carried out, and how all is answered: the phases before the first transaction.
-    fn plan<'h, 'a>(&self, alloc: Global, heard: &'h [Heard<'a>]) -> Result<Plan<'h, 'a>, NoMemory>
-        ensures tasks { IfOk result (λ plan. plan.tasks ≡ tasks_in 0 (told self.now.state.kept (asks_of heard.now))) }
-        ensures jobs { IfOk result (λ plan. AreJobs (new_of self.now heard.now) (ids_in self.now (new_of self.now heard.now)) plan.jobs) }
-        ensures cursors { IfOk result (λ plan. plan.cursors ≡ cursors_behind self.now heard.now) }
+    /// Fills the table, and reserves what new requests own: the phases before the first transaction.
+    fn plan<'h, 'a>(
+        &self,
+        alloc: Global,
+        messages: &'h [ReadDatagram<'a>],
+    ) -> Result<Plan<'h, 'a>, NoMemory>
+        ensures items { IfOk result (λ plan. plan.items.items ≡ table_of self.now messages.now) }
+        ensures jobs { IfOk result (λ plan. AreJobs (new_of self.now messages.now) (ids_in self.now (new_of self.now messages.now)) plan.jobs) }
+        ensures cursors { IfOk result (λ plan. plan.cursors ≡ cursors_behind self.now messages.now) }
         ensures within { IfOk result (λ plan. AreWithin self.now.settings.contexts self.now.settings.slots plan.cursors) }
-        ensures turns { IfOk result (λ plan. plan.turns ≡ turns_of self.now heard.now) }
-        ensures counts { IfOk result (λ plan. plan.counts ≡ counts_of self.now heard.now) }
+        ensures turns { IfOk result (λ plan. plan.turns ≡ turns_of self.now messages.now) }
+        ensures counts { IfOk result (λ plan. plan.counts ≡ counts_of self.now messages.now) }
     {
-        let asks = asks_of(alloc, heard)?;
-        let asked = classify(alloc, &self.kept, asks.as_slice())?;
-        let reserved = self.reserve(alloc, asked.requests.as_slice())?;
+        let mut items = items_of(alloc, messages)?.into_vec();
+        let counts = classify(alloc, &self.kept, items.as_mut_slice())?;
+        let reserved = self.reserve(alloc, items.as_slice(), counts.executed)?;
+        let turns = turns_of(alloc, items.as_slice())?;
         Ok(Plan {
-            tasks: asked.tasks,
+            items,
             jobs: reserved.jobs,
             cursors: reserved.cursors,
-            turns: asked.turns,
-            counts: asked.counts,
+            turns,
+            counts,
         })
     }
 
-    /// Carries out what is planned, and makes what comes of it the gateway's state. The tables leave the gateway for that time. The
-    /// caller knows that the slots that are owned are unused, that each new pair's key is new at its turn, and that the new state is
-    /// well-formed.
+    /// Executes what is planned, and makes what comes of it the gateway's state. The tables leave the gateway for that
+    /// time. The caller knows that the slots that are owned are unused, that each new pair's key is new at its turn,
+    /// and that the new state is well-formed.
     ///
     /// # Errors
     ///
-    /// Want of memory. The gateway is as it was.
+    /// Out of memory. The gateway is as it was.
     fn perform<R: Threads + Sync, G: Gate>(
         &mut self,
-        crew: &Crew<'_, R, G>,
+        workers: &Workers<'_, R, G>,
         alloc: Global,
         plan: Plan<'_, '_>,
     ) -> Result<Items<Datagram>, NoMemory>
         requires unused { AreUnused self.old.state.maps [] (slots_of plan.jobs) }
         requires new { AreNew self.old.state.kept (changes_of plan.turns (kept_of self.old plan.jobs)) }
         requires fits { IsWellFormed self.old.settings (adopted self.old.state (done_by self.old.settings.rules plan.jobs self.old.state.maps).maps plan.cursors (changes_of plan.turns (kept_of self.old plan.jobs))) }
-        ensures answers { IfOk result (λ answers. answers ≡ answers_of self.old.settings.mid self.old.state.kept (kept_of self.old plan.entry.jobs) plan.entry.tasks) }
+        ensures answers { IfOk result (λ answers. answers ≡ answers_of self.old.settings.mid self.old.state.kept (texts_of (kept_of self.old plan.entry.jobs)) plan.entry.items.items) }
         ensures settings { self.new.settings ≡ self.old.settings }
         ensures state { OnOk result (self.new.state ≡ adopted self.old.state (done_by self.old.settings.rules plan.entry.jobs self.old.state.maps).maps plan.entry.cursors (changes_of plan.entry.turns (kept_of self.old plan.entry.jobs))) }
         ensures err { OnErr result (self.new ≡ self.old) }
@@ -97,7 +102,7 @@ impl Gateway {
             mid: self.mid,
         };
         let Plan {
-            tasks,
+            items,
             jobs,
             cursors,
             turns,
@@ -105,12 +110,12 @@ impl Gateway {
         } = plan;
         let tables = mem::replace(&mut self.tables, Tables::new(alloc));
         match carried_out(
-            crew,
+            workers,
             alloc,
             tables,
             manner,
             &self.kept,
-            tasks.as_slice(),
+            items.as_slice(),
             jobs.as_slice(),
         ) {
             Ok(done) => {
@@ -131,31 +136,34 @@ impl Gateway {
         }
     }
 
-    /// Answers a burst: its items in order of arrival, one after another. A text that is no message is answered with error 406 or
-    /// 400. A request whose reply is kept gets it again and changes nothing; any other is carried out and its reply kept, but
-    /// those behind 1,024 new ones, which get error 510. An acknowledgement lets the replies go that it names, and has no answer;
-    /// neither has anything else. Each answer is for the peer of the datagram that asked, and is a message of the grammar. The burst
-    /// may have any number of datagrams, each of any length.
+    /// Answers a burst: its items in order of arrival, one after another. A text that is no message is answered with
+    /// error 406 or 400. A request whose reply is kept gets it again and changes nothing; any other is executed and
+    /// its reply kept, but those behind 1,024 new ones, which get error 510. An acknowledgement removes the replies
+    /// that it names, and has no answer; neither has anything else. Each answer is for the peer of the datagram that
+    /// it answers, and is a message of the grammar. The burst may have any number of datagrams, each of any length.
     ///
-    /// With one worker each request is carried out by itself, in order of arrival, and passes the gate with number 0. With more, requests
-    /// are carried out in waves, each of them all whose footprints meet no earlier one's that waits; one that is meant for all is a wave
-    /// by itself. The tables are not copied: a request changes them in place, or, in a wave, in a copy of the entries that
-    /// it may touch, which leave the tables for that time; and the originals are kept until the burst is over.
+    /// With one worker each request is executed by itself, in order of arrival, and passes the gate with number 0.
+    /// With more, requests are executed in waves, each of them all whose footprints meet no earlier one's that waits;
+    /// one that is whole-table is a wave by itself. The tables are not copied: a request changes them in place, or, in
+    /// a wave, in a copy of the entries that it may touch, which leave the tables for that time; and the originals are
+    /// kept until the burst is over.
     ///
-    /// The requests of a wave are carried out by so many workers, 1 to 64, in threads; the caller is one of them and waits for the
-    /// others. Each draws the next request until none is left, and passes the gate just before it, with the request's number within
-    /// its wave, from 0. A wave has as many workers as requests at most, and with one no thread is started. Answers and state are the
-    /// same for every number of workers, however they are scheduled. A worker that cannot be started is no fault. A `pass` that never
-    /// returns holds up the call. 128 answers or more are written by workers too; there they pass no gate. The lists of what is read lie in
-    /// an arena, which is let go when the burst is over, so a burst is read by the caller alone.
+    /// The requests of a wave are executed by so many workers, 1 to 64, in threads; the caller is one of them and
+    /// waits for the others. Each draws the next request until none is left, and passes the gate just before it, with
+    /// the request's number within its wave, from 0. A wave has as many workers as requests at most, and with one no
+    /// thread is started. Answers and state are the same for every number of workers, however they are scheduled. A
+    /// worker that cannot be started is no fault. A `pass` that never returns holds up the call. The answers of 128
+    /// items or more are written by workers too; there they pass no gate. The lists of what is read lie in an arena,
+    /// which is freed when the burst is over, so a burst is read by the caller alone.
     ///
-    /// Of a burst of more than 1,048,576 bytes the trees of requests are not kept: each request is read when the burst comes in, once more
-    /// for what it owns and once more to be carried out, and one worker carries all of them out, one after another. So a burst takes
-    /// memory for its tree of one transaction at a time, and beside that by the number of its transactions.
+    /// Of a burst of more than 1,048,576 bytes the trees of requests are not kept: each request is read when the burst
+    /// comes in, once more for what it owns and once more to be executed, and one worker executes all of them, one
+    /// after another. So a burst takes memory for its tree of one transaction at a time, and beside that by the number
+    /// of its transactions.
     ///
     /// # Errors
     ///
-    /// Want of memory, at any growth. The gateway is then as it was, cursors and kept replies included.
+    /// Out of memory, at any allocation. The gateway is then as it was, cursors and kept replies included.
     pub fn run<R: Threads + Sync, G: Gate>(
         &mut self,
         rt: &R,
@@ -197,13 +205,13 @@ impl Gateway {
     {
         // No effect at run time. The proof reads here that the state is well-formed.
         let _ = &self.tables;
-        let crew = Crew::new(rt, workers, gate);
+        let workers = Workers::new(rt, workers, gate);
         let keeps_trees = keeps_trees(burst);
         let bump = arena_for(alloc, burst, keeps_trees)?;
-        let heard = hear(alloc, &bump, burst, keeps_trees)?;
-        let plan = self.plan(alloc, heard.as_slice())?;
+        let messages = read_burst(alloc, &bump, burst, keeps_trees)?;
+        let plan = self.plan(alloc, messages.as_slice())?;
         let counts = plan.counts;
-        let answers = self.perform(&crew.alone_unless(keeps_trees), alloc, plan)?;
+        let answers = self.perform(&workers.alone_unless(keeps_trees), alloc, plan)?;
         Ok(BurstAnswers { answers, counts })
     }
 }

@@ -3,8 +3,8 @@
 ghost use Rattle.std.specs.Prelude.{IfOk};
 ghost use Rattle.gw_board.specs.OpenJobs.{AreAnswers, IsAnswer};
 
-use crate::crew::Crew;
 use crate::drawn::MOST_DRAWN;
+use crate::workers::Workers;
 use gw_base::{Items, NoMemory};
 use gw_board::{Job, carry};
 use gw_draw::{Gate, draw_map};
@@ -12,10 +12,10 @@ use gw_table::Part;
 use std::alloc::Global;
 use std::thread::Threads;
 
-/// What a job came to: its new entries and the text of its reply, unless memory was wanting.
+/// What a job came to: its new entries and the text of its reply, unless memory was refused.
 type Answer = Result<(Part, Items<u8>), NoMemory>;
 
-/// Carries a job out.
+/// Executes a job.
 fn answer_to(alloc: Global, job: &Job<'_, '_, '_>) -> Answer
     ensures { IsAnswer job.now result }
 {
@@ -38,29 +38,29 @@ fn in_turn<G: Gate>(
     Ok(answers)
 }
 
-/// An answer for each job, in the job's place, by as many workers as there are and as the jobs allow. Each passes the gate with the
-/// job's number just before the job. One job needs no thread.
+/// An answer for each job, in the job's place, by as many workers as there are and as the jobs allow. Each passes the
+/// gate with the job's number just before the job. One job needs no thread.
 ///
 /// # Errors
 ///
-/// Want of memory for the answers. An answer may be that, too.
+/// Out of memory for the answers. An answer may be that, too.
 pub(crate) fn answers_to<R: Threads + Sync, G: Gate>(
-    crew: &Crew<'_, R, G>,
+    workers: &Workers<'_, R, G>,
     alloc: Global,
     jobs: &[Job<'_, '_, '_>],
 ) -> Result<Vec<Answer>, NoMemory>
     ensures { IfOk result (λ answers. AreAnswers jobs.now answers.items) }
 {
     if jobs.len() < 2 || jobs.len() > MOST_DRAWN {
-        return in_turn(alloc, jobs, crew.gate);
+        return in_turn(alloc, jobs, workers.gate);
     }
     let drawn = draw_map(
-        crew.rt,
+        workers.rt,
         alloc,
-        crew.workers,
+        workers.count,
         jobs,
         move |job| answer_to(alloc, job),
-        crew.gate,
+        workers.gate,
     )?;
     Ok(drawn)
 }

@@ -60,7 +60,7 @@ fn add_members(tables: &Tables, number: CtxNum, keys: &mut Vec<Key>) -> Result<(
     ensures { OnOk result (keys.new.items ≡ keys.old.items ++ map Term (members_of (ctx (maps_of tables.now) number))) }
 {
     match tables.find_ctx(number) {
-        Some(context) => add_names(context.members(), keys),
+        Some(context) => add_names(context.members().as_slice(), keys),
         None => Ok(()),
     }
 }

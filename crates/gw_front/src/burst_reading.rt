@@ -9,7 +9,6 @@ ghost use Rattle.gw_front.specs.Inputs.{IsBadDatagram, IsPiece, IsNext};
 use crate::header::{Header, read_header};
 use crate::reading::{read_byte, read_bytes};
 use crate::replay_fault::ReplayFault;
-use crate::spares::Spares;
 use gw_base::Items;
 use gw_engine::{Datagram, Octets};
 use std::alloc::Global;
@@ -47,7 +46,6 @@ pub(crate) enum Next {
 fn read_datagram<R: Read>(
     alloc: Global,
     reader: &mut BufReader<R>,
-    spares: &mut Spares,
     peer: u32,
     size: usize,
 ) -> Result<Datagram, ReplayFault>
@@ -57,7 +55,7 @@ fn read_datagram<R: Read>(
         (reader_remaining R.remaining reader.new) (d.bytes ++ 10 ∷ [])) }
     ensures fault { IfErr result (λ fault. IsBadDatagram size (reader_remaining R.remaining reader.old) fault) }
 {
-    let bytes = Octets::from(read_bytes(alloc, reader, spares, size)?);
+    let bytes = Octets::from(read_bytes(alloc, reader, size)?);
     match read_byte(reader)? {
         Some(b'\n') => Ok(Datagram { peer, bytes }),
         Some(_) => Err(ReplayFault::BadHeader),
@@ -69,7 +67,6 @@ fn read_datagram<R: Read>(
 fn next_piece<R: Read>(
     alloc: Global,
     reader: &mut BufReader<R>,
-    spares: &mut Spares,
     before: usize,
 ) -> Result<Piece, ReplayFault>
     requires { before ≤ most_datagrams }
@@ -82,7 +79,7 @@ fn next_piece<R: Read>(
             if size > LONGEST_DATAGRAM || before == MOST_DATAGRAMS {
                 return Err(ReplayFault::TooLong);
             }
-            let datagram = read_datagram(alloc, reader, spares, peer, size as usize)?;
+            let datagram = read_datagram(alloc, reader, peer, size as usize)?;
             Ok(Piece::Datagram(datagram))
         }
         None => Ok(Piece::End),
@@ -92,8 +89,7 @@ fn next_piece<R: Read>(
 /// So many datagrams have room at least in a burst before its list grows.
 const ROOM_AT_FIRST: usize = 16;
 
-/// The next burst, its datagrams in blocks that were kept, as far as there are. Nothing is read behind its line `.`,
-/// nor behind the end of the input.
+/// The next burst. Nothing is read behind its line `.`, nor behind the end of the input.
 ///
 /// # Errors
 ///
@@ -101,14 +97,12 @@ const ROOM_AT_FIRST: usize = 16;
 pub(crate) fn next_burst<R: Read>(
     alloc: Global,
     reader: &mut BufReader<R>,
-    spares: &mut Spares,
 ) -> Result<Next, ReplayFault>
     ensures { IsNext (reader_remaining R.remaining reader.old) (reader_remaining R.remaining reader.new) result }
 {
-    let room = spares.last().max(ROOM_AT_FIRST);
-    let mut burst = Items::from(Vec::with_capacity(alloc, room)?);
+    let mut burst = Items::from(Vec::with_capacity(alloc, ROOM_AT_FIRST)?);
     loop {
-        match next_piece(alloc, reader, spares, burst.len())? {
+        match next_piece(alloc, reader, burst.len())? {
             Piece::Datagram(datagram) => burst.push(datagram)?,
             Piece::Stop => return Ok(Next::Burst(burst)),
             Piece::End if burst.is_empty() => return Ok(Next::End),

@@ -21,7 +21,6 @@ mod serve_fault;
 mod serve_options;
 mod server;
 mod serving;
-mod spares;
 mod totals;
 mod workers;
 mod writing;

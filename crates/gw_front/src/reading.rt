@@ -6,7 +6,6 @@ ghost use Rattle.std.specs.Io.KnownBytes.{Consumes, IsAtEnd};
 ghost use Rattle.gw_front.specs.Inputs.{IsShorter};
 
 use crate::replay_fault::ReplayFault;
-use crate::spares::Spares;
 use gw_base::Items;
 use std::alloc::Global;
 use std::io::{BufRead, BufReader, ErrorKind, Read};
@@ -73,7 +72,7 @@ fn fill<R: Read>(reader: &mut R, place: &mut [u8]) -> Result<(), ReplayFault>
     Ok(())
 }
 
-/// The next so many bytes. Those that were read ahead lie in a block that was kept, if there is one.
+/// The next so many bytes.
 ///
 /// # Errors
 ///
@@ -81,7 +80,6 @@ fn fill<R: Read>(reader: &mut R, place: &mut [u8]) -> Result<(), ReplayFault>
 pub(crate) fn read_bytes<R: Read>(
     alloc: Global,
     reader: &mut BufReader<R>,
-    spares: &mut Spares,
     count: usize,
 ) -> Result<Items<u8>, ReplayFault>
     ensures bytes { IfOk result (λ bytes. Consumes (reader_remaining R.remaining reader.old)
@@ -91,10 +89,9 @@ pub(crate) fn read_bytes<R: Read>(
 {
     let held = reader.buffer();
     if count <= held.len() {
-        let mut bytes = spares.take(alloc);
-        bytes.extend_from_slice(&held[..count])?;
+        let bytes = Items::from_slice(alloc, &held[..count])?;
         pass(reader, count);
-        return Ok(Items::from(bytes));
+        return Ok(bytes);
     }
     let mut bytes = vec![in alloc; 0u8; count]?;
     fill(reader, bytes.as_mut_slice())?;

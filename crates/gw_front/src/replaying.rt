@@ -10,7 +10,6 @@ use crate::burst_reading::{Next, next_burst};
 use crate::counted::Counted;
 use crate::counts::Counts;
 use crate::replay_fault::ReplayFault;
-use crate::spares::Spares;
 use crate::workers::Workers;
 use gw_engine::{Datagram, Gate, Gateway};
 use std::alloc::Global;
@@ -54,7 +53,6 @@ fn replay_all<T: Threads + Sync, G: Gate, R: Read, W: Write>(
     input: &mut BufReader<R>,
     out: &mut W,
     held: &mut Vec<u8>,
-    spares: &mut Spares,
     gateway: &mut Gateway,
 ) -> Result<Counts, ReplayFault>
     requires { held.old.items ≡ [] }
@@ -63,10 +61,9 @@ fn replay_all<T: Threads + Sync, G: Gate, R: Read, W: Write>(
 {
     let mut counts = Counts::NONE;
     for _turn in 0..u64::MAX {
-        match next_burst(alloc, input, spares)? {
+        match next_burst(alloc, input)? {
             Next::Burst(burst) => {
                 counts = carry_out(workers, alloc, out, held, gateway, burst.as_slice(), counts)?;
-                spares.give_all(alloc, burst);
             }
             Next::Last(burst) => {
                 return carry_out(workers, alloc, out, held, gateway, burst.as_slice(), counts);
@@ -80,8 +77,8 @@ fn replay_all<T: Threads + Sync, G: Gate, R: Read, W: Write>(
 /// Executes the bursts of an input, one after another, and writes the answers of each, when all of them stand, in
 /// the form in which bursts are read: `D <peer> <length>` and a line feed, so many bytes, a line feed; `.` and a line
 /// feed end a burst. The transactions of a burst are executed by so many workers, 1 to 64, each of which passes the
-/// gate before each; how many makes no difference to what is answered. At most one burst is kept in memory, and blocks
-/// of at most 2 MB for the next one. Reads and writes that a signal interrupts are tried again.
+/// gate before each; how many makes no difference to what is answered. At most one burst is kept in memory.
+/// Reads and writes that a signal interrupts are tried again.
 ///
 /// # Errors
 ///
@@ -108,15 +105,6 @@ pub fn replay<T: Threads + Sync, R: Read, W: Write, G: Gate>(
         return Err(ReplayFault::NoMemory);
     };
     let mut held = Vec::with_capacity(alloc, PIECE)?;
-    let mut spares = Spares::new(alloc)?;
     let workers = Workers::new(rt, workers, gate);
-    replay_all(
-        &workers,
-        alloc,
-        &mut input,
-        writer,
-        &mut held,
-        &mut spares,
-        gateway,
-    )
+    replay_all(&workers, alloc, &mut input, writer, &mut held, gateway)
 }

@@ -8,28 +8,28 @@ ghost use Rattle.gw_refusal.specs.Targets.{is_free, those_in, source, matched, t
 
 use crate::asked::{is_add, matches};
 use crate::at::At;
-use gw_base::{CtxNum, NoMemory, TermName, TermRef};
+use gw_base::{CtxNum, NoMemory, TermRef};
 use gw_msg::Command;
-use gw_table::Draft;
+use gw_table::{Draft, Target};
 use std::alloc::Global;
 
 /// The members of a context in joining order.
-fn members(alloc: Global, draft: &Draft, number: CtxNum) -> Result<Vec<TermName>, NoMemory>
+fn members(alloc: Global, draft: &Draft, number: CtxNum) -> Result<Vec<Target>, NoMemory>
     ensures { IfOk result (λ list. list.items ≡ members_of (ctx draft.now.maps number)) }
 {
     match draft.ctx(number) {
-        Some(context) => Ok(Vec::from_slice(alloc, context.members())?),
+        Some(context) => Target::each(alloc, context.members().as_slice()),
         None => Ok(Vec::new(alloc)),
     }
 }
 
 /// The terminations in this place: a context, or none for the null context.
-fn those_in(alloc: Global, draft: &Draft, place: Option<CtxNum>) -> Result<Vec<TermName>, NoMemory>
+fn those_in(alloc: Global, draft: &Draft, place: Option<CtxNum>) -> Result<Vec<Target>, NoMemory>
     ensures { IfOk result (λ list. list.items ≡ those_in place draft.now.maps) }
 {
     match place {
         Some(number) => members(alloc, draft, number),
-        None => draft.free_names(alloc),
+        None => draft.free_targets(alloc),
     }
 }
 
@@ -51,30 +51,30 @@ fn matched(
     draft: &Draft,
     at: At,
     command: &Command<'_>,
-) -> Result<Vec<TermName>, NoMemory>
+) -> Result<Vec<Target>, NoMemory>
     ensures { IfOk result (λ list. list.items ≡ matched at command.now draft.now.maps) }
 {
     let mut named = those_in(alloc, draft, source(at, command))?;
     if let TermRef::All = command.term {
         return Ok(named);
     }
-    named.retain(|name| matches(&command.term, name));
+    named.retain(|target| matches(&command.term, target.name()));
     Ok(named)
 }
 
-/// The names of the terminations that the command is for, in order, as the tables are now.
+/// The terminations that the command is for, in order, as the tables are now.
 pub fn targets(
     alloc: Global,
     draft: &Draft,
     at: At,
     command: &Command<'_>,
-) -> Result<Vec<TermName>, NoMemory>
+) -> Result<Vec<Target>, NoMemory>
     ensures { IfOk result (λ list. list.items ≡ targets at command.now draft.now.maps) }
 {
     match command.term {
         TermRef::Name(name) => {
             let mut named = Vec::new(alloc);
-            named.push(name)?;
+            named.push(Target::named(name))?;
             Ok(named)
         }
         TermRef::All | TermRef::Under(_) => matched(alloc, draft, at, command),
@@ -87,7 +87,11 @@ fn has_member(draft: &Draft, number: CtxNum, term: &TermRef) -> bool
     ensures { result ≡ list_any (matches term.now) (members_of (ctx draft.now.maps number)) }
 {
     match draft.ctx(number) {
-        Some(context) => context.members().iter().any(|name| matches(term, name)),
+        Some(context) => context
+            .members()
+            .as_slice()
+            .iter()
+            .any(|name| matches(term, name)),
         None => false,
     }
 }

@@ -24,10 +24,10 @@ use Rattle.gw_table.specs.Maps.{number, term, ctx, put_term, put_ctx}
 use Rattle.gw_table.specs.Members.{put_service}
 use Rattle.gw_table.specs.Originals.{keys_written, without_write, undone, begun_by, before_all, has_properties, IsInPlace}
 use Rattle.gw_table.specs.Settings.{with_setting, put_setting, set_at, set_place}
-use Rattle.gw_table.specs.Stored.{Stored, shown, placed, has_left, maps_of, is_ready, put_term_place, put_ctx_place, with_service, without_ctx, NoneIsOut, AreReady, KeepReady}
+use Rattle.gw_table.specs.Stored.{Stored, shown, placed, has_left, maps_of, is_ready, put_term_place, put_ctx_place, with_service, without_ctx, NoneIsOut, AreReady, KeepReady, NoOtherReady}
 use Rattle.gw_table.proofs.Leaving.{put_ctx-same}
 use Rattle.gw_table.proofs.Moved.{has-pushed}
-use Rattle.gw_base.proofs.NameTests.{same_number}
+use Rattle.gw_base.proofs.NameTests.{same_name, same_number}
 use Rattle.gw_base.proofs.NamesInLists.{or_left, or_right}
 use Rattle.gw_table.proofs.Lookups.{ctx-put_ctx, term-put_ctx}
 use Rattle.gw_table.proofs.Places.{got_term, got_ctx, ctx-maps_of, maps-put_term_place, maps-put_ctx_place, shown_placed, in-put_term, in-put_ctx}
@@ -87,6 +87,42 @@ one_more keys k old new kept made ready q h = by (has keys q) (same_key q k) ref
     by false true e f g = made q f
     by false false e f g = absurd cc
 
+this_or_other : (same : Bool) (P : Type 0) → (same ≡ true → P) → (same ≡ false → P) → P
+this_or_other true P f g = f refl
+this_or_other false P f g = g refl
+
+-- nor has the key itself, where it had one
+had_term : (s : Stored) (t : List ℕ) (p : Place Termination) → is_ready s (Term t) ≡ true → KeepReady (put_term_place s t p) s
+had_term s t p there k h = this_or_other (same_key k (Term t)) (is_ready s k ≡ true) (λ f. at k f) (λ f. other_term s t p k f h)
+  where
+    at : (k : Key) → same_key k (Term t) ≡ true → is_ready s k ≡ true
+    at (Term q) f = ap (λ (x : List ℕ). is_some (finite.get s.terms x)) (same_name q t f) ∙ there
+    at (Ctx n) f = absurd cc
+    at Whole f = absurd cc
+
+had_ctx : (s : Stored) (n : CtxNum) (p : Place ContextRecord) → is_ready s (Ctx n) ≡ true → KeepReady (put_ctx_place s n p) s
+had_ctx s n p there k h = this_or_other (same_key k (Ctx n)) (is_ready s k ≡ true) (λ f. at k f) (λ f. other_ctx s n p k f h)
+  where
+    at : (k : Key) → same_key k (Ctx n) ≡ true → is_ready s k ≡ true
+    at (Term q) f = absurd cc
+    at (Ctx q) f = ap (λ (m : CtxNum). is_some (finite.get s.contexts m.0)) (same_number q n f) ∙ there
+    at Whole f = absurd cc
+
+-- no key but those that were written, of which this is one more
+one_other : (keys : List Key) (k : Key) (start old new : Stored) → NoOtherReady (k ∷ []) old new → NoOtherReady keys start old → NoOtherReady (keys ++ k ∷ []) start new
+one_other keys k start old new other alone q h r = by (has keys q) (same_key q k) refl refl (sym (has-pushed keys k q) ∙ h)
+  where
+    by : (a b : Bool) → has keys q ≡ a → same_key q k ≡ b → (a || b) ≡ false → is_ready start q ≡ true
+    by true b e f g = absurd cc
+    by false true e f g = absurd cc
+    by false false e f g = alone q e (other q (ap (λ x. x || false) f) r)
+
+alone-put_term : (s : Stored) (t : List ℕ) (p : Place Termination) → NoOtherReady (Term t ∷ []) s (put_term_place s t p)
+alone-put_term s t p k h r = this_or_other (same_key k (Term t)) (is_ready s k ≡ true) (λ f. absurd (let clash : true ≡ false = sym (or_left (same_key k (Term t)) false f) ∙ h in cc)) (λ f. other_term s t p k f r)
+
+alone-put_ctx : (s : Stored) (n : CtxNum) (p : Place ContextRecord) → NoOtherReady (Ctx n ∷ []) s (put_ctx_place s n p)
+alone-put_ctx s n p k h r = this_or_other (same_key k (Ctx n)) (is_ready s k ≡ true) (λ f. absurd (let clash : true ≡ false = sym (or_left (same_key k (Ctx n)) false f) ∙ h in cc)) (λ f. other_ctx s n p k f r)
+
 -- ---- where changes began
 
 by_maps : (w : Write) (s : Stored) → maps_of (begun_by w s) ≡ without_write w (maps_of s)
@@ -98,23 +134,14 @@ pub maps_before_all : (ws : List Write) (s : Stored) → maps_of (before_all ws 
 maps_before_all [] s = refl
 maps_before_all (w ∷ ws) s = by_maps w (before_all ws s) ∙ ap (without_write w) (maps_before_all ws s)
 
-this_or_other : (same : Bool) (P : Type 0) → (same ≡ true → P) → (same ≡ false → P) → P
-this_or_other true P f g = f refl
-this_or_other false P f g = g refl
-
 -- a context that stands has a place
 has_place : (s : Stored) (n : CtxNum) (o : Option ContextRecord) (x : Setting) → o ≡ ctx (maps_of s) n → KeepReady (set_place x n s o) s
 has_place s n None x e k h = h
-has_place s n (Some c) x e k h = this_or_other (same_key k (Ctx n)) (is_ready s k ≡ true) (λ f. at k f) (λ f. other_ctx s n (Here (with_setting x c)) k f h)
+has_place s n (Some c) x e k h = had_ctx s n (Here (with_setting x c)) (some (finite.get s.contexts n.0) (e ∙ ctx-maps_of s n)) k h
   where
     some : (o : Option (Place ContextRecord)) → Some c ≡ shown o → is_some o ≡ true
     some None g = absurd cc
     some (Some p) g = refl
-
-    at : (k : Key) → same_key k (Ctx n) ≡ true → is_ready s k ≡ true
-    at (Term q) f = absurd cc
-    at (Ctx q) f = ap (λ (m : CtxNum). is_some (finite.get s.contexts m.0)) (same_number q n f) ∙ some (finite.get s.contexts n.0) (e ∙ ctx-maps_of s n)
-    at Whole f = absurd cc
 
 -- no key but these has got a place
 no_other : (ws : List Write) (s : Stored) → AreReady (keys_written ws) s → KeepReady (before_all ws s) s
@@ -146,6 +173,7 @@ gone_on s ws here ready = record {
   back = sym (maps_before_all ws s);
   places = ready;
   kept = no_other ws s ready;
+  alone = λ k h r. begun_ready ws s k r;
 }
 
 -- ---- one more write
@@ -157,6 +185,7 @@ module _ (start now : Stored) (ws : List Write) (i : IsInPlace start now ws) whe
     back = ap (undone (ws ++ OfTerm t before ∷ [])) (maps-put_term_place now t p) ∙ undone_term ws (maps_of now) t (shown (Some p)) before was ∙ i.back;
     places = λ k h. one_more (keys_written ws) (Term t) now (put_term_place now t p) (keep-put_term now t p) (made-put_term now t p) i.places k (ap (λ (l : List Key). has l k) (sym (keys_more ws (OfTerm t before))) ∙ h);
     kept = λ k h. keep-put_term now t p k (i.kept k h);
+    alone = λ k h. one_other (keys_written ws) (Term t) start now (put_term_place now t p) (alone-put_term now t p) i.alone k (ap (λ (l : List Key). has l k) (sym (keys_more ws (OfTerm t before))) ∙ h);
   }
 
   pub wrote_ctx : (n : CtxNum) (p : Place ContextRecord) (before : Option ContextRecord) → has_left (Some p) ≡ false → before ≡ ctx (maps_of now) n → IsInPlace start (put_ctx_place now n p) (ws ++ OfCtx n before ∷ [])
@@ -165,6 +194,7 @@ module _ (start now : Stored) (ws : List Write) (i : IsInPlace start now ws) whe
     back = ap (undone (ws ++ OfCtx n before ∷ [])) (maps-put_ctx_place now n p) ∙ undone_ctx ws (maps_of now) n (shown (Some p)) before was ∙ i.back;
     places = λ k h. one_more (keys_written ws) (Ctx n) now (put_ctx_place now n p) (keep-put_ctx now n p) (made-put_ctx now n p) i.places k (ap (λ (l : List Key). has l k) (sym (keys_more ws (OfCtx n before))) ∙ h);
     kept = λ k h. keep-put_ctx now n p k (i.kept k h);
+    alone = λ k h. one_other (keys_written ws) (Ctx n) start now (put_ctx_place now n p) (alone-put_ctx now n p) i.alone k (ap (λ (l : List Key). has l k) (sym (keys_more ws (OfCtx n before))) ∙ h);
   }
 
   -- of a key that was written before
@@ -174,6 +204,7 @@ module _ (start now : Stored) (ws : List Write) (i : IsInPlace start now ws) whe
     back = ap (undone ws) (maps-put_term_place now t p) ∙ undone_term_again ws (maps_of now) t (shown (Some p)) h ∙ i.back;
     places = λ k e. keep-put_term now t p k (i.places k e);
     kept = λ k e. keep-put_term now t p k (i.kept k e);
+    alone = λ k e r. i.alone k e (had_term now t p (i.places (Term t) h) k r);
   }
 
   pub wrote_ctx_again : (n : CtxNum) (p : Place ContextRecord) → has_left (Some p) ≡ false → has (keys_written ws) (Ctx n) ≡ true → IsInPlace start (put_ctx_place now n p) ws
@@ -182,6 +213,7 @@ module _ (start now : Stored) (ws : List Write) (i : IsInPlace start now ws) whe
     back = ap (undone ws) (maps-put_ctx_place now n p) ∙ undone_ctx_again ws (maps_of now) n (shown (Some p)) h ∙ i.back;
     places = λ k e. keep-put_ctx now n p k (i.places k e);
     kept = λ k e. keep-put_ctx now n p k (i.kept k e);
+    alone = λ k e r. i.alone k e (had_ctx now n p (i.places (Ctx n) h) k r);
   }
 
   -- where there was nothing to log
@@ -216,6 +248,7 @@ logged_properties start now ws i n c e = record {
   back = undone_more ws (OfProperties n c.priority c.emergency) (maps_of now) ∙ ap (undone ws) as_it_is ∙ i.back;
   places = λ k h. one_more (keys_written ws) Whole now now (λ q g. g) (whole_ready now) i.places k (ap (λ (l : List Key). has l k) (sym (keys_more ws (OfProperties n c.priority c.emergency))) ∙ h);
   kept = i.kept;
+  alone = λ k h. one_other (keys_written ws) Whole start now now (λ q f g. g) i.alone k (ap (λ (l : List Key). has l k) (sym (keys_more ws (OfProperties n c.priority c.emergency))) ∙ h);
 }
   where
     as_it_is : put_setting (Both c.priority c.emergency) n (maps_of now) (ctx (maps_of now) n) ≡ maps_of now
@@ -234,6 +267,7 @@ set_one start now ws i n x p stands kept = record {
   back = ap (undone ws) (maps-put_ctx_place now n (set_at x p)) ∙ undone_beside ws (maps_of now) (put_ctx (maps_of now) n (shown (Some (set_at x p)))) (λ t. term-put_ctx (maps_of now) n (shown (Some (set_at x p))) t) (λ q. at q (nat_eq q.0 n.0) refl) ∙ i.back;
   places = λ k e. keep-put_ctx now n (set_at x p) k (i.places k e);
   kept = λ k e. keep-put_ctx now n (set_at x p) k (i.kept k e);
+  alone = λ k e r. i.alone k e (had_ctx now n (set_at x p) (ap (λ o. is_some o) stands) k r);
 }
   where
     out_still : (x : Setting) (p : Place ContextRecord) → has_left (Some (set_at x p)) ≡ has_left (Some p)

@@ -12,7 +12,7 @@ use Rattle.gw_base.specs.Keys.{same_key, has}
 use Rattle.gw_base.proofs.NameTests.{name_test, number_test, same_name, same_number}
 use Rattle.gw_table.specs.declared.place.Place.{Place}
 use Rattle.gw_table.specs.declared.place.Place.TheVariants.{Empty, Here, Out}
-use Rattle.gw_table.specs.Stored.{Stored, shown, has_left, is_vacant, maps_of, is_ready, is_out, has_entry, drop_term_place, drop_ctx_place, AreAsOut, WereSwept}
+use Rattle.gw_table.specs.Stored.{Stored, shown, has_left, is_vacant, maps_of, is_ready, is_out, has_entry, drop_term_place, drop_ctx_place, AreAsOut, AreSwept, AreSweptAmong, KeepReady, WereSwept}
 use Rattle.gw_table.proofs.Moved.{has-pushed}
 use Rattle.gw_table.proofs.Places.{term-maps_of, ctx-maps_of, shown_alike}
 
@@ -138,3 +138,38 @@ ctx_gone s n vacant = record {
     ready (Term q) = refl
     ready (Ctx q) = ap (λ o. is_some o) (got_ctx s n q) ∙ now_gone (λ (y : CtxNum). finite.get s.contexts y.0) q n vacant (nat_eq q.0 n.0) (has_entry (maps_of s) (Ctx q)) (same_number q n) (ap (λ o. is_some o) (ctx-maps_of s q))
     ready Whole = refl
+
+-- ---- what is prepared then
+
+from_shown : {A : Type 0} (o : Option (Place A)) → is_some (shown o) ≡ true → is_some o ≡ true
+from_shown None h = h
+from_shown (Some p) h = refl
+
+-- a key that has an entry is prepared
+pub entry_ready : (s : Stored) (k : Key) → has_entry (maps_of s) k ≡ true → is_ready s k ≡ true
+entry_ready s (Term t) h = from_shown (finite.get s.terms t) (ap (λ o. is_some o) (sym (term-maps_of s t)) ∙ h)
+entry_ready s (Ctx n) h = from_shown (finite.get s.contexts n.0) (ap (λ o. is_some o) (sym (ctx-maps_of s n)) ∙ h)
+entry_ready s Whole h = refl
+
+pub swept_among : (keys : List Key) (a b : Stored) → WereSwept keys a b → AreSweptAmong keys b
+swept_among keys a b w k h = w.ready k ∙ ap (λ x. cond x (has_entry (maps_of a) k) (is_ready a k)) h ∙ ap (λ m. has_entry m k) (sym w.maps)
+
+pub fewer_swept : (keys : List Key) (a b : Stored) → WereSwept keys a b → KeepReady b a
+fewer_swept keys a b w k h = by (has keys k) (sym (w.ready k) ∙ h)
+  where
+    by : (x : Bool) → cond x (has_entry (maps_of a) k) (is_ready a k) ≡ true → is_ready a k ≡ true
+    by true g = entry_ready a k g
+    by false g = g
+
+pub fewer_entries : (a b : Stored) → maps_of b ≡ maps_of a → AreSwept b → KeepReady b a
+fewer_entries a b same swept k h = entry_ready a k (ap (λ m. has_entry m k) (sym same) ∙ sym (swept k) ∙ h)
+
+pub both_or_none : (a b : Bool) → (a ≡ true → b ≡ true) → (b ≡ true → a ≡ true) → a ≡ b
+both_or_none true b f g = sym (f refl)
+both_or_none false true f g = g refl
+both_or_none false false f g = refl
+
+-- what was swept stays so, where no key became prepared
+pub still_swept : (keys : List Key) (a b : Stored) → maps_of b ≡ maps_of a → KeepReady b a → AreSweptAmong keys a → AreSweptAmong keys b
+still_swept keys a b same fewer swept k h =
+    both_or_none (is_ready b k) (has_entry (maps_of b) k) (λ r. ap (λ m. has_entry m k) same ∙ sym (swept k h) ∙ fewer k r) (entry_ready b k)

@@ -1,4 +1,4 @@
--- Places without an entry that are freed in one pass over a map, or with all that it has.
+-- Rows of contexts that are freed in one pass, or all at once.
 use Rattle.std.proofs.Common.{◌≡◌, ℕ, List, [], Option, None, Some, refl, sym, ap, ◌∙◌}
 use Rattle.std.specs.BTreeMap.{is_at}
 use Rattle.std.specs.Cmp.{nat_cmp_total}
@@ -6,42 +6,20 @@ use Rattle.std.specs.FinMap as finite
 use Rattle.std.specs.Map.{lookup}
 use Rattle.std.specs.Ordering.{nat_cmp}
 use Rattle.gw_base.proofs.Views.{seen}
-use Rattle.gw_base.specs.declared.key.Key.TheVariants.{Term, Ctx, Whole}
 use Rattle.gw_base.specs.NameLists.{name_cmp}
 use Rattle.gw_ctx.specs.Contexts.{ContextRecord}
 use Rattle.gw_term.specs.declared.record.Termination.{Termination}
 use Rattle.gw_table.specs.declared.place.Place.{Place}
 use Rattle.gw_table.specs.declared.place.Place.TheVariants.{Empty, Here, Out}
-use Rattle.gw_table.specs.Stored.{Stored, stored, shown, has_left, if_shown, maps_of, NoneIsOut}
+use Rattle.gw_table.specs.Stored.{Stored, stored, shown, if_shown, maps_of}
 use Rattle.gw_table.proofs.Places.{shown_alike}
-use Rattle.gw_table.proofs.Prepared.{shown_same, none_left}
+use Rattle.gw_table.proofs.Prepared.{shown_same}
 
 abbrev Terms : Type 0
 Terms = finite.FinMap name_cmp (Place Termination)
 
-abbrev Contexts : Type 0
-Contexts = finite.FinMap nat_cmp (Place ContextRecord)
-
-module _ (a b : Stored) where
-  -- of the names
-  module _ (terms : (t : List ℕ) → finite.get b.terms t ≡ if_shown (finite.get a.terms t)) (contexts : b.contexts ≡ a.contexts) where
-    pub terms_alike : maps_of b ≡ maps_of a
-    terms_alike = shown_alike b a (λ t. ap (λ o. shown o) (terms t) ∙ shown_same (finite.get a.terms t)) (λ n. ap (λ (f : Contexts). shown (finite.get f n.0)) contexts)
-
-    pub terms_in : NoneIsOut a → NoneIsOut b
-    terms_in h (Term t) = ap (λ o. has_left o) (terms t) ∙ none_left (finite.get a.terms t)
-    terms_in h (Ctx n) = ap (λ (f : Contexts). has_left (finite.get f n.0)) contexts ∙ h (Ctx n)
-    terms_in h Whole = refl
-
-  -- of the numbers
-  module _ (terms : b.terms ≡ a.terms) (contexts : (n : ℕ) → finite.get b.contexts n ≡ if_shown (finite.get a.contexts n)) where
-    pub contexts_alike : maps_of b ≡ maps_of a
-    contexts_alike = shown_alike b a (λ t. ap (λ (f : Terms). shown (finite.get f t)) terms) (λ n. ap (λ o. shown o) (contexts n.0) ∙ shown_same (finite.get a.contexts n.0))
-
-    pub contexts_in : NoneIsOut a → NoneIsOut b
-    contexts_in h (Term t) = ap (λ (f : Terms). has_left (finite.get f t)) terms ∙ h (Term t)
-    contexts_in h (Ctx n) = ap (λ o. has_left o) (contexts n.0) ∙ none_left (finite.get a.contexts n.0)
-    contexts_in h Whole = refl
+pub contexts_alike : (a b : Stored) → b.terms ≡ a.terms → ((n : ℕ) → finite.get b.contexts n ≡ if_shown (finite.get a.contexts n)) → maps_of b ≡ maps_of a
+contexts_alike a b terms contexts = shown_alike b a (λ t. ap (λ (f : Terms). shown (finite.get f t)) terms) (λ n. ap (λ o. shown o) (contexts n.0) ∙ shown_same (finite.get a.contexts n.0))
 
 -- ---- all places go where nothing stands in one
 

@@ -1,12 +1,12 @@
 -- Writes that are taken back: what is read then, and what one more write comes to.
-use Rattle.std.proofs.Common.{nat_eq, ◌≡◌, ℕ, ◌<◌, length, get_or, Bool, true, false, cond, List, [], ◌∷◌, ◌++◌, bytes_eq, Option, inl, inr, refl, sym, ap, ◌∙◌}
+use Rattle.std.proofs.Common.{nat_eq, ◌≡◌, ℕ, ◌<◌, length, get_or, Bool, true, false, cond, List, [], ◌∷◌, ◌++◌, bytes_eq, Option, None, Some, is_some, inl, inr, refl, sym, ap, ◌∙◌}
 use Rattle.std.specs.Prelude.{◌||◌, ◌⊎◌}
 use Rattle.std.specs.Bool.{OnTrue}
 use Rattle.std.specs.List.{list_any}
 use Rattle.std.proofs.lemmas.List.Folds.{list_any_at}
 use Rattle.gw_base.specs.declared.ids.CtxNum.{CtxNum}
 use Rattle.gw_base.specs.declared.key.Key.{Key}
-use Rattle.gw_base.specs.declared.key.Key.TheVariants.{Term, Ctx}
+use Rattle.gw_base.specs.declared.key.Key.TheVariants.{Term, Ctx, Whole}
 use Rattle.gw_base.specs.Keys.{same_key, has}
 use Rattle.gw_base.proofs.KeyTests.{same-itself}
 use Rattle.gw_base.proofs.NameTests.{same_name, same_number}
@@ -19,6 +19,7 @@ use Rattle.gw_table.specs.declared.setting.Setting.{Setting}
 use Rattle.gw_table.specs.declared.setting.Setting.TheVariants.{Both}
 use Rattle.gw_table.specs.Maps.{Maps, term, ctx, put_term, put_ctx, no_maps}
 use Rattle.gw_table.specs.Originals.{key_written, keys_written, without_write, undone, logs_properties, has_properties}
+use Rattle.gw_table.specs.Stored.{has_entry}
 use Rattle.gw_table.proofs.Leaving.{put_term-put_term, put_term-same, put_ctx-same}
 use Rattle.gw_table.proofs.Lookups.{term-put_term, ctx-put_term, term-put_ctx, ctx-put_ctx, put_ctx-put_ctx, same_maps}
 use Rattle.gw_table.proofs.SettingLookups.{with_it, hidden, ctx-put_setting, term-put_setting}
@@ -71,6 +72,23 @@ ctx-undone (OfProperties n p e ∷ ws) m q =
     ∙ ap (λ x. cond (nat_eq q.0 n.0) (with_it (Both p e) x) x) (ctx-undone ws m q)
     ∙ on_both (with_it (Both p e)) (nat_eq q.0 n.0) (has (keys_written ws) (Ctx q)) (ctx (undone ws no_maps) q) (settled ws q (ctx m q))
     ∙ ap (λ x. cond (has (keys_written ws) (Ctx q)) x (settled (OfProperties n p e ∷ ws) q (ctx m q))) (sym (ctx-put_setting (Both p e) n (undone ws no_maps) q))
+
+-- where none of them has the key, there is an entry if there was one
+some_either : (b : Bool) (x : Setting) (o : Option ContextRecord) → is_some (cond b (with_it x o) o) ≡ is_some o
+some_either true x None = refl
+some_either true x (Some c) = refl
+some_either false x o = refl
+
+some_settled : (ws : List Write) (q : CtxNum) (o : Option ContextRecord) → is_some (settled ws q o) ≡ is_some o
+some_settled [] q o = refl
+some_settled (OfTerm t b ∷ ws) q o = some_settled ws q o
+some_settled (OfCtx n b ∷ ws) q o = some_settled ws q o
+some_settled (OfProperties n p e ∷ ws) q o = some_either (nat_eq q.0 n.0) (Both p e) (settled ws q o) ∙ some_settled ws q o
+
+pub entry-undone : (ws : List Write) (m : Maps) (k : Key) → has (keys_written ws) k ≡ false → has_entry (undone ws m) k ≡ has_entry m k
+entry-undone ws m (Term t) h = ap (λ o. is_some o) (term-undone ws m t) ∙ ap (λ b. is_some (cond b (term (undone ws no_maps) t) (term m t))) h
+entry-undone ws m (Ctx n) h = ap (λ o. is_some o) (ctx-undone ws m n) ∙ ap (λ b. is_some (cond b (ctx (undone ws no_maps) n) (settled ws n (ctx m n)))) h ∙ some_settled ws n (ctx m n)
+entry-undone ws m Whole h = refl
 
 hidden_in : (p : ℕ) (e : Bool) (r : ℕ) (f : Bool) (b : Bool) (x y : Option ContextRecord) → with_it (Both p e) x ≡ with_it (Both p e) y
     → with_it (Both p e) (cond b (with_it (Both r f) x) x) ≡ with_it (Both p e) (cond b (with_it (Both r f) y) y)

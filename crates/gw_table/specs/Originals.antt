@@ -9,7 +9,7 @@ use Rattle.gw_table.specs.declared.originals.Write.TheVariants.{OfTerm, OfCtx, O
 use Rattle.gw_table.specs.declared.setting.Setting.TheVariants.{Both}
 use Rattle.gw_table.specs.Maps.{Maps, ctx, put_term, put_ctx}
 use Rattle.gw_table.specs.Settings.{put_setting, set_place}
-use Rattle.gw_table.specs.Stored.{Stored, placed, maps_of, put_term_place, put_ctx_place, AreReady, KeepReady, NoneIsOut}
+use Rattle.gw_table.specs.Stored.{Stored, placed, maps_of, put_term_place, put_ctx_place, AreReady, KeepReady, NoOtherReady, NoneIsOut}
 
 -- the key that was written; where properties alone were logged, none that names an entry
 abbrev pub key_written : Write → Key
@@ -53,10 +53,11 @@ logs_properties n (OfProperties k p e) = nat_eq n.0 k.0
 abbrev pub has_properties : CtxNum → List Write → Bool
 has_properties n writes = list_any (logs_properties n) writes
 
--- Tables that were changed in place: nothing is out, the undo log leads back to the maps of the start, and what was
--- prepared at the start is so still.
+-- Tables that were changed in place: nothing is out, the undo log leads back to the maps of the start, what was prepared
+-- at the start is so still, and beside it only what was written.
 pub record IsInPlace (start now : Stored) (writes : List Write) : Type 0 where
   pub here : NoneIsOut now
   pub back : undone writes (maps_of now) ≡ maps_of start
   pub places : AreReady (keys_written writes) now
   pub kept : KeepReady start now
+  pub alone : NoOtherReady (keys_written writes) start now

@@ -146,6 +146,10 @@ has_entry m Whole = true
 abbrev pub AreSwept : Stored → Type 0
 AreSwept s = (k : Key) → is_ready s k ≡ has_entry (maps_of s) k
 
+-- of these keys those are prepared that have an entry
+abbrev pub AreSweptAmong : List Key → Stored → Type 0
+AreSweptAmong keys s = (k : Key) → has keys k ≡ true → is_ready s k ≡ has_entry (maps_of s) k
+
 -- of these keys those with an entry in the first are prepared in the second, and all other keys as in the first
 abbrev pub AreSweptAt : List Key → Stored → Stored → Type 0
 AreSweptAt keys a b = (k : Key) → is_ready b k ≡ cond (has keys k) (has_entry (maps_of a) k) (is_ready a k)

@@ -8,7 +8,7 @@ ghost use Rattle.gw_table.specs.KeyLists.{key_cmp, IsInOrder};
 ghost use Rattle.gw_table.specs.Stored.{shown};
 
 use crate::place::{Place, entry_at};
-use gw_base::{CtxNum, Held, Key, NoMemory, TermName};
+use gw_base::{CtxNum, Key, NoMemory, TermName};
 use gw_ctx::Context;
 use gw_term::Termination;
 use std::alloc::Global;
@@ -18,9 +18,9 @@ use std::cmp::Ordering;
 #[derive(Drop)]
 pub enum Cell {
     /// The place of a termination.
-    OfTerm(Place<Held<Termination>>),
+    OfTerm(Place<Termination>),
     /// The place of a context.
-    OfCtx(Place<Held<Context>>),
+    OfCtx(Place<Context>),
     /// No place.
     OfWhole,
 }
@@ -38,7 +38,7 @@ impl Cell {
     }
 
     /// The place of a termination.
-    pub(crate) fn into_term(self) -> Place<Held<Termination>>
+    pub(crate) fn into_term(self) -> Place<Termination>
         ensures { result ≡ cell_term self }
     {
         match self {
@@ -48,7 +48,7 @@ impl Cell {
     }
 
     /// The place of a context.
-    pub(crate) fn into_ctx(self) -> Place<Held<Context>>
+    pub(crate) fn into_ctx(self) -> Place<Context>
         ensures { result ≡ cell_ctx self }
     {
         match self {

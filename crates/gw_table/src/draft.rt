@@ -9,14 +9,14 @@ ghost use Rattle.gw_table.specs.Maps.{term, ctx, put_term, put_ctx, names, numbe
 ghost use Rattle.gw_table.specs.Members.{put_service, with_member, without_member};
 ghost use Rattle.gw_table.specs.Originals.{before_all, keys_written, undone};
 ghost use Rattle.gw_table.specs.Parts.{Over, Only, list_of, start_of, holds};
-ghost use Rattle.gw_table.specs.Stored.{maps_of, NoneIsOut, AreReady, KeepReady};
+ghost use Rattle.gw_table.specs.Stored.{maps_of, NoneIsOut, AreReady, KeepReady, NoOtherReady};
 
 use crate::in_place::InPlace;
 use crate::originals::Originals;
 use crate::part::Part;
 use crate::rows::Guide;
 use crate::tables::Tables;
-use gw_base::{CtxNum, Held, NoMemory, Service, TermName};
+use gw_base::{CtxNum, NoMemory, Service, TermName};
 use gw_ctx::Context;
 use gw_term::Termination;
 use std::alloc::Global;
@@ -122,11 +122,7 @@ impl Draft {
     /// # Errors
     ///
     /// Out of memory. The draft is as it was.
-    pub fn set_term(
-        &mut self,
-        name: TermName,
-        entry: Option<Held<Termination>>,
-    ) -> Result<(), NoMemory>
+    pub fn set_term(&mut self, name: TermName, entry: Option<Termination>) -> Result<(), NoMemory>
         requires { holds self.old.keys (Term name) ≡ true }
         ensures maps { OnOk result (self.new.maps ≡ put_term self.old.maps name entry) }
         ensures err { OnErr result (self.new.maps ≡ self.old.maps) }
@@ -145,7 +141,7 @@ impl Draft {
         &mut self,
         guide: Guide,
         name: TermName,
-        entry: Option<Held<Termination>>,
+        entry: Option<Termination>,
     ) -> Result<(), NoMemory>
         requires { holds self.old.keys (Term name) ≡ true }
         ensures maps { OnOk result (self.new.maps ≡ put_term self.old.maps name entry) }
@@ -166,7 +162,7 @@ impl Draft {
     /// # Errors
     ///
     /// Out of memory. The draft is as it was.
-    pub fn set_ctx(&mut self, number: CtxNum, entry: Option<Held<Context>>) -> Result<(), NoMemory>
+    pub fn set_ctx(&mut self, number: CtxNum, entry: Option<Context>) -> Result<(), NoMemory>
         requires { holds self.old.keys (Ctx number) ≡ true }
         ensures maps { OnOk result (self.new.maps ≡ put_ctx self.old.maps number entry) }
         ensures err { OnErr result (self.new.maps ≡ self.old.maps) }
@@ -187,7 +183,7 @@ impl Draft {
     /// # Errors
     ///
     /// Out of memory. The draft is as it was.
-    pub fn take_ctx(&mut self, number: CtxNum) -> Result<Option<Held<Context>>, NoMemory>
+    pub fn take_ctx(&mut self, number: CtxNum) -> Result<Option<Context>, NoMemory>
         requires { holds self.old.keys (Ctx number) ≡ true }
         ensures context { IfOk result (λ context. context ≡ ctx self.old.maps number) }
         ensures maps { OnOk result (self.new.maps ≡ put_ctx self.old.maps number None) }
@@ -332,13 +328,15 @@ impl Draft {
     }
 
     /// A draft of whole tables as the tables that it left, with what stood there before: the writes, taken back, give
-    /// the tables in which the changes began, those of the log that was continued among them. It takes no memory.
+    /// the tables in which the changes began, those of the log that was continued among them. What is prepared was so
+    /// then, or was written. It takes no memory.
     pub fn into_tables(self) -> (Tables, Originals)
         requires { self.keys ≡ Over (start_of self.keys) }
         ensures maps { maps_of result.0 ≡ self.maps }
         ensures here { NoneIsOut result.0 }
         ensures kept { KeepReady (start_of self.keys) result.0 }
         ensures ready { AreReady (keys_written result.1) result.0 }
+        ensures alone { NoOtherReady (keys_written result.1) (start_of self.keys) result.0 }
         ensures back { undone result.1 (maps_of result.0) ≡ maps_of (start_of self.keys) }
     {
         let Draft { backing } = self;

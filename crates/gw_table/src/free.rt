@@ -10,17 +10,19 @@ use crate::draft::{Backing, Draft};
 use crate::part::Part;
 use crate::place::Place;
 use crate::row::Row;
+use crate::rows::Guide;
 use crate::tables::Tables;
-use gw_base::{Held, Key, NoMemory, TermName};
+use gw_base::{Key, NoMemory, TermName};
 use gw_term::Termination;
 use std::alloc::Global;
+use std::marker::Model;
 
 /// Whether a termination of the null context stands in a place.
-pub(crate) fn is_free_at(row: &Row<Held<Termination>>) -> bool
+pub(crate) fn is_free_at(row: &Row<Termination>) -> bool
     ensures { result ≡ is_free_at row.now }
 {
     match row.place() {
-        Place::Here(termination) => termination.get().place().is_none(),
+        Place::Here(termination) => termination.place().is_none(),
         Place::Empty | Place::Out => false,
     }
 }
@@ -32,18 +34,72 @@ pub(crate) fn begins_with(name: &TermName, prefix: &[u8]) -> bool
     prefix.is_empty() || name.as_bytes().starts_with(prefix)
 }
 
+/// A termination that a command is for: its name, and where it may stand. Contracts see the name.
+#[derive(Drop)]
+pub struct Target {
+    name: TermName,
+    guide: Guide,
+}
+
+impl Model for Target {
+    ghost use Rattle.std.specs.Prelude.{ℕ, List};
+
+    ghost Value = { List ℕ };
+
+    ghost view = { λ t. t.name };
+}
+
+impl Target {
+    /// The termination of this name, wherever it stands.
+    pub fn named(name: TermName) -> Target
+        ensures { result ≡ name }
+    {
+        Target::found(name, Guide::none())
+    }
+
+    /// The termination of this name, which was found there.
+    pub fn found(name: TermName, guide: Guide) -> Target
+        ensures { result ≡ name }
+    {
+        Target { name, guide }
+    }
+
+    /// Those of these names, wherever they stand.
+    pub fn each(alloc: Global, names: &[TermName]) -> Result<Vec<Target>, NoMemory>
+        ensures { IfOk result (λ targets. targets.items ≡ names.now) }
+    {
+        let mut targets = Vec::with_capacity(alloc, names.len())?;
+        for name in names {
+            targets.push(Target::named(*name))?;
+        }
+        Ok(targets)
+    }
+
+    /// Its name.
+    pub fn name(&self) -> &TermName
+        ensures { result.now ≡ self.now }
+    {
+        &self.name
+    }
+
+    /// Where it may stand.
+    pub fn guide(&self) -> Guide {
+        self.guide
+    }
+}
+
 impl Tables {
-    /// The names of the terminations of the null context, in the order of their bytes.
-    fn free_names(&self, alloc: Global) -> Result<Vec<TermName>, NoMemory>
+    /// The terminations of the null context, in the order of the bytes of their names.
+    fn free_targets(&self, alloc: Global) -> Result<Vec<Target>, NoMemory>
         ensures { IfOk result (λ list. list.items ≡ filter (is_free (maps_of self.now)) (names (maps_of self.now))) }
     {
-        let mut names = Vec::with_capacity(alloc, self.terms.len())?;
+        let mut targets = Vec::with_capacity(alloc, self.terms.len())?;
         for (name, row) in &self.terms {
             if is_free_at(row) {
-                names.push(*name)?;
+                targets.push(Target::found(*name, row.guide()))?;
             }
         }
-        Ok(names)
+        Ok(targets)
     }
 
     /// Whether there is a termination of the null context with a name that begins so.
@@ -80,12 +136,12 @@ impl Part {
         }
     }
 
-    fn free_names(&self, alloc: Global) -> Result<Vec<TermName>, NoMemory>
+    fn free_targets(&self, alloc: Global) -> Result<Vec<Target>, NoMemory>
         ensures { IfOk result (λ list. list.items ≡ filter (is_free self.now.maps) (names self.now.maps)) }
     {
         let mut named = self.names(alloc)?;
         named.retain(|name| self.is_free(name));
-        Ok(named)
+        Target::each(alloc, &named)
     }
 
     fn has_free_under(&self, prefix: &[u8]) -> bool
@@ -103,18 +159,18 @@ impl Part {
 }
 
 impl Draft {
-    /// The names of the terminations of the null context, in the order of their bytes. The work is one pass over the
+    /// The terminations of the null context, in the order of the bytes of their names. The work is one pass over the
     /// tables, without a look-up; or two look-ups for each key of the part.
     ///
     /// # Errors
     ///
     /// Out of memory.
-    pub fn free_names(&self, alloc: Global) -> Result<Vec<TermName>, NoMemory>
+    pub fn free_targets(&self, alloc: Global) -> Result<Vec<Target>, NoMemory>
         ensures { IfOk result (λ list. list.items ≡ filter (is_free self.now.maps) (names self.now.maps)) }
     {
         match &self.backing {
-            Backing::OfPart(part) => part.free_names(alloc),
-            Backing::OfTables(backing) => backing.tables.free_names(alloc),
+            Backing::OfPart(part) => part.free_targets(alloc),
+            Backing::OfTables(backing) => backing.tables.free_targets(alloc),
         }
     }
 

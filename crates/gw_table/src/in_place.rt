@@ -5,14 +5,14 @@ ghost use Rattle.gw_table.specs.Maps.{term, ctx, put_term, put_ctx};
 ghost use Rattle.gw_table.specs.Members.{put_service};
 ghost use Rattle.gw_table.specs.Originals.{before_all, keys_written, undone};
 ghost use Rattle.gw_table.specs.Parts.{Over, start_of};
-ghost use Rattle.gw_table.specs.Stored.{maps_of, NoneIsOut, AreReady, KeepReady};
+ghost use Rattle.gw_table.specs.Stored.{maps_of, NoneIsOut, AreReady, KeepReady, NoOtherReady};
 
 use crate::originals::{Originals, Write};
 use crate::place::Place;
 use crate::row::Found;
 use crate::rows::Guide;
 use crate::tables::Tables;
-use gw_base::{CtxNum, Held, Key, NoMemory, Service, TermName};
+use gw_base::{CtxNum, NoMemory, Service, TermName};
 use gw_ctx::Context;
 use gw_term::Termination;
 use std::alloc::Global;
@@ -26,7 +26,6 @@ use std::snapshot::Snapshot;
 pub(crate) struct InPlace {
     pub(crate) tables: Tables,
     pub(crate) writes: Vec<Write>,
-    pub(crate) vacated: Vec<Key>,
     before: Snapshot<Tables>,
     earlier: Snapshot<Originals>,
 }
@@ -37,7 +36,6 @@ impl Drop for InPlace {
         let InPlace {
             tables: _,
             writes: _,
-            vacated: _,
             before: _,
             earlier: _,
         } = self;
@@ -58,18 +56,6 @@ impl Model for InPlace {
     ghost invariant = { λ a. IsInPlace (before_all a.earlier.value a.before.value) a.tables a.writes.items };
 }
 
-/// Logs a key that is left without an entry.
-pub(crate) fn log_vacated(
-    vacated: &mut Vec<Key>,
-    key: Key,
-    is_vacated: bool,
-) -> Result<(), NoMemory> {
-    if is_vacated {
-        vacated.push(key)?;
-    }
-    Ok(())
-}
-
 impl InPlace {
     /// Tables, with the undo log of earlier changes.
     pub(crate) fn new(tables: Tables, originals: Originals) -> InPlace
@@ -79,11 +65,10 @@ impl InPlace {
     {
         let before = Snapshot::of(&tables);
         let earlier = Snapshot::of(&originals);
-        let Originals { writes, vacated } = originals;
+        let Originals { writes } = originals;
         InPlace {
             tables,
             writes,
-            vacated,
             before,
             earlier,
         }
@@ -95,13 +80,12 @@ impl InPlace {
         &mut self,
         guide: Guide,
         name: &TermName,
-        entry: Option<Held<Termination>>,
+        entry: Option<Termination>,
     ) -> Result<(), NoMemory>
         ensures maps { OnOk result (self.new.maps ≡ put_term self.old.maps name.now entry) }
         ensures err { OnErr result (self.new.maps ≡ self.old.maps) }
         ensures keys { self.new.keys ≡ self.old.keys }
     {
-        log_vacated(&mut self.vacated, Key::Term(*name), entry.is_none())?;
         self.writes.reserve(1)?;
         let found = self
             .tables
@@ -116,16 +100,11 @@ impl InPlace {
     }
 
     /// Sets the context with a number, or none, as `set_term` does.
-    pub(crate) fn set_ctx(
-        &mut self,
-        number: CtxNum,
-        entry: Option<Held<Context>>,
-    ) -> Result<(), NoMemory>
+    pub(crate) fn set_ctx(&mut self, number: CtxNum, entry: Option<Context>) -> Result<(), NoMemory>
         ensures maps { OnOk result (self.new.maps ≡ put_ctx self.old.maps number entry) }
         ensures err { OnErr result (self.new.maps ≡ self.old.maps) }
         ensures keys { self.new.keys ≡ self.old.keys }
     {
-        log_vacated(&mut self.vacated, Key::Ctx(number), entry.is_none())?;
         self.writes.reserve(1)?;
         let found = self
             .tables
@@ -141,7 +120,7 @@ impl InPlace {
 
     /// Takes the context with a number out, to be changed and set again: the context itself where it was written
     /// before, and else a copy, since what stood there is logged.
-    pub(crate) fn take_ctx(&mut self, number: CtxNum) -> Result<Option<Held<Context>>, NoMemory>
+    pub(crate) fn take_ctx(&mut self, number: CtxNum) -> Result<Option<Context>, NoMemory>
         ensures context { IfOk result (λ context. context ≡ ctx self.old.maps number) }
         ensures maps { OnOk result (self.new.maps ≡ put_ctx self.old.maps number None) }
         ensures err { OnErr result (self.new.maps ≡ self.old.maps) }
@@ -186,16 +165,16 @@ impl InPlace {
         ensures here { NoneIsOut result.0 }
         ensures kept { KeepReady (start_of self.keys) result.0 }
         ensures ready { AreReady (keys_written result.1) result.0 }
+        ensures alone { NoOtherReady (keys_written result.1) (start_of self.keys) result.0 }
         ensures back { undone result.1 (maps_of result.0) ≡ maps_of (start_of self.keys) }
     {
         let InPlace {
             tables,
             writes,
-            vacated,
             before: _,
             earlier: _,
         } = self;
-        (tables, Originals { writes, vacated })
+        (tables, Originals { writes })
     }
 
     /// The tables as they were at the start. It takes no memory.
@@ -207,7 +186,6 @@ impl InPlace {
         let InPlace {
             mut tables,
             writes,
-            vacated: _,
             before: _,
             earlier: _,
         } = self;

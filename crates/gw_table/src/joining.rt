@@ -12,14 +12,14 @@ ghost use Rattle.gw_table.specs.Originals.{keys_written};
 ghost use Rattle.gw_table.specs.Parts.{holds};
 ghost use Rattle.gw_table.specs.Stored.{maps_of, shown};
 
-use crate::in_place::{InPlace, log_vacated};
+use crate::in_place::InPlace;
 use crate::marked::set_number;
 use crate::originals::Write;
 use crate::part::Part;
 use crate::place::Place;
 use crate::row::{Found, Row};
 use crate::tables::Tables;
-use gw_base::{CtxNum, Held, Key, NoMemory, TermName};
+use gw_base::{CtxNum, Key, NoMemory, TermName};
 use gw_ctx::{Context, JoinFault};
 use std::alloc::Global;
 
@@ -38,19 +38,19 @@ fn joined(context: &mut Context, name: TermName, limit: usize) -> Result<(), NoM
 }
 
 /// A context that comes into being with its first member.
-fn begun(alloc: Global, name: TermName, limit: usize) -> Result<Held<Context>, NoMemory>
+fn begun(alloc: Global, name: TermName, limit: usize) -> Result<Context, NoMemory>
     requires room { 0 < limit }
     ensures { IfOk result (λ context. context ≡ joined name new_context) }
 {
-    let mut context = Held::new(alloc, Context::new(alloc))?;
-    joined(context.get_mut(), name, limit)?;
+    let mut context = Context::new(alloc);
+    joined(&mut context, name, limit)?;
     Ok(context)
 }
 
 /// The name joins the context that stands in a place, as its last member. Where none stands, one comes into being.
 /// The caller knows that there is room.
 pub(crate) fn join_in_place(
-    place: &mut Place<Held<Context>>,
+    place: &mut Place<Context>,
     alloc: Global,
     name: TermName,
     limit: usize,
@@ -61,7 +61,7 @@ pub(crate) fn join_in_place(
     ensures err { OnErr result (place.new ≡ place.old) }
 {
     if let Place::Here(context) = place {
-        return joined(context.get_mut(), name, limit);
+        return joined(context, name, limit);
     }
     *place = Place::Here(begun(alloc, name, limit)?);
     Ok(())
@@ -77,11 +77,11 @@ fn left(context: &mut Context, name: &TermName) -> bool
 }
 
 /// The name leaves the context that stands in a place, if there is one. The place is empty behind its last member.
-pub(crate) fn leave_in_place(place: &mut Place<Held<Context>>, name: &TermName)
+pub(crate) fn leave_in_place(place: &mut Place<Context>, name: &TermName)
     ensures { place.new ≡ left_at name.now place.old }
 {
     let ends = match place {
-        Place::Here(context) => left(context.get_mut(), name),
+        Place::Here(context) => left(context, name),
         Place::Empty | Place::Out => false,
     };
     if ends {
@@ -101,7 +101,7 @@ impl Tables {
         name: TermName,
         limit: usize,
         writes: &[Write],
-    ) -> Result<Found<Held<Context>>, NoMemory>
+    ) -> Result<Found<Context>, NoMemory>
         requires new { is_in name (members_of (ctx (maps_of self.old) number)) ≡ false }
         requires room { length (members_of (ctx (maps_of self.old) number)) < limit }
         ensures found { IfOk result (λ found. IsFound (keys_written writes.now) (Ctx number) (ctx (maps_of self.old) number) found) }
@@ -121,24 +121,24 @@ impl Tables {
 
     /// The name leaves the context with a number, if there is one, which ends with its last member: in its place
     /// where the number is logged in the list of writes, and else in a copy. Answers what was found there, as
-    /// `write_ctx` does, and whether its place is left empty. It is one look-up. Out of memory nothing has changed.
+    /// `write_ctx` does. It is one look-up. Out of memory nothing has changed.
     fn leave(
         &mut self,
         number: CtxNum,
         name: &TermName,
         writes: &[Write],
-    ) -> Result<(Found<Held<Context>>, bool), NoMemory>
-        ensures found { IfOk result (λ left. IsFound (keys_written writes.now) (Ctx number) (ctx (maps_of self.old) number) left.0) }
+    ) -> Result<Found<Context>, NoMemory>
+        ensures found { IfOk result (λ found. IsFound (keys_written writes.now) (Ctx number) (ctx (maps_of self.old) number) found) }
         ensures after { OnOk result (self.new ≡ leave_place name.now number self.old (ctx (maps_of self.old) number)) }
         ensures err { OnErr result (self.new ≡ self.old) }
     {
         let Some(row) = self.contexts.get_mut(&number.0) else {
-            return Ok((Found::Unlogged(None), false));
+            return Ok(Found::Unlogged(None));
         };
         let found = row.leave(name, writes, &Key::Ctx(number))?;
         let stands = row.is_here();
         set_number(&mut self.numbers, number, stands);
-        Ok((found, !stands))
+        Ok(found)
     }
 }
 
@@ -175,13 +175,14 @@ impl InPlace {
         ensures keys { self.new.keys ≡ self.old.keys }
     {
         self.writes.reserve(1)?;
-        let (found, ends) = self.tables.leave(number, name, &self.writes)?;
-        if let Some(before) = found.into_unlogged() {
-            let Ok(()) = self.writes.push(Write::OfCtx(number, Some(before))) else {
-                unreachable!()
-            };
-        }
-        log_vacated(&mut self.vacated, Key::Ctx(number), ends)
+        let found = self.tables.leave(number, name, &self.writes)?;
+        let Some(before) = found.into_unlogged() else {
+            return Ok(());
+        };
+        let Ok(()) = self.writes.push(Write::OfCtx(number, Some(before))) else {
+            unreachable!()
+        };
+        Ok(())
     }
 }
 

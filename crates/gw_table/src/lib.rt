@@ -25,11 +25,11 @@ mod subtracting;
 mod tables;
 mod text;
 mod unused;
-mod vacated;
 mod writes;
 
 pub use attempts::Attempts;
 pub use draft::Draft;
+pub use free::Target;
 pub use key_list::put_in_order;
 pub use key_order::compare_keys;
 pub use keys::Keys;

@@ -16,7 +16,7 @@ use crate::marked::{set_number, set_slot};
 use crate::part::Part;
 use crate::place::Place;
 use crate::tables::Tables;
-use gw_base::{CtxNum, Held, Key, TermName};
+use gw_base::{CtxNum, Key, TermName};
 use gw_ctx::Context;
 use gw_term::Termination;
 use std::mem;
@@ -26,8 +26,8 @@ impl Tables {
     pub(crate) fn exchange_term(
         &mut self,
         name: &TermName,
-        new: Place<Held<Termination>>,
-    ) -> Place<Held<Termination>>
+        new: Place<Termination>,
+    ) -> Place<Termination>
         requires { is_ready self.old (Term name.now) ≡ true }
         ensures before { Some result ≡ finite.get self.old.terms name.now }
         ensures after { self.new ≡ put_term_place self.old name.now new }
@@ -40,11 +40,7 @@ impl Tables {
     }
 
     /// Puts something else in the place of a context, and answers what stood there.
-    pub(crate) fn exchange_ctx(
-        &mut self,
-        number: CtxNum,
-        new: Place<Held<Context>>,
-    ) -> Place<Held<Context>>
+    pub(crate) fn exchange_ctx(&mut self, number: CtxNum, new: Place<Context>) -> Place<Context>
         requires { is_ready self.old (Ctx number) ≡ true }
         ensures before { Some result ≡ finite.get self.old.contexts number.0 }
         ensures after { self.new ≡ put_ctx_place self.old number new }

@@ -1,40 +1,34 @@
 //! What stood at keys of tables before they were written: an undo log.
 
-ghost use Rattle.std.specs.Prelude.{◌≡◌, true, false, []};
+ghost use Rattle.std.specs.Prelude.{◌≡◌, true, false, Decides, [], ◌∷◌};
 ghost use Rattle.gw_base.specs.Keys.{same_key};
 ghost use Rattle.gw_table.specs.Originals.{key_written, keys_written, logs_properties, without_write, undone};
-ghost use Rattle.gw_table.specs.Stored.{maps_of, is_ready, is_out, AreReady, AreIn, AreAsReady, AreAsOut, NoneIsOut};
+ghost use Rattle.gw_table.specs.Stored.{maps_of, is_ready, is_out, AreReady, AreIn, AreAsReady, AreAsOut, AreSweptAmong, KeepReady, NoneIsOut, WereSwept};
 
 use crate::place::Place;
 use crate::setting::Setting;
 use crate::tables::Tables;
-use gw_base::{CtxNum, Held, Key, TermName};
+use gw_base::{CtxNum, Key, TermName};
 use gw_ctx::Context;
 use gw_term::Termination;
 use std::alloc::Global;
 use std::marker::Model;
 
-/// Of so many writes one leaves a key without an entry, mostly: a call writes two terminations and a context twice,
-/// and leaves the context and one of the terminations.
-const WRITES_FOR_ONE_VACATED: usize = 4;
+/// From how many writes on one pass over all rows may be less work than look-ups.
+const MANY: usize = 64;
 
-/// A list of nothing, with room for so many, if there is memory for that.
-fn empty<T: Drop>(alloc: Global, room: usize) -> Vec<T>
-    ensures { result.items ≡ [] }
-{
-    match Vec::with_capacity(alloc, room) {
-        Ok(list) => list,
-        Err(_) => Vec::new(alloc),
-    }
+/// Whether of so many writes in so many rows all rows are passed over.
+fn are_many(writes: usize, rows: usize) -> bool {
+    writes >= MANY && writes >= rows / 4
 }
 
 /// What stood at a key before a write of it.
 #[derive(Drop)]
 pub enum Write {
     /// The termination of a name, or none.
-    OfTerm(TermName, Option<Held<Termination>>),
+    OfTerm(TermName, Option<Termination>),
     /// The context with a number, or none.
-    OfCtx(CtxNum, Option<Held<Context>>),
+    OfCtx(CtxNum, Option<Context>),
     /// The priority of the context with a number, if there is one, and whether it was marked as an emergency; of the
     /// rest nothing. The context may be written still, so it counts for no key.
     OfProperties(CtxNum, u8, bool),
@@ -70,8 +64,6 @@ impl Write {
 #[derive(Drop)]
 pub struct Originals {
     pub(crate) writes: Vec<Write>,
-    // Keys that were left without an entry, whose places may be freed.
-    pub(crate) vacated: Vec<Key>,
 }
 
 impl Model for Originals {
@@ -84,14 +76,20 @@ impl Model for Originals {
 }
 
 impl Originals {
-    /// Those of no change, with room for so many writes, if there is memory for that; else they take none.
-    pub fn with_room(alloc: Global, writes: usize) -> Originals
+    /// Those of no change, which take no memory.
+    pub fn new(alloc: Global) -> Originals
         ensures { result ≡ [] }
     {
         Originals {
-            writes: empty(alloc, writes),
-            vacated: empty(alloc, writes / WRITES_FOR_ONE_VACATED),
+            writes: Vec::new(alloc),
         }
+    }
+
+    /// Whether nothing was written.
+    pub fn is_empty(&self) -> bool
+        ensures { Decides result (self.now ≡ []) }
+    {
+        self.writes.is_empty()
     }
 }
 
@@ -136,18 +134,47 @@ impl Tables {
         ensures out { AreAsOut self.old self.new }
         ensures ready { AreAsReady self.old self.new }
     {
-        let Originals { writes, vacated: _ } = originals;
+        let Originals { writes } = originals;
         self.take_all_back(writes);
     }
 
-    /// Frees the places of those keys that were left without an entry and still have none. The caller knows that
-    /// nothing is out. Such a key takes two look-ups; of many keys it is one pass over all places, which frees each
-    /// that has no entry. No memory is taken.
+    /// Ends the preparation of the key of a write, if it has no entry. The caller knows that it is not out.
+    fn sweep_write(&mut self, write: &Write)
+        requires { is_out self.old (key_written write.now) ≡ false }
+        ensures { WereSwept (key_written write.now ∷ []) self.old self.new }
+    {
+        match write {
+            Write::OfTerm(name, _) => self.sweep_term(name),
+            Write::OfCtx(number, _) => self.sweep_ctx(*number),
+            Write::OfProperties(_, _, _) => {}
+        }
+    }
+
+    /// Ends the preparation of those keys of the writes that have no entry. The caller knows that none of them is out.
+    fn sweep_writes(&mut self, writes: &[Write])
+        requires { AreIn (keys_written writes.now) self.old }
+        ensures { WereSwept (keys_written writes.now) self.old self.new }
+    {
+        for write in writes {
+            self.sweep_write(write);
+        }
+    }
+
+    /// Ends the preparation of those keys that were written and have no entry. The caller knows that nothing is out. A
+    /// key takes one look-up, and one more where its row is freed. Many keys take one pass over all rows instead, which
+    /// frees each that has no entry. No memory is taken.
     pub fn sweep_vacated(&mut self, originals: &Originals)
         requires { NoneIsOut self.old }
         ensures maps { maps_of self.new ≡ maps_of self.old }
         ensures here { NoneIsOut self.new }
+        ensures swept { AreSweptAmong (keys_written originals.now) self.new }
+        ensures fewer { KeepReady self.new self.old }
     {
-        self.sweep_vacant(&originals.vacated);
+        let rows = self.terms.len().saturating_add(self.contexts.len());
+        if are_many(originals.writes.len(), rows) {
+            self.sweep();
+        } else {
+            self.sweep_writes(&originals.writes);
+        }
     }
 }

@@ -9,7 +9,7 @@ ghost use Rattle.gw_table.specs.Parts.{list_of, holds, IsPart};
 
 use crate::cell::{Cell, find_name, find_number};
 use crate::place::Place;
-use gw_base::{CtxNum, Held, Key, NoMemory, Service, TermName};
+use gw_base::{CtxNum, Key, NoMemory, Service, TermName};
 use gw_ctx::Context;
 use gw_term::Termination;
 use std::alloc::Global;
@@ -87,11 +87,7 @@ impl Part {
 
     /// Sets the termination of a name, or none, and answers what stood there. The caller knows that the name is one
     /// of the part's keys.
-    pub fn set_term(
-        &mut self,
-        name: &TermName,
-        entry: Option<Held<Termination>>,
-    ) -> Option<Held<Termination>>
+    pub fn set_term(&mut self, name: &TermName, entry: Option<Termination>) -> Option<Termination>
         requires { holds self.old.keys (Term name.now) ≡ true }
         ensures before { result ≡ term self.old.maps name.now }
         ensures maps { self.new.maps ≡ put_term self.old.maps name.now entry }
@@ -107,7 +103,7 @@ impl Part {
 
     /// Sets the context with a number, or none, and answers what stood there. The caller knows that the number is one
     /// of the part's keys.
-    pub fn set_ctx(&mut self, number: CtxNum, entry: Option<Held<Context>>) -> Option<Held<Context>>
+    pub fn set_ctx(&mut self, number: CtxNum, entry: Option<Context>) -> Option<Context>
         requires { holds self.old.keys (Ctx number) ≡ true }
         ensures before { result ≡ ctx self.old.maps number }
         ensures maps { self.new.maps ≡ put_ctx self.old.maps number entry }
@@ -129,7 +125,7 @@ impl Part {
         ensures keys { self.new.keys ≡ self.old.keys }
     {
         if let Some(mut termination) = self.set_term(name, None) {
-            termination.get_mut().set_service(service);
+            termination.set_service(service);
             self.set_term(name, Some(termination));
         }
     }

@@ -3,7 +3,7 @@
 ghost use Rattle.std.specs.Prelude.{◌≡◌, Some, is_some, IfOk, option_copied};
 ghost use Rattle.gw_table.specs.Stored.{shown, placed, served, emptied, is_vacant};
 
-use gw_base::{Held, NoMemory, Service};
+use gw_base::{NoMemory, Service};
 use gw_ctx::Context;
 use gw_term::Termination;
 use std::alloc::AllocError;
@@ -61,29 +61,27 @@ impl<T> Place<T> {
 }
 
 /// The entry that stands in a place, if there is such a place.
-pub(crate) fn entry_at<T>(place: Option<&Place<Held<T>>>) -> Option<&T>
+pub(crate) fn entry_at<T>(place: Option<&Place<T>>) -> Option<&T>
     ensures { option_copied result ≡ shown (option_copied place.entry) }
 {
     match place {
-        Some(Place::Here(entry)) => Some(entry.get()),
+        Some(Place::Here(entry)) => Some(entry),
         _ => None,
     }
 }
 
 /// The termination that stands in a place has another service state, if there is one. It is changed in its place.
-pub(crate) fn serve(place: &mut Place<Held<Termination>>, service: Service)
+pub(crate) fn serve(place: &mut Place<Termination>, service: Service)
     ensures { place.new ≡ served service place.old }
 {
     if let Place::Here(entry) = place {
-        entry.get_mut().set_service(service);
+        entry.set_service(service);
     }
 }
 
 /// What stands in a place becomes a copy of itself, if there is something. Answers what stood there. The caller knows
 /// that copies are equal.
-pub(crate) fn renew<T: Clone + Drop>(
-    place: &mut Place<Held<T>>,
-) -> Result<Option<Held<T>>, NoMemory>
+pub(crate) fn renew<T: Clone + Drop>(place: &mut Place<T>) -> Result<Option<T>, NoMemory>
     requires { (a b : T) → T.is_clone a b → b ≡ a }
     ensures before { IfOk result (λ before. before ≡ shown (Some place.old)) }
     ensures after { place.new ≡ place.old }
@@ -102,7 +100,7 @@ pub(crate) fn is_vacant<T>(place: Option<&Place<T>>) -> bool
     matches!(place, Some(Place::Empty))
 }
 
-impl Clone for Place<Held<Termination>> {
+impl Clone for Place<Termination> {
     ghost use Rattle.std.specs.Prelude.{◌≡◌};
 
     ghost is_clone = { λ a b. b ≡ a };
@@ -116,7 +114,7 @@ impl Clone for Place<Held<Termination>> {
     }
 }
 
-impl Clone for Place<Held<Context>> {
+impl Clone for Place<Context> {
     ghost use Rattle.std.specs.Prelude.{◌≡◌};
 
     ghost is_clone = { λ a b. b ≡ a };

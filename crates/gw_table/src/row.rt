@@ -15,8 +15,9 @@ ghost use Rattle.gw_table.specs.Stored.{shown, served, emptied};
 use crate::joining::{join_in_place, leave_in_place};
 use crate::originals::Write;
 use crate::place::{Place, renew, serve};
+use crate::rows::Guide;
 use crate::setting::{Setting, is_set, set_in_place};
-use gw_base::{CtxNum, Held, Key, NoMemory, Service, TermName};
+use gw_base::{CtxNum, Key, NoMemory, Service, TermName};
 use gw_ctx::Context;
 use gw_term::Termination;
 use std::alloc::Global;
@@ -45,11 +46,12 @@ impl<T> Found<T> {
 }
 
 /// What stands at a prepared key, and where the key was logged last in a list of writes. That is a guide alone: what
-/// it says is looked at in the list, so that one of an earlier list does no harm.
+/// it says is looked at in the list, so that one of an earlier list does no harm. So is the row's own number.
 #[derive(Drop)]
 pub(crate) struct Row<T> {
     place: Place<T>,
     logged: u32,
+    number: u32,
 }
 
 impl<T> Model for Row<T> {
@@ -87,6 +89,7 @@ impl<T> Row<T> {
         Row {
             place,
             logged: u32::MAX,
+            number: u32::MAX,
         }
     }
 
@@ -97,7 +100,29 @@ impl<T> Row<T> {
         Row {
             place,
             logged: next_of(writes),
+            number: u32::MAX,
         }
+    }
+
+    /// The row, with its number.
+    pub(crate) fn numbered(self, number: usize) -> Row<T>
+        ensures { result ≡ self }
+    {
+        let Row {
+            place,
+            logged,
+            number: _,
+        } = self;
+        Row {
+            place,
+            logged,
+            number: u32::try_from(number).unwrap_or(u32::MAX),
+        }
+    }
+
+    /// Where the row stands.
+    pub(crate) fn guide(&self) -> Guide {
+        Guide::at(self.number as usize)
     }
 
     /// The place.
@@ -145,10 +170,10 @@ impl<T: Drop> Row<T> {
     }
 }
 
-impl<T: Clone + Drop> Row<Held<T>> {
+impl<T: Clone + Drop> Row<T> {
     /// What stands here may be changed in its place then: where the key is not logged it becomes a copy of itself,
     /// and what stood here is to be logged next. The caller knows that copies are equal. Nothing else changes.
-    fn own(&mut self, writes: &[Write], key: &Key) -> Result<Found<Held<T>>, NoMemory>
+    fn own(&mut self, writes: &[Write], key: &Key) -> Result<Found<T>, NoMemory>
         requires { (a b : T) → T.is_clone a b → b ≡ a }
         ensures found { IfOk result (λ found. IsFound (keys_written writes.now) key.now (shown (Some self.old)) found) }
         ensures after { self.new ≡ self.old }
@@ -162,7 +187,7 @@ impl<T: Clone + Drop> Row<Held<T>> {
     }
 }
 
-impl Row<Held<Termination>> {
+impl Row<Termination> {
     /// The termination that stands here has another service state, if there is one. It is changed in its place where
     /// the key is logged, and else in a copy, and what stood here is to be logged next. Out of memory nothing has
     /// changed.
@@ -171,7 +196,7 @@ impl Row<Held<Termination>> {
         service: Service,
         writes: &[Write],
         key: &Key,
-    ) -> Result<Found<Held<Termination>>, NoMemory>
+    ) -> Result<Found<Termination>, NoMemory>
         ensures found { IfOk result (λ found. IsFound (keys_written writes.now) key.now (shown (Some self.old)) found) }
         ensures after { OnOk result (self.new ≡ served service self.old) }
         ensures err { OnErr result (self.new ≡ self.old) }
@@ -182,14 +207,14 @@ impl Row<Held<Termination>> {
     }
 }
 
-impl Row<Held<Context>> {
+impl Row<Context> {
     /// Takes the context that stands here out: the context itself where the key is logged, and else a copy, and what
     /// stood here is to be logged next. Out of memory nothing has changed.
     pub(crate) fn take(
         &mut self,
         writes: &[Write],
         key: &Key,
-    ) -> Result<(Option<Held<Context>>, Found<Held<Context>>), NoMemory>
+    ) -> Result<(Option<Context>, Found<Context>), NoMemory>
         ensures context { IfOk result (λ taken. taken.0 ≡ shown (Some self.old)) }
         ensures found { IfOk result (λ taken. IsFound (keys_written writes.now) key.now (shown (Some self.old)) taken.1) }
         ensures after { OnOk result (self.new ≡ emptied self.old) }
@@ -225,7 +250,6 @@ impl Row<Held<Context>> {
         let Place::Here(context) = &self.place else {
             return Ok(());
         };
-        let context = context.get();
         if is_set(context, setting)
             || are_properties_at(writes, self.logged as usize, number)
             || self.is_logged(writes, &Key::Ctx(number))
@@ -248,7 +272,7 @@ impl Row<Held<Context>> {
         limit: usize,
         writes: &[Write],
         key: &Key,
-    ) -> Result<Found<Held<Context>>, NoMemory>
+    ) -> Result<Found<Context>, NoMemory>
         requires new { is_in name (members_of (shown (Some self.old))) ≡ false }
         requires room { length (members_of (shown (Some self.old))) < limit }
         ensures found { IfOk result (λ found. IsFound (keys_written writes.now) key.now (shown (Some self.old)) found) }
@@ -267,7 +291,7 @@ impl Row<Held<Context>> {
         name: &TermName,
         writes: &[Write],
         key: &Key,
-    ) -> Result<Found<Held<Context>>, NoMemory>
+    ) -> Result<Found<Context>, NoMemory>
         ensures found { IfOk result (λ found. IsFound (keys_written writes.now) key.now (shown (Some self.old)) found) }
         ensures after { OnOk result (self.new ≡ left_at name.now self.old) }
         ensures err { OnErr result (self.new ≡ self.old) }

@@ -34,6 +34,11 @@ impl Guide {
     pub fn none() -> Guide {
         Guide(usize::MAX)
     }
+
+    /// Of the row with this number.
+    pub(crate) fn at(number: usize) -> Guide {
+        Guide(number)
+    }
 }
 
 /// Rows by key, in the order of the keys: the index has the number of the row of each key. The place of a row that was
@@ -194,6 +199,7 @@ impl<K: Ord + Copy + Drop, T: Drop> Rows<K, T> {
         self.rows.reserve(1)?;
         let number = self.rows.vacant_key();
         let before = self.index.insert(key, number)?;
+        let row = row.numbered(number);
         self.rows.insert_reserved(KeyedRow { key, row });
         let Some(before) = before else {
             return Ok(None);

@@ -15,7 +15,7 @@ use crate::originals::Write;
 use crate::part::Part;
 use crate::place::Place;
 use crate::tables::Tables;
-use gw_base::{CtxNum, Held, NoMemory};
+use gw_base::{CtxNum, NoMemory};
 use gw_ctx::Context;
 use std::alloc::Global;
 
@@ -55,11 +55,11 @@ pub(crate) fn is_set(context: &Context, setting: Setting) -> bool
 }
 
 /// Sets a property of the context that stands in a place, if there is one.
-pub(crate) fn set_in_place(place: &mut Place<Held<Context>>, setting: Setting)
+pub(crate) fn set_in_place(place: &mut Place<Context>, setting: Setting)
     ensures { place.new ≡ set_at setting place.old }
 {
     if let Place::Here(context) = place {
-        set(context.get_mut(), setting);
+        set(context, setting);
     }
 }
 
@@ -114,7 +114,7 @@ impl Part {
         ensures keys { self.new.keys ≡ self.old.keys }
     {
         if let Some(mut context) = self.set_ctx(number, None) {
-            set(context.get_mut(), setting);
+            set(&mut context, setting);
             self.set_ctx(number, Some(context));
         }
     }

@@ -12,11 +12,11 @@ use crate::place::{Place, is_vacant};
 use crate::row::{Row, place_at};
 use crate::rows::Rows;
 use crate::tables::Tables;
-use gw_base::{CtxNum, Held, Key, NoMemory, TermName};
+use gw_base::{CtxNum, Key, NoMemory, TermName};
 use gw_ctx::Context;
 
 /// Whether no context stands in any of these places.
-fn none_stands(contexts: &Rows<u32, Held<Context>>) -> bool
+fn none_stands(contexts: &Rows<u32, Context>) -> bool
     ensures { result ≡ true → (n : ℕ) → shown (lookup (is_at (nat_cmp n)) contexts.now.entries) ≡ None }
 {
     for (_, row) in contexts {
@@ -82,7 +82,7 @@ impl Tables {
     }
 
     /// Ends the preparation of a name, if it has no termination. The caller knows that it is not out.
-    fn sweep_term(&mut self, name: &TermName)
+    pub(crate) fn sweep_term(&mut self, name: &TermName)
         requires { is_out self.old (Term name.now) ≡ false }
         ensures { WereSwept (Term name.now ∷ []) self.old self.new }
     {
@@ -92,7 +92,7 @@ impl Tables {
     }
 
     /// Ends the preparation of a number, if it has no context. The caller knows that it is not out.
-    fn sweep_ctx(&mut self, number: CtxNum)
+    pub(crate) fn sweep_ctx(&mut self, number: CtxNum)
         requires { is_out self.old (Ctx number) ≡ false }
         ensures { WereSwept (Ctx number ∷ []) self.old self.new }
     {
@@ -102,7 +102,7 @@ impl Tables {
     }
 
     /// Ends the preparation of a key, if it has no entry. The caller knows that it is not out.
-    pub(crate) fn sweep_key(&mut self, key: &Key)
+    fn sweep_key(&mut self, key: &Key)
         requires { is_out self.old key.now ≡ false }
         ensures { WereSwept (key.now ∷ []) self.old self.new }
     {
@@ -127,7 +127,7 @@ impl Tables {
     }
 
     /// Ends the preparation of names without a termination.
-    pub(crate) fn sweep_terms(&mut self)
+    fn sweep_terms(&mut self)
         ensures terms { (t : List ℕ) → finite.get self.new.terms t ≡ if_shown (finite.get self.old.terms t) }
         ensures contexts { self.new.contexts ≡ self.old.contexts }
     {
@@ -135,7 +135,7 @@ impl Tables {
     }
 
     /// Ends the preparation of numbers without a context. Where there is no context, all places go at once.
-    pub(crate) fn sweep_contexts(&mut self)
+    fn sweep_contexts(&mut self)
         ensures terms { self.new.terms ≡ self.old.terms }
         ensures contexts { (n : ℕ) → finite.get self.new.contexts n ≡ if_shown (finite.get self.old.contexts n) }
     {

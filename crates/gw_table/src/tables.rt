@@ -11,7 +11,7 @@ use crate::place::{Place, entry_at};
 use crate::reserved::SLOTS;
 use crate::row::{Row, place_at};
 use crate::rows::{Guide, Rows};
-use gw_base::{Config, CtxNum, Held, NoMemory, TermName};
+use gw_base::{Config, CtxNum, NoMemory, TermName};
 use gw_ctx::Context;
 use gw_marks::Marks;
 use gw_term::Termination;
@@ -24,8 +24,8 @@ const NUMBERS: u32 = 65536;
 /// Terminations by name, and contexts by number, each by its handle in a place. A look-up takes log n steps. Numbers
 /// and slots of which an entry stands are marked, by a bit for each, for the search for free ones.
 pub struct Tables {
-    pub(crate) terms: Rows<TermName, Held<Termination>>,
-    pub(crate) contexts: Rows<u32, Held<Context>>,
+    pub(crate) terms: Rows<TermName, Termination>,
+    pub(crate) contexts: Rows<u32, Context>,
     // Of what is marked an entry stands. One that is not marked may stand too.
     pub(crate) numbers: Marks,
     pub(crate) slots: Marks,
@@ -83,28 +83,28 @@ impl Tables {
     }
 
     /// A termination in the null context under the name.
-    fn provide(&mut self, alloc: Global, name: TermName) -> Result<(), NoMemory>
+    fn provide(&mut self, name: TermName) -> Result<(), NoMemory>
         ensures maps { OnOk result (maps_of self.new ≡ put_term (maps_of self.old) name (Some provisioned)) }
         ensures out { OnOk result (NoneIsOut self.old → NoneIsOut self.new) }
     {
-        let new = Held::new(alloc, Termination::provisioned())?;
-        self.terms.insert(name, Row::of(Place::Here(new)))?;
+        let new = Place::Here(Termination::provisioned());
+        self.terms.insert(name, Row::of(new))?;
         Ok(())
     }
 
     /// The termination of a name, unless it is there.
-    fn provide_missing(&mut self, alloc: Global, name: &TermName) -> Result<(), NoMemory>
+    fn provide_missing(&mut self, name: &TermName) -> Result<(), NoMemory>
         ensures maps { OnOk result (maps_of self.new ≡ put_missing name.now (maps_of self.old) (term (maps_of self.old) name.now)) }
         ensures out { OnOk result (NoneIsOut self.old → NoneIsOut self.new) }
     {
         match self.find_term(name) {
             Some(_) => Ok(()),
-            None => self.provide(alloc, *name),
+            None => self.provide(*name),
         }
     }
 
     /// The terminations of three names of each five.
-    fn provide_most(&mut self, alloc: Global, names: &[TermName]) -> Result<(), NoMemory>
+    fn provide_most(&mut self, names: &[TermName]) -> Result<(), NoMemory>
         requires among { AreAmong names.now (maps_of self.old) }
         requires out { NoneIsOut self.old }
         ensures among { OnOk result (AreAmong names.now (maps_of self.new)) }
@@ -112,21 +112,21 @@ impl Tables {
     {
         for (i, name) in names.iter().enumerate() {
             if i % 5 < 3 {
-                self.provide(alloc, *name)?;
+                self.provide(*name)?;
             }
         }
         Ok(())
     }
 
     /// The terminations of the names that have none.
-    fn provide_others(&mut self, alloc: Global, names: &[TermName]) -> Result<(), NoMemory>
+    fn provide_others(&mut self, names: &[TermName]) -> Result<(), NoMemory>
         requires among { AreAmong names.now (maps_of self.old) }
         requires out { NoneIsOut self.old }
         ensures maps { OnOk result (maps_of self.new ≡ new_maps names.now) }
         ensures out { OnOk result (NoneIsOut self.new) }
     {
         for name in names {
-            self.provide_missing(alloc, name)?;
+            self.provide_missing(name)?;
         }
         Ok(())
     }
@@ -145,8 +145,8 @@ impl Tables {
     {
         let names = config.terms.as_slice();
         let mut tables = Tables::marking(alloc, names.len())?;
-        tables.provide_most(alloc, names)?;
-        tables.provide_others(alloc, names)?;
+        tables.provide_most(names)?;
+        tables.provide_others(names)?;
         Ok(tables)
     }
 

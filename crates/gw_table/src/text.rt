@@ -113,8 +113,8 @@ fn write_link(number: CtxNum, link: Link, out: &mut Vec<u8>) -> Result<(), Alloc
 fn write_links(number: CtxNum, context: &Context, out: &mut Vec<u8>) -> Result<(), AllocError>
     ensures { OnOk result (out.new.items ≡ out.old.items ++ flat_map (topology_line number) context.now.links) }
 {
-    for place in 0..context.link_count() {
-        write_link(number, context.link_at(place), out)?;
+    for link in context.links() {
+        write_link(number, link, out)?;
     }
     Ok(())
 }
@@ -128,7 +128,7 @@ fn write_context(
     ensures { OnOk result (out.new.items ≡ out.old.items ++ context_text number (option_copied context.entry)) }
 {
     if let Some(context) = context {
-        write_context_line(number, context.members(), out)?;
+        write_context_line(number, context.members().as_slice(), out)?;
         write_priority(number, context.priority(), out)?;
         write_emergency(number, context.emergency(), out)?;
         write_links(number, context, out)?;

@@ -13,7 +13,7 @@ use crate::place::Place;
 use crate::row::{Found, Row};
 use crate::rows::Guide;
 use crate::tables::Tables;
-use gw_base::{CtxNum, Held, Key, NoMemory, Service, TermName};
+use gw_base::{CtxNum, Key, NoMemory, Service, TermName};
 use gw_ctx::Context;
 use gw_term::Termination;
 
@@ -25,9 +25,9 @@ impl Tables {
         &mut self,
         guide: Guide,
         name: &TermName,
-        place: Place<Held<Termination>>,
+        place: Place<Termination>,
         writes: &[Write],
-    ) -> Result<Found<Held<Termination>>, NoMemory>
+    ) -> Result<Found<Termination>, NoMemory>
         ensures found { IfOk result (λ found. IsFound (keys_written writes.now) (Term name.now) (term (maps_of self.old) name.now) found) }
         ensures ok { OnOk result (self.new ≡ put_term_place self.old name.now place) }
         ensures err { OnErr result (self.new ≡ self.old) }
@@ -47,9 +47,9 @@ impl Tables {
     pub(crate) fn write_ctx(
         &mut self,
         number: CtxNum,
-        place: Place<Held<Context>>,
+        place: Place<Context>,
         writes: &[Write],
-    ) -> Result<Found<Held<Context>>, NoMemory>
+    ) -> Result<Found<Context>, NoMemory>
         ensures found { IfOk result (λ found. IsFound (keys_written writes.now) (Ctx number) (ctx (maps_of self.old) number) found) }
         ensures ok { OnOk result (self.new ≡ put_ctx_place self.old number place) }
         ensures err { OnErr result (self.new ≡ self.old) }
@@ -73,7 +73,7 @@ impl Tables {
         &mut self,
         number: CtxNum,
         writes: &[Write],
-    ) -> Result<(Option<Held<Context>>, Found<Held<Context>>), NoMemory>
+    ) -> Result<(Option<Context>, Found<Context>), NoMemory>
         ensures context { IfOk result (λ taken. taken.0 ≡ ctx (maps_of self.old) number) }
         ensures found { IfOk result (λ taken. IsFound (keys_written writes.now) (Ctx number) (ctx (maps_of self.old) number) taken.1) }
         ensures after { OnOk result (self.new ≡ without_ctx number self.old (ctx (maps_of self.old) number)) }
@@ -96,7 +96,7 @@ impl Tables {
         name: &TermName,
         service: Service,
         writes: &[Write],
-    ) -> Result<Found<Held<Termination>>, NoMemory>
+    ) -> Result<Found<Termination>, NoMemory>
         ensures found { IfOk result (λ found. IsFound (keys_written writes.now) (Term name.now) (term (maps_of self.old) name.now) found) }
         ensures after { OnOk result (self.new ≡ with_service service name.now self.old (term (maps_of self.old) name.now)) }
         ensures err { OnErr result (self.new ≡ self.old) }

@@ -19,7 +19,7 @@ use crate::sent::Sent;
 use crate::settings::{Setting, SettingList, Settings};
 use crate::streams::merge_stream;
 use crate::tails::merge_tails;
-use gw_base::{Held, Items, NoMemory, Rules};
+use gw_base::{Items, NoMemory, Rules};
 use gw_desc::Descriptor;
 use gw_reply::FilledStream;
 use std::alloc::{AllocError, Global};
@@ -101,20 +101,14 @@ fn merge_into(
     Ok(())
 }
 
-/// What is set before streams and tails are: properties, if there are any, with room for so many more.
-fn begun(
-    alloc: Global,
-    properties: Items<HeldProperty>,
-    count: usize,
-) -> Result<SettingList, AllocError>
-    requires { count ≤ 8 }
+/// What is set before streams and tails are: properties, if there are any.
+fn begun(alloc: Global, properties: Items<HeldProperty>) -> Result<SettingList, AllocError>
     ensures { IfOk result (λ settings. settings ≡ record nothing_set { properties = properties }) }
 {
-    if properties.is_empty() {
-        return SettingList::with_capacity(alloc, count);
+    let mut settings = SettingList::new(alloc);
+    if !properties.is_empty() {
+        settings.push(Setting::Properties(properties))?;
     }
-    let mut settings = SettingList::with_capacity(alloc, count + 1)?;
-    settings.push(Setting::Properties(properties))?;
     Ok(settings)
 }
 
@@ -122,7 +116,7 @@ fn begun(
 #[derive(Drop)]
 pub struct Applied {
     /// The record.
-    pub record: Held<Termination>,
+    pub record: Termination,
     /// The streams whose Local was filled, with their Locals.
     pub filled: Filled,
 }
@@ -154,7 +148,7 @@ pub(crate) fn merge(
         gathered.properties.as_slice(),
         old.settings.properties(),
     )?;
-    let mut settings = begun(alloc, properties, there.count())?;
+    let mut settings = begun(alloc, properties)?;
     let mut filled = Items::new(alloc);
     merge_into(
         alloc,
@@ -172,7 +166,7 @@ pub(crate) fn merge(
         settings: settings.into_settings(alloc)?,
     };
     Ok(Applied {
-        record: Held::new(alloc, record)?,
+        record: record,
         filled,
     })
 }
@@ -230,7 +224,7 @@ impl Termination {
         ensures applied { IsApplied rules.now descriptors.now self.old self.new result }
     {
         let Applied { record, filled } = self.merged(alloc, rules, descriptors)?;
-        *self = record.into_inner();
+        *self = record;
         Ok(filled)
     }
 }

@@ -167,6 +167,17 @@ fn kept_if(alloc: Global, is_there: bool, text: &[u8]) -> Result<Option<Items<u8
 }
 
 impl HeldTail {
+    /// A tail with no word and no group. It takes no memory.
+    pub(crate) fn nothing() -> HeldTail {
+        HeldTail {
+            equals: false,
+            has_word: false,
+            has_group: false,
+            texts: Joined::nothing(),
+            split: 0,
+        }
+    }
+
     /// The tail, with copies of its texts.
     pub(crate) fn of(alloc: Global, tail: &Tail<Span<'_>>) -> Result<HeldTail, AllocError>
         ensures { IfOk result (λ held. held ≡ tail.now) }

@@ -14,7 +14,7 @@ use crate::plain::are_plain;
 use crate::properties::merged_service;
 use crate::record::Termination;
 use crate::settings::Settings;
-use gw_base::{Held, Items, NoMemory, Rules};
+use gw_base::{Items, NoMemory, Rules};
 use gw_desc::Descriptor;
 use std::alloc::{AllocError, Global};
 
@@ -91,7 +91,7 @@ impl<'a, 'b> Merger<'a, 'b> {
             settings,
         };
         Ok(Applied {
-            record: Held::new(alloc, record)?,
+            record: record,
             filled: Items::new(alloc),
         })
     }
@@ -136,7 +136,7 @@ impl<'a, 'b> Merger<'a, 'b> {
         };
         let (rules, descriptors) = (self.rules, self.descriptors);
         let applied = merge(alloc, rules, descriptors, gathered, old, &self.after)?;
-        self.keep(old, applied.record.get())?;
+        self.keep(old, &applied.record)?;
         Ok(applied)
     }
 }

@@ -97,20 +97,4 @@ impl Named {
             self.add_setting(setting);
         }
     }
-
-    /// How many streams and tails are named.
-    pub(crate) fn count(&self) -> usize
-        ensures { result ≤ 8 }
-    {
-        let streams = self.streams;
-        let tails = self.tails;
-        usize::from(streams.first)
-            + usize::from(streams.second)
-            + usize::from(streams.third)
-            + usize::from(streams.fourth)
-            + usize::from(tails.events)
-            + usize::from(tails.signals)
-            + usize::from(tails.digit_map)
-            + usize::from(tails.event_buffer)
-    }
 }

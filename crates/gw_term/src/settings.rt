@@ -7,7 +7,7 @@ ghost use Rattle.gw_term.specs.Settings.{nothing_set, set_by, with_setting};
 
 use crate::held::{HeldProperty, HeldTail};
 use crate::record::Stream;
-use gw_base::Items;
+use gw_base::{Items, Short};
 use gw_desc::{KeptKind, same_kept};
 use std::alloc::{AllocError, Global};
 use std::marker::Model;
@@ -34,10 +34,18 @@ impl Drop for Setting {
     }
 }
 
-/// Settings in a list: each thing once. Contracts see the properties, four streams and four tails, there or not.
+// What a list of settings has in the room of one that did not come yet.
+impl Default for Setting {
+    fn default() -> Setting {
+        Setting::Tail(KeptKind::Events, HeldTail::nothing())
+    }
+}
+
+/// Settings in a list: each thing once, and one alone without a block of its own. Contracts see the properties, four
+/// streams and four tails, there or not.
 #[derive(Drop)]
 pub struct SettingList {
-    list: Vec<Setting>,
+    list: Short<Setting, 1>,
 }
 
 impl Model for SettingList {
@@ -45,7 +53,7 @@ impl Model for SettingList {
 
     ghost Value = { SettingsOf };
 
-    ghost view = { λ s. set_by s.list.items };
+    ghost view = { λ s. set_by s.list };
 }
 
 /// What was set of a termination (RFC 3525, section 6.2), in one block that copies share and that never changes.
@@ -169,13 +177,13 @@ fn stream_in(list: &[Setting], number: u8) -> Option<&Stream>
 }
 
 impl SettingList {
-    /// Nothing set, with room for so many settings.
-    pub(crate) fn with_capacity(alloc: Global, count: usize) -> Result<SettingList, AllocError>
-        ensures { IfOk result (λ settings. settings ≡ nothing_set) }
+    /// Nothing set. It takes no memory.
+    pub(crate) fn new(alloc: Global) -> SettingList
+        ensures { result ≡ nothing_set }
     {
-        Ok(SettingList {
-            list: Vec::with_capacity(alloc, count)?,
-        })
+        SettingList {
+            list: Short::new(alloc),
+        }
     }
 
     /// This is set too.
@@ -199,7 +207,7 @@ impl SettingList {
     pub(crate) fn into_settings(self, alloc: Global) -> Result<Settings, AllocError>
         ensures { IfOk result (λ settings. settings ≡ self) }
     {
-        if self.list.is_empty() {
+        if self.list.as_slice().is_empty() {
             return Ok(Settings::none());
         }
         Ok(Settings {

@@ -1,6 +1,6 @@
 //! Two texts that are kept together: short ones where they are kept, and others in a block.
 
-ghost use Rattle.std.specs.Prelude.{◌≡◌, ◌≤◌, ◌+◌, ◌-◌, ◌++◌, Some, true, length, take, replicate, IfOk, IfSome};
+ghost use Rattle.std.specs.Prelude.{◌≡◌, ◌≤◌, ◌+◌, ◌-◌, ◌++◌, [], Some, true, length, take, replicate, IfOk, IfSome};
 
 use crate::text::Text;
 use std::alloc::{AllocError, Global};
@@ -116,6 +116,19 @@ fn in_block(alloc: Global, first: &[u8], second: &[u8]) -> Result<Text, AllocErr
 }
 
 impl Joined {
+    /// No bytes. It takes no memory.
+    pub(crate) fn nothing() -> Joined
+        ensures { result ≡ [] }
+    {
+        let short = Short {
+            length: 0,
+            cells: [0; MOST_SHORT],
+        };
+        Joined {
+            place: Place::Here(short),
+        }
+    }
+
     /// Copies of the two texts.
     pub(crate) fn of(alloc: Global, first: &[u8], second: &[u8]) -> Result<Joined, AllocError>
         ensures { IfOk result (λ texts. texts ≡ first.now ++ second.now) }

@@ -10,7 +10,7 @@ ghost use Rattle.gw_tx.specs.Told.{is_unused, IsBegun};
 
 use crate::properties::has_audit;
 use crate::told::inside;
-use gw_base::{CtxNum, NoMemory};
+use gw_base::{CtxNum, Items, Link, NoMemory};
 use gw_ctx::Context;
 use gw_msg::{Action, ContextItem, ContextProp};
 use gw_reply::{ActionReply, ContextPart, ReplyWriter};
@@ -25,10 +25,11 @@ fn write_links(
 ) -> Result<ReplyWriter<ContextPart>, NoMemory>
     ensures { IfOk result (λ all. all ≡ written_behind context_part_text writer (link_parts context.now.links)) }
 {
-    if context.link_count() == 0 {
+    let links: Vec<Link> = context.links().collect(alloc)?;
+    if links.is_empty() {
         return Ok(writer);
     }
-    writer.write(ContextPart::Topology(context.links(alloc)?))
+    writer.write(ContextPart::Topology(Items::from(links)))
 }
 
 /// Writes one item. No emergency and no link is written as nothing.

@@ -49,7 +49,7 @@ fn link_in(draft: &mut Draft, number: CtxNum, triples: &[Triple]) -> Result<(), 
     let Some(mut context) = draft.take_ctx(number)? else {
         return Ok(());
     };
-    link_all(context.get_mut(), triples)?;
+    link_all(&mut context, triples)?;
     draft.set_ctx(number, Some(context))
 }
 

@@ -6,9 +6,9 @@ use Rattle.cases_board.proofs.Preparing.{stay_whole, none_yet, comes_to}
 use Rattle.cases_board.proofs.waves.carried_out.Goals as goal
 
 pub carry_all-requires : goal.carry_all-requires
-carry_all-requires c = none_yet c.args.manner c.args.asked.now (maps_of c.args.tables) c.in-Ok.board c.in-Ok.ensures.board
+carry_all-requires c = none_yet c.args.manner c.args.asked.now c.args.tables c.in-Ok.board c.in-Ok.ensures.board
 
 pub returns-clause-whole : goal.returns-clause-whole
 returns-clause-whole c =
-    let came = c.finish-tables.ensures.maps ∙ comes_to c.args.manner c.args.asked.now (maps_of c.args.tables) c.in-Ok.board c.in-Ok.ensures.board c.carry_all.new.board c.in_ok-carry_all.ensures.same in
+    let came = c.finish-tables.ensures.maps ∙ comes_to c.args.manner c.args.asked.now c.args.tables c.in-Ok.board c.in-Ok.ensures.board c.carry_all.new.board c.in_ok-carry_all.ensures.same in
     subst (λ (m : Maps). AreWellFormed c.args.manner.rules.members m) (sym came) (stay_whole c.args.manner c.args.asked.now (maps_of c.args.tables) c.requires.whole c.requires.unused)

@@ -15,7 +15,7 @@ loop-place-preserved g c =
     let so_far = c.loop-place.invariant in
     record {
       over = c.carry_place.ensures.keys ∙ so_far.over;
-      goes_on = λ begun h. c.in_ok-carry_place.ensures.goes_on begun (so_far.goes_on begun h);
+      goes_on = λ start h. c.in_ok-carry_place.ensures.goes_on start (so_far.goes_on start h);
       closed = c.in_ok-carry_place.ensures.closed;
       asked = c.carry_place.ensures.asked ∙ so_far.asked;
       len = c.carry_place.ensures.len ∙ so_far.len;

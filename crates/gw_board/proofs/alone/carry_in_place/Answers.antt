@@ -1,7 +1,8 @@
 use Rattle.std.proofs.Common.{ap, ◌∙◌}
+use Rattle.gw_table.specs.Originals.{keys_written}
 use Rattle.gw_table.specs.Parts.{Parted}
 use Rattle.gw_board.specs.Carried.{done}
-use Rattle.gw_board.proofs.Begun.{kept_since, start_maps}
+use Rattle.gw_board.proofs.Begun.{alone_since, kept_since, start_maps}
 use Rattle.gw_board.proofs.alone.carry_in_place.Goals as goal
 
 pub returns-in_default-clause-err : goal.returns-in_default-clause-err
@@ -18,5 +19,6 @@ returns-clause-ok c = record {
   here = c.into_tables-tables.ensures.here;
   kept = kept_since c.args.tables c.args.earlier c.of_tables-draft.result c.carry_on.new.draft.keys c.of_tables-draft.ensures c.carry_on.ensures.keys c.into_tables-tables.result.0 c.into_tables-tables.ensures.kept;
   ready = c.into_tables-tables.ensures.ready;
+  alone = λ none. alone_since c.args.tables c.args.earlier c.of_tables-draft.result c.carry_on.new.draft.keys c.of_tables-draft.ensures c.carry_on.ensures.keys (keys_written c.into_tables-tables.result.1) c.into_tables-tables.result.0 none c.into_tables-tables.ensures.alone;
   back = c.into_tables-tables.ensures.back ∙ start_maps c.args.tables c.args.earlier c.of_tables-draft.result c.carry_on.new.draft.keys c.of_tables-draft.ensures c.carry_on.ensures.keys;
 }

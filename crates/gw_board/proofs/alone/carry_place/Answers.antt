@@ -3,6 +3,7 @@ use Rattle.std.specs.Prelude.{slice_get, slice_set}
 use Rattle.gw_reserve.specs.Owned.{AreFreeSlots}
 use Rattle.gw_table.specs.Maps.{Maps}
 use Rattle.gw_table.specs.Parts.{start_of}
+use Rattle.gw_table.specs.Stored.{Stored}
 use Rattle.gw_board.specs.declared.manner.Manner.{Manner}
 use Rattle.gw_board.specs.Boards.{Seen, asked_of, is_pending_at, AllClosed}
 use Rattle.gw_board.specs.Carried.{Asked, done}
@@ -64,11 +65,11 @@ module _ (g : Over) (c : After-set_stage g) where
       c.set_stage.ensures.places (pending a) pends
       ∙ ap (λ (t : Text). slice_set places i (record { asked = a; standing = Closed t })) (c.in_ok-text.ensures.reply ∙ ap (λ (x : Asked). (done manner x maps).answer) c.get.ensures)
 
-  goes_on : (begun : Maps) → MayGoOn manner begun maps places → MayGoOn manner begun c.carry_on.new.draft.maps (map place_of c.set_stage.new.seats.items)
-  goes_on begun h =
-      let b : Seen = record { manner = manner; begun = begun; maps = maps; places = places; originals = h.originals } in
-      subst (λ (m : Maps). MayGoOn manner begun m (map place_of c.set_stage.new.seats.items)) (sym maps_are)
-      (subst (λ (l : List Place). MayGoOn manner begun (done manner a maps).maps l) (sym places_are) (alone_goes_on b h.way h.none i a pends c.requires.first))
+  goes_on : (start : Stored) → MayGoOn manner start maps places → MayGoOn manner start c.carry_on.new.draft.maps (map place_of c.set_stage.new.seats.items)
+  goes_on start h =
+      let b : Seen = record { manner = manner; start = start; maps = maps; places = places; originals = h.originals } in
+      subst (λ (m : Maps). MayGoOn manner start m (map place_of c.set_stage.new.seats.items)) (sym maps_are)
+      (subst (λ (l : List Place). MayGoOn manner start (done manner a maps).maps l) (sym places_are) (alone_goes_on b h.way h.none i a pends c.requires.first))
 
 pub returns-clause-goes_on : goal.returns-clause-goes_on
 returns-clause-goes_on g c = goes_on g c
@@ -76,7 +77,7 @@ returns-clause-goes_on g c = goes_on g c
 pub returns-clause-closed : goal.returns-clause-closed
 returns-clause-closed g c =
     let h = c.requires.goes_on in
-    let b : Seen = record { manner = manner g c; begun = h.0; maps = maps g c; places = places g c; originals = h.1.originals } in
+    let b : Seen = record { manner = manner g c; start = h.0; maps = maps g c; places = places g c; originals = h.1.originals } in
     subst (λ (n : ℕ). AllClosed (take n (map place_of c.set_stage.new.seats.items))) (sym (add-one (i g c)))
     (subst (λ (l : List Place). AllClosed (take (suc (i g c)) l)) (sym (places_are g c)) (alone_closed b h.1.way h.1.none (i g c) (a g c) (pends g c) c.requires.first))
 

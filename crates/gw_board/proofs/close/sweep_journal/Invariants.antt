@@ -1,10 +1,13 @@
-use Rattle.std.proofs.Common.{◌≡◌}
-use Rattle.gw_table.specs.Stored.{maps_of, NoneIsOut}
+use Rattle.std.proofs.Common.{◌≡◌, take}
+use Rattle.gw_table.specs.Stored.{maps_of, AreSweptAmong, KeepReady, NoneIsOut}
+use Rattle.gw_board.specs.Fitting.{Each}
 use Rattle.gw_board.proofs.close.sweep_journal.Given as goal
 
--- no entry went, and none is out
+-- no entry went, and none is out; the keys of the originals so far are swept, and no key became prepared
 abbrev pub invariant-loop-original : goal.invariant-loop-original
 invariant-loop-original l = record {
   maps : maps_of l.tables ≡ maps_of l.fn.tables;
   here : NoneIsOut l.tables;
+  swept : Each (λ o. AreSweptAmong o.keys l.tables) (take l.original-index l.originals);
+  fewer : KeepReady l.tables l.fn.tables;
 }

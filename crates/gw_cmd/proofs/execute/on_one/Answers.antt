@@ -18,8 +18,8 @@ returns-clause-maps c =
     let p = a.prepared.now in
     let m : Maps = a.draft.now.maps in
     let place = (is_task a.execution.at p.command.now a.execution.task c.requires.allowed).place in
-    c.in_ok-on_target.ensures.maps ∙ ap (λ (o : Option CtxNum). (on_name p.rules.now o p.command.now a.name.now m).maps) (sym place)
-    ∙ sym (ap (λ (o : Outcome CmdOutcome). o.maps) (by_name p.rules.now a.execution.at p.command.now m a.name.now c.requires.named))
+    c.in_ok-on_target.ensures.maps ∙ ap (λ (o : Option CtxNum). (on_name p.rules.now o p.command.now a.target.now m).maps) (sym place)
+    ∙ sym (ap (λ (o : Outcome CmdOutcome). o.maps) (by_name p.rules.now a.execution.at p.command.now m a.target.now c.requires.named))
 
 pub returns-clause-answer : goal.returns-clause-answer
 returns-clause-answer c =
@@ -27,6 +27,6 @@ returns-clause-answer c =
     let p = a.prepared.now in
     let m : Maps = a.draft.now.maps in
     let place = (is_task a.execution.at p.command.now a.execution.task c.requires.allowed).place in
-    let replies : Option CtxNum → List CommandReply = λ o. reply p.command.now (Name a.name.now) (on_name p.rules.now o p.command.now a.name.now m).answer ∷ [] in
+    let replies : Option CtxNum → List CommandReply = λ o. reply p.command.now (Name a.target.now) (on_name p.rules.now o p.command.now a.target.now m).answer ∷ [] in
     c.outcome_of.ensures a.writer (replies (place_at a.execution.at)) (c.in_ok-on_target.ensures.answer ∙ ap (λ (o : Option CtxNum). seen a.writer (replies o)) (sym place))
-    ∙ sym (ap (λ (o : Outcome CmdOutcome). outcome_behind a.writer o.answer) (by_name p.rules.now a.execution.at p.command.now m a.name.now c.requires.named))
+    ∙ sym (ap (λ (o : Outcome CmdOutcome). outcome_behind a.writer o.answer) (by_name p.rules.now a.execution.at p.command.now m a.target.now c.requires.named))

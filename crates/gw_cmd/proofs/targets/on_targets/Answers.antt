@@ -44,58 +44,58 @@ was_there t old new absent h = at (term old t) refl
 
 pub on_target-requires-clause-term_key : goal.on_target-requires-clause-term_key
 on_target-requires-clause-term_key c = λ found.
-    ap (λ (k : PartKeys). holds k (Term c.name-item.result)) c.loop-name.invariant.keys
-    ∙ c.requires.term_keys c.name-item.result (in_at c.args.named.now c.loop-name.name-index c.name-item.result c.loop-name-test.true c.name-item.is)
-    (was_there c.name-item.result c.args.draft.now.maps c.loop-name.draft.maps (c.loop-name.invariant.absent c.name-item.result) found)
+    ap (λ (k : PartKeys). holds k (Term c.target-item.result)) c.loop-target.invariant.keys
+    ∙ c.requires.term_keys c.target-item.result (in_at c.args.named.now c.loop-target.target-index c.target-item.result c.loop-target-test.true c.target-item.is)
+    (was_there c.target-item.result c.args.draft.now.maps c.loop-target.draft.maps (c.loop-target.invariant.absent c.target-item.result) found)
 
-pub loop-name-preserved : goal.loop-name-preserved
-loop-name-preserved c =
-    let t : List ℕ = c.name-item.result in
-    let i = c.loop-name.name-index in
+pub loop-target-preserved : goal.loop-target-preserved
+loop-target-preserved c =
+    let t : List ℕ = c.target-item.result in
+    let i = c.loop-target.target-index in
     let p = c.args.prepared.now in
     let rules : Rules = p.rules.now in
     let sent : Command = p.command.now in
     let place : Option CtxNum = task_place c.args.task in
-    let m : Maps = c.loop-name.draft.maps in
-    let before : ReplyWriter CommandReply = c.loop-name.written in
+    let m : Maps = c.loop-target.draft.maps in
+    let before : ReplyWriter CommandReply = c.loop-target.written in
     let rest : List (List ℕ) = drop (i + 1) c.args.named.now in
-    let split : drop i c.args.named.now ≡ t ∷ rest = rest_of c.args.named.now i t t c.loop-name-test.true c.name-item.is in
+    let split : drop i c.args.named.now ≡ t ∷ rest = rest_of c.args.named.now i t t c.loop-target-test.true c.target-item.is in
     let r : CommandReply = reply sent (Name t) (on_name rules place sent t m).answer in
     let maps : c.on_target.new.draft.maps ≡ (on_name rules place sent t m).maps =
-    c.in_ok-one.ensures.maps ∙ same_in (λ x y. (on_name x place y t m).maps) p c.loop-name.prepared c.loop-name.invariant.same in
+    c.in_ok-one.ensures.maps ∙ same_in (λ x y. (on_name x place y t m).maps) p c.loop-target.prepared c.loop-target.invariant.same in
     let one : c.in_ok-one.one ≡ seen before (r ∷ []) =
-    c.in_ok-one.ensures.answer ∙ same_in (λ x y. seen before (reply y (Name t) (on_name x place y t m).answer ∷ [])) p c.loop-name.prepared c.loop-name.invariant.same in
+    c.in_ok-one.ensures.answer ∙ same_in (λ x y. seen before (reply y (Name t) (on_name x place y t m).answer ∷ [])) p c.loop-target.prepared c.loop-target.invariant.same in
     let now : Outcome (Attempts Unit CommandReply) = ended c.on_target.new.draft.maps tt (r ∷ []) false in
     let did : now ≡ target_in rules place sent tt t m = ap (λ (x : Maps). ended x tt (r ∷ []) false) maps in
-    let front : List CommandReply = c.loop-name.invariant.replies.0 in
+    let front : List CommandReply = c.loop-target.invariant.replies.0 in
     let written : c.in_ok-one.one.written ≡ written_behind command_reply_text c.args.writer (front ++ r ∷ []) =
-    ap (λ (s : Seen). s.written) one ∙ ap (λ (x : ReplyWriter CommandReply). written_behind command_reply_text x (r ∷ [])) c.loop-name.invariant.replies.1
+    ap (λ (s : Seen). s.written) one ∙ ap (λ (x : ReplyWriter CommandReply). written_behind command_reply_text x (r ∷ [])) c.loop-target.invariant.replies.1
     ∙ written_more command_reply_text c.args.writer front (r ∷ []) in
     let first : c.or-first_error.result ≡ code_of (first_error (front ++ r ∷ [])) =
-    c.or-first_error.ensures ∙ ap (λ (o : Option Code). option_or o c.in_ok-one.one.first_error) c.loop-name.invariant.replies.2
+    c.or-first_error.ensures ∙ ap (λ (o : Option Code). option_or o c.in_ok-one.one.first_error) c.loop-target.invariant.replies.2
     ∙ ap (λ (o : Option Code). option_or (code_of (first_error front)) o) (ap (λ (s : Seen). s.first_error) one ∙ first_more [] r) ∙ sym (first_more front r) in
-    let either : c.if-any_done.any_done ≡ (c.loop-name.any_done || c.in_ok-one.one.any_done) = elim c.if-any_done.branch [
+    let either : c.if-any_done.any_done ≡ (c.loop-target.any_done || c.in_ok-one.one.any_done) = elim c.if-any_done.branch [
       | then-any_done w ↦ w.any_done-is ∙ w.if-any_done.true ∙ ap (λ (b : Bool). b || c.in_ok-one.one.any_done) (sym w.if-any_done.true)
       | else-any_done w ↦ w.any_done-is ∙ ap (λ (b : Bool). b || c.in_ok-one.one.any_done) (sym w.if-any_done.false)
     ] in
     let any : c.if-any_done.any_done ≡ list_any is_done (front ++ r ∷ []) =
-    either ∙ ap (λ (b : Bool). b || c.in_ok-one.one.any_done) c.loop-name.invariant.replies.3
+    either ∙ ap (λ (b : Bool). b || c.in_ok-one.one.any_done) c.loop-target.invariant.replies.3
     ∙ ap (λ (b : Bool). list_any is_done front || b) (ap (λ (s : Seen). s.any_done) one ∙ done_more [] r) ∙ sym (done_more front r) in
-    let held : is_some (term m t) ≡ true → holds c.args.draft.now.keys (Term t) ≡ true = λ found. c.requires.term_keys t (in_at c.args.named.now i t c.loop-name-test.true c.name-item.is) (was_there t c.args.draft.now.maps m (c.loop-name.invariant.absent t) found) in
+    let held : is_some (term m t) ≡ true → holds c.args.draft.now.keys (Term t) ≡ true = λ found. c.requires.term_keys t (in_at c.args.named.now i t c.loop-target-test.true c.target-item.is) (was_there t c.args.draft.now.maps m (c.loop-target.invariant.absent t) found) in
     record {
       replies = (
         front ++ r ∷ [],
         written,
         first,
         any,
-        goes_on (target_in rules place sent) tt t (drop i c.args.named.now) rest m front now (targets_in rules place sent c.args.named.now c.args.draft.now.maps) split did refl c.loop-name.invariant.replies.4,
+        goes_on (target_in rules place sent) tt t (drop i c.args.named.now) rest m front now (targets_in rules place sent c.args.named.now c.args.draft.now.maps) split did refl c.loop-target.invariant.replies.4,
       );
       sound = subst (IsSound c.args.draft.now.keys) (sym maps)
-          (kept_name rules (λ x. holds c.args.draft.now.keys (Term x)) (λ _. Unit {0}) (sound_is_kept rules c.args.draft.now.keys (λ _. Unit {0})) place sent t m held c.loop-name.invariant.sound);
+          (kept_name rules (λ x. holds c.args.draft.now.keys (Term x)) (λ _. Unit {0}) (sound_is_kept rules c.args.draft.now.keys (λ _. Unit {0})) place sent t m held c.loop-target.invariant.sound);
       absent = λ q none. ap (λ (x : Maps). term x q) maps
-          ∙ kept_name rules (λ _. true) (λ s. slot_name s ≢ q) (absent_is_kept rules q) place sent t m (λ _. refl) (c.loop-name.invariant.absent q none);
-      keys = c.in_ok-one.ensures.keys ∙ c.loop-name.invariant.keys;
-      same = same_after p c.loop-name.prepared c.on_target.new.prepared c.loop-name.invariant.same c.in_ok-one.ensures.same;
+          ∙ kept_name rules (λ _. true) (λ s. slot_name s ≢ q) (absent_is_kept rules q) place sent t m (λ _. refl) (c.loop-target.invariant.absent q none);
+      keys = c.in_ok-one.ensures.keys ∙ c.loop-target.invariant.keys;
+      same = same_after p c.loop-target.prepared c.on_target.new.prepared c.loop-target.invariant.same c.in_ok-one.ensures.same;
     }
 
 pub returns : goal.returns
@@ -104,22 +104,22 @@ returns c =
     let rules : Rules = p.rules.now in
     let sent : Command = p.command.now in
     let place : Option CtxNum = task_place c.args.task in
-    let front : List CommandReply = c.loop-name.invariant.replies.0 in
-    let left : drop c.loop-name.name-index c.args.named.now ≡ [] = drop_of_length-le c.args.named.now c.loop-name-test.false in
-    let all = ends (target_in rules place sent) tt (drop c.loop-name.name-index c.args.named.now) c.loop-name.draft.maps front (targets_in rules place sent c.args.named.now c.args.draft.now.maps) left c.loop-name.invariant.replies.4 in
+    let front : List CommandReply = c.loop-target.invariant.replies.0 in
+    let left : drop c.loop-target.target-index c.args.named.now ≡ [] = drop_of_length-le c.args.named.now c.loop-target-test.false in
+    let all = ends (target_in rules place sent) tt (drop c.loop-target.target-index c.args.named.now) c.loop-target.draft.maps front (targets_in rules place sent c.args.named.now c.args.draft.now.maps) left c.loop-target.invariant.replies.4 in
     let made : ReplyWriter CommandReply → Option Code → Bool → Seen = λ t e d. record { written = t; first_error = e; any_done = d } in
     record {
       maps = ap (λ (o : Outcome (Attempts Unit CommandReply)). o.maps) all;
-      answer = ap (λ (t : ReplyWriter CommandReply). made t c.loop-name.first_error c.loop-name.any_done) c.loop-name.invariant.replies.1
-          ∙ ap (λ (e : Option Code). made (written_behind command_reply_text c.args.writer front) e c.loop-name.any_done) c.loop-name.invariant.replies.2
-          ∙ ap (λ (d : Bool). made (written_behind command_reply_text c.args.writer front) (code_of (first_error front)) d) c.loop-name.invariant.replies.3
+      answer = ap (λ (t : ReplyWriter CommandReply). made t c.loop-target.first_error c.loop-target.any_done) c.loop-target.invariant.replies.1
+          ∙ ap (λ (e : Option Code). made (written_behind command_reply_text c.args.writer front) e c.loop-target.any_done) c.loop-target.invariant.replies.2
+          ∙ ap (λ (d : Bool). made (written_behind command_reply_text c.args.writer front) (code_of (first_error front)) d) c.loop-target.invariant.replies.3
           ∙ ap (λ (o : Outcome (Attempts Unit CommandReply)). seen c.args.writer o.answer.answers) all;
-      keys = c.loop-name.invariant.keys;
-      same = c.loop-name.invariant.same;
+      keys = c.loop-target.invariant.keys;
+      same = c.loop-target.invariant.same;
     }
 
-pub loop-name-init : goal.loop-name-init
-loop-name-init c = record {
+pub loop-target-init : goal.loop-target-init
+loop-target-init c = record {
   replies = ([], sym (written_none command_reply_text c.args.writer), refl, refl, refl);
   sound = c.requires.sound;
   absent = λ q none. none;

@@ -13,9 +13,9 @@ use Rattle.gw_cmd.specs.Written.{code_of}
 use Rattle.gw_cmd.proofs.targets.on_targets.Given as goal
 
 -- what is written is some replies, which, and then those of the rest, are those of all
-abbrev pub invariant-loop-name : goal.invariant-loop-name
-invariant-loop-name l = record {
-  replies : (front : List CommandReply) × (l.written ≡ written_behind command_reply_text l.fn.writer front) × (l.first_error ≡ code_of (first_error front)) × (l.any_done ≡ list_any is_done front) × (attempts_behind front (targets_in l.fn.prepared.rules.now (task_place l.task) l.fn.prepared.command.now (drop l.name-index l.named) l.draft.maps) ≡ targets_in l.fn.prepared.rules.now (task_place l.task) l.fn.prepared.command.now l.named l.fn.draft.maps);
+abbrev pub invariant-loop-target : goal.invariant-loop-target
+invariant-loop-target l = record {
+  replies : (front : List CommandReply) × (l.written ≡ written_behind command_reply_text l.fn.writer front) × (l.first_error ≡ code_of (first_error front)) × (l.any_done ≡ list_any is_done front) × (attempts_behind front (targets_in l.fn.prepared.rules.now (task_place l.task) l.fn.prepared.command.now (drop l.target-index l.named) l.draft.maps) ≡ targets_in l.fn.prepared.rules.now (task_place l.task) l.fn.prepared.command.now l.named l.fn.draft.maps);
   sound : IsSound l.fn.draft.keys l.draft.maps;
   absent : (q : List ℕ) → term l.fn.draft.maps q ≡ None → term l.draft.maps q ≡ None;
   keys : l.draft.keys ≡ l.fn.draft.keys;

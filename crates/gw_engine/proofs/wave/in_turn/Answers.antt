@@ -2,7 +2,7 @@ use Rattle.std.proofs.Common.{ℕ, ◌+◌, List, take, sym, subst}
 use Rattle.gw_board.specs.Boards.{Handed}
 use Rattle.gw_board.specs.OpenJobs.{IsAnswer, AreAnswers}
 use Rattle.gw_board.proofs.WaveJobs.{Reply}
-use Rattle.gw_engine.proofs.Hearing.{one_more}
+use Rattle.gw_engine.proofs.OneMore.{one_more}
 use Rattle.gw_engine.proofs.wave.in_turn.Goals as goal
 
 pub loop-job-preserved : goal.loop-job-preserved

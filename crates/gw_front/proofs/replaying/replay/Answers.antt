@@ -9,8 +9,3 @@ pub returns-in_err-held : goal.returns-in_err-held
 returns-in_err-held g c =
     let p = err_from_is_err_and c.from_residual.result c.from_residual.ensures.1 in
     rw (p.1, p.2) (not_begun (g.R.Read.remaining c.args.reader.now) (g.W.Write.contents c.args.writer.now) c.args.gateway.now)
-
-pub returns-in_err-spares : goal.returns-in_err-spares
-returns-in_err-spares g c =
-    let p = err_from_is_err_and c.from_residual-in_err-spares.result c.from_residual-in_err-spares.ensures.1 in
-    rw (p.1, p.2) (not_begun (g.R.Read.remaining c.args.reader.now) (g.W.Write.contents c.args.writer.now) c.args.gateway.now)

@@ -13,7 +13,7 @@ returns-clause-maps c =
     let m : Maps = c.args.draft.now.maps in
     let prop : ContextProp = Topology c.args.triples.now in
     let found : Some c.in-Some.context ≡ ctx m c.args.number = sym c.in-Some.is ∙ c.in_ok-context.ensures.context in
-    let new : c.link_all.new.context ≡ linked_by c.args.triples.now c.in-Some.context = c.in_ok-link_all.ensures ∙ ap (λ (x : ContextRecord). linked_by c.args.triples.now x) c.get_mut.ensures.value in
+    let new : c.link_all.new.context ≡ linked_by c.args.triples.now c.in-Some.context = c.in_ok-link_all.ensures in
     on_ok_weaker c.set_ctx.result
     (λ e. e
     ∙ ap (λ (x : Maps). put_ctx x c.args.number (Some c.link_all.new.context)) c.in_ok-context.ensures.maps

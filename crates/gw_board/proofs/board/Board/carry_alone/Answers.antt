@@ -8,7 +8,7 @@ use Rattle.gw_table.specs.Originals.{keys_written, undone as taken}
 use Rattle.gw_table.specs.Stored.{Stored, maps_of, AreReady, NoneIsOut}
 use Rattle.gw_table.specs.WellFormed.{AreWellFormed}
 use Rattle.gw_board.specs.Alone.{WasCarried, AreAsBegun}
-use Rattle.gw_board.specs.BoardView.{value_of, IsOnTheWay, IsKeptIn}
+use Rattle.gw_board.specs.BoardView.{value_of, IsOnTheWay, IsKeptIn, NoneIsSpare}
 use Rattle.gw_board.specs.Boards.{Seen, asked_of, begun_board, core_of, AllClosed, unclosed}
 use Rattle.gw_board.specs.Carried.{Asked, done}
 use Rattle.gw_board.specs.Core.{Place, Closed, pending}
@@ -20,6 +20,7 @@ use Rattle.gw_board.proofs.CarriedAlone.{with_alone, took_back, took_ready, led_
 use Rattle.gw_board.proofs.KeptIn.{all_ready, begun_kept, none_out}
 use Rattle.gw_board.proofs.OnTheWay.{asked-pending, begun_way, gives_the_fold}
 use Rattle.gw_board.proofs.SeatFacts.{seat_inside, unclosed-pending, length-places, length-asked}
+use Rattle.gw_board.proofs.Spare.{swept_spare, alone_spare}
 use Rattle.gw_board.proofs.board.Board.carry_alone.Goals as goal
 use Rattle.gw_board.proofs.board.Board.carry_alone.Goals.{In-Ok-push, After-all_pending}
 
@@ -78,12 +79,12 @@ module _ (c : After-all_pending) where
   back = c.put_all_back.new.tables
 
   abbrev left : Seen
-  left = record { manner = before.manner; begun = before.begun; maps = maps_of back; places = map place_of c.all_pending.new.seats.items; originals = c.put_all_back.new.originals.items }
+  left = record { manner = before.manner; start = before.start; maps = maps_of back; places = map place_of c.all_pending.new.seats.items; originals = c.put_all_back.new.originals.items }
 
   was_begun : AreAsBegun c.self.inside.tables c.last_alone-earlier.result c.in-Err.tables
   was_begun = subst (λ (s : Stored). AreAsBegun s c.last_alone-earlier.result c.in-Err.tables) c.replace-tables.ensures.value c.in-Err.ensures.err
 
-  maps_begun : maps_of back ≡ before.begun
+  maps_begun : maps_of back ≡ (maps_of before.start)
   maps_begun =
       c.put_all_back.ensures.maps
       ∙ ap (undone c.last_alone-earlier.new.originals.items) was_begun.maps
@@ -91,11 +92,11 @@ module _ (c : After-all_pending) where
       ∙ led_back before c.self.invariant.on_the_way (none_here before c.args.self.now c.self.view_is c.requires.«open») c.args.place c.in-Some.task
       (pends_here before c.args.self.now c.args.place c.in-Some.task c.self.view_is c.in-Some.ensures)
 
-  is_begun : left ≡ begun_board before.manner (asked_of before.places) before.begun
-  is_begun = λ j. record { manner = before.manner; begun = before.begun; maps = maps_begun j; places = c.all_pending.ensures.places j; originals = c.put_all_back.ensures.none j }
+  is_begun : left ≡ begun_board before.manner (asked_of before.places) before.start
+  is_begun = λ j. record { manner = before.manner; start = before.start; maps = maps_begun j; places = c.all_pending.ensures.places j; originals = c.put_all_back.ensures.none j }
 
-  begun_again : IsOnTheWay (begun_board before.manner (asked_of before.places) before.begun)
-  begun_again = begun_way before.manner (asked_of before.places) before.begun c.self.invariant.on_the_way.begun.well c.self.invariant.on_the_way.begun.unused
+  begun_again : IsOnTheWay (begun_board before.manner (asked_of before.places) before.start)
+  begun_again = begun_way before.manner (asked_of before.places) before.start c.self.invariant.on_the_way.begun.well c.self.invariant.on_the_way.begun.unused
 
 pub invariant_of-self : goal.invariant_of-self
 invariant_of-self c =
@@ -112,8 +113,9 @@ invariant_of-self c =
     let s = c.self.inside.seats.ok.0 in
     record {
       on_the_way = subst IsOnTheWay (sym (is_begun c)) (begun_again c);
-      kept = subst (IsKeptIn (back c)) (sym (is_begun c)) (begun_kept (before c).manner (asked_of (before c).places) (before c).begun (back c) c.put_all_back.ensures.here);
+      kept = subst (IsKeptIn (back c)) (sym (is_begun c)) (begun_kept (before c).manner (asked_of (before c).places) (before c).start (back c) c.put_all_back.ensures.here);
       room = record { originals = omega arith; all = omega arith; replies = omega arith; no_replies = c.self.invariant.room.no_replies };
+      spare = λ e. swept_spare c.self.inside.start.value (back c) c.put_all_back.new.originals.items (map place_of c.all_pending.new.seats.items) c.put_all_back.ensures.swept;
     }
 
 none_pending : (asked : List Asked) → list_any (λ p. is_open p.standing) (map pending asked) ≡ false
@@ -125,14 +127,14 @@ returns-in-Err-clause-none c = subst (λ (x : Seen). NothingIsOpen (core_of x)) 
 
 pub returns-in-Err-clause-same : goal.returns-in-Err-clause-same
 returns-in-Err-clause-same c =
-    let same : IsSameBurst (before c) (left c) = record { manner = refl; begun = refl; asked = ap asked_of c.all_pending.ensures.places ∙ asked-pending (asked_of (before c).places) } in
+    let same : IsSameBurst (before c) (left c) = record { manner = refl; start = refl; asked = ap asked_of c.all_pending.ensures.places ∙ asked-pending (asked_of (before c).places) } in
     subst (λ (x : Seen). IsSameBurst x (left c)) c.self.view_is same
 
 pub returns-in-Err-clause-outcome : goal.returns-in-Err-clause-outcome
 returns-in-Err-clause-outcome c = gives_the_fold (left c) (subst IsOnTheWay (sym (is_begun c)) (begun_again c))
 
 pub returns-in-Err-clause-err : goal.returns-in-Err-clause-err
-returns-in-Err-clause-err c = is_begun c ∙ ap (λ (x : Seen). begun_board x.manner (asked_of x.places) x.begun) c.self.view_is
+returns-in-Err-clause-err c = is_begun c ∙ ap (λ (x : Seen). begun_board x.manner (asked_of x.places) x.start) c.self.view_is
 
 -- ---- with its result
 
@@ -201,10 +203,10 @@ module _ (c : In-Ok-push) where
   originals_are = c.in-Ok-push.ensures.items ∙ ap (λ (o : Original). front ++ o ∷ []) c.of_writes.ensures
 
   abbrev new : Seen
-  new = record { manner = b.manner; begun = b.begun; maps = maps_of tables; places = map place_of c.set_stage.new.seats.items; originals = c.push.new.self.items }
+  new = record { manner = b.manner; start = b.start; maps = maps_of tables; places = map place_of c.set_stage.new.seats.items; originals = c.push.new.self.items }
 
   is_new : new ≡ with_alone b i a front last
-  is_new = λ j. record { manner = b.manner; begun = b.begun; maps = was.maps j; places = places_are j; originals = originals_are j }
+  is_new = λ j. record { manner = b.manner; start = b.start; maps = was.maps j; places = places_are j; originals = originals_are j }
 
   -- where the run of places began
   abbrev begun_at_maps : Maps
@@ -213,7 +215,7 @@ module _ (c : In-Ok-push) where
   leads : led_to last (done b.manner a b.maps).maps ≡ begun_at_maps
   leads = ap (led_to last) (sym was.maps) ∙ was.back
 
-  led : undone front begun_at_maps ≡ b.begun
+  led : undone front begun_at_maps ≡ (maps_of b.start)
   led = took_back b.originals front (original_of_writes earlier) c.last_alone-earlier.ensures.last b.maps ∙ led_back b way none i a pends
 
   new_way : IsOnTheWay new
@@ -223,6 +225,11 @@ module _ (c : In-Ok-push) where
   new_kept = subst (IsKeptIn tables) (sym is_new)
       (alone_kept b way none i a pends front last c.self.inside.tables tables
       (took_ready b.originals front (original_of_writes earlier) c.last_alone-earlier.ensures.last c.self.inside.tables c.self.invariant.kept.ready).0 was.here was.kept was.ready)
+
+  new_spare : (earlier ≡ []) × (c.self.inside.sweeps_all ≡ false) → NoneIsSpare b.start tables c.push.new.self.items (map place_of c.set_stage.new.seats.items)
+  new_spare h =
+      subst (λ (l : List Original). NoneIsSpare b.start tables l (map place_of c.set_stage.new.seats.items)) (sym originals_are)
+      (alone_spare b none front earlier originals c.self.inside.tables tables c.last_alone-earlier.ensures.last h.0 (was.alone h.0) (was.back ∙ ap (λ (e : List Write). taken e b.maps) h.0) (c.self.invariant.spare h.1) (map place_of c.set_stage.new.seats.items))
 
   fewer : suc (unclosed new.places) ≡ unclosed b.places
   fewer = ap (λ (l : List Place). suc (unclosed l)) places_are ∙ alone_fewer b way none i a pends
@@ -242,6 +249,7 @@ invariant_of-self-2 c =
       on_the_way = new_way c;
       kept = new_kept c;
       room = record { originals = omega arith; all = omega arith; replies = omega arith; no_replies = c.self.invariant.room.no_replies };
+      spare = λ e. new_spare c (c.continues-self-inside.ensures.none e, c.continues-self-inside.ensures.before e);
     }
 
 pub returns-clause-none : goal.returns-clause-none

@@ -1,12 +1,12 @@
-use Rattle.std.proofs.Common.{◌≡◌, ◌≤◌, ℕ, true, not, List, ◌∷◌, ◌++◌, [], map, length, Option, None, Some, refl, sym, ap, subst, ◌∙◌, arith}
+use Rattle.std.proofs.Common.{◌≡◌, ◌≤◌, ℕ, true, false, not, List, ◌∷◌, ◌++◌, [], map, length, Option, None, Some, refl, sym, ap, subst, ◌∙◌, arith}
 use Rattle.std.specs.Option.{is_some}
 use Rattle.std.specs.Prelude.{◌&&◌}
 use Rattle.gw_table.specs.Maps.{Maps}
 use Rattle.gw_table.specs.declared.originals.Write.{Write}
 use Rattle.gw_table.specs.Originals.{keys_written, undone as taken}
 use Rattle.gw_table.specs.Parts.{Parted}
-use Rattle.gw_table.specs.Stored.{Stored, maps_of, names_entry, AreReady, KeepReady, NoneIsOut}
-use Rattle.gw_board.specs.BoardView.{value_of, IsOnTheWay, IsKeptIn}
+use Rattle.gw_table.specs.Stored.{Stored, maps_of, names_entry, AreReady, KeepReady, NoOtherReady, NoneIsOut}
+use Rattle.gw_board.specs.BoardView.{value_of, IsOnTheWay, IsKeptIn, NoneIsSpare}
 use Rattle.gw_board.specs.Boards.{Seen, asked_of, begun_board, core_of, AllClosed, GivesTheFold, unclosed}
 use Rattle.gw_board.specs.Carried.{Asked}
 use Rattle.gw_board.specs.Core.{Place, pending}
@@ -17,7 +17,7 @@ use Rattle.gw_board.specs.Journal.{Original, undone}
 use Rattle.gw_board.specs.OpenJobs.{IsSameBurst}
 use Rattle.gw_board.specs.Results.{NothingIsOpen}
 use Rattle.gw_board.specs.Seats.{place_of, original_of_writes}
-use Rattle.gw_board.proofs.Begun.{kept_since, start_maps}
+use Rattle.gw_board.proofs.Begun.{alone_since, kept_since, start_maps}
 use Rattle.gw_board.proofs.CarriedAlone.{took_back, took_ready}
 use Rattle.gw_board.proofs.Comes.{out_of_none}
 use Rattle.gw_board.proofs.GoingOn.{led_behind, led_from, none_left, none_pending, some_unclosed, with_journal}
@@ -25,6 +25,7 @@ use Rattle.gw_board.proofs.KeptIn.{all_ready, begun_kept, none_out}
 use Rattle.gw_board.proofs.OnTheWay.{asked-pending, begun_way, gives_the_fold}
 use Rattle.gw_board.proofs.Orders.{each_joined}
 use Rattle.gw_board.proofs.SeatFacts.{unclosed-pending, length-places, length-asked}
+use Rattle.gw_board.proofs.Spare.{swept_spare, alone_spare}
 use Rattle.gw_board.proofs.board.Board.carry_rest.Goals as goal
 use Rattle.gw_board.proofs.board.Board.carry_rest.Given.{Over}
 use Rattle.gw_board.proofs.board.Board.carry_rest.Goals.{After-all_pending, In-Ok-push}
@@ -34,8 +35,8 @@ none_here : (b now : Seen) → b ≡ now → NothingIsOpen (core_of now) → Not
 none_here b now e h = subst (λ (x : Seen). NothingIsOpen (core_of x)) (sym e) h
 
 -- the draft begins on the way
-started : (b : Seen) → IsOnTheWay b → NothingIsOpen (core_of b) → (maps : Maps) → maps ≡ b.maps → MayGoOn b.manner b.begun maps b.places
-started b w none maps e = subst (λ (m : Maps). MayGoOn b.manner b.begun m b.places) (sym e) (record { originals = b.originals; way = w; none = none })
+started : (b : Seen) → IsOnTheWay b → NothingIsOpen (core_of b) → (maps : Maps) → maps ≡ b.maps → MayGoOn b.manner b.start maps b.places
+started b w none maps e = subst (λ (m : Maps). MayGoOn b.manner b.start m b.places) (sym e) (record { originals = b.originals; way = w; none = none })
 
 -- a place is not closed, so there is room for an original
 found_some : (places : List Place) (r : Option ℕ) → FindsFirst places r → is_some r ≡ true → 1 ≤ unclosed places
@@ -61,7 +62,7 @@ pub carry_each-requires-clause-goes_on : goal.carry_each-requires-clause-goes_on
 carry_each-requires-clause-goes_on g c κs within =
     let b : Seen = value_of c.self.inside in
     let maps_are : c.of_tables-draft.result.maps ≡ b.maps = ap (λ (p : Parted). p.maps) c.of_tables-draft.ensures ∙ ap (λ (s : Stored). maps_of s) c.replace-tables.ensures.value in
-    (b.begun, started b c.self.invariant.on_the_way (none_here b c.args.self.now c.self.view_is c.requires.«open») c.of_tables-draft.result.maps maps_are)
+    (b.start, started b c.self.invariant.on_the_way (none_here b c.args.self.now c.self.view_is c.requires.«open») c.of_tables-draft.result.maps maps_are)
 
 -- ---- after want of memory
 
@@ -89,7 +90,7 @@ module _ (g : Over) (c : After-all_pending g) where
   back = c.put_all_back.new.tables
 
   abbrev left : Seen
-  left = record { manner = before.manner; begun = before.begun; maps = maps_of back; places = map place_of c.all_pending.new.seats.items; originals = c.put_all_back.new.originals.items }
+  left = record { manner = before.manner; start = before.start; maps = maps_of back; places = map place_of c.all_pending.new.seats.items; originals = c.put_all_back.new.originals.items }
 
   places_are : map place_of c.all_pending.new.seats.items ≡ map pending (asked_of before.places)
   places_are = c.all_pending.ensures.places ∙ ap (λ (l : List Asked). map pending l) c.carry_each.ensures.asked
@@ -100,18 +101,18 @@ module _ (g : Over) (c : After-all_pending g) where
       ∙ start_maps c.replace-tables.result earlier c.of_tables-draft.result c.carry_each.new.draft.keys c.of_tables-draft.ensures c.carry_each.ensures.keys
       ∙ ap (λ (s : Stored). taken earlier (maps_of s)) c.replace-tables.ensures.value
 
-  maps_begun : maps_of back ≡ before.begun
+  maps_begun : maps_of back ≡ (maps_of before.start)
   maps_begun =
       c.put_all_back.ensures.maps
       ∙ ap (undone after) undone_maps
       ∙ took_back before.originals after (original_of_writes earlier) c.last_alone-earlier.ensures.last before.maps
       ∙ led_from before c.self.invariant.on_the_way (none_here before c.args.self.now c.self.view_is c.requires.«open»)
 
-  is_begun : left ≡ begun_board before.manner (asked_of before.places) before.begun
-  is_begun = λ j. record { manner = before.manner; begun = before.begun; maps = maps_begun j; places = places_are j; originals = c.put_all_back.ensures.none j }
+  is_begun : left ≡ begun_board before.manner (asked_of before.places) before.start
+  is_begun = λ j. record { manner = before.manner; start = before.start; maps = maps_begun j; places = places_are j; originals = c.put_all_back.ensures.none j }
 
-  begun_again : IsOnTheWay (begun_board before.manner (asked_of before.places) before.begun)
-  begun_again = begun_way before.manner (asked_of before.places) before.begun c.self.invariant.on_the_way.begun.well c.self.invariant.on_the_way.begun.unused
+  begun_again : IsOnTheWay (begun_board before.manner (asked_of before.places) before.start)
+  begun_again = begun_way before.manner (asked_of before.places) before.start c.self.invariant.on_the_way.begun.well c.self.invariant.on_the_way.begun.unused
 
 pub invariant_of-self : goal.invariant_of-self
 invariant_of-self g c =
@@ -129,8 +130,9 @@ invariant_of-self g c =
     let s = c.self.inside.seats.ok.0 in
     record {
       on_the_way = subst IsOnTheWay (sym (is_begun g c)) (begun_again g c);
-      kept = subst (IsKeptIn (back g c)) (sym (is_begun g c)) (begun_kept (before g c).manner (asked_of (before g c).places) (before g c).begun (back g c) c.put_all_back.ensures.here);
+      kept = subst (IsKeptIn (back g c)) (sym (is_begun g c)) (begun_kept (before g c).manner (asked_of (before g c).places) (before g c).start (back g c) c.put_all_back.ensures.here);
       room = record { originals = omega arith; all = omega arith; replies = omega arith; no_replies = c.self.invariant.room.no_replies };
+      spare = λ e. swept_spare c.self.inside.start.value (back g c) c.put_all_back.new.originals.items (map place_of c.all_pending.new.seats.items) c.put_all_back.ensures.swept;
     }
 
 pub returns-in_default-clause-none : goal.returns-in_default-clause-none
@@ -138,14 +140,14 @@ returns-in_default-clause-none g c = subst (λ (x : Seen). NothingIsOpen (core_o
 
 pub returns-in_default-clause-same : goal.returns-in_default-clause-same
 returns-in_default-clause-same g c =
-    let same : IsSameBurst (before g c) (left g c) = record { manner = refl; begun = refl; asked = ap asked_of (places_are g c) ∙ asked-pending (asked_of (before g c).places) } in
+    let same : IsSameBurst (before g c) (left g c) = record { manner = refl; start = refl; asked = ap asked_of (places_are g c) ∙ asked-pending (asked_of (before g c).places) } in
     subst (λ (x : Seen). IsSameBurst x (left g c)) c.self.view_is same
 
 pub returns-in_default-clause-outcome : goal.returns-in_default-clause-outcome
 returns-in_default-clause-outcome g c = gives_the_fold (left g c) (subst IsOnTheWay (sym (is_begun g c)) (begun_again g c))
 
 pub returns-in_default-clause-err : goal.returns-in_default-clause-err
-returns-in_default-clause-err g c = is_begun g c ∙ ap (λ (x : Seen). begun_board x.manner (asked_of x.places) x.begun) c.self.view_is
+returns-in_default-clause-err g c = is_begun g c ∙ ap (λ (x : Seen). begun_board x.manner (asked_of x.places) x.start) c.self.view_is
 
 -- ---- with all replies
 
@@ -197,8 +199,8 @@ module _ (g : Over) (c : In-Ok-push g) where
   abbrev maps : Maps
   maps = c.carry_each.new.draft.maps
 
-  went : MayGoOn b.manner b.begun maps places
-  went = c.in-Ok.ensures.goes_on b.begun (started b way none c.of_tables-draft.result.maps (ap (λ (p : Parted). p.maps) c.of_tables-draft.ensures ∙ ap (λ (s : Stored). maps_of s) c.replace-tables.ensures.value))
+  went : MayGoOn b.manner b.start maps places
+  went = c.in-Ok.ensures.goes_on b.start (started b way none c.of_tables-draft.result.maps (ap (λ (p : Parted). p.maps) c.of_tables-draft.ensures ∙ ap (λ (s : Stored). maps_of s) c.replace-tables.ensures.value))
 
   originals_are : c.push.new.self.items ≡ front ++ last ∷ []
   originals_are = c.in-Ok-push.ensures.items ∙ ap (λ (o : Original). front ++ o ∷ []) c.of_writes.ensures
@@ -213,17 +215,17 @@ module _ (g : Over) (c : In-Ok-push g) where
       ∙ start_maps c.replace-tables.result begun_with c.of_tables-draft.result c.carry_each.new.draft.keys c.of_tables-draft.ensures c.carry_each.ensures.keys
       ∙ ap (λ (s : Stored). taken begun_with (maps_of s)) c.replace-tables.ensures.value
 
-  led : undone front (taken begun_with b.maps) ≡ b.begun
+  led : undone front (taken begun_with b.maps) ≡ (maps_of b.start)
   led = took_back b.originals front (original_of_writes begun_with) c.last_alone-earlier.ensures.last b.maps ∙ led_from b way none
 
   abbrev new : Seen
-  new = record { manner = b.manner; begun = b.begun; maps = maps_of tables; places = places; originals = c.push.new.self.items }
+  new = record { manner = b.manner; start = b.start; maps = maps_of tables; places = places; originals = c.push.new.self.items }
 
-  is_new : new ≡ record { manner = b.manner; begun = b.begun; maps = maps; places = places; originals = front ++ last ∷ [] }
-  is_new = λ j. record { manner = b.manner; begun = b.begun; maps = maps_are j; places = places; originals = originals_are j }
+  is_new : new ≡ record { manner = b.manner; start = b.start; maps = maps; places = places; originals = front ++ last ∷ [] }
+  is_new = λ j. record { manner = b.manner; start = b.start; maps = maps_are j; places = places; originals = originals_are j }
 
   new_way : IsOnTheWay new
-  new_way = subst IsOnTheWay (sym is_new) (with_journal b.manner b.begun maps places went (front ++ last ∷ []) (led_behind front last maps (taken begun_with b.maps) b.begun leads led))
+  new_way = subst IsOnTheWay (sym is_new) (with_journal b.manner b.start maps places went (front ++ last ∷ []) (led_behind front last maps (taken begun_with b.maps) (maps_of b.start) leads led))
 
   kept : KeepReady c.self.inside.tables tables
   kept =
@@ -241,6 +243,17 @@ module _ (g : Over) (c : In-Ok-push g) where
     ready = subst (Each (λ o. AreReady o.keys tables)) (sym originals_are) (each_joined (λ o. AreReady o.keys tables) front (last ∷ []) front_ready (c.into_tables-tables.ensures.ready, tt));
   }
 
+  new_spare : (begun_with ≡ []) × (c.self.inside.sweeps_all ≡ false) → NoneIsSpare b.start tables c.push.new.self.items places
+  new_spare h =
+      subst (λ (l : List Original). NoneIsSpare b.start tables l places) (sym originals_are)
+      (alone_spare b none front begun_with found c.self.inside.tables tables c.last_alone-earlier.ensures.last h.0 written
+      (ap (taken found) maps_are ∙ leads ∙ ap (λ (e : List Write). taken e b.maps) h.0) (c.self.invariant.spare h.1) places)
+    where
+      written : NoOtherReady (keys_written found) c.self.inside.tables tables
+      written =
+          subst (λ (s : Stored). NoOtherReady (keys_written found) s tables) c.replace-tables.ensures.value
+          (alone_since c.replace-tables.result begun_with c.of_tables-draft.result c.carry_each.new.draft.keys c.of_tables-draft.ensures c.carry_each.ensures.keys (keys_written found) tables h.0 c.into_tables-tables.ensures.alone)
+
 pub invariant_of-self-2 : goal.invariant_of-self-2
 invariant_of-self-2 g c =
     let all_closed : unclosed (map place_of c.carry_each.new.seats.items) ≡ 0 = none_left (places g c) c.in-Ok.ensures.closed in
@@ -257,6 +270,7 @@ invariant_of-self-2 g c =
       on_the_way = new_way g c;
       kept = new_kept g c;
       room = record { originals = omega arith; all = omega arith; replies = omega arith; no_replies = c.self.invariant.room.no_replies };
+      spare = λ e. new_spare g c (c.continues-self-inside.ensures.none e, c.continues-self-inside.ensures.before e);
     }
 
 pub returns-clause-none : goal.returns-clause-none

@@ -2,8 +2,8 @@ use Rattle.std.proofs.Common.{◌≡◌, ℕ, suc, List, ◌∷◌, ◌++◌, []
 use Rattle.std.specs.Prelude.{slice_get, slice_set}
 use Rattle.gw_table.specs.Parts.{Parted, list_of, overlaid}
 use Rattle.gw_table.specs.Stored.{maps_of, AreOut, CameBack}
-use Rattle.gw_board.specs.BoardView.{value_of, IsOnTheWay, IsKeptIn}
-use Rattle.gw_board.specs.Boards.{Seen, Handed, HasOpen, job_of, original_in, with_result, unclosed}
+use Rattle.gw_board.specs.BoardView.{value_of, IsOnTheWay, IsKeptIn, NoneIsSpare}
+use Rattle.gw_board.specs.Boards.{Seen, Handed, HasOpen, job_of, original_in, outcome_of, with_result, unclosed}
 use Rattle.gw_board.specs.Core.{Place, Closed, open_with}
 use Rattle.gw_board.specs.Journal.{Original}
 use Rattle.gw_board.specs.Seats.{place_of}
@@ -11,6 +11,7 @@ use Rattle.gw_board.proofs.Ends.{fewer_unclosed}
 use Rattle.gw_board.proofs.KeptIn.{open_out, result_kept_in}
 use Rattle.gw_board.proofs.OnTheWay.{gives_the_fold, result_way}
 use Rattle.gw_board.proofs.SeatFacts.{seat_inside}
+use Rattle.gw_board.proofs.Spare.{result_spare}
 use Rattle.gw_board.proofs.board.Board.close_with.Goals as goal
 use Rattle.gw_board.proofs.board.Board.close_with.Goals.{In-Ok}
 
@@ -67,10 +68,10 @@ module _ (c : In-Ok) where
       ∙ ap (λ (x : Handed). b.originals ++ original_in x ∷ []) c.job.view_is
 
   abbrev new : Seen
-  new = record { manner = b.manner; begun = b.begun; maps = maps_of c.put_back.new.self; places = map place_of c.set_stage.new.seats.items; originals = c.push.new.self.items }
+  new = record { manner = b.manner; start = b.start; maps = maps_of c.put_back.new.self; places = map place_of c.set_stage.new.seats.items; originals = c.push.new.self.items }
 
   is_new : new ≡ with_result b h
-  is_new = λ j. record { manner = b.manner; begun = b.begun; maps = maps_are j; places = places_are j; originals = originals_are j }
+  is_new = λ j. record { manner = b.manner; start = b.start; maps = maps_are j; places = places_are j; originals = originals_are j }
 
 pub invariant_of-self : goal.invariant_of-self
 invariant_of-self c =
@@ -87,6 +88,10 @@ invariant_of-self c =
       kept = subst (IsKeptIn c.put_back.new.self) (sym (is_new c))
           (result_kept_in (b c) c.self.invariant.on_the_way (h c) (o c) c.self.inside.tables c.self.invariant.kept c.put_back.new.self back (λ k i. c.put_back.ensures.ready k ∙ i));
       room = record { originals = omega arith; all = omega arith; replies = omega arith; no_replies = c.self.invariant.room.no_replies };
+      spare = λ e.
+          subst (λ (l : List Place). NoneIsSpare (b c).start c.put_back.new.self c.push.new.self.items l) (sym (places_are c))
+          (subst (λ (l : List Original). NoneIsSpare (b c).start c.put_back.new.self l (with_result (b c) (h c)).places) (sym (originals_are c))
+          (result_spare (b c) (h c) (o c) c.self.inside.tables c.put_back.new.self (outcome_of (h c)).maps c.put_back.ensures.ready (maps_are c) (c.self.invariant.spare e)));
     }
 
 pub returns-clause-board : goal.returns-clause-board

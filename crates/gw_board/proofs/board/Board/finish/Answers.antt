@@ -1,16 +1,20 @@
 use Rattle.std.proofs.Common.{◌≡◌, List, [], ◌∷◌, map, length, sym, ap, subst, ◌∙◌, arith}
 use Rattle.gw_board.specs.Texts.{Text}
 use Rattle.gw_table.specs.Maps.{Outcome}
+use Rattle.gw_table.specs.Stored.{maps_of, AreSwept, AreSweptAmong}
 use Rattle.gw_board.specs.BoardView.{value_of}
 use Rattle.gw_board.specs.Boards.{Seen, core_of, asked_of, AllClosed}
 use Rattle.gw_board.specs.Carried.{carried}
+use Rattle.gw_board.specs.Fitting.{Each}
+use Rattle.gw_board.specs.Journal.{Original}
 use Rattle.gw_board.specs.Results.{AreClosed}
 use Rattle.gw_board.specs.Seats.{place_of}
 use Rattle.gw_board.specs.declared.seat.Seat.{Seat}
-use Rattle.gw_board.proofs.Comes.{all_closed, closed_ones}
+use Rattle.gw_board.proofs.Comes.{all_closed, closed_ones, out_of_none}
 use Rattle.gw_board.proofs.KeptIn.{none_out}
 use Rattle.gw_board.proofs.OnTheWay.{gives_the_fold}
 use Rattle.gw_board.proofs.SeatFacts.{closed_front, closed_reply, told_as, told_more, told_all, nil_of}
+use Rattle.gw_board.proofs.Spare.{finished}
 use Rattle.gw_board.proofs.board.Board.finish.Goals as goal
 use Rattle.gw_board.proofs.board.Board.finish.Goals.{After-drop-self-inside}
 
@@ -91,11 +95,19 @@ module _ (c : After-drop-self-inside) where
       closed_now c.self.inside.seats.items c.into_iter-seat-iterator.result.rest.items rest replies c.into_iter-seat-iterator.ensures.into_iter_gives.0 c.loop-seat.invariant.told
       (nil_of rest (let n = c.in-None.ensures.steps.0 in let o = c.loop-seat.seat-iterator.rest.ok.0 in omega arith))
 
-  comes_to : ended ≡ carried b.manner (asked_of b.places) b.begun
+  comes_to : ended ≡ carried b.manner (asked_of b.places) (maps_of b.start)
   comes_to = sym (all_closed b.manner (core_of b) replies are_closed) ∙ gives_the_fold b c.self.invariant.on_the_way
 
 pub returns-clause-maps : goal.returns-clause-maps
-returns-clause-maps c = c.sweep_journal.ensures.maps ∙ ap (λ (o : Outcome (List Text)). o.maps) (comes_to c) ∙ ap (λ (x : Seen). (carried x.manner (asked_of x.places) x.begun).maps) c.self.view_is
+returns-clause-maps c = c.sweep_journal.ensures.maps ∙ ap (λ (o : Outcome (List Text)). o.maps) (comes_to c) ∙ ap (λ (x : Seen). (carried x.manner (asked_of x.places) (maps_of x.start)).maps) c.self.view_is
 
 pub returns-clause-replies : goal.returns-clause-replies
-returns-clause-replies c = ap (λ (o : Outcome (List Text)). o.answer) (comes_to c) ∙ ap (λ (x : Seen). (carried x.manner (asked_of x.places) x.begun).answer) c.self.view_is
+returns-clause-replies c = ap (λ (o : Outcome (List Text)). o.answer) (comes_to c) ∙ ap (λ (x : Seen). (carried x.manner (asked_of x.places) (maps_of x.start)).answer) c.self.view_is
+
+pub returns-clause-swept : goal.returns-clause-swept
+returns-clause-swept c = λ start.
+    let journal : c.deref.result.now ≡ (b c).originals = c.deref.ensures.value in
+    finished (b c).start c.self.inside.tables c.sweep_journal.new.tables (b c).originals (b c).places c.self.inside.sweeps_all c.sweep_journal.ensures.maps
+    (out_of_none (b c).places (closed_ones (b c).places (replies c) (are_closed c))) c.sweep_journal.ensures.fewer c.sweep_journal.ensures.all
+    (subst (λ (l : List Original). Each (λ o. AreSweptAmong o.keys c.sweep_journal.new.tables) l) journal c.sweep_journal.ensures.swept) c.self.invariant.spare
+    (subst (λ (x : Seen). AreSwept x.start) (sym c.self.view_is) start)

@@ -4,16 +4,17 @@ use Rattle.gw_base.specs.Keys.{has}
 use Rattle.gw_base.specs.declared.key.Key.{Key}
 use Rattle.gw_table.specs.Maps.{Maps}
 use Rattle.gw_table.specs.Parts.{Only, list_of, restricted, cut}
-use Rattle.gw_table.specs.Stored.{maps_of, names_entry}
-use Rattle.gw_board.specs.BoardView.{value_of, IsOnTheWay, IsKeptIn}
+use Rattle.gw_table.specs.Stored.{maps_of, names_entry, NoOtherReady}
+use Rattle.gw_board.specs.BoardView.{value_of, IsOnTheWay, IsKeptIn, NoneIsSpare}
 use Rattle.gw_board.specs.Boards.{Seen, Handed, core_of, Opens, with_open, unclosed}
 use Rattle.gw_board.specs.Carried.{Asked}
-use Rattle.gw_board.specs.Core.{Opened, pending, open_with, MayOpen}
+use Rattle.gw_board.specs.Core.{Opened, Place, pending, open_with, MayOpen}
 use Rattle.gw_board.specs.Jobs.{IsJob}
 use Rattle.gw_board.specs.Seats.{place_of}
 use Rattle.gw_board.proofs.KeptIn.{open_in, open_kept}
 use Rattle.gw_board.proofs.OnTheWay.{gives_the_fold, open_way, open_job}
 use Rattle.gw_board.proofs.SeatFacts.{seat_inside, unclosed-stays}
+use Rattle.gw_board.proofs.Spare.{open_spare}
 use Rattle.gw_board.proofs.board.Board.hand_out.Goals as goal
 use Rattle.gw_board.proofs.board.Board.hand_out.Goals.{After-set_stage}
 
@@ -21,7 +22,7 @@ pub take_out-part-requires-clause-here : goal.take_out-part-requires-clause-here
 take_out-part-requires-clause-here c =
     let b : Seen = value_of c.self.inside in
     let may : MayOpen (core_of b) c.args.place c.args.task c.args.keys = subst (λ (x : Seen). MayOpen (core_of x) c.args.place c.args.task c.args.keys) (sym c.self.view_is) c.requires in
-    open_in b c.args.place c.args.task c.args.keys c.reserve_slots.new.self c.self.invariant.on_the_way may (λ k. c.in_ok-reserve_slots.ensures.out k ∙ c.self.invariant.kept.out k)
+    open_in b c.args.place c.args.task c.args.keys c.reserve_slots.new.self c.self.invariant.on_the_way may (λ k. c.in-Ok.ensures.out k ∙ c.self.invariant.kept.out k)
 
 pub set_stage-requires : goal.set_stage-requires
 set_stage-requires c = seat_inside c.self.inside.seats.items c.args.place (pending c.args.task) (ap (λ (x : Seen). slice_get x.places c.args.place) c.self.view_is ∙ c.requires.pends)
@@ -43,7 +44,7 @@ module _ (c : After-set_stage) where
   may = subst (λ (x : Seen). MayOpen (core_of x) i a keys) (sym c.self.view_is) c.requires
 
   part_maps : c.take_out-part.result.maps ≡ restricted keys b.maps
-  part_maps = c.take_out-part.ensures.part ∙ ap (λ (m : Maps). restricted keys m) c.in_ok-reserve_slots.ensures.maps
+  part_maps = c.take_out-part.ensures.part ∙ ap (λ (m : Maps). restricted keys m) c.in-Ok.ensures.maps
 
   part_keys : list_of c.take_out-part.result.keys ≡ keys
   part_keys = ap list_of c.take_out-part.ensures.keys
@@ -65,14 +66,22 @@ module _ (c : After-set_stage) where
       shown : c.of-shown.result.value.maps ≡ restricted keys b.maps
       shown = ap (λ p. p.maps) c.of-shown.ensures ∙ part_maps
 
+  -- no key but its own became prepared
+  others_ready : NoOtherReady keys c.self.inside.tables c.take_out-part.new.self
+  others_ready k h r =
+      c.in-Ok.ensures.alone k (ap (λ (l : List Key). has l k) listed_are ∙ h) (sym (c.take_out-part.ensures.ready k) ∙ r)
+    where
+      listed_are : c.deref.result.now ≡ keys
+      listed_are = c.deref.ensures.value ∙ c.in_ok-listed.ensures.items ∙ c.list.ensures.list
+
   maps_are : maps_of c.take_out-part.new.self ≡ cut keys b.maps
-  maps_are = c.take_out-part.ensures.maps ∙ ap (λ (m : Maps). cut keys m) c.in_ok-reserve_slots.ensures.maps
+  maps_are = c.take_out-part.ensures.maps ∙ ap (λ (m : Maps). cut keys m) c.in-Ok.ensures.maps
 
   abbrev new : Seen
-  new = record { manner = b.manner; begun = b.begun; maps = maps_of c.take_out-part.new.self; places = map place_of c.set_stage.new.seats.items; originals = b.originals }
+  new = record { manner = b.manner; start = b.start; maps = maps_of c.take_out-part.new.self; places = map place_of c.set_stage.new.seats.items; originals = b.originals }
 
   is_new : new ≡ with_open b i a keys
-  is_new = λ j. record { manner = b.manner; begun = b.begun; maps = maps_are j; places = places_are j; originals = b.originals }
+  is_new = λ j. record { manner = b.manner; start = b.start; maps = maps_are j; places = places_are j; originals = b.originals }
 
 pub invariant_of-result : goal.invariant_of-result
 invariant_of-result c = (
@@ -92,9 +101,12 @@ invariant_of-self-2 c =
       on_the_way = subst IsOnTheWay (sym (is_new c)) (open_way (b c) c.self.invariant.on_the_way c.args.place c.args.task c.args.keys (may c));
       kept = subst (IsKeptIn c.take_out-part.new.self) (sym (is_new c))
           (open_kept (b c) c.args.place c.args.task c.args.keys c.self.inside.tables c.take_out-part.new.self c.self.invariant.kept (may c).pends
-          (λ k. c.take_out-part.ensures.out k ∙ ap (λ o. o || (has c.args.keys k && names_entry k)) (c.in_ok-reserve_slots.ensures.out k))
-          (λ k h. c.take_out-part.ensures.ready k ∙ c.in_ok-reserve_slots.ensures.kept k h));
+          (λ k. c.take_out-part.ensures.out k ∙ ap (λ o. o || (has c.args.keys k && names_entry k)) (c.in-Ok.ensures.out k))
+          (λ k h. c.take_out-part.ensures.ready k ∙ c.in-Ok.ensures.kept k h));
       room = record { originals = omega arith; all = omega arith; replies = omega arith; no_replies = c.self.invariant.room.no_replies };
+      spare = λ e.
+          subst (λ (l : List Place). NoneIsSpare (b c).start c.take_out-part.new.self (b c).originals l) (sym (places_are c))
+          (open_spare (b c) c.args.place c.args.task c.args.keys c.self.inside.tables c.take_out-part.new.self (may c).pends (others_ready c) (maps_are c) (c.self.invariant.spare e));
     }
 
 pub returns-clause-job : goal.returns-clause-job

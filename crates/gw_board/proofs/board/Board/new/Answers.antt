@@ -6,20 +6,21 @@ use Rattle.gw_board.specs.Seats.{place_of}
 use Rattle.gw_board.proofs.KeptIn.{begun_kept}
 use Rattle.gw_board.proofs.OnTheWay.{begun_way, gives_the_fold}
 use Rattle.gw_board.proofs.SeatFacts.{unclosed-pending, length-places, length-pending}
+use Rattle.gw_board.proofs.Spare.{begun_spare}
 use Rattle.gw_board.proofs.board.Board.new.Goals as goal
 use Rattle.gw_board.proofs.board.Board.new.Goals.{After-of-start}
 
-is_begun : (c : After-of-start) → record { manner = c.args.manner; begun = maps_of c.of-start.result.value; maps = maps_of c.args.tables; places = map place_of c.in-Ok.seats.items; originals = c.in-Ok-with_capacity.originals.items } ≡ begun_board c.args.manner c.args.asked.now (maps_of c.args.tables)
+is_begun : (c : After-of-start) → record { manner = c.args.manner; start = c.of-start.result.value; maps = maps_of c.args.tables; places = map place_of c.in-Ok.seats.items; originals = c.in-Ok-with_capacity.originals.items } ≡ begun_board c.args.manner c.args.asked.now c.args.tables
 is_begun c = λ i. record {
   manner = c.args.manner;
-  begun = maps_of (c.of-start.ensures i);
+  start = c.of-start.ensures i;
   maps = maps_of c.args.tables;
   places = c.in-Ok.ensures i;
   originals = c.in-Ok-with_capacity.ensures.items i;
 }
 
-way : (c : After-of-start) → IsOnTheWay (begun_board c.args.manner c.args.asked.now (maps_of c.args.tables))
-way c = begun_way c.args.manner c.args.asked.now (maps_of c.args.tables) c.requires.whole c.requires.unused
+way : (c : After-of-start) → IsOnTheWay (begun_board c.args.manner c.args.asked.now c.args.tables)
+way c = begun_way c.args.manner c.args.asked.now c.args.tables c.requires.whole c.requires.unused
 
 pub invariant_of-result : goal.invariant_of-result
 invariant_of-result c =
@@ -31,9 +32,10 @@ invariant_of-result c =
     let s = c.in-Ok.seats.ok.0 in
     record {
       on_the_way = subst IsOnTheWay (sym (is_begun c)) (way c);
-      kept = subst (IsKeptIn c.args.tables) (sym (is_begun c)) (begun_kept c.args.manner c.args.asked.now (maps_of c.args.tables) c.args.tables c.requires.here);
+      kept = subst (IsKeptIn c.args.tables) (sym (is_begun c)) (begun_kept c.args.manner c.args.asked.now c.args.tables c.args.tables c.requires.here);
       room = record { originals = omega arith; all = omega arith; replies = omega arith; no_replies = c.in-Ok-with_capacity-2.ensures.items };
+      spare = λ e. begun_spare c.of-start.result.value c.args.tables c.in-Ok-with_capacity.originals.items (map place_of c.in-Ok.seats.items) c.of-start.ensures;
     }
 
 pub returns-clause-outcome : goal.returns-clause-outcome
-returns-clause-outcome c = subst GivesTheFold (sym (is_begun c)) (gives_the_fold (begun_board c.args.manner c.args.asked.now (maps_of c.args.tables)) (way c))
+returns-clause-outcome c = subst GivesTheFold (sym (is_begun c)) (gives_the_fold (begun_board c.args.manner c.args.asked.now c.args.tables) (way c))

@@ -51,10 +51,10 @@ module _ (c : After-set_stage) where
       ∙ (λ j. slice_set b.places ((c.job.view_is j).place) (record { asked = h.asked; standing = Pending }))
 
   abbrev new : Seen
-  new = record { manner = b.manner; begun = b.begun; maps = maps_of c.put_back.new.self; places = map place_of c.set_stage.new.seats.items; originals = b.originals }
+  new = record { manner = b.manner; start = b.start; maps = maps_of c.put_back.new.self; places = map place_of c.set_stage.new.seats.items; originals = b.originals }
 
   is_new : new ≡ unchanged b h
-  is_new = λ j. record { manner = b.manner; begun = b.begun; maps = maps_are j; places = places_are j; originals = b.originals }
+  is_new = λ j. record { manner = b.manner; start = b.start; maps = maps_are j; places = places_are j; originals = b.originals }
 
 pub invariant_of-self : goal.invariant_of-self
 invariant_of-self c =
@@ -69,6 +69,7 @@ invariant_of-self c =
       kept = subst (IsKeptIn c.put_back.new.self) (sym (is_new c))
           (unchanged_kept (b c) c.self.invariant.on_the_way (h c) (o c) c.self.inside.tables c.self.invariant.kept c.put_back.new.self back (λ k i. c.put_back.ensures.ready k ∙ i));
       room = record { originals = omega arith; all = omega arith; replies = omega arith; no_replies = c.self.invariant.room.no_replies };
+      spare = λ e. absurd cc;
     }
 
 pub returns-clause-board : goal.returns-clause-board

@@ -1,24 +1,14 @@
-use Rattle.std.proofs.Common.{◌≡◌, ◌∙◌, ◌<◌, ℕ, List, length, bytes_eq, get_or, map, filter, Some, None, arith, sym, ap}
+use Rattle.std.proofs.Common.{◌≡◌, ◌∙◌, ℕ, List, length, bytes_eq, get_or, map, filter, Some, None, arith, sym, ap}
 use Rattle.std.specs.List.{position}
 use Rattle.gw_base.specs.declared.context_words.Link.{Link}
+use Rattle.gw_ctx.specs.declared.pairs.Pair.{Pair}
 use Rattle.gw_ctx.specs.Contexts.{links_without}
-use Rattle.gw_ctx.specs.Places.{Pair, AreKept, is_off, links_at, renumbered}
-use Rattle.gw_ctx.proofs.Lists.{place_within}
+use Rattle.gw_ctx.specs.Places.{AreKept, is_off, links_at, renumbered}
 use Rattle.gw_ctx.proofs.Places.{gone_there, without_none}
 use Rattle.gw_ctx.proofs.links.Links.drop_of.Goals as goal
 
--- where the name stands
-there : (c : goal.After-swap_remove-arg-1) → position (bytes_eq c.args.name.now) c.self.inside.names.items ≡ Some c.in-Some.place
-there c = ap (λ (l : List (List ℕ)). position (bytes_eq c.args.name.now) l) (sym c.deref.ensures.value) ∙ sym c.place_of.ensures ∙ c.in-Some.is
-
-pub swap_remove-requires : goal.swap_remove-requires
-swap_remove-requires c =
-    let within : c.in-Some.place < length c.self.inside.names.items = place_within (bytes_eq c.args.name.now) c.self.inside.names.items c.in-Some.place (there c) in
-    let old : c.self.inside.names.len ≡ length c.self.inside.names.items = c.self.inside.names.ok.0 in
-    omega (arith, within, old)
-
 -- what is left of the links: the last name has taken the place
-left : (c : goal.After-forget_unspoken-arg-in-Some-1) → AreKept c.swap_remove.new.self.items c.drop_at.new.pairs.items × (links_at c.swap_remove.new.self.items c.drop_at.new.pairs.items ≡ links_without c.args.name.now (links_at c.self.inside.names.items c.self.inside.pairs.items))
+left : (c : goal.After-drop_at) → AreKept c.swap_remove.new.self.items c.drop_at.new.pairs.items × (links_at c.swap_remove.new.self.items c.drop_at.new.pairs.items ≡ links_without c.args.name.now (links_at c.self.inside.names.items c.self.inside.pairs.items))
 left c =
     let names : List (List ℕ) = c.self.inside.names.items in let pairs : List Pair = c.self.inside.pairs.items in
     let others : List Pair = filter (is_off c.in-Some.place) pairs in
@@ -33,11 +23,11 @@ left c =
     })
     c.drop_at.new.pairs.items (c.drop_at.ensures ∙ ap (λ (k : ℕ). map (renumbered k c.in-Some.place) others) (c.len.ensures ∙ new))
 
-pub forget_unspoken-requires : goal.forget_unspoken-requires
-forget_unspoken-requires c = (left c).0
+pub invariant_of-self : goal.invariant_of-self
+invariant_of-self c = (left c).0
 
 pub returns-in-Some : goal.returns-in-Some
-returns-in-Some c = c.forget_unspoken.ensures.same ∙ (left c.before).1 ∙ ap (λ (l : List Link). links_without c.args.name.now l) c.self.view_is
+returns-in-Some c = (left c).1 ∙ ap (λ (l : List Link). links_without c.args.name.now l) c.self.view_is
 
 pub returns-in_default : goal.returns-in_default
 returns-in_default c =

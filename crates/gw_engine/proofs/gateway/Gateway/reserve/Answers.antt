@@ -1,61 +1,58 @@
-use Rattle.std.proofs.Common.{◌≡◌, ℕ, ◌+◌, List, drop, ap, subst, ◌∙◌}
+use Rattle.std.proofs.Common.{◌≡◌, ℕ, ◌+◌, ◌++◌, List, drop, ap, subst, ◌∙◌}
 use Rattle.std.proofs.Math.ListN.{drop_of_length-le}
-use Rattle.gw_msg.specs.declared.message.Request.{Request}
+use Rattle.std.specs.Option.{option_to_list}
 use Rattle.gw_reserve.specs.Owners.{AreWithin}
 use Rattle.gw_reserve.specs.Reservations.{Reserving, begun}
 use Rattle.gw_table.proofs.Folding.{rest_of}
-use Rattle.gw_table.specs.Maps.{Maps}
-use Rattle.gw_table.specs.Stored.{maps_of}
-use Rattle.gw_engine.specs.declared.asked.Sent.{Sent}
-use Rattle.gw_board.specs.declared.asked.Asked.{Asked}
+use Rattle.gw_engine.specs.declared.items.BurstItem.{BurstItem}
+use Rattle.gw_engine.specs.declared.items.Sent.{Sent}
 use Rattle.gw_engine.specs.Bursts.{cursors_of}
 use Rattle.gw_engine.specs.GatewayView.{value_of}
+use Rattle.gw_engine.specs.Phases.{new_for, new_in}
 use Rattle.gw_engine.specs.State.{GatewayValue}
-use Rattle.gw_engine.proofs.Reserving.{IsReserving, IsOwned, begins, goes_on, are_jobs, cursors_end}
+use Rattle.gw_engine.proofs.Reserving.{IsReserving, begins, item_on, are_jobs, cursors_end}
 use Rattle.gw_engine.proofs.gateway.Gateway.reserve.Goals as goal
 
-pub loop-sent-init : goal.loop-sent-init
-loop-sent-init c =
+pub loop-item-init : goal.loop-item-init
+loop-item-init c =
     let g : GatewayValue = value_of c.self.inside in
     let v : Reserving = c.new-reservation.result in
+    let all : List Sent = new_in c.args.items.now in
     let is : v ≡ begun g.settings.contexts g.settings.slots (cursors_of g.state) = c.new-reservation.ensures in
     record {
       contexts = ap (λ (r : Reserving). r.most_contexts) is ∙ ap (λ (h : GatewayValue). h.settings.contexts) c.self.view_is;
       slots = ap (λ (r : Reserving). r.most_slots) is ∙ ap (λ (h : GatewayValue). h.settings.slots) c.self.view_is;
-      owns = subst (λ (h : GatewayValue). IsReserving h c.args.new.now c.args.new.now v c.from-jobs.result) c.self.view_is
-          (begins g v c.args.new.now c.from-jobs.result is (c.from-jobs.ensures ∙ c.in_ok-with_capacity.ensures.items));
+      owns = subst (λ (h : GatewayValue). IsReserving h all all v c.from-jobs.result) c.self.view_is
+          (begins g v all c.from-jobs.result is (c.from-jobs.ensures ∙ c.in_ok-with_capacity.ensures.items));
     }
 
-pub loop-sent-preserved : goal.loop-sent-preserved
-loop-sent-preserved c =
-    let g : GatewayValue = c.args.self.now in
-    let new : List Sent = c.args.new.now in
-    let i : ℕ = c.loop-sent.sent-index in
-    let x : Sent = c.sent-item.result in
-    let v : Reserving = c.loop-sent.reservation in
-    let w : Reserving = c.own.new.self in
-    let o = c.in_ok-owned.owned in
-    let e = c.in_ok-owned.ensures in
-    let told : IsOwned (maps_of c.self.inside.tables) c.in_ok-tree.tree.now v w o = record { pairs = e.paired; slots_are = e.owned_slots; numbers = e.numbers; slots = e.slots; cursors = e.cursors } in
-    let owned : IsOwned g.state.maps x.request v w o = subst (λ (m : Maps). IsOwned m x.request v w o) (ap (λ (k : GatewayValue). k.state.maps) c.self.view_is) (subst (λ (r : Request). IsOwned (maps_of c.self.inside.tables) r v w o) c.in_ok-tree.ensures told) in
-    let job : Asked = record { mid = c.again.result; request = c.again-in-loop-sent.result; owned = o } in
+pub loop-item-preserved : goal.loop-item-preserved
+loop-item-preserved c =
+    let items : List BurstItem = c.args.items.now in
+    let i : ℕ = c.loop-item.item-index in
+    let x : BurstItem = c.item-item.result in
+    let rest : List BurstItem = drop (i + 1) items in
+    let split : new_in (drop i items) ≡ option_to_list (new_for x.content x.class) ++ new_in rest = ap new_in (rest_of items i x x c.loop-item-test.true c.item-item.is) in
+    let done = c.in_ok-push_job.ensures in
     record {
-      contexts = e.contexts_stay ∙ c.loop-sent.invariant.contexts;
-      slots = e.slots_stay ∙ c.loop-sent.invariant.slots;
-      owns = goes_on g new (drop i new) (drop (i + 1) new) x v w o c.loop-sent.jobs c.push.new.self job (rest_of new i x x c.loop-sent-test.true c.sent-item.is) c.loop-sent.invariant.owns owned
-          (ap (λ (m : List ℕ). record { mid = m; request = c.again-in-loop-sent.result; owned = o }) c.again.ensures ∙ ap (λ (r : Request). record { mid = x.mid; request = r; owned = o }) c.again-in-loop-sent.ensures) c.in_ok-push.ensures.ok;
+      contexts = done.contexts ∙ c.loop-item.invariant.contexts;
+      slots = done.slots ∙ c.loop-item.invariant.slots;
+      owns = item_on c.args.self.now (new_in items) (new_in (drop i items)) (new_in rest) (new_for x.content x.class) c.loop-item.reservation c.push_job.new.reservation c.loop-item.jobs c.push_job.new.jobs split c.loop-item.invariant.owns done.jobs;
     }
 
+-- no item is left
 pub returns-clause-jobs : goal.returns-clause-jobs
 returns-clause-jobs c =
-    are_jobs c.args.self.now c.args.new.now (drop c.loop-sent.sent-index c.args.new.now) c.loop-sent.reservation c.loop-sent.jobs (drop_of_length-le c.args.new.now c.loop-sent-test.false) c.loop-sent.invariant.owns
+    let items : List BurstItem = c.args.items.now in
+    are_jobs c.args.self.now (new_in items) (new_in (drop c.loop-item.item-index items)) c.loop-item.reservation c.loop-item.jobs (ap new_in (drop_of_length-le items c.loop-item-test.false)) c.loop-item.invariant.owns
 
 pub returns-clause-cursors : goal.returns-clause-cursors
 returns-clause-cursors c =
+    let items : List BurstItem = c.args.items.now in
     c.cursors.ensures.cursors
-    ∙ cursors_end c.args.self.now c.args.new.now (drop c.loop-sent.sent-index c.args.new.now) c.loop-sent.reservation c.loop-sent.jobs (drop_of_length-le c.args.new.now c.loop-sent-test.false) c.loop-sent.invariant.owns
+    ∙ cursors_end c.args.self.now (new_in items) (new_in (drop c.loop-item.item-index items)) c.loop-item.reservation c.loop-item.jobs (ap new_in (drop_of_length-le items c.loop-item-test.false)) c.loop-item.invariant.owns
 
 pub returns-clause-within : goal.returns-clause-within
 returns-clause-within c =
-    subst (λ (n : ℕ). AreWithin n c.args.self.now.settings.slots c.cursors.result) c.loop-sent.invariant.contexts
-    (subst (λ (n : ℕ). AreWithin c.loop-sent.reservation.most_contexts n c.cursors.result) c.loop-sent.invariant.slots c.cursors.ensures.within)
+    subst (λ (n : ℕ). AreWithin n c.args.self.now.settings.slots c.cursors.result) c.loop-item.invariant.contexts
+    (subst (λ (n : ℕ). AreWithin c.loop-item.reservation.most_contexts n c.cursors.result) c.loop-item.invariant.slots c.cursors.ensures.within)

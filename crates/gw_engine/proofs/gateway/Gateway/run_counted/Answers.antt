@@ -3,14 +3,14 @@ use Rattle.std.specs.List.{AllZip}
 use Rattle.gw_board.specs.declared.asked.Asked.{Asked}
 use Rattle.gw_kept.specs.Changes.{changes_of}
 use Rattle.gw_engine.specs.declared.datagram.Datagram.{Datagram}
-use Rattle.gw_engine.specs.declared.heard.Heard.{Heard}
-use Rattle.gw_engine.specs.Bursts.{IsHeard}
+use Rattle.gw_engine.specs.declared.reading.ReadDatagram.{ReadDatagram}
+use Rattle.gw_engine.specs.Bursts.{IsReadAs}
 use Rattle.gw_engine.specs.Configuration.{is_within, most_slots}
 use Rattle.gw_engine.specs.GatewayView.{value_of}
-use Rattle.gw_engine.specs.Phases.{new_of, done_by, kept_of, answers_of, IsOutcome}
+use Rattle.gw_engine.specs.Phases.{new_of, done_by, kept_of, texts_of, answers_of, IsOutcome}
 use Rattle.gw_engine.specs.Readable.{IsAnswerTo, questions}
 use Rattle.gw_engine.specs.State.{GatewayValue, IsWellFormed}
-use Rattle.gw_engine.proofs.InForm.{heard_asked}
+use Rattle.gw_engine.proofs.InForm.{datagrams_in_form}
 use Rattle.gw_engine.proofs.Outcomes.{jobs_unused, outcome_of_jobs}
 use Rattle.gw_engine.proofs.gateway.Gateway.run_counted.Goals as goal
 
@@ -30,36 +30,36 @@ perform-requires-clause-unused types c = λ lifetimes outlive.
 pub perform-requires-clause-new : goal.perform-requires-clause-new
 perform-requires-clause-new types c = λ lifetimes outlive.
     let g : GatewayValue = c.args.self.now in
-    let heard : List Heard = c.as_slice.result.now in
+    let messages : List ReadDatagram = c.as_slice.result.now in
     let jobs : List Asked = c.in_ok-plan.plan.jobs in
     let kept : IsKept g = subst IsKept c.self.view_is (c.self.invariant.well_formed, few_slots (value_of c.self.inside).settings.slots c.self.invariant.slots) in
-    let read : AllZip IsHeard c.args.burst.now heard = subst (λ (l : List Heard). AllZip IsHeard c.args.burst.now l) (sym c.as_slice.ensures) c.in_ok-heard.ensures in
-    let out : IsOutcome g heard (answers_of g.settings.mid g.state.kept (kept_of g jobs) c.in_ok-plan.plan.tasks) (done_by g.settings.rules jobs g.state.maps).maps c.in_ok-plan.plan.cursors (changes_of c.in_ok-plan.plan.turns (kept_of g jobs)) =
-    outcome_of_jobs g heard c.in_ok-plan.plan.tasks jobs c.in_ok-plan.plan.cursors c.in_ok-plan.plan.turns kept.0 kept.1 (heard_asked c.args.burst.now heard read) c.in_ok-plan.ensures.tasks c.in_ok-plan.ensures.jobs c.in_ok-plan.ensures.cursors c.in_ok-plan.ensures.within c.in_ok-plan.ensures.turns in
+    let read : AllZip IsReadAs c.args.burst.now messages = subst (λ (l : List ReadDatagram). AllZip IsReadAs c.args.burst.now l) (sym c.as_slice.ensures) c.in_ok-messages.ensures in
+    let out : IsOutcome g messages (answers_of g.settings.mid g.state.kept (texts_of (kept_of g jobs)) c.in_ok-plan.plan.items.items) (done_by g.settings.rules jobs g.state.maps).maps c.in_ok-plan.plan.cursors (changes_of c.in_ok-plan.plan.turns (kept_of g jobs)) =
+    outcome_of_jobs g messages c.in_ok-plan.plan.items.items jobs c.in_ok-plan.plan.cursors c.in_ok-plan.plan.turns kept.0 kept.1 (datagrams_in_form c.args.burst.now messages read) c.in_ok-plan.ensures.items c.in_ok-plan.ensures.jobs c.in_ok-plan.ensures.cursors c.in_ok-plan.ensures.within c.in_ok-plan.ensures.turns in
     out.new
 
 pub perform-requires-clause-fits : goal.perform-requires-clause-fits
 perform-requires-clause-fits types c = λ lifetimes outlive.
     let g : GatewayValue = c.args.self.now in
-    let heard : List Heard = c.as_slice.result.now in
+    let messages : List ReadDatagram = c.as_slice.result.now in
     let jobs : List Asked = c.in_ok-plan.plan.jobs in
     let kept : IsKept g = subst IsKept c.self.view_is (c.self.invariant.well_formed, few_slots (value_of c.self.inside).settings.slots c.self.invariant.slots) in
-    let read : AllZip IsHeard c.args.burst.now heard = subst (λ (l : List Heard). AllZip IsHeard c.args.burst.now l) (sym c.as_slice.ensures) c.in_ok-heard.ensures in
-    let out : IsOutcome g heard (answers_of g.settings.mid g.state.kept (kept_of g jobs) c.in_ok-plan.plan.tasks) (done_by g.settings.rules jobs g.state.maps).maps c.in_ok-plan.plan.cursors (changes_of c.in_ok-plan.plan.turns (kept_of g jobs)) =
-    outcome_of_jobs g heard c.in_ok-plan.plan.tasks jobs c.in_ok-plan.plan.cursors c.in_ok-plan.plan.turns kept.0 kept.1 (heard_asked c.args.burst.now heard read) c.in_ok-plan.ensures.tasks c.in_ok-plan.ensures.jobs c.in_ok-plan.ensures.cursors c.in_ok-plan.ensures.within c.in_ok-plan.ensures.turns in
+    let read : AllZip IsReadAs c.args.burst.now messages = subst (λ (l : List ReadDatagram). AllZip IsReadAs c.args.burst.now l) (sym c.as_slice.ensures) c.in_ok-messages.ensures in
+    let out : IsOutcome g messages (answers_of g.settings.mid g.state.kept (texts_of (kept_of g jobs)) c.in_ok-plan.plan.items.items) (done_by g.settings.rules jobs g.state.maps).maps c.in_ok-plan.plan.cursors (changes_of c.in_ok-plan.plan.turns (kept_of g jobs)) =
+    outcome_of_jobs g messages c.in_ok-plan.plan.items.items jobs c.in_ok-plan.plan.cursors c.in_ok-plan.plan.turns kept.0 kept.1 (datagrams_in_form c.args.burst.now messages read) c.in_ok-plan.ensures.items c.in_ok-plan.ensures.jobs c.in_ok-plan.ensures.cursors c.in_ok-plan.ensures.within c.in_ok-plan.ensures.turns in
     out.fits
 
 pub returns-clause-ok : goal.returns-clause-ok
 returns-clause-ok types c =
     let g : GatewayValue = c.args.self.now in
-    let heard : List Heard = c.as_slice.result.now in
+    let messages : List ReadDatagram = c.as_slice.result.now in
     let jobs : List Asked = c.in_ok-plan.plan.jobs in
     let kept : IsKept g = subst IsKept c.self.view_is (c.self.invariant.well_formed, few_slots (value_of c.self.inside).settings.slots c.self.invariant.slots) in
-    let read : AllZip IsHeard c.args.burst.now heard = subst (λ (l : List Heard). AllZip IsHeard c.args.burst.now l) (sym c.as_slice.ensures) c.in_ok-heard.ensures in
-    let out : IsOutcome g heard (answers_of g.settings.mid g.state.kept (kept_of g jobs) c.in_ok-plan.plan.tasks) (done_by g.settings.rules jobs g.state.maps).maps c.in_ok-plan.plan.cursors (changes_of c.in_ok-plan.plan.turns (kept_of g jobs)) =
-    outcome_of_jobs g heard c.in_ok-plan.plan.tasks jobs c.in_ok-plan.plan.cursors c.in_ok-plan.plan.turns kept.0 kept.1 (heard_asked c.args.burst.now heard read) c.in_ok-plan.ensures.tasks c.in_ok-plan.ensures.jobs c.in_ok-plan.ensures.cursors c.in_ok-plan.ensures.within c.in_ok-plan.ensures.turns in
+    let read : AllZip IsReadAs c.args.burst.now messages = subst (λ (l : List ReadDatagram). AllZip IsReadAs c.args.burst.now l) (sym c.as_slice.ensures) c.in_ok-messages.ensures in
+    let out : IsOutcome g messages (answers_of g.settings.mid g.state.kept (texts_of (kept_of g jobs)) c.in_ok-plan.plan.items.items) (done_by g.settings.rules jobs g.state.maps).maps c.in_ok-plan.plan.cursors (changes_of c.in_ok-plan.plan.turns (kept_of g jobs)) =
+    outcome_of_jobs g messages c.in_ok-plan.plan.items.items jobs c.in_ok-plan.plan.cursors c.in_ok-plan.plan.turns kept.0 kept.1 (datagrams_in_form c.args.burst.now messages read) c.in_ok-plan.ensures.items c.in_ok-plan.ensures.jobs c.in_ok-plan.ensures.cursors c.in_ok-plan.ensures.within c.in_ok-plan.ensures.turns in
     record {
-      heard = heard;
+      messages = messages;
       read = read;
       answers_are = c.in_ok-answers.ensures.answers ∙ out.answers_are;
       state = λ i. record { settings = c.perform.ensures.settings i; state = (c.in_ok-answers.ensures.state ∙ out.state) i };
@@ -68,21 +68,21 @@ returns-clause-ok types c =
 pub returns-clause-readable : goal.returns-clause-readable
 returns-clause-readable types c =
     let g : GatewayValue = c.args.self.now in
-    let heard : List Heard = c.as_slice.result.now in
+    let messages : List ReadDatagram = c.as_slice.result.now in
     let jobs : List Asked = c.in_ok-plan.plan.jobs in
     let kept : IsKept g = subst IsKept c.self.view_is (c.self.invariant.well_formed, few_slots (value_of c.self.inside).settings.slots c.self.invariant.slots) in
-    let read : AllZip IsHeard c.args.burst.now heard = subst (λ (l : List Heard). AllZip IsHeard c.args.burst.now l) (sym c.as_slice.ensures) c.in_ok-heard.ensures in
-    let out : IsOutcome g heard (answers_of g.settings.mid g.state.kept (kept_of g jobs) c.in_ok-plan.plan.tasks) (done_by g.settings.rules jobs g.state.maps).maps c.in_ok-plan.plan.cursors (changes_of c.in_ok-plan.plan.turns (kept_of g jobs)) =
-    outcome_of_jobs g heard c.in_ok-plan.plan.tasks jobs c.in_ok-plan.plan.cursors c.in_ok-plan.plan.turns kept.0 kept.1 (heard_asked c.args.burst.now heard read) c.in_ok-plan.ensures.tasks c.in_ok-plan.ensures.jobs c.in_ok-plan.ensures.cursors c.in_ok-plan.ensures.within c.in_ok-plan.ensures.turns in
+    let read : AllZip IsReadAs c.args.burst.now messages = subst (λ (l : List ReadDatagram). AllZip IsReadAs c.args.burst.now l) (sym c.as_slice.ensures) c.in_ok-messages.ensures in
+    let out : IsOutcome g messages (answers_of g.settings.mid g.state.kept (texts_of (kept_of g jobs)) c.in_ok-plan.plan.items.items) (done_by g.settings.rules jobs g.state.maps).maps c.in_ok-plan.plan.cursors (changes_of c.in_ok-plan.plan.turns (kept_of g jobs)) =
+    outcome_of_jobs g messages c.in_ok-plan.plan.items.items jobs c.in_ok-plan.plan.cursors c.in_ok-plan.plan.turns kept.0 kept.1 (datagrams_in_form c.args.burst.now messages read) c.in_ok-plan.ensures.items c.in_ok-plan.ensures.jobs c.in_ok-plan.ensures.cursors c.in_ok-plan.ensures.within c.in_ok-plan.ensures.turns in
     record {
-      heard = heard;
+      messages = messages;
       read = read;
-      answers_are = subst (λ (l : List Datagram). AllZip (IsAnswerTo g.settings.mid) (questions heard) l) (sym c.in_ok-answers.ensures.answers) out.readable;
+      answers_are = subst (λ (l : List Datagram). AllZip (IsAnswerTo g.settings.mid) (questions messages) l) (sym c.in_ok-answers.ensures.answers) out.readable;
     }
 
 pub returns-clause-counts : goal.returns-clause-counts
 returns-clause-counts types c = record {
-  heard = c.as_slice.result.now;
-  read = subst (λ (l : List Heard). AllZip IsHeard c.args.burst.now l) (sym c.as_slice.ensures) c.in_ok-heard.ensures;
+  messages = c.as_slice.result.now;
+  read = subst (λ (l : List ReadDatagram). AllZip IsReadAs c.args.burst.now l) (sym c.as_slice.ensures) c.in_ok-messages.ensures;
   counts_are = c.in_ok-plan.ensures.counts;
 }

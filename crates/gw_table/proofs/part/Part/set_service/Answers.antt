@@ -1,6 +1,5 @@
 use Rattle.std.proofs.Common.{◌≡◌, Option, None, Some, sym, ap, ◌∙◌}
 use Rattle.gw_term.specs.declared.record.Termination.{Termination}
-use Rattle.gw_term.specs.Record.{serviced}
 use Rattle.gw_table.specs.Maps.{Maps, term, put_term}
 use Rattle.gw_table.specs.Members.{put_service}
 use Rattle.gw_table.proofs.Leaving.{put_term-put_term, put_term-same}
@@ -12,7 +11,7 @@ returns-in-Some-clause-maps c =
     let found : Some c.in-Some.termination ≡ term m c.args.name.now = sym c.in-Some.is ∙ c.set_term.ensures.before in
     c.set_term-in-Some.ensures.maps ∙ ap (λ (x : Maps). put_term x c.args.name.now (Some c.set_service.new.self)) c.set_term.ensures.maps
     ∙ put_term-put_term m c.args.name.now None (Some c.set_service.new.self)
-    ∙ ap (λ (r : Termination). put_term m c.args.name.now (Some r)) (c.set_service.ensures ∙ ap (λ (r : Termination). serviced r c.args.service) c.get_mut.ensures.value)
+    ∙ ap (λ (r : Termination). put_term m c.args.name.now (Some r)) c.set_service.ensures
     ∙ ap (λ (o : Option Termination). put_service c.args.service c.args.name.now m o) found
 
 pub returns-in_default-clause-maps : goal.returns-in_default-clause-maps

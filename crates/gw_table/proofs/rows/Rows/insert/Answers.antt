@@ -22,7 +22,7 @@ module _ (g : Over) (c : goal.In_default g) where
   free = ap (λ (ls : KeyedRows g.row.K.Denot g.row.T.Denot). row_at ls c.vacant_key-number.result) (sym same_slots) ∙ c.vacant_key-number.ensures.vacant
 
   stands : row_at c.insert_reserved.new.self.slots c.vacant_key-number.result ≡ Some (record { key = c.args.key; row = c.args.row })
-  stands = ap (λ n. row_at c.insert_reserved.new.self.slots n) (sym same_number) ∙ c.insert_reserved.ensures.updates.changed
+  stands = ap (λ n. row_at c.insert_reserved.new.self.slots n) (sym same_number) ∙ c.insert_reserved.ensures.updates.changed ∙ ap (λ (r : Place g.row.T.Denot). Some (record { key = c.args.key; row = r })) c.numbered-row.ensures
 
   others : (j : ℕ) → j ≢ c.vacant_key-number.result → row_at c.insert_reserved.new.self.slots j ≡ row_at c.self.inside.rows.slots j
   others j h = c.insert_reserved.ensures.updates.others j (λ e. h (e ∙ same_number)) ∙ ap (λ (ls : KeyedRows g.row.K.Denot g.row.T.Denot). row_at ls j) same_slots
@@ -58,7 +58,7 @@ module _ (g : Over) (c : goal.After-remove-arg-1 g) where
   free_there = ap (λ (ls : KeyedRows g.row.K.Denot g.row.T.Denot). row_at ls c.vacant_key-number.result) (sym same_slots_there) ∙ c.vacant_key-number.ensures.vacant
 
   stands_there : row_at c.insert_reserved.new.self.slots c.vacant_key-number.result ≡ Some (record { key = c.args.key; row = c.args.row })
-  stands_there = ap (λ n. row_at c.insert_reserved.new.self.slots n) (sym same_number_there) ∙ c.insert_reserved.ensures.updates.changed
+  stands_there = ap (λ n. row_at c.insert_reserved.new.self.slots n) (sym same_number_there) ∙ c.insert_reserved.ensures.updates.changed ∙ ap (λ (r : Place g.row.T.Denot). Some (record { key = c.args.key; row = r })) c.numbered-row.ensures
 
   others_there : (j : ℕ) → j ≢ c.vacant_key-number.result → row_at c.insert_reserved.new.self.slots j ≡ row_at c.self.inside.rows.slots j
   others_there j h = c.insert_reserved.ensures.updates.others j (λ e. h (e ∙ same_number_there)) ∙ ap (λ (ls : KeyedRows g.row.K.Denot g.row.T.Denot). row_at ls j) same_slots_there
@@ -80,7 +80,7 @@ module _ (g : Over) (c : goal.After-remove-row g) where
   free_gone = ap (λ (ls : KeyedRows g.row.K.Denot g.row.T.Denot). row_at ls c.vacant_key-number.result) (sym same_slots_gone) ∙ c.vacant_key-number.ensures.vacant
 
   stands_gone : row_at c.insert_reserved.new.self.slots c.vacant_key-number.result ≡ Some (record { key = c.args.key; row = c.args.row })
-  stands_gone = ap (λ n. row_at c.insert_reserved.new.self.slots n) (sym same_number_gone) ∙ c.insert_reserved.ensures.updates.changed
+  stands_gone = ap (λ n. row_at c.insert_reserved.new.self.slots n) (sym same_number_gone) ∙ c.insert_reserved.ensures.updates.changed ∙ ap (λ (r : Place g.row.T.Denot). Some (record { key = c.args.key; row = r })) c.numbered-row.ensures
 
   others_gone : (j : ℕ) → j ≢ c.vacant_key-number.result → row_at c.insert_reserved.new.self.slots j ≡ row_at c.self.inside.rows.slots j
   others_gone j h = c.insert_reserved.ensures.updates.others j (λ e. h (e ∙ same_number_gone)) ∙ ap (λ (ls : KeyedRows g.row.K.Denot g.row.T.Denot). row_at ls j) same_slots_gone

@@ -10,12 +10,12 @@ use Rattle.std.proofs.Common.{Some}
 use Rattle.gw_table.specs.Maps.{put_term}
 use Rattle.gw_table.proofs.tables.Tables.provide.Goals as goal
 
-provided : (c : goal.Joined-branch-3) → stored c.insert.new.self.entries c.self.inside.contexts.entries ≡ put_term_place c.args.self.now c.args.name (Here provisioned)
+provided : (c : goal.Joined-branch-2) → stored c.insert.new.self.entries c.self.inside.contexts.entries ≡ put_term_place c.args.self.now c.args.name (Here provisioned)
 provided c =
     term_written c.self.inside.terms.entries c.insert.new.self.entries c.self.inside.contexts.entries c.args.name c.of.result c.in_ok-insert.ensures.updates
     ∙ ap (λ (s : Stored). put_term_place s c.args.name c.of.result) c.self.view_is
     ∙ ap (λ p. put_term_place c.args.self.now c.args.name p) c.of.ensures
-    ∙ ap (λ (r : Termination). put_term_place c.args.self.now c.args.name (Here r)) (c.in_ok-new.ensures ∙ c.provisioned.ensures)
+    ∙ ap (λ (r : Termination). put_term_place c.args.self.now c.args.name (Here r)) c.provisioned.ensures
 
 pub returns-clause-maps : goal.returns-clause-maps
 returns-clause-maps c = ap (λ s. maps_of s) (provided c) ∙ maps-put_term_place c.args.self.now c.args.name (Here provisioned)
@@ -27,5 +27,5 @@ pub invariant_of-self-2 : goal.invariant_of-self-2
 invariant_of-self-2 c =
     let now : Stored = stored c.self.inside.terms.entries c.self.inside.contexts.entries in
     let new = term_written c.self.inside.terms.entries c.insert.new.self.entries c.self.inside.contexts.entries c.args.name c.of.result c.in_ok-insert.ensures.updates ∙ ap (λ p. put_term_place now c.args.name p) c.of.ensures in
-    marked_still c.self.inside.numbers c.self.inside.slots (put_term (maps_of now) c.args.name (Some c.in_ok-new.new)) (maps_of (stored c.insert.new.self.entries c.self.inside.contexts.entries)) (ap (λ s. maps_of s) new ∙ maps-put_term_place now c.args.name (Here c.in_ok-new.new))
-    (marked-put_still c.self.inside.numbers c.self.inside.slots (maps_of now) c.args.name (Some c.in_ok-new.new) (λ _. refl) c.self.invariant)
+    marked_still c.self.inside.numbers c.self.inside.slots (put_term (maps_of now) c.args.name (Some c.provisioned.result)) (maps_of (stored c.insert.new.self.entries c.self.inside.contexts.entries)) (ap (λ s. maps_of s) new ∙ maps-put_term_place now c.args.name (Here c.provisioned.result))
+    (marked-put_still c.self.inside.numbers c.self.inside.slots (maps_of now) c.args.name (Some c.provisioned.result) (λ _. refl) c.self.invariant)

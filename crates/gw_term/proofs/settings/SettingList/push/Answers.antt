@@ -4,4 +4,4 @@ use Rattle.gw_term.proofs.SettingLists.{set_last}
 use Rattle.gw_term.proofs.settings.SettingList.push.Goals as goal
 
 pub returns : goal.returns
-returns c = ap set_by c.in_ok-push.ensures.items ∙ set_last c.self.inside.list.items c.args.setting ∙ ap (with_setting c.args.setting) c.self.view_is
+returns c = ap set_by c.in_ok-push.ensures.ok ∙ set_last c.self.inside.list c.args.setting ∙ ap (with_setting c.args.setting) c.self.view_is

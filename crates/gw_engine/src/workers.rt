@@ -1,0 +1,47 @@
+//! Who executes a burst.
+
+ghost use Rattle.std.specs.Prelude.{◌≡◌, ◌≤◌};
+
+use gw_draw::Gate;
+use std::thread::Threads;
+
+/// So many workers in threads, 1 to 64. They pass the gate before each transaction.
+#[derive(Drop)]
+pub(crate) struct Workers<'r, R, G> {
+    pub(crate) rt: &'r R,
+    pub(crate) gate: &'r G,
+    pub(crate) count: u32,
+    ghost some: { 1 ≤ count },
+    ghost limit: { count ≤ 64 },
+}
+
+impl<'r, R: Threads + Sync, G: Gate> Workers<'r, R, G> {
+    pub(crate) fn new(rt: &'r R, count: u32, gate: &'r G) -> Self
+        requires some { 1 ≤ count }
+        requires limit { count ≤ 64 }
+        ensures { result.count ≡ count }
+    {
+        Workers { rt, gate, count }
+    }
+
+    /// One of them, if the others are of no use.
+    pub(crate) fn alone_unless(&self, are_of_use: bool) -> Self {
+        Workers {
+            rt: self.rt,
+            gate: self.gate,
+            count: if are_of_use { self.count } else { 1 },
+        }
+    }
+
+    /// As many of them as so much work is worth: one, and one more for each whole share.
+    pub(crate) fn for_work(&self, work: usize, share: usize) -> Self
+        requires { 1 ≤ share }
+    {
+        let worth = u32::try_from(work / share).unwrap_or(u32::MAX);
+        Workers {
+            rt: self.rt,
+            gate: self.gate,
+            count: worth.saturating_add(1).min(self.count),
+        }
+    }
+}
