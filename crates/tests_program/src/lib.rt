@@ -2,8 +2,6 @@
 #![tactic(auto)]
 
 #[cfg(test)]
-mod addresses;
-#[cfg(test)]
 mod faults;
 #[cfg(test)]
 mod networks;

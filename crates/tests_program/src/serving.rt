@@ -1,7 +1,6 @@
 //! Serving over the loopback. What is to wait when the gateway first looks is sent from within the line `listening`,
 //! which it writes once it is bound: so each burst is what a test says, without a thread.
 
-use crate::addresses::everywhere;
 use crate::networks::OneSocket;
 use crate::places::{file_of, free_address};
 use crate::runs::{CONFIGURATION, Run};
@@ -33,7 +32,10 @@ const OTHER_ANSWERED: &[u8] = b"MEGACO/1 [10.0.0.1]:2944\nReply=2{Context=2{Add=
 const NO_MESSAGE: &[u8] = b"MEGACO/1 [10.0.0.1]:2944\nError=400{\"Syntax error in message\"}";
 
 /// What the program says once it serves.
-pub(crate) const SERVING: &[u8] = b"listening\n";
+const SERVING: &[u8] = b"listening\n";
+
+/// What it says where it cannot bind the address.
+const NOT_BOUND: &[u8] = b"h248gw: serve bind\n";
 
 /// How many addresses are tried.
 const ATTEMPTS: u32 = 20;
@@ -165,7 +167,7 @@ fn serves<R: Files + Net + Wait + Threads + Clock + Sync + AllocGlobal>(
 }
 
 /// A socket of the loopback.
-pub(crate) fn client(rt: &impl Net, host: IpAddr) -> Result<UdpSocket, Fail> {
+fn client(rt: &impl Net, host: IpAddr) -> Result<UdpSocket, Fail> {
     let client = rt.bind_udp(SocketAddr::from((host, 0)))?;
     client.set_read_timeout(Some(Duration::from_millis(20)))?;
     Ok(client)
@@ -189,12 +191,12 @@ fn padded(alloc: Global, text: &[u8], length: usize) -> Result<Vec<u8>, Fail> {
     Ok(bytes)
 }
 
-pub(crate) const IPV4: IpAddr = IpAddr::V4(Ipv4Addr::LOCALHOST);
+const IPV4: IpAddr = IpAddr::V4(Ipv4Addr::LOCALHOST);
 
-pub(crate) const IPV6: IpAddr = IpAddr::V6(Ipv6Addr::LOCALHOST);
+const IPV6: IpAddr = IpAddr::V6(Ipv6Addr::LOCALHOST);
 
 /// Another address of the loopback.
-pub(crate) fn near() -> IpAddr {
+fn near() -> IpAddr {
     IpAddr::V4(Ipv4Addr::new(127, 0, 0, 2))
 }
 
@@ -363,6 +365,84 @@ fn a_datagram_that_is_too_long(rt: HostRuntime) -> Result<(), Fail> {
     serves(&rt, IPV6, "1", &sent, said)?;
     has_answers(&long, 0, b"")?;
     has_answers(&good, 1, ANSWERED)
+}
+
+#[test]
+fn an_address_that_cannot_be_bound(rt: HostRuntime) -> Result<(), Fail> {
+    let file = file_of(&rt, CONFIGURATION)?;
+    let taken = rt.bind_udp(SocketAddr::from((IPV4, 0)))?;
+    let own = format!(in rt.alloc(); "{}", taken.local_addr()?)?;
+    for listen in [
+        own.as_str(),
+        "127.0.0.1",
+        "localhost:2944",
+        "10.0.0.1:2944 ",
+        "",
+    ] {
+        Run::of(&rt, &["serve", file.as_str(), "--listen", listen]).fails(NOT_BOUND)?;
+    }
+    Ok(fs::remove_file(&rt, file.as_str())?)
+}
+
+/// The address that is bound where the words name none.
+fn everywhere() -> SocketAddr {
+    SocketAddr::new(IpAddr::V4(Ipv4Addr::UNSPECIFIED), 2944)
+}
+
+// Of each address, the family and the port are those that the words name.
+#[test]
+fn the_address_that_is_bound(rt: HostRuntime) -> Result<(), Fail> {
+    let file = file_of(&rt, CONFIGURATION)?;
+    let socket = client(&rt, IPV4)?;
+    let network = OneSocket {
+        rt: &rt,
+        address: SocketAddr::new(IPV4, 2945),
+        socket: &socket,
+    };
+    let words = [
+        "serve",
+        file.as_str(),
+        "--listen",
+        "127.0.0.1:2945",
+        "--bursts",
+        "0",
+    ];
+    Run::of(&network, words.as_slice()).explains(SERVING)?;
+    let network = OneSocket {
+        rt: &rt,
+        address: SocketAddr::new(near(), 0),
+        socket: &socket,
+    };
+    let words = [
+        "serve",
+        file.as_str(),
+        "--listen",
+        "127.0.0.2:0",
+        "--bursts",
+        "0",
+    ];
+    Run::of(&network, words.as_slice()).explains(SERVING)?;
+    let network = OneSocket {
+        rt: &rt,
+        address: SocketAddr::new(IPV6, 2944),
+        socket: &socket,
+    };
+    let words = [
+        "serve",
+        file.as_str(),
+        "--listen",
+        "[::1]:2944",
+        "--bursts",
+        "0",
+    ];
+    Run::of(&network, words.as_slice()).explains(SERVING)?;
+    let network = OneSocket {
+        rt: &rt,
+        address: everywhere(),
+        socket: &socket,
+    };
+    Run::of(&network, &["serve", file.as_str(), "--bursts", "0"]).explains(SERVING)?;
+    Ok(fs::remove_file(&rt, file.as_str())?)
 }
 
 /// The program serves two bursts over the network of a runtime, and ends with a fault: this was said, and this is its
