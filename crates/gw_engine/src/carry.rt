@@ -4,7 +4,7 @@ ghost use Rattle.std.specs.Prelude.{◌≡◌, [], map, IfOk, IfErr, OnOk, OnErr
 ghost use Rattle.gw_board.specs.Boards.{core_of, AllClosed, unclosed};
 ghost use Rattle.gw_board.specs.OpenJobs.{IsSameBurst};
 ghost use Rattle.gw_board.specs.Results.{NothingIsOpen, slots_of};
-ghost use Rattle.gw_table.specs.Stored.{maps_of, NoneIsOut};
+ghost use Rattle.gw_table.specs.Stored.{maps_of, AreSwept, NoneIsOut};
 ghost use Rattle.gw_table.specs.Unused.{AreUnused};
 ghost use Rattle.gw_table.specs.WellFormed.{AreWellFormed};
 ghost use Rattle.gw_engine.specs.Phases.{sent_of, done_by, entries_of, texts_of, answers_of};
@@ -132,7 +132,8 @@ fn with_texts(mut entries: Vec<Entry>, jobs: &[Asked<'_, '_>], texts: Vec<Items<
 }
 
 /// Executes requests and writes the answers of a burst, with a board that has the tables for that time. The caller
-/// knows that the tables are well-formed, that nothing is out, and that the slots that are owned are unused.
+/// knows that the tables are well-formed, that nothing is out, that each prepared key has an entry, and that the slots
+/// that are owned are unused. Then each prepared key has an entry again.
 ///
 /// # Errors
 ///
@@ -148,13 +149,16 @@ pub(crate) fn carried_out<R: Threads + Sync, G: Gate>(
 ) -> Result<Done, Tables>
     requires whole { AreWellFormed manner.rules.members (maps_of tables) }
     requires here { NoneIsOut tables }
+    requires swept { AreSwept tables }
     requires unused { AreUnused (maps_of tables) [] (slots_of jobs.now) }
     ensures tables { IfOk result (λ done. maps_of done.tables ≡ (done_by manner.rules jobs.now (maps_of tables)).maps) }
     ensures entries { IfOk result (λ done. done.entries.items ≡ entries_of manner.mid (map sent_of jobs.now) (done_by manner.rules jobs.now (maps_of tables)).answer) }
     ensures answers { IfOk result (λ done. done.answers ≡ answers_of manner.mid kept.now (texts_of done.entries.items) items.now) }
     ensures here { IfOk result (λ done. NoneIsOut done.tables) }
+    ensures swept { IfOk result (λ done. AreSwept done.tables) }
     ensures back { IfErr result (λ back. maps_of back ≡ maps_of tables) }
     ensures back_here { IfErr result (λ back. NoneIsOut back) }
+    ensures back_swept { IfErr result (λ back. AreSwept back) }
 {
     let Ok(entries) = Vec::with_capacity(alloc, jobs.len()) else {
         return Err(tables);

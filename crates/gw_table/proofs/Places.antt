@@ -16,7 +16,7 @@ use Rattle.gw_ctx.specs.Contexts.{ContextRecord}
 use Rattle.gw_table.specs.declared.place.Place.{Place}
 use Rattle.gw_table.specs.declared.place.Place.TheVariants.{Empty, Here, Out}
 use Rattle.gw_table.specs.Maps.{term, ctx, put_term, put_ctx, no_maps}
-use Rattle.gw_table.specs.Stored.{Stored, shown, has_left, placed, served, emptied, without_ctx, maps_of, is_ready, is_out, put_term_place, put_ctx_place, with_service, nothing_stored, NoneIsOut, AreAsOut}
+use Rattle.gw_table.specs.Stored.{Stored, shown, has_left, placed, served, emptied, without_ctx, maps_of, is_ready, is_out, put_term_place, put_ctx_place, with_service, nothing_stored, NoneIsOut, AreAsOut, AreSwept}
 use Rattle.gw_table.proofs.Lookups.{term-put_term, ctx-put_term, term-put_ctx, ctx-put_ctx, same_maps}
 use Rattle.gw_table.proofs.Shown.{got_shown, shown-cond}
 
@@ -43,6 +43,11 @@ pub nothing_out : NoneIsOut nothing_stored
 nothing_out (Term t) = ap (λ o. has_left o) (get-empty name_cmp t)
 nothing_out (Ctx n) = ap (λ o. has_left o) (get-empty nat_cmp n.0)
 nothing_out Whole = refl
+
+pub nothing_swept : AreSwept nothing_stored
+nothing_swept (Term t) = ap (λ o. is_some o) (get-empty name_cmp t) ∙ sym (ap (λ o. is_some o) (term-maps_of nothing_stored t ∙ ap (λ o. shown o) (get-empty name_cmp t)))
+nothing_swept (Ctx n) = ap (λ o. is_some o) (get-empty nat_cmp n.0) ∙ sym (ap (λ o. is_some o) (ctx-maps_of nothing_stored n ∙ ap (λ o. shown o) (get-empty nat_cmp n.0)))
+nothing_swept Whole = refl
 
 -- ---- one place
 
@@ -131,6 +136,19 @@ pub in-put_ctx : (s : Stored) (n : CtxNum) (p : Place ContextRecord) → has_lef
 in-put_ctx s n p g h (Term q) = h (Term q)
 in-put_ctx s n p g h (Ctx q) = ap (λ o. has_left o) (got_ctx s n p q) ∙ in_still (nat_eq q.0 n.0) p (finite.get s.contexts q.0) g (h (Ctx q))
 in-put_ctx s n p g h Whole = refl
+
+-- where each prepared key has an entry, it is so with one more entry
+swept_still : {A : Type 0} (b : Bool) (r : A) (x : Option (Place A)) → is_some x ≡ is_some (shown x) → is_some (cond b (Some (Here r)) x) ≡ is_some (shown (cond b (Some (Here r)) x))
+swept_still true r x h = refl
+swept_still false r x h = h
+
+pub swept-put_term : (s : Stored) (t : List ℕ) (r : Termination) → AreSwept s → AreSwept (put_term_place s t (Here r))
+swept-put_term s t r h (Term q) =
+    ap (λ o. is_some o) (got_term s t (Here r) q)
+    ∙ swept_still (bytes_eq q t) r (finite.get s.terms q) (h (Term q) ∙ ap (λ o. is_some o) (term-maps_of s q))
+    ∙ sym (ap (λ o. is_some o) (term-maps_of (put_term_place s t (Here r)) q ∙ ap (λ o. shown o) (got_term s t (Here r) q)))
+swept-put_term s t r h (Ctx q) = h (Ctx q) ∙ ap (λ o. is_some o) (ctx-maps_of s q ∙ sym (ctx-maps_of (put_term_place s t (Here r)) q))
+swept-put_term s t r h Whole = refl
 
 -- what is out stays so
 as_out : {K A : Type 0} (f : K → Option (Place A)) (b : Bool) (q t : K) (p : Place A) → (b ≡ true → q ≡ t) → has_left (Some p) ≡ false → has_left (f t) ≡ false → has_left (cond b (Some p) (f q)) ≡ has_left (f q)

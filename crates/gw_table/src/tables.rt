@@ -5,7 +5,7 @@ ghost use Rattle.std.specs.Option.{option_map};
 ghost use Rattle.gw_term.specs.Record.{provisioned};
 ghost use Rattle.gw_table.specs.Maps.{term, ctx, put_term, names, numbers, new_maps};
 ghost use Rattle.gw_table.specs.Provided.{put_missing, AreAmong};
-ghost use Rattle.gw_table.specs.Stored.{maps_of, nothing_stored, NoneIsOut};
+ghost use Rattle.gw_table.specs.Stored.{maps_of, nothing_stored, AreSwept, NoneIsOut};
 
 use crate::place::{Place, entry_at};
 use crate::reserved::SLOTS;
@@ -86,6 +86,7 @@ impl Tables {
     fn provide(&mut self, name: TermName) -> Result<(), NoMemory>
         ensures maps { OnOk result (maps_of self.new ≡ put_term (maps_of self.old) name (Some provisioned)) }
         ensures out { OnOk result (NoneIsOut self.old → NoneIsOut self.new) }
+        ensures swept { OnOk result (AreSwept self.old → AreSwept self.new) }
     {
         let new = Place::Here(Termination::provisioned());
         self.terms.insert(name, Row::of(new))?;
@@ -96,6 +97,7 @@ impl Tables {
     fn provide_missing(&mut self, name: &TermName) -> Result<(), NoMemory>
         ensures maps { OnOk result (maps_of self.new ≡ put_missing name.now (maps_of self.old) (term (maps_of self.old) name.now)) }
         ensures out { OnOk result (NoneIsOut self.old → NoneIsOut self.new) }
+        ensures swept { OnOk result (AreSwept self.old → AreSwept self.new) }
     {
         match self.find_term(name) {
             Some(_) => Ok(()),
@@ -107,8 +109,10 @@ impl Tables {
     fn provide_most(&mut self, names: &[TermName]) -> Result<(), NoMemory>
         requires among { AreAmong names.now (maps_of self.old) }
         requires out { NoneIsOut self.old }
+        requires swept { AreSwept self.old }
         ensures among { OnOk result (AreAmong names.now (maps_of self.new)) }
         ensures out { OnOk result (NoneIsOut self.new) }
+        ensures swept { OnOk result (AreSwept self.new) }
     {
         for (i, name) in names.iter().enumerate() {
             if i % 5 < 3 {
@@ -122,8 +126,10 @@ impl Tables {
     fn provide_others(&mut self, names: &[TermName]) -> Result<(), NoMemory>
         requires among { AreAmong names.now (maps_of self.old) }
         requires out { NoneIsOut self.old }
+        requires swept { AreSwept self.old }
         ensures maps { OnOk result (maps_of self.new ≡ new_maps names.now) }
         ensures out { OnOk result (NoneIsOut self.new) }
+        ensures swept { OnOk result (AreSwept self.new) }
     {
         for name in names {
             self.provide_missing(name)?;
@@ -132,7 +138,7 @@ impl Tables {
     }
 
     /// The configured terminations, all in the null context, and no contexts. A name that is given twice is there
-    /// once. The work is n log n in the names. Names that come in order are put in in two turns, so that the second
+    /// once. No other key is prepared. The work is n log n in the names. Names that come in order are put in in two turns, so that the second
     /// fills the nodes that the first left half full. There is room for the mark of each number and of each slot,
     /// 8,704 bytes.
     ///
@@ -142,6 +148,7 @@ impl Tables {
     pub fn provision(alloc: Global, config: &Config) -> Result<Tables, NoMemory>
         ensures maps { IfOk result (λ tables. maps_of tables ≡ new_maps config.now.terms) }
         ensures out { IfOk result NoneIsOut }
+        ensures swept { IfOk result AreSwept }
     {
         let names = config.terms.as_slice();
         let mut tables = Tables::marking(alloc, names.len())?;

@@ -26,6 +26,7 @@ invariant_of-result c =
       members = kept.members;
       keep = kept.keep;
       here = c.in_ok-tables.ensures.out;
+      swept = c.in_ok-tables.ensures.swept;
       well_formed = record {
         mid = c.as_bytes.ensures.form;
         address = c.as_bytes-2.ensures.form;

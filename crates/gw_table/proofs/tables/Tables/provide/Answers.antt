@@ -2,9 +2,9 @@ use Rattle.std.proofs.Common.{◌≡◌, subst, sym, ap, ◌∙◌, refl}
 use Rattle.gw_term.specs.Record.{provisioned}
 use Rattle.gw_term.specs.declared.record.Termination.{Termination}
 use Rattle.gw_table.specs.declared.place.Place.TheVariants.{Here}
-use Rattle.gw_table.specs.Stored.{Stored, stored, maps_of, put_term_place, NoneIsOut}
+use Rattle.gw_table.specs.Stored.{Stored, stored, maps_of, put_term_place, AreSwept, NoneIsOut}
 use Rattle.gw_table.proofs.Exchanged.{term_written}
-use Rattle.gw_table.proofs.Places.{maps-put_term_place, in-put_term}
+use Rattle.gw_table.proofs.Places.{maps-put_term_place, in-put_term, swept-put_term}
 use Rattle.gw_table.proofs.Standing.{marked_still, marked-put_still}
 use Rattle.std.proofs.Common.{Some}
 use Rattle.gw_table.specs.Maps.{put_term}
@@ -22,6 +22,9 @@ returns-clause-maps c = ap (λ s. maps_of s) (provided c) ∙ maps-put_term_plac
 
 pub returns-clause-out : goal.returns-clause-out
 returns-clause-out c h = subst (λ (s : Stored). NoneIsOut s) (sym (provided c)) (in-put_term c.args.self.now c.args.name (Here provisioned) refl h)
+
+pub returns-clause-swept : goal.returns-clause-swept
+returns-clause-swept c h = subst (λ (s : Stored). AreSwept s) (sym (provided c)) (swept-put_term c.args.self.now c.args.name provisioned h)
 
 pub invariant_of-self-2 : goal.invariant_of-self-2
 invariant_of-self-2 c =

@@ -9,7 +9,7 @@ use Rattle.gw_table.proofs.Provisioning.{in_at}
 use Rattle.gw_table.proofs.tables.Tables.provide_others.Goals as goal
 
 pub loop-name-init : goal.loop-name-init
-loop-name-init c = record { among = c.requires.among; there = none_there (maps_of c.args.self.now); out = c.requires.out }
+loop-name-init c = record { among = c.requires.among; there = none_there (maps_of c.args.self.now); out = c.requires.out; swept = c.requires.swept }
 
 pub loop-name-preserved : goal.loop-name-preserved
 loop-name-preserved c =
@@ -24,6 +24,7 @@ loop-name-preserved c =
       among = subst (λ (x : Maps). AreAmong names x) after (among_missing names t m (term m t) inside c.loop-name.invariant.among);
       there = subst (λ (x : Maps). AreThere (take (i + 1) names) x) after (subst (λ (l : List (List ℕ)). AreThere l (put_missing t m (term m t))) (sym more) (there_missing names (take i names) t m c.loop-name.invariant.among c.loop-name.invariant.there));
       out = c.in_ok-provide_missing.ensures.out c.loop-name.invariant.out;
+      swept = c.in_ok-provide_missing.ensures.swept c.loop-name.invariant.swept;
     }
 
 pub returns-clause-maps : goal.returns-clause-maps
