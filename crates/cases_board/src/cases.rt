@@ -1,7 +1,7 @@
 //! The lines of a case: the tables, a burst, and the steps on its board.
 
 use crate::bench::Bench;
-use cases_text::{CaseFault, Desk, Page, config_of, decoded, number_of, split_word};
+use cases_text::{CaseFault, CaseRunner, Page, config_of, decoded, number_of, split_word};
 use gw_base::Config;
 use std::alloc::Global;
 
@@ -132,7 +132,7 @@ impl Cases {
     }
 }
 
-impl Desk for Cases {
+impl CaseRunner for Cases {
     fn answer(&mut self, call: &str, asked: &[u8], out: &mut Page) -> Result<(), CaseFault> {
         match call {
             "new" => self.make(out.alloc(), asked),

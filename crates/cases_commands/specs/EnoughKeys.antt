@@ -1,4 +1,4 @@
--- Keys on which any command can be carried out: all of the tables, and those of the command (own).
+-- Keys on which any command can be executed: all of the tables, and those of the command (own).
 use Rattle.std.specs.Prelude.{ℕ, List, [], ◌++◌, Option}
 use Rattle.gw_base.specs.declared.key.Key.{Key}
 use Rattle.gw_base.specs.Keys.{Among}

@@ -1,4 +1,4 @@
-//! Tables on which single commands are carried out.
+//! Tables on which single commands are executed.
 
 ghost use Rattle.std.specs.Prelude.{◌≡◌, true, OnOk};
 ghost use Rattle.std.specs.List.{list_any};
@@ -74,39 +74,39 @@ fn command_of<'m, 'a>(message: &'m Message<'a>) -> Option<&'m Command<'a>> {
     Some(command)
 }
 
-/// Carries a command out on a draft of all of the tables.
-fn carry_out(
+/// Executes a command on a draft of all of the tables.
+fn execute(
     alloc: Global,
     rules: &Rules,
     tables: &mut Tables,
     place: Place,
-    asked: &Command<'_>,
+    given: &Command<'_>,
 ) -> Result<CmdOutcome, NoMemory>
     requires whole { AreWellFormed rules.now.members (maps_of tables.old) }
     requires here { NoneIsOut tables.old }
     requires unused { IsUnused place.slot (maps_of tables.old) }
-    ensures maps { OnOk result (maps_of tables.new ≡ (command_done rules.now place.at place.slot asked.now (maps_of tables.old)).maps) }
+    ensures maps { OnOk result (maps_of tables.new ≡ (command_done rules.now place.at place.slot given.now (maps_of tables.old)).maps) }
     ensures here { OnOk result (NoneIsOut tables.new) }
 {
-    let keys = enough_keys(alloc, tables, place, asked)?;
+    let keys = enough_keys(alloc, tables, place, given)?;
     tables.reserve_slots(keys.list())?;
     let part = tables.take_out(keys);
     let mut draft = Draft::of_part(part);
-    let outcome = command(alloc, rules, &mut draft, place.at, place.slot, asked)?;
+    let outcome = command(alloc, rules, &mut draft, place.at, place.slot, given)?;
     let after = draft.into_part();
     tables.put_back(after);
     tables.sweep();
     Ok(outcome)
 }
 
-/// The command carried out at its place in these tables: its replies, and the tables after it. The caller knows that they are
-/// well-formed, and that nothing is out.
+/// The command executed at its place in these tables: its replies, and the tables after it. The caller knows that they
+/// are well-formed, and that nothing is out.
 fn carried_in(
     alloc: Global,
     rules: &Rules,
     mut tables: Tables,
     place: Place,
-    asked: &Command<'_>,
+    given: &Command<'_>,
 ) -> Result<(CmdOutcome, Bench), CaseFault>
     requires whole { AreWellFormed rules.now.members (maps_of tables) }
     requires here { NoneIsOut tables }
@@ -114,7 +114,7 @@ fn carried_in(
     if !is_unused(&tables, place.slot) {
         return Err(CaseFault::Form);
     }
-    let Ok(outcome) = carry_out(alloc, rules, &mut tables, place, asked) else {
+    let Ok(outcome) = execute(alloc, rules, &mut tables, place, given) else {
         return Err(CaseFault::NoMemory);
     };
     let rules = *rules;
@@ -144,19 +144,19 @@ impl Bench {
         &self.tables
     }
 
-    /// The command carried out at its place: its replies, and the tables after it.
+    /// The command executed at its place: its replies, and the tables after it.
     fn carried(
         self,
         alloc: Global,
         place: Place,
-        asked: &Command<'_>,
+        given: &Command<'_>,
     ) -> Result<(CmdOutcome, Bench), CaseFault> {
         let Bench { rules, tables } = self;
-        carried_in(alloc, &rules, tables, place, asked)
+        carried_in(alloc, &rules, tables, place, given)
     }
 
-    /// The command of a message carried out at its place.
-    fn asked_by(
+    /// The command of a message executed at its place.
+    fn executed_of(
         self,
         alloc: Global,
         place: Place,
@@ -167,13 +167,13 @@ impl Bench {
             return Err(CaseFault::Form);
         };
         match command_of(&message) {
-            Some(asked) => self.carried(alloc, place, asked),
+            Some(given) => self.carried(alloc, place, given),
             None => Err(CaseFault::Form),
         }
     }
 
-    /// The command of this text carried out at its place: its replies, and the tables after it.
-    pub fn asked(
+    /// The command of this text executed at its place: its replies, and the tables after it.
+    pub fn executed(
         self,
         alloc: Global,
         place: Place,
@@ -183,6 +183,6 @@ impl Bench {
         whole.put(b"MEGACO/1 mg T=1{C=-{");
         whole.put(text);
         whole.put(b"}}");
-        self.asked_by(alloc, place, whole.whole()?)
+        self.executed_of(alloc, place, whole.whole()?)
     }
 }

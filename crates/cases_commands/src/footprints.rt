@@ -1,4 +1,4 @@
-//! Which entries of the tables a request may touch, and whether two requests may touch the same.
+//! Which entries of the tables a request may claim, and whether two requests may claim the same.
 
 use bumpalo::Bump;
 use cases_text::{CaseFault, Page, decoded, split_at_byte};
@@ -49,7 +49,7 @@ fn keys_in(alloc: Global, tables: &Tables, message: &[u8]) -> Result<Keys, CaseF
 }
 
 /// The keys of the request of these actions.
-fn keys_asked(alloc: Global, tables: &Tables, actions: &[u8]) -> Result<Keys, CaseFault> {
+fn keys_of_text(alloc: Global, tables: &Tables, actions: &[u8]) -> Result<Keys, CaseFault> {
     let text = decoded(alloc, actions)?;
     let mut whole = Page::new(alloc);
     whole.put(b"MEGACO/1 mg T=1{");
@@ -71,7 +71,7 @@ fn write_key(out: &mut Page, key: &Key) {
 
 /// The keys of a request, in order.
 pub fn write_footprint(out: &mut Page, tables: &Tables, actions: &[u8]) -> Result<(), CaseFault> {
-    let keys = keys_asked(out.alloc(), tables, actions)?;
+    let keys = keys_of_text(out.alloc(), tables, actions)?;
     let keys = keys.list();
     if keys.is_empty() {
         out.put(b"none");
@@ -87,10 +87,10 @@ pub fn write_footprint(out: &mut Page, tables: &Tables, actions: &[u8]) -> Resul
 }
 
 /// Whether two requests meet, whose actions stand on either side of a `|`.
-pub fn write_meeting(out: &mut Page, tables: &Tables, asked: &[u8]) -> Result<(), CaseFault> {
-    let (first, second) = split_at_byte(asked, b'|');
-    let first = keys_asked(out.alloc(), tables, first)?;
-    let second = keys_asked(out.alloc(), tables, second)?;
+pub fn write_meeting(out: &mut Page, tables: &Tables, given: &[u8]) -> Result<(), CaseFault> {
+    let (first, second) = split_at_byte(given, b'|');
+    let first = keys_of_text(out.alloc(), tables, first)?;
+    let second = keys_of_text(out.alloc(), tables, second)?;
     let answer: &[u8] = if meets(&first, &second) {
         b"they meet\n"
     } else {

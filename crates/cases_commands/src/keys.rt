@@ -1,4 +1,4 @@
-//! Keys on which any command can be carried out.
+//! Keys on which any command can be executed.
 
 ghost use Rattle.std.specs.Prelude.{◌≡◌, ◌++◌, IfOk, OnOk, map};
 ghost use Rattle.gw_base.specs.declared.key.Key.TheVariants.{Term, Ctx};
@@ -99,13 +99,13 @@ pub fn enough_keys(
     alloc: Global,
     tables: &Tables,
     place: Place,
-    asked: &Command<'_>,
+    given: &Command<'_>,
 ) -> Result<Keys, NoMemory>
-    ensures { IfOk result (λ keys. AreEnough keys place.at place.slot asked.now (maps_of tables.now)) }
+    ensures { IfOk result (λ keys. AreEnough keys place.at place.slot given.now (maps_of tables.now)) }
 {
     let mut keys = every_key(alloc, tables)?;
     add_context(tables, place.at, &mut keys)?;
-    add_named(tables, asked.term, &mut keys)?;
+    add_named(tables, given.term, &mut keys)?;
     add_slot(place.slot, &mut keys)?;
     Ok(Keys::of(alloc, &keys)?)
 }

@@ -1,4 +1,5 @@
-//! Cases of single commands on tables: what each is answered, and what it changes; and which entries requests may touch.
+//! Cases of single commands on tables: what each is answered, and what it changes; and which entries requests may
+//! claim.
 #![tactic(auto)]
 
 mod bench;

@@ -1,4 +1,5 @@
-//! Where a command stands: `null`, `live 1`, `unmade 2` or `each 1`, and behind it `slot=0` where the command owns a slot.
+//! Where a command stands: `null`, `live 1`, `unmade 2` or `each 1`, and behind it `slot=0` where the command owns a
+//! slot.
 
 use cases_text::{CaseFault, number_of, split_word};
 use gw_base::CtxNum;

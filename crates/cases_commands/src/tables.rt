@@ -41,7 +41,7 @@ pub fn write_outcome(out: &mut Page, outcome: CmdOutcome) -> Result<(), CaseFaul
     let reply = tree_of(out.alloc(), outcome.replies)?;
     match write_reply(out.alloc(), &reply, &mid) {
         Ok(text) => out.encoded(replies_of(text.as_slice()).unwrap_or(b"")),
-        Err(fault) => out.shown(&fault),
+        Err(fault) => out.display(&fault),
     }
     out.put(b"\n");
     Ok(())

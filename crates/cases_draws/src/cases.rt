@@ -3,7 +3,7 @@
 ghost use Rattle.std.specs.Prelude.{◌≡◌, ◌*◌, ◌<◌, ◌≤◌, ◌^◌, IfOk, length, vec_len};
 ghost use Rattle.cases_draws.specs.Squares.{AreSquares};
 
-use crate::asked::Asked;
+use crate::requested_draw::RequestedDraw;
 use cases_meeting::{Meeting, Tally};
 use cases_text::{CaseFault, Page};
 use gw_base::NoMemory;
@@ -75,9 +75,9 @@ fn write_count(out: &mut Page, name: &[u8], count: u64) {
 }
 
 /// The answers of one worker on the only seat, each behind its number.
-fn draw_alone(asked: Asked, out: &mut Page) -> Result<(), CaseFault> {
+fn draw_alone(request: RequestedDraw, out: &mut Page) -> Result<(), CaseFault> {
     let alloc = out.alloc();
-    let jobs = jobs_of(alloc, asked.jobs)?;
+    let jobs = jobs_of(alloc, request.jobs)?;
     let Ok((table, mut seat)) = Table::new(alloc, jobs.len() as u64, 1) else {
         return Err(CaseFault::NoMemory);
     };
@@ -112,7 +112,8 @@ fn write_meeting<R: Clock>(out: &mut Page, meeting: &Meeting<'_, R>, answers: &[
     write_answers(out, answers);
 }
 
-/// The squares, each by a job that may fail, as one that takes memory may. Its contract shows what a caller knows of the answers.
+/// The squares, each by a job that may fail, as one that takes memory may. Its contract shows what a caller knows of
+/// the answers.
 fn squares<R: Threads + Sync>(
     rt: &R,
     alloc: Global,
@@ -132,10 +133,14 @@ fn squares<R: Threads + Sync>(
 }
 
 /// The squares, one behind another.
-fn square<R: Threads + Sync>(rt: &R, asked: Asked, out: &mut Page) -> Result<(), CaseFault> {
+fn square<R: Threads + Sync>(
+    rt: &R,
+    request: RequestedDraw,
+    out: &mut Page,
+) -> Result<(), CaseFault> {
     let alloc = out.alloc();
-    let jobs = jobs_of(alloc, asked.jobs)?;
-    let Ok(answers) = squares(rt, alloc, asked.workers, jobs.as_slice()) else {
+    let jobs = jobs_of(alloc, request.jobs)?;
+    let Ok(answers) = squares(rt, alloc, request.workers, jobs.as_slice()) else {
         return Err(CaseFault::NoMemory);
     };
     if answers.is_empty() {
@@ -169,7 +174,7 @@ impl Counts {
         })
     }
 
-    /// A job is carried out.
+    /// A job is executed.
     fn carry(&self, job: &Job) -> u64 {
         self.called.note(job.place);
         if self.passed.at(job.place) == 1 {
@@ -191,15 +196,19 @@ impl Gate for Counts {
     }
 }
 
-/// How often each job is carried out, and the gate passed before it.
-fn count<R: Threads + Sync>(rt: &R, asked: Asked, out: &mut Page) -> Result<(), CaseFault> {
+/// How often each job is executed, and the gate passed before it.
+fn count<R: Threads + Sync>(
+    rt: &R,
+    request: RequestedDraw,
+    out: &mut Page,
+) -> Result<(), CaseFault> {
     let alloc = out.alloc();
-    let jobs = jobs_of(alloc, asked.jobs)?;
-    let counts = Counts::new(alloc, asked.jobs)?;
+    let jobs = jobs_of(alloc, request.jobs)?;
+    let counts = Counts::new(alloc, request.jobs)?;
     let answers = draw_map(
         rt,
         alloc,
-        asked.workers,
+        request.workers,
         jobs.as_slice(),
         |job: &Job| counts.carry(job),
         &counts,
@@ -217,16 +226,16 @@ fn count<R: Threads + Sync>(rt: &R, asked: Asked, out: &mut Page) -> Result<(), 
 /// Jobs that meet at the gate.
 fn meet_at_gate<R: Threads + Clock + Sync>(
     rt: &R,
-    asked: Asked,
+    request: RequestedDraw,
     out: &mut Page,
 ) -> Result<(), CaseFault> {
     let alloc = out.alloc();
-    let jobs = jobs_of(alloc, asked.jobs)?;
-    let meeting = Meeting::new(rt, alloc, asked.jobs, asked.place)?;
+    let jobs = jobs_of(alloc, request.jobs)?;
+    let meeting = Meeting::new(rt, alloc, request.jobs, request.place)?;
     let answers = draw_map(
         rt,
         alloc,
-        asked.workers,
+        request.workers,
         jobs.as_slice(),
         |job: &Job| job.squared(),
         &meeting,
@@ -238,15 +247,19 @@ fn meet_at_gate<R: Threads + Clock + Sync>(
     Ok(())
 }
 
-/// Jobs that meet while they are carried out.
-fn meet<R: Threads + Clock + Sync>(rt: &R, asked: Asked, out: &mut Page) -> Result<(), CaseFault> {
+/// Jobs that meet while they are executed.
+fn meet<R: Threads + Clock + Sync>(
+    rt: &R,
+    request: RequestedDraw,
+    out: &mut Page,
+) -> Result<(), CaseFault> {
     let alloc = out.alloc();
-    let jobs = jobs_of(alloc, asked.jobs)?;
-    let meeting = Meeting::new(rt, alloc, asked.jobs, asked.place)?;
+    let jobs = jobs_of(alloc, request.jobs)?;
+    let meeting = Meeting::new(rt, alloc, request.jobs, request.place)?;
     let answers = draw_map(
         rt,
         alloc,
-        asked.workers,
+        request.workers,
         jobs.as_slice(),
         |job: &Job| {
             meeting.come(job.place);
@@ -269,16 +282,16 @@ fn meet<R: Threads + Clock + Sync>(rt: &R, asked: Asked, out: &mut Page) -> Resu
 pub fn answer<R: Threads + Clock + Sync>(
     rt: &R,
     call: &str,
-    asked: &[u8],
+    request: &[u8],
     out: &mut Page,
 ) -> Result<(), CaseFault> {
-    let asked = Asked::read(asked)?;
+    let request = RequestedDraw::read(request)?;
     match call {
-        "square" => square(rt, asked, out),
-        "alone" => draw_alone(asked, out),
-        "count" => count(rt, asked, out),
-        "gate" => meet_at_gate(rt, asked, out),
-        "meet" => meet(rt, asked, out),
+        "square" => square(rt, request, out),
+        "alone" => draw_alone(request, out),
+        "count" => count(rt, request, out),
+        "gate" => meet_at_gate(rt, request, out),
+        "meet" => meet(rt, request, out),
         _ => Err(CaseFault::Call),
     }
 }

@@ -1,5 +1,5 @@
-//! Each line of the input, and below a case its answer, as `cases_text::transcript` writes them. That one asks a `Desk`, and no
-//! method of a trait can pass a runtime on to threads.
+//! Each line of the input, and below a case its answer, as `cases_text::transcript` writes them. That one takes a
+//! `CaseRunner`, and no method of a trait can pass a runtime on to threads.
 
 use crate::cases::answer;
 use cases_text::{CaseFault, Page, as_text, split_at_byte, split_word};
@@ -13,8 +13,8 @@ fn answered<'p, R: Threads + Clock + Sync>(
     line: &[u8],
     page: &'p mut Page,
 ) -> Result<&'p [u8], CaseFault> {
-    let (call, asked) = split_word(line);
-    answer(rt, as_text(call), asked, page)?;
+    let (call, request) = split_word(line);
+    answer(rt, as_text(call), request, page)?;
     page.whole()
 }
 

@@ -1,9 +1,10 @@
-//! Cases of jobs that workers draw: what they are answered, how often each is carried out, and that workers run at the same time.
+//! Cases of jobs that workers draw: what they are answered, how often each is executed, and that workers run at the
+//! same time.
 #![tactic(auto)]
 
-mod asked;
 mod cases;
 mod lines;
+mod requested_draw;
 
 use lines::transcript;
 use std::io;

@@ -1,4 +1,4 @@
-//! Answers, as cases tell them.
+//! Answers, as cases write them.
 
 use cases_text::Page;
 use gw_base::Items;

@@ -62,18 +62,18 @@ pub fn answer<R: Files + Net + Wait + Threads + Clock + AllocGlobal + Sync>(
     rt: &R,
     cases: &mut Cases,
     call: &str,
-    asked: &[u8],
+    given: &[u8],
     out: &mut Page,
 ) -> Result<(), CaseFault> {
     if call == "subject" {
-        cases.subject = subject_of(asked)?;
+        cases.subject = subject_of(given)?;
         return Ok(());
     }
     match cases.subject {
-        Subject::Gateways => gateways::answer(rt, &mut cases.gateways, call, asked, out),
-        Subject::Configurations => configurations::answer(call, asked, out),
-        Subject::Replays => replays::answer(rt, call, asked, out),
-        Subject::Networks => networks::answer(rt, &mut cases.networks, call, asked, out),
-        Subject::Programs => programs::answer(rt, &mut cases.programs, call, asked, out),
+        Subject::Gateways => gateways::answer(rt, &mut cases.gateways, call, given, out),
+        Subject::Configurations => configurations::answer(call, given, out),
+        Subject::Replays => replays::answer(rt, call, given, out),
+        Subject::Networks => networks::answer(rt, &mut cases.networks, call, given, out),
+        Subject::Programs => programs::answer(rt, &mut cases.programs, call, given, out),
     }
 }

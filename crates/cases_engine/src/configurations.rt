@@ -10,9 +10,9 @@ const LONGEST: usize = 16_777_216;
 
 /// The configuration in one line.
 fn write_config(out: &mut Page, config: &Config) {
-    out.shown(&config.mid);
+    out.display(&config.mid);
     out.put(b" ");
-    out.shown(&config.media);
+    out.display(&config.media);
     for number in [config.contexts, config.slots, config.members, config.keep] {
         out.put(b" ");
         out.number(u64::from(number));
@@ -40,14 +40,14 @@ fn write_read(out: &mut Page, text: &[u8]) -> Result<(), CaseFault> {
 }
 
 /// The answer to a case of configurations.
-pub fn answer(call: &str, asked: &[u8], out: &mut Page) -> Result<(), CaseFault> {
+pub fn answer(call: &str, given: &[u8], out: &mut Page) -> Result<(), CaseFault> {
     match call {
         "text" => {
-            let text = decoded(out.alloc(), asked)?;
+            let text = decoded(out.alloc(), given)?;
             write_read(out, text.as_slice())
         }
         "times" => {
-            let text = repeated(out.alloc(), asked)?;
+            let text = repeated(out.alloc(), given)?;
             write_read(out, text.whole()?)
         }
         _ => Err(CaseFault::Call),

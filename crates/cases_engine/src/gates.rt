@@ -1,4 +1,4 @@
-//! A gate that counts: how many waves a burst is carried out in.
+//! A gate that counts: how many waves a burst is executed in.
 
 use cases_meeting::Tally;
 use cases_text::Page;
@@ -19,7 +19,7 @@ impl Waves {
     ///
     /// # Errors
     ///
-    /// `AllocError` where a growth was refused.
+    /// `AllocError` where an allocation was refused.
     pub fn new(alloc: Global) -> Result<Waves, AllocError> {
         Ok(Waves {
             passed: Tally::new(alloc, MOST_JOBS)?,

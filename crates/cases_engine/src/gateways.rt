@@ -2,7 +2,7 @@
 
 use crate::answers::PEER;
 use crate::bursts::{CONTROLLER, add, add_many, datagram_of};
-use crate::crews::{Audit, Crews, Told, run, write_audit};
+use crate::variants::{Audit, BurstReport, Variants, run, write_audit};
 use cases_text::{CaseFault, Page, decoded, number_of, split_word};
 use gw_base::Items;
 use gw_engine::{ConfigFault, Datagram};
@@ -14,40 +14,46 @@ use std::thread::Threads;
 /// The gateways that cases are about, which live until the next are made, and the datagrams of their next burst.
 #[derive(Drop)]
 pub struct Gateways {
-    crews: Crews,
+    variants: Variants,
     burst: Items<Datagram>,
 }
 
 /// The answers to a datagram.
-fn write_asked<R: Threads + Clock + Sync>(
+fn write_datagram<R: Threads + Clock + Sync>(
     rt: &R,
-    crews: &mut Crews,
+    variants: &mut Variants,
     text: &[u8],
     out: &mut Page,
 ) -> Result<(), CaseFault> {
     let datagram = datagram_of(out.alloc(), PEER, text)?;
-    run(rt, crews, slice::from_ref(&datagram), Told::Each, out)?;
+    run(
+        rt,
+        variants,
+        slice::from_ref(&datagram),
+        BurstReport::Each,
+        out,
+    )?;
     Ok(())
 }
 
 /// The answers to a datagram from the controller.
-fn write_told<R: Threads + Clock + Sync>(
+fn write_headed<R: Threads + Clock + Sync>(
     rt: &R,
-    crews: &mut Crews,
+    variants: &mut Variants,
     text: &[u8],
     out: &mut Page,
 ) -> Result<(), CaseFault> {
     let mut whole = Page::new(out.alloc());
     whole.put(CONTROLLER);
     whole.put(text);
-    write_asked(rt, crews, whole.whole()?, out)
+    write_datagram(rt, variants, whole.whole()?, out)
 }
 
-/// The answers to a transaction of this number and of so many actions, each of which makes a context with a termination of its
-/// own.
+/// The answers to a transaction of this number and of so many actions, each of which makes a context with a termination
+/// of its own.
 fn write_each<R: Threads + Clock + Sync>(
     rt: &R,
-    crews: &mut Crews,
+    variants: &mut Variants,
     words: &[u8],
     out: &mut Page,
 ) -> Result<(), CaseFault> {
@@ -63,21 +69,21 @@ fn write_each<R: Threads + Clock + Sync>(
         text.put(b"}");
     }
     text.put(b"}");
-    write_told(rt, crews, text.whole()?, out)
+    write_headed(rt, variants, text.whole()?, out)
 }
 
 /// The answers to each proper prefix of a datagram: the first, and how many of the others are like it.
 fn write_prefixes<R: Threads + Clock + Sync>(
     rt: &R,
-    crews: &mut Crews,
+    variants: &mut Variants,
     text: &[u8],
     out: &mut Page,
 ) -> Result<(), CaseFault> {
     let mut like = 0u64;
-    write_asked(rt, crews, b"", out)?;
+    write_datagram(rt, variants, b"", out)?;
     for end in 0..text.len() {
         let mut other = Page::new(out.alloc());
-        write_asked(rt, crews, &text[..end], &mut other)?;
+        write_datagram(rt, variants, &text[..end], &mut other)?;
         if other.whole()? == out.as_bytes() {
             like = like.saturating_add(1);
         }
@@ -91,10 +97,10 @@ fn write_prefixes<R: Threads + Clock + Sync>(
 /// The answers to a burst of nothing.
 fn write_nothing<R: Threads + Clock + Sync>(
     rt: &R,
-    crews: &mut Crews,
+    variants: &mut Variants,
     out: &mut Page,
 ) -> Result<(), CaseFault> {
-    run(rt, crews, &[], Told::Each, out)?;
+    run(rt, variants, &[], BurstReport::Each, out)?;
     Ok(())
 }
 
@@ -102,14 +108,14 @@ fn write_nothing<R: Threads + Clock + Sync>(
 fn write_burst<R: Threads + Clock + Sync>(
     rt: &R,
     gateways: &mut Gateways,
-    told: Told,
+    requested: BurstReport,
     out: &mut Page,
 ) -> Result<(), CaseFault> {
     if run(
         rt,
-        &mut gateways.crews,
+        &mut gateways.variants,
         gateways.burst.as_slice(),
-        told,
+        requested,
         out,
     )? {
         gateways.burst.clear();
@@ -130,13 +136,13 @@ impl Gateways {
     /// No gateway yet.
     pub fn new(alloc: Global) -> Gateways {
         Gateways {
-            crews: Crews::new(alloc),
+            variants: Variants::new(alloc),
             burst: Items::new(alloc),
         }
     }
 
     /// Adds a datagram from the controller to the burst.
-    fn add_told(&mut self, alloc: Global, text: &[u8]) -> Result<(), CaseFault> {
+    fn add_headed(&mut self, alloc: Global, text: &[u8]) -> Result<(), CaseFault> {
         let mut whole = Page::new(alloc);
         whole.put(CONTROLLER);
         whole.put(text);
@@ -153,17 +159,17 @@ fn answer_there<R: Threads + Clock + Sync>(
     out: &mut Page,
 ) -> Result<(), CaseFault> {
     match call {
-        "Q" => write_told(rt, &mut gateways.crews, text, out),
-        "datagram" => write_asked(rt, &mut gateways.crews, text, out),
-        "each" => write_each(rt, &mut gateways.crews, text, out),
-        "prefixes" => write_prefixes(rt, &mut gateways.crews, text, out),
-        "nothing" => write_nothing(rt, &mut gateways.crews, out),
-        "burst" => write_burst(rt, gateways, Told::Each, out),
-        "last" => write_burst(rt, gateways, Told::Last, out),
-        "waves" => write_burst(rt, gateways, Told::Waves, out),
-        "meet" => write_burst(rt, gateways, Told::Meeting(place_of(text)?), out),
-        "audit" => write_audit(&gateways.crews, Audit::Text, out),
-        "audit-size" => write_audit(&gateways.crews, Audit::Size, out),
+        "Q" => write_headed(rt, &mut gateways.variants, text, out),
+        "datagram" => write_datagram(rt, &mut gateways.variants, text, out),
+        "each" => write_each(rt, &mut gateways.variants, text, out),
+        "prefixes" => write_prefixes(rt, &mut gateways.variants, text, out),
+        "nothing" => write_nothing(rt, &mut gateways.variants, out),
+        "burst" => write_burst(rt, gateways, BurstReport::Each, out),
+        "last" => write_burst(rt, gateways, BurstReport::Last, out),
+        "waves" => write_burst(rt, gateways, BurstReport::Waves, out),
+        "meet" => write_burst(rt, gateways, BurstReport::Meeting(place_of(text)?), out),
+        "audit" => write_audit(&gateways.variants, Audit::Text, out),
+        "audit-size" => write_audit(&gateways.variants, Audit::Size, out),
         _ => Err(CaseFault::Call),
     }
 }
@@ -173,19 +179,19 @@ pub fn answer<R: Threads + Clock + Sync>(
     rt: &R,
     gateways: &mut Gateways,
     call: &str,
-    asked: &[u8],
+    given: &[u8],
     out: &mut Page,
 ) -> Result<(), CaseFault> {
-    let text = decoded(out.alloc(), asked)?;
+    let text = decoded(out.alloc(), given)?;
     let text = text.as_slice();
     match call {
-        "workers" => gateways.crews.choose(text),
-        "new" => gateways.crews.make(text, out),
+        "workers" => gateways.variants.choose(text),
+        "new" => gateways.variants.make(text, out),
         "no-memory" => {
-            out.shown(&ConfigFault::NoMemory);
+            out.display(&ConfigFault::NoMemory);
             Ok(())
         }
-        "+Q" => gateways.add_told(out.alloc(), text),
+        "+Q" => gateways.add_headed(out.alloc(), text),
         "+datagram" => add(out.alloc(), &mut gateways.burst, text),
         "+many" => add_many(out.alloc(), &mut gateways.burst, text),
         _ => answer_there(rt, gateways, call, text, out),

@@ -48,7 +48,7 @@ fn write_sender(out: &mut Page, sender: SocketAddr) {
     if sender.ip() == HOST {
         out.number(u64::from(sender.port()));
     } else {
-        out.shown(&sender);
+        out.display(&sender);
     }
 }
 

@@ -7,7 +7,6 @@ mod bursts;
 mod cases;
 mod clocks;
 mod configurations;
-mod crews;
 mod gates;
 mod gateways;
 mod line;
@@ -18,6 +17,7 @@ mod programs;
 mod repeats;
 mod replays;
 mod streams;
+mod variants;
 mod workers;
 
 use lines::transcript;

@@ -28,7 +28,7 @@ pub struct Networks {
 fn write_ended(out: &mut Page, ended: Result<Totals, ServeFault>) {
     match ended {
         Ok(_) => out.put(b"done"),
-        Err(fault) => out.shown(&fault),
+        Err(fault) => out.display(&fault),
     }
 }
 
@@ -154,23 +154,23 @@ pub fn answer<R: Wait + Threads + Sync>(
     rt: &R,
     networks: &mut Networks,
     call: &str,
-    asked: &[u8],
+    given: &[u8],
     out: &mut Page,
 ) -> Result<(), CaseFault> {
     match call {
-        "from" => return networks.add(out.alloc(), 1, asked),
+        "from" => return networks.add(out.alloc(), 1, given),
         "times" => {
-            let (count, words) = split_word(asked);
+            let (count, words) = split_word(given);
             let count = number_of(count).ok_or(CaseFault::Form)?;
             return networks.add(out.alloc(), count, words);
         }
         "pause" => networks.line.add_nothing()?,
         "broken" => networks.line.add_broken()?,
-        "deaf" => networks.line.set_deaf(sender_in(asked)?),
-        "controller" => networks.add_controller(asked)?,
-        "report" => networks.report = number_of(asked).map(u64::from),
-        "clock" => networks.readings = readings_of(out.alloc(), asked)?,
-        "serve" => return serve(rt, networks.take(out.alloc()), asked, out),
+        "deaf" => networks.line.set_deaf(sender_in(given)?),
+        "controller" => networks.add_controller(given)?,
+        "report" => networks.report = number_of(given).map(u64::from),
+        "clock" => networks.readings = readings_of(out.alloc(), given)?,
+        "serve" => return serve(rt, networks.take(out.alloc()), given, out),
         _ => return Err(CaseFault::Call),
     }
     Ok(())

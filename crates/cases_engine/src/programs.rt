@@ -13,7 +13,7 @@ use std::sync::Wait;
 use std::thread::Threads;
 use std::time::Clock;
 
-/// The standard input of the runs below, which was told last.
+/// The standard input of the runs below, which was written last.
 #[derive(Drop)]
 pub struct Programs {
     input: Vec<u8>,
@@ -92,14 +92,14 @@ fn run<R: Files + Net + Wait + Threads + Clock + AllocGlobal + Sync>(
 ) -> Result<(), CaseFault> {
     let words = words_of(out.alloc(), line)?;
     let mut input = Input::new(input, ends.input_fails);
-    let mut told = Output::new(Vec::new(out.alloc()), ends.room);
+    let mut written = Output::new(Vec::new(out.alloc()), ends.room);
     let mut err = Stream {
         stream: Output::new(Vec::new(out.alloc()), ends.err_room),
     };
-    let status = program(rt, words.as_slice(), &mut input, &mut told, &mut err);
+    let status = program(rt, words.as_slice(), &mut input, &mut written, &mut err);
     out.put(b"status ");
     out.number(u64::from(status));
-    write_stream(out, b"out ", told.as_bytes());
+    write_stream(out, b"out ", written.as_bytes());
     write_stream(out, b"err ", err.stream.as_bytes());
     Ok(())
 }
@@ -135,7 +135,7 @@ pub fn answer<R: Files + Net + Wait + Threads + Clock + AllocGlobal + Sync>(
     rt: &R,
     programs: &mut Programs,
     call: &str,
-    asked: &[u8],
+    given: &[u8],
     out: &mut Page,
 ) -> Result<(), CaseFault> {
     let failing = Ends {
@@ -148,16 +148,16 @@ pub fn answer<R: Files + Net + Wait + Threads + Clock + AllocGlobal + Sync>(
     };
     let input = programs.input.as_slice();
     match call {
-        "file" => return write_file(rt, asked, out),
-        "input" => programs.input = decoded(out.alloc(), asked)?,
+        "file" => return write_file(rt, given, out),
+        "input" => programs.input = decoded(out.alloc(), given)?,
         "input-more" => {
-            let more = repeated(out.alloc(), asked)?;
+            let more = repeated(out.alloc(), given)?;
             programs.input.extend_from_slice(more.whole()?)?;
         }
-        "run" => return run(rt, input, asked, WELL, out),
-        "run-unread" => return run(rt, input, asked, failing, out),
-        "run-mute" => return run(rt, input, asked, mute, out),
-        "run-short" => return run_short(rt, input, asked, out),
+        "run" => return run(rt, input, given, WELL, out),
+        "run-unread" => return run(rt, input, given, failing, out),
+        "run-mute" => return run(rt, input, given, mute, out),
+        "run-short" => return run_short(rt, input, given, out),
         "no-text" => write_unreadable(ErrorKind::InvalidData, out),
         "no-memory" => write_unreadable(ErrorKind::OutOfMemory, out),
         _ => return Err(CaseFault::Call),

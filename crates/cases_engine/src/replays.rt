@@ -26,7 +26,7 @@ fn write_ended(out: &mut Page, ended: Result<Counts, ReplayFault>) {
             out.put(b" replies ");
             out.number(counts.replies);
         }
-        Err(fault) => out.shown(&fault),
+        Err(fault) => out.display(&fault),
     }
     out.put(b"\n");
 }
@@ -76,13 +76,13 @@ fn gateway(alloc: Global) -> Result<Gateway, CaseFault> {
 
 /// How a replay is made.
 #[derive(Clone, Copy)]
-struct Manner {
+struct ReplayOptions {
     /// How many bytes the input gives at a time.
     most: usize,
     workers: Workers,
 }
 
-impl Manner {
+impl ReplayOptions {
     fn write(&self, out: &mut Page) {
         out.put(b"differs in pieces of ");
         out.number(self.most as u64);
@@ -96,7 +96,7 @@ impl Manner {
 fn write_replay<R: Threads + Sync>(
     rt: &R,
     text: &[u8],
-    manner: Manner,
+    run_options: ReplayOptions,
     out: &mut Page,
 ) -> Result<(), CaseFault> {
     let mut gateway = gateway(out.alloc())?;
@@ -104,10 +104,10 @@ fn write_replay<R: Threads + Sync>(
     let ended = replay(
         rt,
         out.alloc(),
-        &mut Pieces::new(text, manner.most),
+        &mut Pieces::new(text, run_options.most),
         &mut written,
         &mut gateway,
-        manner.workers.number,
+        run_options.workers.number,
         &OpenGate,
     );
     write_ended(out, ended);
@@ -115,53 +115,53 @@ fn write_replay<R: Threads + Sync>(
     Ok(())
 }
 
-/// The same in another manner, which must make no difference: where it does, that is written.
+/// The same in another way, which must make no difference: where it does, that is written.
 fn write_difference<R: Threads + Sync>(
     rt: &R,
     text: &[u8],
-    manner: Manner,
+    run_options: ReplayOptions,
     out: &mut Page,
 ) -> Result<(), CaseFault> {
     let mut other = Page::new(out.alloc());
-    write_replay(rt, text, manner, &mut other)?;
+    write_replay(rt, text, run_options, &mut other)?;
     if other.whole()? != out.as_bytes() {
         out.clear();
-        manner.write(out);
+        run_options.write(out);
     }
     Ok(())
 }
 
 /// The same for each of these numbers of workers.
-fn write_crews<R: Threads + Sync>(
+fn write_variants<R: Threads + Sync>(
     rt: &R,
     text: &[u8],
     numbers: &[Workers],
     out: &mut Page,
 ) -> Result<(), CaseFault> {
     for workers in numbers {
-        let manner = Manner {
+        let run_options = ReplayOptions {
             most: ALL,
             workers: *workers,
         };
-        write_difference(rt, text, manner, out)?;
+        write_difference(rt, text, run_options, out)?;
     }
     Ok(())
 }
 
 /// The same for each number of workers and for each size of pieces.
 fn write_replays<R: Threads + Sync>(rt: &R, text: &[u8], out: &mut Page) -> Result<(), CaseFault> {
-    let alone = Manner {
+    let alone = ReplayOptions {
         most: ALL,
         workers: ALONE,
     };
     write_replay(rt, text, alone, out)?;
-    write_crews(rt, text, &EACH, out)?;
+    write_variants(rt, text, &EACH, out)?;
     for most in PIECES {
-        let manner = Manner {
+        let run_options = ReplayOptions {
             most,
             workers: ALONE,
         };
-        write_difference(rt, text, manner, out)?;
+        write_difference(rt, text, run_options, out)?;
     }
     Ok(())
 }
@@ -170,16 +170,16 @@ fn write_replays<R: Threads + Sync>(rt: &R, text: &[u8], out: &mut Page) -> Resu
 pub fn answer<R: Threads + Sync>(
     rt: &R,
     call: &str,
-    asked: &[u8],
+    given: &[u8],
     out: &mut Page,
 ) -> Result<(), CaseFault> {
     match call {
         "input" => {
-            let text = decoded(out.alloc(), asked)?;
+            let text = decoded(out.alloc(), given)?;
             write_replays(rt, text.as_slice(), out)
         }
         "times" => {
-            let text = repeated(out.alloc(), asked)?;
+            let text = repeated(out.alloc(), given)?;
             write_replays(rt, text.whole()?, out)
         }
         _ => Err(CaseFault::Call),

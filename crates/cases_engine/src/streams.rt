@@ -10,7 +10,7 @@ pub struct Input<'a> {
 }
 
 impl<'a> Input<'a> {
-    /// The text, behind which a read fails, or tells the end.
+    /// The text, behind which a read fails, or ends.
     pub fn new(text: &'a [u8], fails: bool) -> Input<'a> {
         Input { rest: text, fails }
     }

@@ -1,4 +1,4 @@
-//! How many workers carry out the bursts of a gateway.
+//! How many workers execute the bursts of a gateway.
 
 ghost use Rattle.std.specs.Prelude.{◌≤◌};
 

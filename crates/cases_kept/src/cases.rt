@@ -2,7 +2,7 @@
 
 use crate::bursts::classify;
 use crate::lists::{find, forget, made, push, reply_at};
-use cases_text::{CaseFault, Desk, Page, decoded};
+use cases_text::{CaseFault, CaseRunner, Page, decoded};
 use gw_kept::Kept;
 
 /// Answers cases on one list of kept replies.
@@ -18,9 +18,9 @@ impl Cases {
     }
 }
 
-impl Desk for Cases {
-    fn answer(&mut self, call: &str, asked: &[u8], out: &mut Page) -> Result<(), CaseFault> {
-        let text = decoded(out.alloc(), asked)?;
+impl CaseRunner for Cases {
+    fn answer(&mut self, call: &str, given: &[u8], out: &mut Page) -> Result<(), CaseFault> {
+        let text = decoded(out.alloc(), given)?;
         let text = text.as_slice();
         if call == "new" {
             self.kept = Some(made(text, out)?);

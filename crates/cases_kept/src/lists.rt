@@ -44,7 +44,7 @@ fn write_reply(reply: Option<&[u8]>, out: &mut Page) {
     out.put(b"\n");
 }
 
-/// The pair goes last; tells which pair was dropped for it. A key that a kept pair has is not allowed.
+/// The pair goes last; answers which pair was dropped for it. A key that a kept pair has is not allowed.
 pub fn push(kept: &mut Kept, text: &[u8], out: &mut Page) -> Result<(), CaseFault> {
     let (mid, rest) = split_word(text);
     let (number, bytes) = split_word(rest);

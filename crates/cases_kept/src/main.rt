@@ -1,4 +1,5 @@
-//! Cases of the kept replies: which pairs are kept, in which order they leave, and what the items of a burst are to them.
+//! Cases of the kept replies: which pairs are kept, in which order they leave, and what the items of a burst are to
+//! them.
 #![tactic(auto)]
 
 mod bursts;

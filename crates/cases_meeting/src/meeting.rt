@@ -15,7 +15,7 @@ const TURNS: u32 = 10_000;
 /// How long a turn sleeps, in microseconds.
 const TURN: u64 = 100;
 
-/// Where jobs meet. As a gate, they meet before they are carried out.
+/// Where jobs meet. As a gate, they meet before they are executed.
 #[derive(Drop)]
 pub struct Meeting<'r, R> {
     rt: &'r R,
@@ -30,7 +30,7 @@ impl<'r, R: Clock> Meeting<'r, R> {
     ///
     /// # Errors
     ///
-    /// `AllocError` where a growth was refused.
+    /// `AllocError` where an allocation was refused.
     pub fn new(
         rt: &'r R,
         alloc: Global,

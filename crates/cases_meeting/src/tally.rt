@@ -15,7 +15,7 @@ impl Tally {
     ///
     /// # Errors
     ///
-    /// `AllocError` where a growth was refused.
+    /// `AllocError` where an allocation was refused.
     pub fn new(alloc: Global, places: u32) -> Result<Tally, AllocError> {
         let mut counts = Vec::new(alloc);
         for _ in 0..places {

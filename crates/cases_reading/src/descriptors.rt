@@ -143,7 +143,7 @@ fn write_read(out: &mut Page, text: &[u8]) {
                 out.put(b" ..");
             }
         }
-        Err(fault) => out.shown(&fault),
+        Err(fault) => out.display(&fault),
     }
 }
 

@@ -6,16 +6,16 @@ mod messages;
 mod names;
 mod scans;
 
-use cases_text::{CaseFault, Desk, Page, decoded, transcript};
+use cases_text::{CaseFault, CaseRunner, Page, decoded, transcript};
 use std::io;
 
 /// Answers cases of reading.
 #[derive(Drop)]
 struct Reading;
 
-impl Desk for Reading {
-    fn answer(&mut self, call: &str, asked: &[u8], out: &mut Page) -> Result<(), CaseFault> {
-        let text = decoded(out.alloc(), asked)?;
+impl CaseRunner for Reading {
+    fn answer(&mut self, call: &str, given: &[u8], out: &mut Page) -> Result<(), CaseFault> {
+        let text = decoded(out.alloc(), given)?;
         let text = text.as_slice();
         if names::answers(call, text, out)
             || descriptors::answers(call, text, out)

@@ -127,7 +127,7 @@ fn write_message(out: &mut Page, message: &Message<'_>) {
 fn write_found(out: &mut Page, found: &Result<Message<'_>, ReadFault>) {
     match found {
         Ok(message) => write_message(out, message),
-        Err(fault) => out.shown(fault),
+        Err(fault) => out.display(fault),
     }
 }
 

@@ -7,26 +7,26 @@ use gw_text::ParseFault;
 use std::cmp::Ordering;
 use std::fmt::Display;
 
-/// What was read, as it is shown.
+/// What was read, as it is written.
 fn write_value<T: Display>(out: &mut Page, value: &T) {
     let mut text = Page::new(out.alloc());
-    text.shown(value);
+    text.display(value);
     out.put(b"read ");
     out.page(&text);
 }
 
-/// What was read or its fault, as they are shown.
+/// What was read or its fault, as they are written.
 fn write_read<T: Display + Drop>(out: &mut Page, read: Result<T, NameFault>) {
     match read {
         Ok(value) => write_value(out, &value),
-        Err(fault) => out.shown(&fault),
+        Err(fault) => out.display(&fault),
     }
 }
 
 fn write_term(out: &mut Page, text: &[u8]) {
     match TermRef::read(text) {
         Ok(term) => out.named(&term),
-        Err(fault) => out.shown(&fault),
+        Err(fault) => out.display(&fault),
     }
 }
 
@@ -62,13 +62,13 @@ fn write_code(out: &mut Page, number: &[u8]) {
     }
 }
 
-/// The texts of want of memory, by the crate that tells it.
+/// The texts for out of memory, by the crate that has it.
 fn write_no_memory(out: &mut Page) {
-    out.shown(&NoMemory);
+    out.display(&NoMemory);
     out.put(b"\n");
-    out.shown(&ParseFault::NoMemory);
+    out.display(&ParseFault::NoMemory);
     out.put(b"\n");
-    out.shown(&ReadFault::NoMemory);
+    out.display(&ReadFault::NoMemory);
 }
 
 /// Answers a case of these calls. False: it is none.

@@ -31,7 +31,7 @@ fn write_cut(
             out.page(&left);
         }
         Err(fault) => {
-            out.shown(&fault);
+            out.display(&fault);
             match left.whole() {
                 Ok(left) if left == text => {}
                 Ok(_) => out.put(b", and the cursor moved"),
@@ -55,15 +55,15 @@ fn write_uint32(out: &mut Page, text: &[u8]) {
 }
 
 /// A group at most so deep.
-fn write_balanced(out: &mut Page, asked: &[u8]) {
-    let (depth, text) = split_word(asked);
+fn write_balanced(out: &mut Page, given: &[u8]) {
+    let (depth, text) = split_word(given);
     match Cursor::new(depth).number(2, 16) {
         Ok(depth) => {
             let mut cursor = Cursor::new(text);
             let answer = cursor.balanced(depth.value);
             write_cut(out, text, &mut cursor, answer);
         }
-        Err(fault) => out.shown(&fault),
+        Err(fault) => out.display(&fault),
     }
 }
 
@@ -94,8 +94,8 @@ fn look(cursor: &mut Cursor<'_>, step: &[u8]) -> bool {
 }
 
 /// Steps of one cursor, one behind the other, with a comma between them: whether each was so, and what is left.
-fn write_steps(out: &mut Page, asked: &[u8]) {
-    let (steps, text) = split_word(asked);
+fn write_steps(out: &mut Page, given: &[u8]) {
+    let (steps, text) = split_word(given);
     let mut cursor = Cursor::new(text);
     let mut later = steps;
     // Each turn takes a byte at least.

@@ -2,7 +2,7 @@
 
 ghost use Rattle.std.specs.Prelude.{◌≤◌, ◌<◌};
 
-use crate::asked::{Asks, ask};
+use crate::asking::{OnDescriptors, ask};
 use crate::trees::verb_of;
 use cases_text::{CaseFault, Page, number_of, split_word};
 use gw_base::{Code, MediaAddr, Verb};
@@ -21,7 +21,7 @@ struct Wrong {
     verb: Verb,
 }
 
-impl Asks for Wrong {
+impl OnDescriptors for Wrong {
     fn ask(&mut self, descriptors: &[Descriptor<'_>], out: &mut Page) -> Result<(), CaseFault> {
         match check(self.verb, descriptors) {
             Ok(()) => out.put(b"right"),
@@ -32,8 +32,8 @@ impl Asks for Wrong {
 }
 
 /// What is wrong with descriptors, as those of the command that stands before them.
-pub fn write_checked(asked: &[u8], out: &mut Page) -> Result<(), CaseFault> {
-    let (verb, text) = split_word(asked);
+pub fn write_checked(given: &[u8], out: &mut Page) -> Result<(), CaseFault> {
+    let (verb, text) = split_word(given);
     let verb = verb_of(verb)?;
     ask(text, &mut Wrong { verb }, out)
 }
@@ -48,13 +48,13 @@ fn write_local(text: &[u8], media: &MediaAddr, slot: u16, stream: u8, out: &mut 
             out.put(if is_filled { b"filled " } else { b"as it was " });
             out.encoded(local.as_slice());
         }
-        Err(fault) => out.shown(&fault),
+        Err(fault) => out.display(&fault),
     }
 }
 
 /// A Local of a slot's termination in a stream, filled for 10.0.0.1.
-pub fn write_filled(asked: &[u8], out: &mut Page) -> Result<(), CaseFault> {
-    let (slot, rest) = split_word(asked);
+pub fn write_filled(given: &[u8], out: &mut Page) -> Result<(), CaseFault> {
+    let (slot, rest) = split_word(given);
     let (stream, text) = split_word(rest);
     let slot = number_of(slot).ok_or(CaseFault::Form)?;
     let stream = number_of(stream).ok_or(CaseFault::Form)?;
@@ -77,7 +77,8 @@ fn write_numbered(front: &[u8], behind: &[u8], count: u32, out: &mut Page) {
     }
 }
 
-/// What is wrong with a list of so many parts, of which the last stands twice: properties, Streams or items of an Audit.
+/// What is wrong with a list of so many parts, of which the last stands twice: properties, Streams or items of an
+/// Audit.
 pub fn write_long(call: &str, count: &[u8], out: &mut Page) -> Result<(), CaseFault> {
     let count = number_of(count).ok_or(CaseFault::Form)?;
     let mut text = Page::new(out.alloc());

@@ -1,19 +1,19 @@
-//! Cases of replies, of descriptors and of records: the message that a tree is written as, what is wrong with descriptors, what they do
-//! to a termination, and what it answers to an Audit.
+//! Cases of replies, of descriptors and of records: the message that a tree is written as, what is wrong with
+//! descriptors, what they do to a termination, and what it answers to an Audit.
 #![tactic(auto)]
 
-mod asked;
+mod asking;
 mod checking;
 mod records;
 mod trees;
 
-use cases_text::{CaseFault, Desk, Page, decoded, transcript};
+use cases_text::{CaseFault, CaseRunner, Page, decoded, transcript};
 use records::Record;
 use std::io::{self, ErrorKind};
 
-impl Desk for Record {
-    fn answer(&mut self, call: &str, asked: &[u8], out: &mut Page) -> Result<(), CaseFault> {
-        let text = decoded(out.alloc(), asked)?;
+impl CaseRunner for Record {
+    fn answer(&mut self, call: &str, given: &[u8], out: &mut Page) -> Result<(), CaseFault> {
+        let text = decoded(out.alloc(), given)?;
         let text = text.as_slice();
         match call {
             "reply" => trees::write_tree(self.mid(), text, out),

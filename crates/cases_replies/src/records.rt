@@ -1,6 +1,6 @@
 //! A termination, what descriptors do to it, and what it answers.
 
-use crate::asked::{Asks, ask};
+use crate::asking::{OnDescriptors, ask};
 use crate::checking::write_code;
 use cases_text::{CaseFault, Page, as_text, number_of};
 use gw_base::{CtxNum, CtxRef, Items, MediaAddr, Mid, Rules, Service, TermRef, TxId, Verb};
@@ -56,12 +56,12 @@ fn write_parts(
     let reply = tree_of(out.alloc(), verb, parts)?;
     match write_reply(out.alloc(), &reply, mid) {
         Ok(text) => out.message(text.as_slice()),
-        Err(fault) => out.shown(&fault),
+        Err(fault) => out.display(&fault),
     }
     Ok(())
 }
 
-impl Asks for Record {
+impl OnDescriptors for Record {
     fn ask(&mut self, descriptors: &[Descriptor<'_>], out: &mut Page) -> Result<(), CaseFault> {
         if let Err(code) = check(Verb::Add, descriptors) {
             write_code(code, out);
@@ -159,13 +159,13 @@ impl Record {
     }
 
     /// The answer to a step.
-    pub fn step(&mut self, call: &str, asked: &[u8], out: &mut Page) -> Result<(), CaseFault> {
+    pub fn step(&mut self, call: &str, given: &[u8], out: &mut Page) -> Result<(), CaseFault> {
         match call {
             "provisioned" => self.put(Termination::provisioned()),
-            "ephemeral" => return self.put_ephemeral(asked),
+            "ephemeral" => return self.put_ephemeral(given),
             "reset" => self.termination.reset(),
-            "place" => self.termination.set_place(number_of(asked).map(CtxNum)),
-            "service" => self.set_service(asked),
+            "place" => self.termination.set_place(number_of(given).map(CtxNum)),
+            "service" => self.set_service(given),
             "copy" => return self.put_copy(),
             "state" => {
                 out.put(b"in ");
@@ -173,7 +173,7 @@ impl Record {
             }
             "apply" | "audit" => {
                 self.is_audit = call == "audit";
-                return ask(asked, self, out);
+                return ask(given, self, out);
             }
             _ => return Err(CaseFault::Call),
         }

@@ -1,6 +1,7 @@
-//! The tree of a reply, from words: the transaction's number; `!510` for an error in its place; `in:1` for an action reply in a
-//! context, `in:9!411` for one that is an error; `Priority=3`, `Emergency` and `Topology=T/1,T/2,Oneway` behind it for what is told
-//! of the context; `Add=T/1` and `Add=T/9!430` for command replies; `*236` in front of a word that stands so many times.
+//! The tree of a reply, from words: the transaction's number; `!510` for an error in its place; `in:1` for an action
+//! reply in a context, `in:9!411` for one that is an error; `Priority=3`, `Emergency` and `Topology=T/1,T/2,Oneway`
+//! behind it for what is written of the context; `Add=T/1` and `Add=T/9!430` for command replies; `*236` in front of a
+//! word that stands so many times.
 
 use cases_text::{
     CaseFault, Page, as_text, code_of, context_of, number_of, split_at_byte, split_word,
@@ -124,7 +125,7 @@ fn links_of(alloc: Global, words: &[u8]) -> Result<Items<Link>, CaseFault> {
     Ok(links)
 }
 
-/// What a word tells of a context, if it is such a word.
+/// What a word says of a context, if it is such a word.
 fn part_of(alloc: Global, word: &[u8]) -> Result<Option<ContextPart>, CaseFault> {
     if let Some(number) = word.strip_prefix(b"Priority=") {
         let number = number_of(number).ok_or(CaseFault::Form)?;
@@ -140,7 +141,7 @@ fn part_of(alloc: Global, word: &[u8]) -> Result<Option<ContextPart>, CaseFault>
     }
 }
 
-/// Adds what the words tell of a context up to the first that does not, and gives what stands from there on.
+/// Adds what the words say of a context up to the first that does not, and gives what stands from there on.
 fn add_parts<'a>(
     alloc: Global,
     parts: &mut Items<ContextPart>,
@@ -233,7 +234,7 @@ fn write_text(text: Result<Vec<u8>, NoMemory>, out: &mut Page) {
             out.put(b" bytes: ");
             out.message(text.as_slice());
         }
-        Err(fault) => out.shown(&fault),
+        Err(fault) => out.display(&fault),
     }
 }
 

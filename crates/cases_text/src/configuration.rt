@@ -1,6 +1,6 @@
 //! The gateway of a case: `[10.0.0.1]:2944` with media 10.0.0.1, 8 contexts, 4 slots, 3 members, 4 kept replies and the
-//! terminations T/1 to T/4, but for what the case says: `contexts=2`, `slots=0`, `members=1`, `keep=1`, `terms=a,b`, `more=a,b`
-//! for further ones, or `count=4000` for the terminations T/0 to T/3999.
+//! terminations T/1 to T/4, but for what the case says: `contexts=2`, `slots=0`, `members=1`, `keep=1`, `terms=a,b`,
+//! `more=a,b` for further ones, or `count=4000` for the terminations T/0 to T/3999.
 
 use crate::fault::CaseFault;
 use crate::page::Page;
@@ -111,7 +111,7 @@ fn usual(alloc: Global) -> Result<Config, CaseFault> {
 ///
 /// # Errors
 ///
-/// `Form` at a word that says nothing; `NoMemory` where a growth was refused.
+/// `Form` at a word that says nothing; `NoMemory` where an allocation was refused.
 pub fn config_of(alloc: Global, words: &[u8]) -> Result<Config, CaseFault> {
     let mut config = usual(alloc)?;
     add_names(&mut config.terms, b"T/1,T/2,T/3,T/4")?;

@@ -1,5 +1,5 @@
-//! Bytes in a line of printable text: `%` and two hexadecimal digits stand for the byte of that number, and `%[64T]` for 64
-//! letters T. Any other printable byte stands for itself.
+//! Bytes in a line of printable text: `%` and two hexadecimal digits stand for the byte of that number, and `%[64T]`
+//! for 64 letters T. Any other printable byte stands for itself.
 
 use crate::fault::CaseFault;
 use crate::split::split_at_byte;
@@ -67,7 +67,7 @@ fn add_decoded(bytes: &mut Vec<u8>, line: &[u8]) -> Result<(), CaseFault> {
 ///
 /// # Errors
 ///
-/// `Escape` where a `%` stands for nothing; `NoMemory` where a growth was refused.
+/// `Escape` where a `%` stands for nothing; `NoMemory` where an allocation was refused.
 pub fn decoded(alloc: Global, line: &[u8]) -> Result<Vec<u8>, CaseFault> {
     let mut bytes = Vec::new(alloc);
     add_decoded(&mut bytes, line)?;

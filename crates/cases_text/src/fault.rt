@@ -11,7 +11,7 @@ pub enum CaseFault {
     Form,
     /// A `%` stands before neither two hexadecimal digits nor a run in brackets.
     Escape,
-    /// A growth was refused.
+    /// An allocation was refused.
     NoMemory,
 }
 

@@ -12,7 +12,7 @@ mod words;
 pub use configuration::config_of;
 pub use escape::decoded;
 pub use fault::CaseFault;
-pub use lines::{Desk, transcript};
+pub use lines::{CaseRunner, transcript};
 pub use page::Page;
 pub use split::{split_at_byte, split_word};
 pub use words::{as_text, code_of, context_of, number_of};

@@ -16,7 +16,7 @@ const DIGITS: &[u8; 16] = b"0123456789ABCDEF";
 /// What heads each message of the gateway that cases are about.
 const HEADER: &[u8] = b"MEGACO/1 [10.0.0.1]:2944\n";
 
-/// Text that is being written. Where a growth is refused, which the page remembers, a part of it is missing.
+/// Text that is being written. Where an allocation is refused, which the page remembers, a part of it is missing.
 pub struct Page {
     alloc: Global,
     text: Vec<u8>,
@@ -71,7 +71,7 @@ impl Page {
     ///
     /// # Errors
     ///
-    /// `NoMemory` where a growth was refused.
+    /// `NoMemory` where an allocation was refused.
     pub fn whole(&self) -> Result<&[u8], CaseFault> {
         if self.is_short {
             return Err(CaseFault::NoMemory);
@@ -102,7 +102,7 @@ impl Page {
     }
 
     /// A value as a program shows it.
-    pub fn shown<T: Display>(&mut self, value: &T) {
+    pub fn display<T: Display>(&mut self, value: &T) {
         match format!(in self.alloc; "{value}") {
             Ok(text) => self.put(text.as_bytes()),
             Err(_) => self.is_short = true,

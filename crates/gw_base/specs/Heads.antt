@@ -1,4 +1,4 @@
--- The first bytes of a text as one number, by which most texts are told apart at once (own).
+-- The first bytes of a text as one number, by which most texts are distinguished at once (own).
 use Rattle.std.specs.Prelude.{ℕ, zero, suc, ◌+◌, ◌*◌, nat_le, if◌then◌else◌, List, [], ◌∷◌}
 
 -- what a byte is worth that so many follow

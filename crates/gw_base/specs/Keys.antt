@@ -23,7 +23,7 @@ has keys k = list_any (same_key k) keys
 abbrev pub Among : List Key → List Key → Type 0
 Among a b = (k : Key) → has a k ≡ true → has b k ≡ true
 
--- no key is in both, and neither has the whole
+-- no key is in both, and neither is whole-table
 pub record AreApart (a b : List Key) : Type 0 where
   pub keys : (k : Key) → has a k ≡ true → has b k ≡ false
   pub whole_a : has a Whole ≡ false

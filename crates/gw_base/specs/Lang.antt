@@ -1,5 +1,5 @@
--- Languages of texts, and texts of two forms, one behind the other (concatenation and strings, RFC 2234, as RFC 3525, Annex B.2,
--- uses them).
+-- Languages of texts, and texts of two forms, one behind the other (concatenation and strings, RFC 2234, as RFC 3525,
+-- Annex B.2, uses them).
 use Rattle.std.specs.Prelude.{◌≡◌, ◌⊎◌, ℕ, List, [], ◌++◌, map, Option, Some, None}
 use Rattle.std.specs.Char.{to_ascii_lowercase}
 

@@ -1,4 +1,5 @@
--- What a gateway or a controller calls itself (RFC 3525, Annex B.2, mId, domainName, domainAddress, deviceName, portNumber).
+-- What a gateway or a controller calls itself (RFC 3525, Annex B.2, mId, domainName, domainAddress, deviceName,
+-- portNumber).
 use Rattle.std.specs.Prelude.{◌≡◌, ℕ, ◌+◌, Bool, true, ◌||◌, ◌<◌, ◌≤◌, ◌⊎◌, List, length, slice_index, codes, if◌then◌else◌}
 use Rattle.std.specs.List.{list_all}
 use Rattle.std.specs.Str.Parse.{digits_value}

@@ -1,4 +1,5 @@
--- TerminationIDs with wildcards (RFC 3525, section 6.2.2; what each stands for is own where the standard leaves it open).
+-- TerminationIDs with wildcards (RFC 3525, section 6.2.2; what each stands for is own where the standard leaves it
+-- open).
 use Rattle.std.specs.Prelude.{◌≡◌, ℕ, ◌<◌, ◌≤◌, Bool, true, ◌||◌, List, ◌++◌, length, slice_index, codes}
 use Rattle.std.specs.List.{list_all}
 use Rattle.gw_base.specs.Bytes.{is_letter, is_name_byte, is_one_of, byte, last_byte}

@@ -3,8 +3,8 @@
 ghost use Rattle.std.specs.Prelude.{◌≡◌};
 ghost use Rattle.gw_base.specs.Codes.{number_of, code_text};
 
-/// Why a message, a transaction, an action or a command was refused. The numbers are those of H.248.8; the texts are this
-/// profile's own.
+/// Why a message, a transaction, an action or a command was refused. The numbers are those of H.248.8; the texts are
+/// this profile's own.
 #[derive(Clone, Copy, Debug, PartialEq, Eq)]
 pub enum Code {
     /// 400: the datagram is no message.
@@ -31,7 +31,7 @@ pub enum Code {
     NotInContext,
     /// 442: a descriptor's values or parts do not fit together.
     CommandSyntax,
-    /// 443: the gateway does not carry such commands out.
+    /// 443: the gateway does not execute such commands.
     UnknownCommand,
     /// 444: a descriptor, or an item of an Audit, is unknown.
     UnknownDescriptor,
@@ -41,7 +41,7 @@ pub enum Code {
     DescriptorTwice,
     /// 456: a property stands twice in a descriptor.
     PropertyTwice,
-    /// 501: the profile leaves the function out, or the message is not carried out yet.
+    /// 501: the profile leaves the function out, or the message is not executed yet.
     NotImplemented,
     /// 510: a limit of the gateway is reached.
     InsufficientResources,

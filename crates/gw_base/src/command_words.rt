@@ -27,13 +27,13 @@ pub enum Verb {
     Move,
     /// Takes a termination out of its context.
     Subtract,
-    /// Asks for the values that a termination has.
+    /// Requests the values that a termination has.
     AuditValue,
-    /// Asks for the values that a termination may have.
+    /// Requests the values that a termination may have.
     AuditCapability,
-    /// Tells of events.
+    /// Reports events.
     Notify,
-    /// Tells of a change of service.
+    /// Reports a change of service.
     ServiceChange,
 }
 
@@ -48,7 +48,7 @@ pub enum Service {
     InService,
 }
 
-/// What of its configuration a gateway needs to carry a command out.
+/// What of its configuration a gateway needs to execute a command.
 #[derive(Clone, Copy, PartialEq, Eq)]
 pub struct Rules {
     /// The address that a `$` of an ephemeral termination's Local becomes.

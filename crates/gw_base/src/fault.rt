@@ -17,7 +17,7 @@ pub enum NameFault {
     BadByte,
 }
 
-/// A growth was refused.
+/// An allocation was refused.
 #[derive(Clone, Copy, Debug, PartialEq, Eq, Error)]
 #[error("no memory")]
 pub struct NoMemory;

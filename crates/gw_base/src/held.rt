@@ -26,7 +26,7 @@ impl<T: Drop> Held<T> {
     ///
     /// # Errors
     ///
-    /// `AllocError` where the block was refused; the value is then let go.
+    /// `AllocError` where the block was refused; the value is then dropped.
     pub fn new(alloc: Global, value: T) -> Result<Held<T>, AllocError>
         ensures { IfOk result (λ held. held ≡ value) }
     {

@@ -53,15 +53,15 @@ impl<const N: usize> Inline<N> {
         }
     }
 
-    /// How many bytes `head` tells of.
+    /// How many bytes `head` has.
     pub(crate) fn seen() -> usize
         ensures { result ≡ head_len N }
     {
         if N >= 8 { 8 } else { 0 }
     }
 
-    /// The first eight bytes as one number, the first byte worth most, and zeros behind a shorter text: of two texts whose numbers
-    /// differ, the one with the smaller comes first. Of texts that have no room for eight bytes it is 0.
+    /// The first eight bytes as one number, the first byte worth most, and zeros behind a shorter text: of two texts
+    /// whose numbers differ, the one with the smaller comes first. Of texts that have no room for eight bytes it is 0.
     pub(crate) fn head(&self) -> u64
         ensures { result ≡ head_of (head_len N) self.now }
     {

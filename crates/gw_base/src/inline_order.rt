@@ -56,8 +56,8 @@ impl<const N: usize> PartialOrd for Inline<N> {
     }
 }
 
-/// How two texts stand to one another, of which the first `seen` bytes are known as numbers. These mostly tell, and where neither text
-/// has more bytes, what they leave open is told by the lengths.
+/// How two texts stand to one another, of which the first `seen` bytes are known as numbers. These mostly decide, and
+/// where neither text has more bytes, what they leave open the lengths decide.
 fn compare(seen: usize, head: u64, text: &[u8], other_head: u64, other: &[u8]) -> Ordering
     requires first { head ≡ head_of seen text.now }
     requires second { other_head ≡ head_of seen other.now }

@@ -9,8 +9,8 @@ use std::alloc::AllocError;
 use std::marker::Model;
 use std::slice;
 
-/// A list that grows no more, as a field of values that contracts compare: what was read of a message. It lies in an arena, and goes
-/// with it.
+/// A list that grows no more, as a field of values that contracts compare: what was read of a message. It lies in an
+/// arena, and goes with it.
 #[derive(Drop)]
 pub struct Listed<'a, T> {
     slice: &'a [T],
@@ -29,7 +29,7 @@ impl<'a, T: Drop> Listed<'a, T> {
     ///
     /// # Errors
     ///
-    /// `AllocError` where the block was refused; the item is then let go.
+    /// `AllocError` where the block was refused; the item is then dropped.
     #[inline(always)]
     pub fn one(bump: &'a Bump, item: T) -> Result<Listed<'a, T>, AllocError>
         requires { FitsInMemory T.row }
@@ -41,7 +41,8 @@ impl<'a, T: Drop> Listed<'a, T> {
         })
     }
 
-    /// The items of a vector that was gathered in the arena. They stay where they are: nothing is copied, and none is dropped.
+    /// The items of a vector that was gathered in the arena. They stay where they are: nothing is copied, and none is
+    /// dropped.
     pub fn kept(items: Vec<T, &'a Bump>) -> Listed<'a, T>
         ensures { result ≡ items.entry.items }
     {
@@ -51,7 +52,7 @@ impl<'a, T: Drop> Listed<'a, T> {
     }
 }
 
-// Looking at a list asks nothing of its items: who only reads does not say how they are let go.
+// Looking at a list needs nothing of its items: who only reads does not say how they are dropped.
 impl<'a, T> Listed<'a, T> {
     /// A list of nothing, which takes no memory.
     pub fn nothing() -> Listed<'a, T>

@@ -25,8 +25,8 @@ const PORT_DIGITS: usize = 5;
 
 const PORT_MAX: u32 = 65_535;
 
-/// An mId as sent: an address in brackets or a domain name in angle brackets, each with a port or without, or a device name.
-/// Kept inline, compared and ordered byte for byte: another spelling of the same host is another sender.
+/// An mId as sent: an address in brackets or a domain name in angle brackets, each with a port or without, or a device
+/// name. Kept inline, compared and ordered byte for byte: another spelling of the same host is another sender.
 #[derive(Clone, Copy, PartialEq, Eq, PartialOrd, Ord)]
 pub struct Mid {
     text: Inline<BRACKETED_MAX>,
@@ -188,8 +188,8 @@ fn longest_mid(text: &[u8]) -> usize
 }
 
 impl Mid {
-    /// The mId that the text is. A text of no bytes is `Empty`; one of more than 64 bytes, or of more than 72 where it begins
-    /// with a bracket, is `TooLong`; any other that is no mId is `BadByte`.
+    /// The mId that the text is. A text of no bytes is `Empty`; one of more than 64 bytes, or of more than 72 where it
+    /// begins with a bracket, is `TooLong`; any other that is no mId is `BadByte`.
     pub fn read(text: &[u8]) -> Result<Mid, NameFault>
         ensures { ReadsAs IsMid (longest_mid text.now) text.now result }
     {

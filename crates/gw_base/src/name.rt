@@ -49,8 +49,8 @@ fn is_name(text: &[u8]) -> bool
 }
 
 impl TermName {
-    /// The name that the text is. A text of no bytes is `Empty`, one of more than 64 `TooLong`, any other that is no name
-    /// `BadByte`.
+    /// The name that the text is. A text of no bytes is `Empty`, one of more than 64 `TooLong`, any other that is no
+    /// name `BadByte`.
     pub fn read(text: &[u8]) -> Result<TermName, NameFault>
         ensures { ReadsAs IsName name_max text.now result }
     {

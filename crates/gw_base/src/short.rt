@@ -6,8 +6,8 @@ use smallvec::SmallVec;
 use std::alloc::{AllocError, Global};
 use std::marker::Model;
 
-/// A growing list of which the first `N` items lie in the value itself: a list of no more takes no memory. Made for small items, since
-/// the value has room for that many.
+/// A growing list of which the first `N` items lie in the value itself: a list of no more takes no memory. Made for
+/// small items, since the value has room for that many.
 #[derive(Drop)]
 pub struct Short<T, const N: usize> {
     items: SmallVec<T, N>,
@@ -35,7 +35,7 @@ impl<T: Default + Drop, const N: usize> Short<T, N> {
     ///
     /// # Errors
     ///
-    /// `AllocError` where a growth was refused; the list is then as it was.
+    /// `AllocError` where an allocation was refused; the list is then as it was.
     pub fn push(&mut self, item: T) -> Result<(), AllocError>
         ensures ok { OnOk result (self.new ≡ self.old ++ item ∷ []) }
         ensures err { OnErr result (self.new ≡ self.old) }
@@ -45,7 +45,7 @@ impl<T: Default + Drop, const N: usize> Short<T, N> {
     }
 }
 
-// Looking at a list asks nothing of its items: who only reads does not say how they are let go.
+// Looking at a list needs nothing of its items: who only reads does not say how they are dropped.
 impl<T, const N: usize> Short<T, N> {
     /// The items in order.
     pub fn as_slice(&self) -> &[T]

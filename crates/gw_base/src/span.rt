@@ -4,7 +4,8 @@ ghost use Rattle.std.specs.Prelude.{◌≡◌};
 
 use std::marker::Model;
 
-/// A text that stands in another one and is not copied, as a part of what was read from a datagram. Contracts see its bytes.
+/// A text that stands in another one and is not copied, as a part of what was read from a datagram. Contracts see its
+/// bytes.
 #[derive(Drop)]
 pub struct Span<'a> {
     bytes: &'a [u8],

@@ -137,8 +137,8 @@ fn named(text: &[u8]) -> Result<TermRef, NameFault>
 }
 
 impl TermRef {
-    /// The reference that the text is. A text of no bytes is `Empty`, one of more than 64 `TooLong`; any other that does not
-    /// begin with a letter, `*` or `$` and go on with letters, digits and `_ / * $ @ . -` is `BadByte`.
+    /// The reference that the text is. A text of no bytes is `Empty`, one of more than 64 `TooLong`; any other that
+    /// does not begin with a letter, `*` or `$` and go on with letters, digits and `_ / * $ @ . -` is `BadByte`.
     pub fn read(text: &[u8]) -> Result<TermRef, NameFault>
         ensures { ReadsTerm text.now result }
     {

@@ -37,7 +37,7 @@ pub fn commands_keep_forms()
 {}
 
 /// A command in well-formed tables keeps to its keys: on their entries alone it gives the same replies, its new entries
-/// laid over the maps are the new maps, and each entry at another key stays.
+/// put over the maps are the new maps, and each entry at another key stays.
 pub fn commands_keep_to_their_keys()
     ensures { (rules : Rules) (at : At) (slot : Option ℕ) (c : Command) (m : Maps) → AreWellFormed rules.members m → KeepsTo (command_keys at slot c m) (command rules at slot c) m }
 {}

@@ -14,7 +14,7 @@ use gw_reply::{AuditReply, ReplyPart};
 use gw_term::{Filled, Termination};
 use std::alloc::Global;
 
-/// What the first Audit asks for, if there is one.
+/// What the first Audit requests, if there is one.
 #[tactic(auto, unfolding(gw_term::specs::Audit::audit_parts))]
 fn audit(
     alloc: Global,

@@ -1,4 +1,5 @@
--- Configurations as text: lines, what each says, the configuration that they give, and the first line that is wrong (own).
+-- Configurations as text: lines, what each says, the configuration that they give, and the first line that is wrong
+-- (own).
 use Rattle.std.specs.Prelude.{◌≡◌, ℕ, ◌+◌, ◌≤◌, ◌⊎◌, List, [], ◌∷◌, ◌++◌, length, Option, Some, None, Result, Ok, Err, codes}
 use Rattle.std.specs.List.{filter_map}
 use Rattle.std.specs.Str.Lines.{lines}
@@ -122,7 +123,8 @@ pub record IsOnce (items : List Item) : Type 0 where
   pub members : length (filter_map members_in items) ≤ 1
   pub keep : length (filter_map keep_in items) ≤ 1
 
--- a line of no form, or one that repeats a keyword of those before it, where each line before it is of a form and repeats none
+-- a line of no form, or one that repeats a keyword of those before it, where each line before it is of a form and
+-- repeats none
 pub record IsWrongLine (number : ℕ) (all : List (List ℕ)) : Type 0 where
   pub before : List (List ℕ)
   pub line : List ℕ

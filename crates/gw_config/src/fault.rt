@@ -9,10 +9,11 @@ use thiserror::Error;
 /// Why a text gives no configuration.
 #[derive(Clone, Copy, Debug, PartialEq, Eq, Error)]
 pub enum ConfigTextFault {
-    /// The first line, from 1, that is of no form or repeats a keyword; where a keyword is missing, the number of lines plus 1.
+    /// The first line, from 1, that is of no form or repeats a keyword; where a keyword is missing, the number of lines
+    /// plus 1.
     #[error("fault in line {0}")]
     Line(u32),
-    /// A growth was refused.
+    /// An allocation was refused.
     #[error("no memory")]
     NoMemory,
 }

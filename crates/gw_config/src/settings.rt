@@ -53,7 +53,7 @@ fn push_name(terms: &mut Items<TermName>, item: Item) -> Result<(), AllocError>
 }
 
 impl Settings {
-    /// What the item says is noted, unless its keyword has been there; whether it is.
+    /// What the item says is logged, unless its keyword has been there; whether it is.
     fn note(&mut self, item: Item) -> bool
         ensures { MatchBool result ((is_set item self.old ≡ false) × (self.new ≡ with_item item self.old)) (is_set item self.old ≡ true) }
     {
@@ -68,11 +68,11 @@ impl Settings {
         }
     }
 
-    /// What the line says is noted.
+    /// What the line says is logged.
     ///
     /// # Errors
     ///
-    /// `Line` of the number where the line is of no form or repeats a keyword; want of memory.
+    /// `Line` of the number where the line is of no form or repeats a keyword; out of memory.
     pub(crate) fn take(
         &mut self,
         terms: &mut Items<TermName>,

@@ -1,5 +1,5 @@
--- A context (RFC 3525, section 6.1): who joins and leaves it (the order of its members is own), and its properties (sections 6.1.1
--- and 7.1.18; how links are kept is own).
+-- A context (RFC 3525, section 6.1): who joins and leaves it (the order of its members is own), and its properties
+-- (sections 6.1.1 and 7.1.18; how links are kept is own).
 use Rattle.std.specs.Prelude.{◌≡◌, ℕ, zero, suc, Bool, false, not, ◌&&◌, ◌||◌, List, [], ◌∷◌, ◌++◌, filter, bytes_eq, refl}
 use Rattle.std.specs.Coded.{Coded, code_by, coded×, coded_list, coded_ℕ, coded_bool}
 use Rattle.gw_base.specs.NameLists.{without}
@@ -7,7 +7,7 @@ use Rattle.gw_base.specs.declared.context_words.Flow.{Flow}
 use Rattle.gw_base.specs.declared.context_words.Flow.TheVariants.{Bothway, Isolate, Oneway}
 use Rattle.gw_base.specs.declared.context_words.Link.{Link}
 
--- what is known of a context: the names of its members in joining order, its priority, whether it is marked as an emergency, and
+-- what is known of a context: the names of its members in joining order, its priority, whether it is an emergency, and
 -- the links between members in the order in which they were made
 pub record ContextRecord : Type 0 where
   pub members : List (List ℕ)
@@ -32,7 +32,7 @@ is_same_pair k l = (bytes_eq k.a l.a && bytes_eq k.b l.b) || (bytes_eq k.a l.b &
 abbrev pub is_other_pair : Link → Link → Bool
 is_other_pair k l = not (is_same_pair k l)
 
--- the links that do not touch the name
+-- the links that are not of the name
 abbrev pub links_without : List ℕ → List Link → List Link
 links_without name links = filter (is_apart_from name) links
 
@@ -60,7 +60,7 @@ left name c = record { members = without name c.members; priority = c.priority; 
 abbrev pub prioritized : ℕ → ContextRecord → ContextRecord
 prioritized priority c = record { members = c.members; priority = priority; emergency = c.emergency; links = c.links }
 
--- the context is marked as an emergency, or is not
+-- the context is an emergency, or is not
 abbrev pub marked : Bool → ContextRecord → ContextRecord
 marked emergency c = record { members = c.members; priority = c.priority; emergency = emergency; links = c.links }
 
@@ -68,7 +68,7 @@ marked emergency c = record { members = c.members; priority = c.priority; emerge
 abbrev pub linked : Link → ContextRecord → ContextRecord
 linked link c = record { members = c.members; priority = c.priority; emergency = c.emergency; links = links_beside link c.links ++ kept_link link link.flow }
 
--- ---- codes, by which two contexts are told apart
+-- ---- codes, by which two contexts are distinguished
 
 abbrev flow_number : Flow → ℕ
 flow_number Bothway = 0

@@ -11,7 +11,7 @@ use indexmap::IndexSet;
 use std::alloc::{AllocError, Global};
 use std::marker::Model;
 
-/// A context (RFC 3525, section 6.1): its members in joining order, its priority, whether it is marked as an emergency, and the
+/// A context (RFC 3525, section 6.1): its members in joining order, its priority, whether it is an emergency, and the
 /// links between members in the order in which they were made. Contracts see it as the record of `specs/Contexts.antt`.
 pub struct Context {
     members: IndexSet<TermName>,
@@ -20,7 +20,8 @@ pub struct Context {
     links: Links,
 }
 
-// By hand, so that a function that lets a context go does so by one call. A derived one would stand in it field by field.
+// By hand, so that a function that lets a context go does so by one call. A derived one would stand in it field by
+// field.
 impl Drop for Context {
     fn drop(self) {
         let Context {
@@ -77,14 +78,15 @@ impl Context {
         self.priority
     }
 
-    /// Whether the context is marked as an emergency (RFC 3525, section 6.1.1): not at first.
+    /// Whether the context is an emergency (RFC 3525, section 6.1.1): not at first.
     pub fn emergency(&self) -> bool
         ensures { result ≡ self.now.emergency }
     {
         self.emergency
     }
 
-    /// The links between members (RFC 3525, section 7.1.18), one by one, in the order in which they were made: none at first.
+    /// The links between members (RFC 3525, section 7.1.18), one by one, in the order in which they were made: none at
+    /// first.
     pub fn links(&self) -> LinkIter<'_>
         ensures { result ≡ self.now.links }
     {
@@ -95,7 +97,7 @@ impl Context {
     ///
     /// # Errors
     ///
-    /// `Full` exactly where `limit` or more members stand, or want of memory. The members are then as they were.
+    /// `Full` exactly where `limit` or more members stand, or out of memory. The members are then as they were.
     pub fn join(&mut self, name: TermName, limit: usize) -> Result<(), JoinFault>
         requires { is_in name self.old.members ≡ false }
         ensures ok { OnOk result (self.new ≡ joined name self.old) }
@@ -109,8 +111,8 @@ impl Context {
         Ok(())
     }
 
-    /// The name leaves with its links, and the order of the others stays. Answers whether it was a member. The work is one pass of the
-    /// members and of the names that were linked, and one of the links where it is among those.
+    /// The name leaves with its links, and the order of the others stays. Answers whether it was a member. The work is
+    /// one pass of the members and of the names that were linked, and one of the links where it is among those.
     pub fn leave(&mut self, name: &TermName) -> bool
         ensures left { self.new ≡ left name.now self.old }
         ensures there { result ≡ is_in name.now self.old.members }
@@ -126,14 +128,14 @@ impl Context {
         self.priority = priority;
     }
 
-    /// Marks the context as an emergency.
+    /// The context is an emergency from now on.
     pub fn set_emergency(&mut self)
         ensures { self.new ≡ marked true self.old }
     {
         self.emergency = true;
     }
 
-    /// Sets both properties: the priority, and whether the context is marked as an emergency.
+    /// Sets both properties: the priority, and whether the context is an emergency.
     pub fn set_properties(&mut self, priority: u8, emergency: bool)
         ensures { self.new ≡ prioritized priority (marked emergency self.old) }
     {
@@ -141,12 +143,12 @@ impl Context {
         self.emergency = emergency;
     }
 
-    /// How media flow between two names from now on: the link of the pair, in either order, goes, and this one goes last, unless it
-    /// is both ways. The work is one pass of the names that were linked, and one of the links.
+    /// How media flow between two names from now on: the link of the pair, in either order, goes, and this one goes
+    /// last, unless it is both ways. The work is one pass of the names that were linked, and one of the links.
     ///
     /// # Errors
     ///
-    /// Want of memory. The context is then as it was.
+    /// Out of memory. The context is then as it was.
     pub fn link(&mut self, link: Link) -> Result<(), NoMemory>
         ensures ok { OnOk result (self.new ≡ linked link self.old) }
         ensures err { OnErr result (self.new ≡ self.old) }
@@ -158,7 +160,7 @@ impl Context {
     ///
     /// # Errors
     ///
-    /// Want of memory.
+    /// Out of memory.
     pub fn copy(&self) -> Result<Context, AllocError>
         ensures { IfOk result (λ copy. copy ≡ self.now) }
     {

@@ -12,7 +12,7 @@ pub enum JoinFault {
     /// The context has as many members as it may have.
     #[error("the context is full")]
     Full,
-    /// A growth was refused.
+    /// An allocation was refused.
     #[error("no memory")]
     NoMemory,
 }

@@ -6,8 +6,8 @@ ghost use Rattle.gw_base.specs.declared.context_words.Link.{Link};
 ghost use Rattle.gw_ctx.specs.Contexts.{ContextRecord, new_context, joined, left, prioritized, marked, linked};
 ghost use Rattle.gw_ctx.specs.Fitting.{priority_max, IsFit};
 
-/// The properties of a new context are fit, and stay so: whoever joins or leaves, whichever priority that there is is set, and
-/// whichever members are linked that differ.
+/// The properties of a new context are fit, and stay so: whoever joins or leaves, whichever priority that there is is
+/// set, and whichever members are linked that differ.
 pub fn contexts_stay_fit()
     ensures new { IsFit new_context }
     ensures joined { (name : List ℕ) (c : ContextRecord) → IsFit c → IsFit (joined name c) }

@@ -11,10 +11,11 @@ use gw_base::{Link, NoMemory, TermName};
 use std::alloc::{AllocError, Global};
 use std::marker::Model;
 
-/// The links of a context in the order in which they were made, at most one for a pair of names. Contracts see the list of them.
+/// The links of a context in the order in which they were made, at most one for a pair of names. Contracts see the list
+/// of them.
 ///
-/// Each name that was linked is kept once until it leaves, and of a link the places of its two names: so the 2,016 links between 64
-/// members take 48 KB and not 260.
+/// Each name that was linked is kept once until it leaves, and of a link the places of its two names: so the 2,016
+/// links between 64 members take 48 KB and not 260.
 #[derive(Drop)]
 pub(crate) struct Links {
     names: Vec<TermName>,
@@ -70,7 +71,7 @@ impl Links {
         }
     }
 
-    /// The links that touch the name go. The work is one pass of the names, and of the links where the name is there.
+    /// The links of the name go. The work is one pass of the names, and of the links where the name is there.
     pub(crate) fn drop_of(&mut self, name: &TermName)
         ensures { self.new ≡ links_without name.now self.old }
     {
@@ -80,12 +81,12 @@ impl Links {
         }
     }
 
-    /// The link takes the place of the one of its pair, and goes last, unless it is both ways. The work is one pass of the names and
-    /// of the links.
+    /// The link takes the place of the one of its pair, and goes last, unless it is both ways. The work is one pass of
+    /// the names and of the links.
     ///
     /// # Errors
     ///
-    /// Want of memory. The links are then as they were.
+    /// Out of memory. The links are then as they were.
     pub(crate) fn put(&mut self, link: Link) -> Result<(), NoMemory>
         ensures ok { OnOk result (self.new ≡ links_beside link self.old ++ kept_link link link.flow) }
         ensures err { OnErr result (self.new ≡ self.old) }
@@ -103,7 +104,7 @@ impl Links {
     ///
     /// # Errors
     ///
-    /// Want of memory.
+    /// Out of memory.
     pub(crate) fn copy(&self) -> Result<Links, AllocError>
         ensures { IfOk result (λ copy. copy ≡ self.now) }
     {
@@ -115,7 +116,8 @@ impl Links {
     }
 }
 
-/// The links of a context one by one, in the order in which they were made. Contracts see the list of those that are to come.
+/// The links of a context one by one, in the order in which they were made. Contracts see the list of those that are to
+/// come.
 #[derive(Drop)]
 pub struct LinkIter<'a> {
     names: &'a [TermName],

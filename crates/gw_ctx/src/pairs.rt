@@ -60,7 +60,8 @@ fn moved(last: usize, gone: usize, place: usize) -> usize
     if place == last { gone } else { place }
 }
 
-/// Whether the pair is about another place than the one that is gone; it follows the names, the last of which has taken the place.
+/// Whether the pair is about another place than the one that is gone; it follows the names, the last of which has taken
+/// the place.
 fn stays(pair: &mut Pair, last: usize, gone: usize) -> bool
     ensures stays { result ≡ is_off gone pair.old }
     ensures pair { pair.new ≡ renumbered last gone pair.old }
@@ -71,8 +72,8 @@ fn stays(pair: &mut Pair, last: usize, gone: usize) -> bool
     stays
 }
 
-/// The pairs go that are about the place of a name that is gone, and each of the others follows the names, the last of which has taken
-/// the place. It is one pass.
+/// The pairs go that are about the place of a name that is gone, and each of the others follows the names, the last of
+/// which has taken the place. It is one pass.
 pub(crate) fn drop_at(pairs: &mut Vec<Pair>, last: usize, gone: usize)
     ensures { pairs.new.items ≡ map (renumbered last gone) (filter (is_off gone) pairs.old.items) }
 {

@@ -1,5 +1,5 @@
--- What is wrong with the descriptors of a command (codes of H.248.8; which code is for what, and their order: own). Each code
--- is 'there is ..', over the whole list; of those that apply the first is the answer.
+-- What is wrong with the descriptors of a command (codes of H.248.8; which code is for what, and their order: own).
+-- Each code is 'there is ..', over the whole list; of those that apply the first is the answer.
 use Rattle.std.specs.Prelude.{ℕ, ◌+◌, ◌==◌, nat_le, nat_lt, Bool, true, false, not, ◌||◌, ◌&&◌, if◌then◌else◌, List, [], ◌∷◌, map, length, Option, Some, None}
 use Rattle.std.specs.List.{list_any, flat_map}
 use Rattle.std.specs.Option.{is_some, is_none}

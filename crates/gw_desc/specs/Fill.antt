@@ -1,5 +1,5 @@
--- How `$` in a Local is filled (own; `$` leaves a value to the gateway: RFC 3525, section 7.1.8). A Local is looked at by its
--- lines, and a line by its fields.
+-- How `$` in a Local is filled (own; `$` leaves a value to the gateway: RFC 3525, section 7.1.8). A Local is looked at
+-- by its lines, and a line by its fields.
 use Rattle.std.specs.Prelude.{◌≡◌, ◌<◌, ℕ, suc, true, length, take, drop, ◌+◌, ◌*◌, ◌-◌, ◌==◌, Bool, ◌&&◌, ◌||◌, if◌then◌else◌, List, [], ◌∷◌, ◌++◌, map, codes, decimal, bytes_eq, slice_index_or, slice_set}
 use Rattle.std.specs.List.{filter, list_any, slice_split, starts_with}
 use Rattle.gw_base.specs.Bytes.{is_one_of}

@@ -15,8 +15,8 @@ IsWhole ends text = (text ≡ []) ⊎ ((front : List ℕ) × (end : ℕ) × (tex
 abbrev pub is_field_end : ℕ → Bool
 is_field_end b = is_one_of line_ends b || is_one_of field_ends b
 
--- A `$` that is a field of a line, the line of this kind and the field in this place of it, counted from 0; and the text with
--- a new text in the place of that `$`, and nothing else changed.
+-- A `$` that is a field of a line, the line of this kind and the field in this place of it, counted from 0; and the
+-- text with a new text in the place of that `$`, and nothing else changed.
 pub record IsPut (is_kind : List ℕ → Bool) (place : ℕ) (new old text : List ℕ) : Type 0 where
   -- the lines in front of it, what of its own line is in front of it, and what is behind it
   pub lines : List ℕ

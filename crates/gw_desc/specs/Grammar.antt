@@ -1,5 +1,5 @@
--- Which texts spell a descriptor and its parts (RFC 3525, Annex B.2). EQUAL, LBRKT, RBRKT and COMMA are signs, with LWSP
--- on both sides. What is kept as sent is not looked into (own).
+-- Which texts spell a descriptor and its parts (RFC 3525, Annex B.2). EQUAL, LBRKT, RBRKT and COMMA are signs, with
+-- LWSP on both sides. What is kept as sent is not looked into (own).
 use Rattle.std.specs.Prelude.{◌≡◌, ◌⊎◌, ℕ, Bool, true, false, List, [], ◌∷◌, Option, Some, None, codes}
 use Rattle.gw_base.specs.Bytes.{byte}
 use Rattle.gw_base.specs.Lang.{◌▹◌, Optional, OptionalOf, IsText}

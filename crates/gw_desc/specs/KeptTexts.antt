@@ -1,5 +1,5 @@
--- The forms of what is kept as sent (own): of a property, of a tail, and of the octets of a Local or a Remote. A text of these forms
--- can be told again as it is.
+-- The forms of what is kept as sent (own): of a property, of a tail, and of the octets of a Local or a Remote. A text
+-- of these forms can be written again as it is.
 use Rattle.std.specs.Prelude.{◌≡◌, ◌⊎◌, ℕ, Bool, true, List, Option, Some, None}
 use Rattle.std.specs.List.{All}
 use Rattle.gw_text.specs.Forms.{IsWord}

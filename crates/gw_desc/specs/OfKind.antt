@@ -1,4 +1,4 @@
--- Which of them is of which kind, as the code asks (own).
+-- Which of them is of which kind, as the code needs it (own).
 use Rattle.std.specs.Prelude.{ℕ, Bool, List, not, ◌&&◌}
 use Rattle.gw_desc.specs.declared.descriptor.Descriptor.{Descriptor}
 use Rattle.gw_desc.specs.declared.descriptor.MediaPart.{MediaPart}

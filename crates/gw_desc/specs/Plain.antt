@@ -1,4 +1,5 @@
--- What the descriptors that most commands have are, where nothing is wrong (own): which of the tests that they pass, and why.
+-- What the descriptors that most commands have are, where nothing is wrong (own): which of the tests that they pass,
+-- and why.
 use Rattle.std.specs.Prelude.{◌≡◌, Bool, true, false, List}
 use Rattle.std.specs.List.{list_any}
 use Rattle.gw_base.specs.declared.command_words.Verb.{Verb}

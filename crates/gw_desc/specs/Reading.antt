@@ -65,7 +65,7 @@ pub record AfterTail (rest : List ℕ) : Type 0 where
 
 -- ---- properties
 
--- which value it is, its first byte tells
+-- which value it is, its first byte shows
 unfoldable pub value_at : Reader (List ℕ)
 value_at =
     if_begins (is_byte quote_mark) quoted_read

@@ -1,5 +1,5 @@
--- The words that stand for values: modes of a stream (RFC 3525, section 7.1.7), service states (section 7.1.5), what an Audit
--- asks for (section 7.2.5), in their long and their short form, in any case.
+-- The words that stand for values: modes of a stream (RFC 3525, section 7.1.7), service states (section 7.1.5), what an
+-- Audit requests (section 7.2.5), in their long and their short form, in any case.
 use Rattle.std.specs.Prelude.{ℕ, Bool, true, false, List, [], ◌∷◌, Option, Some, None, Result, Ok, Err}
 use Rattle.gw_base.specs.declared.command_words.Service.{Service}
 use Rattle.gw_base.specs.declared.command_words.Service.TheVariants as service
@@ -57,7 +57,7 @@ item_for (Some token.ObservedEvents) = Some item.ObservedEvents
 item_for (Some token.Packages) = Some item.Packages
 item_for _ = None
 
--- what a word of an Audit asks for
+-- what a word of an Audit requests
 unfoldable pub item_of : List ℕ → Option AuditItem
 item_of word = item_for (token_of word)
 

@@ -17,12 +17,12 @@ use crate::descriptor::Descriptor;
 use gw_base::{Code, Verb};
 pub use kinds::same_kept;
 
-/// What is wrong with the descriptors of a command, the first of these that applies to the whole list: `IllegalDescriptor`
-/// (one of the seven kinds that the command may not have), `UnknownDescriptor` (another one, or another item of an Audit),
-/// `DescriptorTwice` (two of a kind; in a Media two of what stands there once), `PropertyTwice` (a property, an item or a
-/// parameter of Services twice), `CommandSyntax` (values or parts that do not fit, or that are missing),
-/// `InsufficientResources` (a stream outside 1 to 4, or a text of more than 8,192 bytes). The codes are those of H.248.8;
-/// which is for what, and their order, is own to this profile.
+/// What is wrong with the descriptors of a command, the first of these that applies to the whole list:
+/// `IllegalDescriptor` (one of the seven kinds that the command may not have), `UnknownDescriptor` (another one, or
+/// another item of an Audit), `DescriptorTwice` (two of a kind; in a Media two of what stands there once),
+/// `PropertyTwice` (a property, an item or a parameter of Services twice), `CommandSyntax` (values or parts that do not
+/// fit, or that are missing), `InsufficientResources` (a stream outside 1 to 4, or a text of more than 8,192 bytes).
+/// The codes are those of H.248.8; which is for what, and their order, is own to this profile.
 ///
 /// The work is n log n in what was read.
 pub fn check(verb: Verb, descriptors: &[Descriptor<'_>]) -> Result<(), Code>

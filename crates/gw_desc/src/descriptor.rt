@@ -8,13 +8,13 @@ pub type AuditItems<'a> = Listed<'a, Span<'a>>;
 /// A descriptor of a command, of a datagram that lives as long as `'a`.
 #[derive(Drop)]
 pub enum Descriptor<'a> {
-    /// `Media`: its parts in the order sent, at least one.
+    /// `Media`: its parts in the order sent, one or more.
     Media(Listed<'a, MediaPart<'a>>),
     /// `Events`, `Signals`, `DigitMap` or `EventBuffer`: kept and audited, and not looked into.
     Keep(KeptKind, Tail<Span<'a>>),
     /// `Audit`: its words, perhaps none.
     Audit(AuditItems<'a>),
-    /// `Services`: its parameters in the order sent, at least one.
+    /// `Services`: its parameters in the order sent, one or more.
     Services(Listed<'a, ServiceParm<'a>>),
     /// Any other word; what follows it is read and dropped.
     Other(Span<'a>),
@@ -23,7 +23,7 @@ pub enum Descriptor<'a> {
 /// Which descriptor is kept as sent.
 #[derive(Clone, Copy)]
 pub enum KeptKind {
-    /// `Events` (RFC 3525, section 7.1.9): which events are to be told of.
+    /// `Events` (RFC 3525, section 7.1.9): which events are to be reported.
     Events,
     /// `Signals` (section 7.1.11): what is to be played.
     Signals,
@@ -55,8 +55,8 @@ pub enum StreamPart<'a> {
     LocalControl(Listed<'a, Property<Span<'a>>>),
 }
 
-/// A property: its name, the sign behind it and its value, as sent. A message has them as spans of its datagram; what keeps a
-/// property has them as texts of its own.
+/// A property: its name, the sign behind it and its value, as sent. A message has them as spans of its datagram; what
+/// keeps a property has them as texts of its own.
 #[derive(Drop)]
 pub struct Property<T> {
     /// A word.
@@ -80,8 +80,8 @@ pub enum Sign {
     Greater,
 }
 
-/// What follows the word of a descriptor that is kept as sent. Where `equals` holds a word or a group stands behind it. A
-/// message has it as spans of its datagram; what keeps a tail has it as texts of its own.
+/// What follows the word of a descriptor that is kept as sent. Where `equals` holds a word or a group stands behind it.
+/// A message has it as spans of its datagram; what keeps a tail has it as texts of its own.
 #[derive(Drop)]
 pub struct Tail<T> {
     /// Whether `=` stands behind the descriptor's word.

@@ -122,8 +122,8 @@ fn behind(text: &[u8], place: usize) -> &[u8]
     &text[place + 1..]
 }
 
-/// The text goes behind what was written: what stands before this place as it is, and behind it the last line, filled; whether that had a
-/// `$` to fill.
+/// The text goes behind what was written: what stands before this place as it is, and behind it the last line, filled;
+/// whether that had a `$` to fill.
 fn write_last(
     text: &[u8],
     same: usize,
@@ -149,8 +149,8 @@ fn write_last(
     }
 }
 
-/// The text goes behind what was written, each line filled; whether there was a `$` to fill. What stays as it is goes over as far as the
-/// next `$` at once.
+/// The text goes behind what was written, each line filled; whether there was a `$` to fill. What stays as it is goes
+/// over as far as the next `$` at once.
 fn write_lines(
     text: &[u8],
     address: &[u8],
@@ -179,14 +179,14 @@ fn write_lines(
     Ok(told || last)
 }
 
-/// A Local's text in which the `$` of an ephemeral termination are filled, and whether there was one: the third field of
-/// each line that begins with `c=` becomes the address of the gateway's media, and the second of each that begins with `m=`
-/// the port `16384 + 8 * slot + 2 * (stream - 1)`. Fields stand between single spaces; all else stays. A gateway's slots are below
-/// 4,096; the caller knows that the stream is 1 to 4. The work is linear in the text.
+/// A Local's text in which the `$` of an ephemeral termination are filled, and whether there was one: the third field
+/// of each line that begins with `c=` becomes the address of the gateway's media, and the second of each that begins
+/// with `m=` the port `16384 + 8 * slot + 2 * (stream - 1)`. Fields stand between single spaces; all else stays. A
+/// gateway's slots are below 4,096; the caller knows that the stream is 1 to 4. The work is linear in the text.
 ///
 /// # Errors
 ///
-/// Want of memory.
+/// Out of memory.
 #[tactic(auto, unfolding(crate::specs::Fill::filled))]
 pub fn fill_local(
     alloc: Global,

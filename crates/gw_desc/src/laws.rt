@@ -1,5 +1,5 @@
-//! Laws of descriptors: what is read, with which forms it is kept, and how a Local is filled. The contracts of functions that do
-//! nothing.
+//! Laws of descriptors: what is read, with which forms it is kept, and how a Local is filled. The contracts of
+//! functions that do nothing.
 
 ghost use Rattle.std.specs.Prelude.{◌≡◌, ℕ, false, List, decimal};
 ghost use Rattle.gw_base.specs.Addresses.{IsAddress};
@@ -36,9 +36,9 @@ pub fn kept_texts_have_their_forms()
     ensures descriptor { (d : DescriptorOf) (text : List ℕ) → SpellsDescriptor d text → HasKeptTexts d }
 {}
 
-/// A Local is filled one `$` after the other: each step puts the address or the port in the place of one `$` that is a field of
-/// its line, and no other byte changes, until no line has such a `$`; where none had one nothing changes. Octets of which all is
-/// kept stay so at each step.
+/// A Local is filled one `$` after the other: each step puts the address or the port in the place of one `$` that is a
+/// field of its line, and no other byte changes, until no line has such a `$`; where none had one nothing changes.
+/// Octets of which all is kept stay so at each step.
 pub fn fills_go_step_by_step()
     ensures steps { (address : List ℕ) (slot stream : ℕ) (text : List ℕ) → IsReached (IsFilledOnce address (decimal (port_of slot stream))) text (filled address slot stream text) }
     ensures left { (address : List ℕ) (slot stream : ℕ) (text : List ℕ) → IsAddress address → is_fillable (filled address slot stream text) ≡ false }

@@ -1,4 +1,4 @@
-//! The words that stand for values: modes, service states, what an Audit asks for.
+//! The words that stand for values: modes, service states, what an Audit requests.
 
 ghost use Rattle.std.specs.Prelude.{◌≡◌, IfSome, Some};
 ghost use Rattle.gw_text.specs.TokenTable.{begins_in};
@@ -34,11 +34,12 @@ pub enum AuditItem {
     Statistics,
     /// `ObservedEvents`, of which this profile has none.
     ObservedEvents,
-    /// `Packages`, of which this profile tells none.
+    /// `Packages`, of which this profile has none.
     Packages,
 }
 
-/// The mode of a value that is sent as the table of tokens has it: it is told by the value's length and its bytes.
+/// The mode of a value that is sent as the table of tokens has it: it is recognized by the value's length and its
+/// bytes.
 fn often_mode(value: &[u8]) -> Option<Mode>
     ensures { IfSome result (λ mode. mode_of value.now ≡ Some mode) }
 {
@@ -86,7 +87,7 @@ pub fn service_of(value: &[u8]) -> Option<Service>
     }
 }
 
-/// What a word of an Audit asks for.
+/// What a word of an Audit requests.
 #[tactic(auto, unfolding(crate::specs::Values::item_of))]
 pub fn item_of(word: &[u8]) -> Option<AuditItem>
     ensures { result ≡ item_of word.now }
@@ -114,7 +115,8 @@ fn begins_in(letter: u8, name: &[u8]) -> bool
     }
 }
 
-/// Whether a property of a LocalControl is Mode. Most others are told by the length of their name, or by its first letter.
+/// Whether a property of a LocalControl is Mode. Most others are recognized by the length of their name, or by its
+/// first letter.
 #[tactic(auto, using(crate::proofs::WordLengths::no_mode, crate::proofs::WordLengths::no_mode_in), unfolding(crate::specs::Values::is_mode))]
 pub fn is_mode(name: &[u8]) -> bool
     ensures { result ≡ is_mode name.now }
@@ -128,7 +130,8 @@ pub fn is_mode(name: &[u8]) -> bool
     matches!(token_of(name), Some(Token::Mode))
 }
 
-/// Whether a property of a TerminationState is ServiceStates. Most others are told by the length of their name, or by its first letter.
+/// Whether a property of a TerminationState is ServiceStates. Most others are recognized by the length of their name,
+/// or by its first letter.
 #[tactic(auto, using(crate::proofs::WordLengths::no_states, crate::proofs::WordLengths::no_states_in), unfolding(crate::specs::Values::is_service_states))]
 pub fn is_service_states(name: &[u8]) -> bool
     ensures { result ≡ is_service_states name.now }

@@ -47,7 +47,8 @@ module _ {F J R : Type 0} (g : Shared F (Bor J × Unit {0}) R) (f : F) where
     pub as_many : length rs ≡ length jobs
     pub each : (i : ℕ) (d : R) → i < length jobs → GivesAt jobs i (slice_index_or rs i d)
 
-  -- A worker's run: it drew the numbers of the answers, in their order, and then one that is no job's. Each answer is of f on the job of its number.
+  -- A worker's run: it drew the numbers of the answers, in their order, and then one that is no job's. Each answer is
+  -- of f on the job of its number.
   pub record HasRun (jobs : List J) (before after : View) (answers : List (ℕ × R)) : Type 0 where
     pub past : ℕ
     pub is_past : length jobs ≤ past

@@ -44,13 +44,15 @@ spent = view [] 0 0 0
 abbrev pub with_draw : View → ℕ → View
 with_draw v n = view (v.drawn ++ n ∷ []) v.allowance v.jobs v.workers
 
--- A view that is not spent has an allowance, and says how many jobs and workers there are. At most as many of its numbers are no job's as its allowance.
+-- A view that is not spent has an allowance, and says how many jobs and workers there are. At most as many of its
+-- numbers are no job's as its allowance.
 pub record IsFair (jobs workers : ℕ) (v : View) : Type 0 where
   pub idle : v.allowance ≡ 0 → v.drawn ≡ []
   pub agrees : 0 < v.allowance → (v.jobs ≡ jobs) × (v.workers ≡ workers)
   pub allowed : count_past jobs v.drawn ≤ v.allowance
 
--- The draw rule, where the word is n: the lists of all views hold together each number below n once and no other, and their allowances add up to the workers.
+-- The draw rule, where the word is n: the lists of all views hold together each number below n once and no other, and
+-- their allowances add up to the workers.
 pub record AreDrawn (jobs workers : ℕ) (words : List ℕ) (views : List View) : Type 0 where
   pub one_word : length words ≡ 1
   pub small : jobs + workers < 2 ^ 63

@@ -3,8 +3,8 @@ use Rattle.std.specs.Prelude.{◌≡◌, ℕ, ◌+◌, ◌<◌, ◌≤◌, List,
 use Rattle.gw_draw.specs.declared.table.View.{View}
 use Rattle.gw_draw.specs.Draws.{times, once_below, AreDrawn}
 
--- Runs of workers, each from an empty list: the numbers of its answers, in their order, and the number at which it ended.
--- The list of a seat that has taken over all of them
+-- Runs of workers, each from an empty list: the numbers of its answers, in their order, and the number at which it
+-- ended. The list of a seat that has taken over all of them
 abbrev pub drawn_in : List (List ℕ × ℕ) → List ℕ
 drawn_in [] = []
 drawn_in (r ∷ runs) = (r.0 ++ r.1 ∷ []) ++ drawn_in runs
@@ -14,7 +14,8 @@ abbrev pub answered_in : List (List ℕ × ℕ) → List ℕ
 answered_in [] = []
 answered_in (r ∷ runs) = r.0 ++ answered_in runs
 
--- Where the seat that took over all runs has each number below n once and no other, each run ended past the jobs, and answers are of jobs alone, the answers have each job once, and none is left out.
+-- Where the seat that took over all runs has each number below n once and no other, each run ended past the jobs, and
+-- answers are of jobs alone, the answers have each job once, and none is left out.
 abbrev pub EachJobOnce : Type 0
 EachJobOnce =
     (jobs n : ℕ) (runs : List (List ℕ × ℕ)) → 0 < length runs → All (λ r. jobs ≤ r.1) runs → All (λ x. x < jobs) (answered_in runs)

@@ -9,8 +9,8 @@ use crate::table::{Draw, Seat, Table};
 use gw_base::NoMemory;
 use std::alloc::Global;
 
-/// The next number, by one `fetch_add`: it goes last on the seat's list, and is above those that the seat drew before. The caller
-/// knows that the list holds job numbers alone. It takes no memory.
+/// The next number, by one `fetch_add`: it goes last on the seat's list, and is above those that the seat drew before.
+/// The caller knows that the list holds job numbers alone. It takes no memory.
 pub fn draw_one(table: &Table, seat: &mut Seat) -> u64
     requires table { IsSeatOf table.now seat.old }
     requires jobs_alone { All (λ x. x < (view_of seat.old).jobs) (view_of seat.old).drawn }
@@ -21,13 +21,13 @@ pub fn draw_one(table: &Table, seat: &mut Seat) -> u64
     table.table.shared.fetch_add::<Draw>(&mut seat.seat, 0, 1)
 }
 
-/// One worker's run: it draws until a number is past the last job, and answers each job number drawn, in their order, with `f` of
-/// that job, passing the gate just before. The caller knows that there are as many jobs as the seat's view says, that its list
-/// holds job numbers alone, and that `f` may be called on each job.
+/// One worker's run: it draws until a number is past the last job, and answers each job number drawn, in their order,
+/// with `f` of that job, passing the gate just before. The caller knows that there are as many jobs as the seat's view
+/// says, that its list holds job numbers alone, and that `f` may be called on each job.
 ///
 /// # Errors
 ///
-/// Want of memory. What was drawn stays drawn.
+/// Out of memory. What was drawn stays drawn.
 pub fn draw_all<J, X: Drop, F: Fn(&J) -> X, G: Gate>(
     alloc: Global,
     table: &Table,

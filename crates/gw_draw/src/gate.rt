@@ -1,9 +1,9 @@
 //! What each worker passes before a job.
 
-/// Passed by a worker just before it carries out a job: what a test counts or holds up. A `pass` that never returns holds up the
-/// whole call.
+/// Passed by a worker just before it executes a job: what a test counts or holds up. A `pass` that never returns holds
+/// up the whole call.
 pub trait Gate: Sync {
-    /// The job of this number, from 0, is carried out next.
+    /// The job of this number, from 0, is executed next.
     fn pass(&self, place: usize);
 }
 

@@ -1,4 +1,4 @@
-//! Jobs that many workers carry out, each job by the worker that draws its number from one word.
+//! Jobs that many workers execute, each job by the worker that draws its number from one word.
 #![tactic(auto)]
 
 mod draw;

@@ -131,15 +131,15 @@ fn gather<J, X: Drop, F: Fn(&J) -> X>(
     unwrapped(alloc, places)
 }
 
-/// In the place of each job an answer of `f` on that job, by as many workers at most as are told, 1 to 64. Each draws the next job
-/// from one word until none is left, and passes the gate just before each job. There are as many seats as workers and jobs allow,
-/// one at least; the caller works one of them, so with one worker no thread is started. It waits for its workers. Where a worker
-/// cannot be started, its seat draws on a thread that runs. The caller knows that `f` may be called on each job; there are at most
-/// 4,294,967,295.
+/// In the place of each job an answer of `f` on that job, by as many workers at most as are given, 1 to 64. Each draws
+/// the next job from one word until none is left, and passes the gate just before each job. There are as many seats as
+/// workers and jobs allow, one at least; the caller works one of them, so with one worker no thread is started. It
+/// waits for its workers. Where a worker cannot be started, its seat draws on a thread that runs. The caller knows that
+/// `f` may be called on each job; there are at most 4,294,967,295.
 ///
 /// # Errors
 ///
-/// Want of memory.
+/// Out of memory.
 pub fn draw_map<R: Threads + Sync, J: Sync, X: Send + Drop, F: Fn(&J) -> X + Sync + Drop, G: Gate>(
     rt: &R,
     alloc: Global,

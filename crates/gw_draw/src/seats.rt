@@ -13,7 +13,7 @@ impl Table {
     ///
     /// # Errors
     ///
-    /// Want of memory.
+    /// Out of memory.
     pub fn new(alloc: Global, jobs: u64, workers: u64) -> Result<(Table, Seat), NoMemory>
         requires some { 0 < workers }
         requires small { jobs + workers < 2 ^ 63 }

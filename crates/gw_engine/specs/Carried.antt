@@ -1,4 +1,4 @@
--- Requests carried out one after another, each paired with what it owns (own: the order between transactions).
+-- Requests executed one after another, each paired with what it owns (own: the order between transactions).
 use Rattle.std.specs.Prelude.{List, [], ◌∷◌}
 use Rattle.gw_base.specs.declared.command_words.Rules.{Rules}
 use Rattle.gw_msg.specs.declared.message.Request.{Request}

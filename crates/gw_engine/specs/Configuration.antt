@@ -41,7 +41,7 @@ first_limit c =
     else Some Slots)
     else Some Contexts
 
--- a fault that is not another's to be told first
+-- a fault that no earlier one hides
 abbrev pub IsFault : Config → ConfigFault → Type 0
 IsFault c (LimitOutOfRange limit) = first_limit c ≡ Some limit
 IsFault c ReservedName = (first_limit c ≡ None) × (list_any is_reserved c.terms ≡ true)

@@ -12,8 +12,8 @@ value_of a = record {
   state = record { maps = maps_of a.tables; context_cursor = a.cursors.context; slot_cursor = a.cursors.slot; kept = a.kept };
 }
 
--- the limits are kept, no entry of the tables is out, each prepared key has an entry (so names that were only sent take no memory
--- once a burst is over), and the state is well-formed
+-- the limits are kept, no entry of the tables is out, each prepared key has an entry (so names that were only sent take
+-- no memory once a burst is over), and the state is well-formed
 pub record IsGateway (a : Inside) : Type 0 where
   pub contexts : is_within 1 most_contexts a.contexts ≡ true
   pub slots : is_within 0 most_slots a.slots ≡ true

@@ -52,7 +52,7 @@ pub record IsWellFormed (settings : Settings) (state : State) : Type 0 where
   pub distinct : AreDistinct state.kept.pairs
   pub replies : All (IsKeptReply settings.mid) state.kept.pairs
 
--- ---- codes, by which values of models are told apart
+-- ---- codes, by which values of models are distinguished
 
 abbrev coded_bytes : Coded (List ℕ)
 coded_bytes = coded_list coded_ℕ

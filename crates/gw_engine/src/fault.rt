@@ -33,7 +33,7 @@ pub enum ConfigFault {
     /// Two terminations have one name.
     #[error("a termination is named twice")]
     DuplicateName,
-    /// A growth was refused.
+    /// An allocation was refused.
     #[error("no memory")]
     NoMemory,
 }

@@ -95,7 +95,7 @@ fn has_reserved(names: &[TermName]) -> bool
     names.iter().any(|name| is_reserved(*name))
 }
 
-/// Tells whether a name is given twice, which is a fault. Each of them has its form.
+/// Answers whether a name is given twice, which is a fault. Each of them has its form.
 fn check_names(alloc: Global, names: &[TermName]) -> Result<(), ConfigFault>
     ensures ok { OnOk result (NoDoubles names.now) }
     ensures forms { OnOk result (All IsName names.now) }

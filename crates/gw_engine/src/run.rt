@@ -145,7 +145,7 @@ impl Gateway {
     /// With one worker each request is executed by itself, in order of arrival, and passes the gate with number 0.
     /// With more, requests are executed in waves, each of them all whose footprints meet no earlier one's that waits;
     /// one that is whole-table is a wave by itself. The tables are not copied: a request changes them in place, or, in
-    /// a wave, in a copy of the entries that it may touch, which leave the tables for that time; and the originals are
+    /// a wave, in a copy of the entries that it may claim, which leave the tables for that time; and the originals are
     /// kept until the burst is over.
     ///
     /// The requests of a wave are executed by so many workers, 1 to 64, in threads; the caller is one of them and

@@ -1,4 +1,4 @@
-//! Carrying out the jobs of a wave, by workers.
+//! Executing the jobs of a wave, by workers.
 
 ghost use Rattle.std.specs.Prelude.{IfOk};
 ghost use Rattle.gw_board.specs.OpenJobs.{AreAnswers, IsAnswer};

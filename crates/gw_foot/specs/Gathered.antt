@@ -1,5 +1,5 @@
--- The keys of a request as they are gathered (own): every key at most once for all that is meant for all, and the members of an
--- action's context at most once, however many wildcards may match them.
+-- The keys of a request as they are gathered (own): every key at most once for all that is whole-table, and the members
+-- of an action's context at most once, however many wildcards may match them.
 use Rattle.std.specs.Prelude.{ℕ, Bool, ◌||◌, List, ◌++◌, flat_map, Option, None}
 use Rattle.std.specs.List.{list_any}
 use Rattle.gw_base.specs.declared.key.Key.{Key}
@@ -22,7 +22,8 @@ has_wildcard cs = list_any (λ c. is_wildcard c.term) cs
 abbrev pub own_keys : Maps → Option ℕ × Command → List Key
 own_keys m p = named_keys None p.0 p.1 m p.1.term
 
--- the one context of an action, its members if a wildcard may match them, what the commands name by themselves, and what is linked
+-- the one context of an action, its members if a wildcard may match them, what the commands name by themselves, and
+-- what is linked
 abbrev pub gathered : Maps → OwnedAction → List Key
 gathered m a =
     let one = one_context a.sent.ctx a.number in

@@ -6,8 +6,8 @@ use Rattle.gw_table.specs.Maps.{Maps}
 use Rattle.gw_table.specs.Unused.{owned}
 use Rattle.gw_reserve.specs.Owned.{OwnedAction, AreFreeSlots, paired_actions}
 
--- The actions of the request have an entry each for a number, and their commands one each for a slot; no two commands own the same
--- slot, and none of the slots has a termination.
+-- The actions of the request have an entry each for a number, and their commands one each for a slot; no two commands
+-- own the same slot, and none of the slots has a termination.
 pub record OwnsUnused (m : Maps) (r : Request) (owners : List OwnedAction) : Type 0 where
   pub numbers : List (Option CtxNum)
   pub slots : List (Option ℕ)

@@ -1,4 +1,4 @@
-//! Which commands and actions are meant for all.
+//! Which commands and actions are whole-table.
 
 ghost use Rattle.std.specs.Prelude.{◌≡◌, ◌||◌};
 ghost use Rattle.std.specs.List.{list_any};

@@ -55,7 +55,7 @@ pub(crate) fn add_every_key(
     add_numbers(&numbers, keys)
 }
 
-/// The members of a context, which the context itself tells.
+/// The members of a context, which the context itself has.
 fn add_members(tables: &Tables, number: CtxNum, keys: &mut Vec<Key>) -> Result<(), NoMemory>
     ensures { OnOk result (keys.new.items ≡ keys.old.items ++ map Term (members_of (ctx (maps_of tables.now) number))) }
 {
@@ -139,8 +139,8 @@ pub fn one_context(sent: CtxRef, owned: Option<CtxNum>) -> Option<CtxNum>
     }
 }
 
-/// The keys of one action. The members of its context are there once, however many wildcards may match them. The names that it links
-/// are listed on the way.
+/// The keys of one action. The members of its context are there once, however many wildcards may match them. The names
+/// that it links are listed on the way.
 fn add_action(
     tables: &Tables,
     number: Option<CtxNum>,
@@ -162,8 +162,8 @@ fn add_action(
     add_linked(tables, &names, keys)
 }
 
-/// Drops doubles where there are more than so many keys, and tells at how many it is worth while again: so the list takes no more
-/// room than twice the keys and those of one action.
+/// Drops doubles where there are more than so many keys, and answers at how many it is worth while again: so the list
+/// takes no more room than twice the keys and those of one action.
 fn drop_doubles(most: usize, keys: &mut Vec<Key>) -> usize
     ensures { (k : Key) → has keys.new.items k ≡ has keys.old.items k }
 {

@@ -1,4 +1,4 @@
-//! Which entries of the tables a request may touch, and what follows for requests that are carried out side by side.
+//! Which entries of the tables a request may claim, and what follows for requests that are executed side by side.
 #![tactic(auto)]
 
 mod asked;

@@ -1,4 +1,4 @@
-//! Whether two requests may touch the same entry.
+//! Whether two requests may claim the same entry.
 
 ghost use Rattle.std.specs.Prelude.{◌≡◌};
 ghost use Rattle.std.specs.List.{list_any};

@@ -1,4 +1,4 @@
-//! Which entries of the tables a request may touch.
+//! Which entries of the tables a request may claim.
 
 ghost use Rattle.std.specs.Prelude.{IfOk, ◌≡◌};
 ghost use Rattle.std.specs.List.{list_any};
@@ -21,7 +21,7 @@ use gw_reserve::Owned;
 use gw_table::{Keys, Tables, put_in_order};
 use std::alloc::Global;
 
-/// Most requests have no more keys, so that the list is made by one growth.
+/// Most requests have no more keys, so that the list is made by one allocation.
 const MOST_HAVE: usize = 8;
 
 fn any_asks_all(actions: &[Action<'_>]) -> bool
@@ -30,15 +30,15 @@ fn any_asks_all(actions: &[Action<'_>]) -> bool
     actions.iter().any(|action| asks_all(action))
 }
 
-/// Whether something in a request is meant for all: then the whole of the tables is among its keys, whatever they are, and else never. The work
-/// is one pass over its commands.
+/// Whether something in a request is whole-table: then the whole of the tables is among its keys, whatever they are,
+/// and else never. The work is one pass over its commands.
 pub fn is_for_all(request: &Request<'_>) -> bool
     ensures { (owned : AnOwned) (m : Maps) → has (footprint_of (paired request.now owned) m) Whole ≡ result }
 {
     any_asks_all(request.actions.as_slice())
 }
 
-/// Every key where something in the request is meant for all, else none.
+/// Every key where something in the request is whole-table, else none.
 fn begun(alloc: Global, tables: &Tables, actions: &[Action<'_>]) -> Result<Vec<Key>, NoMemory>
     ensures { IfOk result (λ keys. keys.items ≡ keys_if (list_any asks_all actions.now) (every_key (maps_of tables.now))) }
 {
@@ -49,13 +49,13 @@ fn begun(alloc: Global, tables: &Tables, actions: &[Action<'_>]) -> Result<Vec<K
     Ok(keys)
 }
 
-/// The keys of a request with what it owns, in the tables as they are, over all its actions and commands, reached or not: each once,
-/// in order. With n keys the work is n log n. A wildcard's members are those that its context tells; every termination is looked at only
-/// where something in the request is meant for all.
+/// The keys of a request with what it owns, in the tables as they are, over all its actions and commands, reached or
+/// not: each once, in order. With n keys the work is n log n. A wildcard's members are those that its context has;
+/// every termination is looked at only where something in the request is whole-table.
 ///
 /// # Errors
 ///
-/// Want of memory.
+/// Out of memory.
 pub fn footprint(
     alloc: Global,
     tables: &Tables,

@@ -9,6 +9,6 @@ pub mod Served
 pub mod OneFault
 pub mod Happening
 pub mod Gathering
-pub mod Sending
+pub mod Outgoing
 pub mod BarePieces
 pub mod WholeInput

@@ -77,7 +77,7 @@ abbrev pub IsAnswered : (burst sent : List Packet) → (old new : GatewayValue) 
 IsAnswered burst sent old new before after =
     IsExecuted burst sent old new before after ⊎ IsDropped sent old new before after
 
--- A turn comes where not too many bursts were dropped, and has a datagram at least that was taken.
+-- A turn comes where not too many bursts were dropped, and has one datagram or more that was taken.
 pub record IsTurn (options : ServeOptions) (turn : Turn) (old new : GatewayValue) (before after : Totals) : Type 0 where
   pub goes_on : ¬ IsFull options.give_up before
   pub some : 0 < length (taken options.controllers.now turn.came)

@@ -51,11 +51,11 @@ fn write_bare<W: Write>(
 }
 
 /// Reads an input to its end as one datagram, answers it, and writes the bytes of the answer; nothing where there is
-/// none, and of several one behind the other. One worker carries it out.
+/// none, and of several one behind the other. One worker executes it.
 ///
 /// # Errors
 ///
-/// `TooLong` where the input has more than 65,507 bytes, `Read` where a read failed, `NoMemory` where a growth was
+/// `TooLong` where the input has more than 65,507 bytes, `Read` where a read failed, `NoMemory` where an allocation was
 /// refused: the datagram was not executed, and nothing is out. `Write` where a write failed or took 0 bytes: it was
 /// executed, and a front of the answers is out.
 pub fn answer<T: Threads + Sync, R: Read, W: Write>(

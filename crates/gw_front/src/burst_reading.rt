@@ -36,7 +36,7 @@ enum Piece {
 pub(crate) enum Next {
     /// A burst that its line `.` ends.
     Burst(Items<Datagram>),
-    /// A burst of a datagram at least that the end of the input ends.
+    /// A burst of one datagram or more that the end of the input ends.
     Last(Items<Datagram>),
     /// Nothing.
     End,
@@ -86,7 +86,7 @@ fn next_piece<R: Read>(
     }
 }
 
-/// So many datagrams have room at least in a burst before its list grows.
+/// A burst has room for so many datagrams before its list grows.
 const ROOM_AT_FIRST: usize = 16;
 
 /// The next burst. Nothing is read behind its line `.`, nor behind the end of the input.

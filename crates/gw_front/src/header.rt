@@ -98,7 +98,7 @@ fn line_in(held: &[u8]) -> Option<&[u8]>
 /// # Errors
 ///
 /// `BadHeader` where the first 33 bytes have no line feed among them; `Truncated` where the input ends behind fewer,
-/// but one at least; `Read` where a read failed.
+/// but one or more; `Read` where a read failed.
 fn read_line<R: Read>(
     reader: &mut BufReader<R>,
 ) -> Result<Option<ArrayVec<u8, LINE_ROOM>>, ReplayFault>
@@ -140,7 +140,7 @@ fn read_apart<R: Read>(reader: &mut BufReader<R>) -> Result<Option<Header>, Repl
 /// # Errors
 ///
 /// `BadHeader` where the first 33 bytes have no line feed among them, or the line is of no form; `Truncated` where the
-/// input ends behind fewer, but one at least; `Read` where a read failed.
+/// input ends behind fewer, but one or more; `Read` where a read failed.
 pub(crate) fn read_header<R: Read>(reader: &mut BufReader<R>) -> Result<Option<Header>, ReplayFault>
     ensures { IsHeaderRead (reader_remaining R.remaining reader.old) (reader_remaining R.remaining reader.new) result }
 {

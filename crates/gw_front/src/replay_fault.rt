@@ -25,7 +25,7 @@ pub enum ReplayFault {
     /// A write failed or took 0 bytes. The burst in hand was executed, and a front of the text of its answers is out.
     #[error("the output could not be written")]
     Write,
-    /// A growth was refused. Nothing of the burst in hand was executed.
+    /// An allocation was refused. Nothing of the burst in hand was executed.
     #[error("no memory")]
     NoMemory,
 }

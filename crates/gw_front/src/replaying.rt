@@ -22,8 +22,8 @@ const READ_AHEAD: usize = 8_192;
 /// How many bytes are gathered for one write.
 const PIECE: usize = 65_536;
 
-/// Carries a burst out and writes its answers; the counts with it.
-fn carry_out<T: Threads + Sync, G: Gate, W: Write>(
+/// Executes a burst and writes its answers; the counts with it.
+fn execute<T: Threads + Sync, G: Gate, W: Write>(
     workers: &Workers<'_, T, G>,
     alloc: Global,
     out: &mut W,
@@ -63,10 +63,10 @@ fn replay_all<T: Threads + Sync, G: Gate, R: Read, W: Write>(
     for _turn in 0..u64::MAX {
         match next_burst(alloc, input)? {
             Next::Burst(burst) => {
-                counts = carry_out(workers, alloc, out, held, gateway, burst.as_slice(), counts)?;
+                counts = execute(workers, alloc, out, held, gateway, burst.as_slice(), counts)?;
             }
             Next::Last(burst) => {
-                return carry_out(workers, alloc, out, held, gateway, burst.as_slice(), counts);
+                return execute(workers, alloc, out, held, gateway, burst.as_slice(), counts);
             }
             Next::End => return Ok(counts),
         }
@@ -84,7 +84,7 @@ fn replay_all<T: Threads + Sync, G: Gate, R: Read, W: Write>(
 ///
 /// The bursts before the fault were executed, and their answers are out whole. `BadHeader`, `Truncated` and
 /// `TooLong` where that is wrong first in what follows them; `Read` where a read failed, or after 4,294,967,295 reads;
-/// `NoMemory` where a growth was refused: of the burst in hand nothing was executed, and nothing is out. `Write`
+/// `NoMemory` where an allocation was refused: of the burst in hand nothing was executed, and nothing is out. `Write`
 /// where a write failed or took 0 bytes: the burst in hand was executed, and a front of the text of its answers is
 /// out.
 pub fn replay<T: Threads + Sync, R: Read, W: Write, G: Gate>(

@@ -81,8 +81,8 @@ impl Marks {
         }
     }
 
-    /// The first number that is not marked, from one on to another; the other one where all below it are marked. The work is a
-    /// step for each 64 numbers that are passed by.
+    /// The first number that is not marked, from one on to another; the other one where all below it are marked. The
+    /// work is a step for each 64 numbers that are passed by.
     pub fn first_unmarked(&self, from: u32, to: u32) -> u32
         requires { from ≤ to }
         ensures behind { from ≤ result }

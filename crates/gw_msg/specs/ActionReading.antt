@@ -1,4 +1,5 @@
--- Commands and actions as they are read, from left to right (own). That this is the grammar (RFC 3525, Annex B.2) is proved.
+-- Commands and actions as they are read, from left to right (own). That this is the grammar (RFC 3525, Annex B.2) is
+-- proved.
 use Rattle.std.specs.Prelude.{◌||◌, not, ℕ, zero, suc, length, true, false, Bool, List, [], ◌∷◌, Option, Some, None, codes}
 use Rattle.gw_base.specs.Bytes.{byte}
 use Rattle.gw_base.specs.declared.command_words.CtxRef.{CtxRef}
@@ -92,7 +93,7 @@ triple_at text = do
   flow ← word_as flow_of third
   Some (record { a = a.0; b = b.0; flow = flow.0 }, flow.1)
 
--- a property that is asked for
+-- a property that is requested
 abbrev pub context_item_at : Reader ContextItem
 context_item_at = word_as context_item_of
 
@@ -116,7 +117,7 @@ context_property_at text = do
   word ← word_as token_of text
   property_rest word.0 word.1
 
--- what an action asks of its context: properties, and commands
+-- what an action requests of its context: properties, and commands
 abbrev pub Contents : Type 0
 Contents = List ContextProp × List Command
 

@@ -1,4 +1,5 @@
--- Which commands may have `W-`, which have a group of their own, and how a priority is written (RFC 3525, Annex B.2, but where it says own).
+-- Which commands may have `W-`, which have a group of their own, and how a priority is written (RFC 3525, Annex B.2,
+-- but where it says own).
 use Rattle.std.specs.Prelude.{ℕ, Bool, true, false}
 use Rattle.gw_base.specs.declared.command_words.Verb.{Verb}
 use Rattle.gw_base.specs.declared.command_words.Verb.TheVariants as verb
@@ -10,7 +11,7 @@ may_be_wild verb.AuditValue = true
 may_be_wild verb.AuditCapability = true
 may_be_wild _ = false
 
--- the commands that are not carried out, of which what stands in braces is read as a group (own)
+-- the commands that are not executed, of which what stands in braces is read as a group (own)
 abbrev pub has_group : Verb → Bool
 has_group verb.AuditCapability = true
 has_group verb.Notify = true

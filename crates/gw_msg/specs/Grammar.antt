@@ -69,7 +69,7 @@ abbrev pub SpellsDetailsOf : Bool → List Descriptor → List ℕ → Type 0
 SpellsDetailsOf true descriptors text = (descriptors ≡ []) × ((group : Option (List ℕ)) × SpellsOptionalGroup group text)
 SpellsDetailsOf false descriptors text = OptionalBraced SpellsDescriptor descriptors text
 
--- descriptors, or a group behind a command that is not carried out
+-- descriptors, or a group behind a command that is not executed
 abbrev pub SpellsDetails : Verb → List Descriptor → List ℕ → Type 0
 SpellsDetails v = SpellsDetailsOf (has_group v)
 
@@ -130,7 +130,7 @@ SpellsContextProperties = Separated SpellsContextProperty
 abbrev pub SpellsCommands : List Command → List ℕ → Type 0
 SpellsCommands = Separated SpellsCommand
 
--- what an action asks of its context: commands, or properties, or properties and behind COMMA commands
+-- what an action requests of its context: commands, or properties, or properties and behind COMMA commands
 abbrev pub SpellsContents : List ContextProp → List Command → List ℕ → Type 0
 SpellsContents [] commands = SpellsCommands commands
 SpellsContents (p ∷ ps) [] = SpellsContextProperties (p ∷ ps)

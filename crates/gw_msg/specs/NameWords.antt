@@ -1,5 +1,6 @@
--- Which words are TerminationIDs and mIds, as tests, and what they stand for (own). They find what gw_base has as forms, `IsTerm` and
--- `IsMid`: that each is so is proved, so that a word that is read stands for what the grammar says and for nothing else.
+-- Which words are TerminationIDs and mIds, as tests, and what they stand for (own). They find what gw_base has as
+-- forms, `IsTerm` and `IsMid`: that each is so is proved, so that a word that is read stands for what the grammar says
+-- and for nothing else.
 use Rattle.std.specs.Prelude.{ℕ, ◌-◌, Bool, ◌==◌, ◌||◌, ◌&&◌, nat_lt, nat_le, bytes_eq, if◌then◌else◌, List, [], ◌∷◌, ◌++◌, length, take, slice_index, Option, Some, None, codes}
 use Rattle.std.specs.List.{list_all, list_any}
 use Rattle.std.specs.Str.Parse.{digits_value}

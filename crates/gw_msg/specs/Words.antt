@@ -48,14 +48,14 @@ flow_for _ = None
 abbrev pub flow_of : List ℕ → Option Flow
 flow_of word = flow_for (token_of word)
 
--- the property that a ContextAudit asks for, by its token
+-- the property that a ContextAudit requests, by its token
 abbrev pub context_item_for : Option Token → Option ContextItem
 context_item_for (Some token.Topology) = Some item.Topology
 context_item_for (Some token.Priority) = Some item.Priority
 context_item_for (Some token.Emergency) = Some item.Emergency
 context_item_for _ = None
 
--- the property that a ContextAudit asks for, by a word
+-- the property that a ContextAudit requests, by a word
 abbrev pub context_item_of : List ℕ → Option ContextItem
 context_item_of word = context_item_for (token_of word)
 

@@ -56,7 +56,7 @@ impl<'a> Parse<'a> for Command<'a> {
     }
 }
 
-/// What an action asks of its context: the properties, and the commands behind them.
+/// What an action requests of its context: the properties, and the commands behind them.
 fn contents<'a>(
     bump: &'a Bump,
     cursor: &mut Cursor<'a>,

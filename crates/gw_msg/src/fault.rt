@@ -15,7 +15,7 @@ pub enum ReadFault {
     /// The text does not begin so, and is no message.
     #[error("syntax error in message")]
     Syntax,
-    /// A growth was refused.
+    /// An allocation was refused.
     #[error("no memory")]
     NoMemory,
 }

@@ -26,7 +26,7 @@ use std::alloc::{AllocError, Global};
 pub(crate) enum Trees {
     /// They are kept with the message.
     Kept,
-    /// Each is let go once it is read whole. Meanwhile it lies in an arena over this allocator.
+    /// Each is dropped once it is read whole. Meanwhile it lies in an arena over this allocator.
     LetGo(Global),
 }
 
@@ -42,8 +42,8 @@ const CODE_DIGITS: usize = 4;
 /// The greatest number that they write.
 const CODE_MAX: u32 = 9999;
 
-/// Takes the brace that closes a transaction, with the white space on both sides. Mostly there is none in front of it, and behind it one
-/// blank or none.
+/// Takes the brace that closes a transaction, with the white space on both sides. Mostly there is none in front of it,
+/// and behind it one blank or none.
 #[inline(always)]
 #[tactic(auto, unfolding(gw_text::specs::Sign::sign_at, gw_text::specs::Sign::byte_at, gw_text::specs::SpaceScan::skip, gw_text::specs::SpaceScan::space_len))]
 fn close(cursor: &mut Cursor<'_>) -> Result<(), ParseFault>
@@ -75,8 +75,8 @@ pub(crate) fn request_tree<'a>(
     })
 }
 
-/// What is kept of a transaction whose tree is let go: its number, and how many bytes are left behind it. Its tree lies in the arena,
-/// and no longer than its text is read.
+/// What is kept of a transaction whose tree is dropped: its number, and how many bytes are left behind it. Its tree
+/// lies in the arena, and no longer than its text is read.
 fn glance<'s>(scratch: &'s Bump, mut begin: Cursor<'s>) -> Result<(TxId, usize), ParseFault>
     ensures { Glances result begin.entry }
 {
@@ -181,7 +181,8 @@ fn ack<'a>(bump: &'a Bump, cursor: &mut Cursor<'a>) -> Result<Item<'a>, ParseFau
     Ok(Item::Ack(braced(bump, cursor)?))
 }
 
-/// A part of the body: its token, and what is behind it. Where there is an arena to read it in, the tree of a transaction is let go.
+/// A part of the body: its token, and what is behind it. Where there is an arena to read it in, the tree of a
+/// transaction is dropped.
 #[inline(always)]
 #[tactic(auto, unfolding(crate::specs::Reading::item_at))]
 fn item<'a>(
@@ -204,7 +205,7 @@ fn item<'a>(
 ///
 /// # Errors
 ///
-/// `AllocError` where a growth was refused.
+/// `AllocError` where an allocation was refused.
 #[inline(always)]
 fn make_room<'a>(parts: &mut Vec<Item<'a>, &'a Bump>, left: usize) -> Result<(), AllocError>
     ensures items { OnOk result (parts.new.items ≡ parts.old.items) }
@@ -216,8 +217,8 @@ fn make_room<'a>(parts: &mut Vec<Item<'a>, &'a Bump>, left: usize) -> Result<(),
     Ok(())
 }
 
-/// The items to the end of the text, each of a byte at least, with the trees of transactions. Most messages have one item, which then
-/// takes a block of its own size.
+/// The items to the end of the text, each of a byte at least, with the trees of transactions. Most messages have one
+/// item, which then takes a block of its own size.
 fn whole_items<'a>(
     bump: &'a Bump,
     cursor: &mut Cursor<'a>,
@@ -240,7 +241,8 @@ fn whole_items<'a>(
     }
 }
 
-/// The items to the end of the text, each of a byte at least, without the trees of transactions: one is there at a time.
+/// The items to the end of the text, each of a byte at least, without the trees of transactions: one is there at a
+/// time.
 fn brief_items<'a>(
     alloc: Global,
     bump: &'a Bump,
@@ -260,7 +262,8 @@ fn brief_items<'a>(
     }
 }
 
-/// The items, in the arena, where they take no more than their size: a list that grew there would leave a block behind at each growth.
+/// The items, in the arena, where they take no more than their size: a list that grew there would leave a block behind
+/// at each allocation.
 fn laid_out<'a>(bump: &'a Bump, items: Items<Item<'a>>) -> Result<Listed<'a, Item<'a>>, AllocError>
     ensures { IfOk result (λ laid. laid ≡ items.entry) }
 {

@@ -5,8 +5,8 @@ use crate::sender::Sender;
 use gw_base::{CtxRef, Flow, Listed, TermRef, TxId, Verb};
 use gw_desc::Descriptor;
 
-/// A message: who sent it, and what it holds in the order sent. What is kept as sent are spans of its datagram, and its lists lie in an
-/// arena. Both live as long as `'a`.
+/// A message: who sent it, and what it holds in the order sent. What is kept as sent are spans of its datagram, and its
+/// lists lie in an arena. Both live as long as `'a`.
 pub struct Message<'a> {
     /// The sender's mId, byte for byte.
     pub mid: Sender<'a>,
@@ -14,7 +14,8 @@ pub struct Message<'a> {
     pub items: Listed<'a, Item<'a>>,
 }
 
-// By hand, so that a function that lets a message go does so by one call. A derived one would stand in it field by field.
+// By hand, so that a function that lets a message go does so by one call. A derived one would stand in it field by
+// field.
 impl Drop for Message<'_> {
     fn drop(self) {
         let Message { mid: _, items: _ } = self;
@@ -24,7 +25,7 @@ impl Drop for Message<'_> {
 /// One part of a message's body.
 #[derive(Drop)]
 pub enum Item<'a> {
-    /// A transaction to be carried out.
+    /// A transaction to be executed.
     Request(Passage<'a>),
     /// Replies that have arrived, by the numbers of their transactions.
     Ack(Listed<'a, AckRange>),
@@ -47,11 +48,11 @@ pub struct AckRange {
 pub struct Request<'a> {
     /// The number that its reply repeats.
     pub id: TxId,
-    /// The actions in the order sent, at least one.
+    /// The actions in the order sent, one or more.
     pub actions: Listed<'a, Action<'a>>,
 }
 
-/// An action: what is asked of one context (RFC 3525, section 8 and Annex B.2, `actionRequest`).
+/// An action: what is requested of one context (RFC 3525, section 8 and Annex B.2, `actionRequest`).
 #[derive(Drop)]
 pub struct Action<'a> {
     /// The context that the commands are for (section 8.1.2).
@@ -62,21 +63,22 @@ pub struct Action<'a> {
     pub commands: Listed<'a, Command<'a>>,
 }
 
-/// What an action asks of its context itself (RFC 3525, section 8.1.2 and Annex B.2, `contextProperty` and `contextAudit`).
+/// What an action requests of its context itself (RFC 3525, section 8.1.2 and Annex B.2, `contextProperty` and
+/// `contextAudit`).
 #[derive(Drop)]
 pub enum ContextProp<'a> {
     /// `Priority`: the priority that the context gets.
     Priority(u16),
-    /// `Emergency`: the context is marked as an emergency.
+    /// `Emergency`: the context is an emergency.
     Emergency,
     /// `Topology`: how media flow between its terminations, two at a time in the order sent, at least once.
     Topology(Listed<'a, Triple>),
-    /// `ContextAudit`: which of its properties are told, in the order sent, at least one.
+    /// `ContextAudit`: which of its properties are written, in the order sent, one or more.
     ContextAudit(Listed<'a, ContextItem>),
 }
 
-/// How media flow between two terminations (RFC 3525, section 7.1.18 and Annex B.2, `topologyTriple`). What is sent may be a
-/// wildcard.
+/// How media flow between two terminations (RFC 3525, section 7.1.18 and Annex B.2, `topologyTriple`). What is sent may
+/// be a wildcard.
 #[derive(Clone, Copy)]
 pub struct Triple {
     /// The first termination.
@@ -94,7 +96,7 @@ pub enum ContextItem {
     Topology,
     /// Its priority.
     Priority,
-    /// Whether it is marked as an emergency.
+    /// Whether it is an emergency.
     Emergency,
 }
 

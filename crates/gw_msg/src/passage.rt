@@ -19,8 +19,8 @@ enum Form<'a> {
     Text { id: TxId, begin: Cursor<'a> },
 }
 
-/// A request of a message: its tree, or where it stands in the datagram, from which the tree is read again. Contracts see the request
-/// itself.
+/// A request of a message: its tree, or where it stands in the datagram, from which the tree is read again. Contracts
+/// see the request itself.
 #[derive(Drop)]
 pub struct Passage<'a> {
     form: Form<'a>,
@@ -47,7 +47,8 @@ impl<'a> Passage<'a> {
         }
     }
 
-    /// A request whose tree is let go. The caller knows that it is what stands at the cursor, behind its token, and its number.
+    /// A request whose tree is dropped. The caller knows that it is what stands at the cursor, behind its token, and
+    /// its number.
     pub(crate) fn of_text(begin: Cursor<'a>, id: TxId) -> Passage<'a>
         requires { IsText id begin }
         ensures { result ≡ request_from begin.entry }
@@ -81,7 +82,7 @@ impl<'a> Passage<'a> {
     ///
     /// # Errors
     ///
-    /// Want of memory, where it is read again.
+    /// Out of memory, where it is read again.
     pub fn tree<'h>(&'h self, bump: &'h Bump) -> Result<&'h Request<'h>, NoMemory>
         ensures { IfOk result (λ tree. tree.now ≡ self.now) }
     {

@@ -1,4 +1,4 @@
-//! What an action asks of its context itself, as it is read: its properties, and that they are audited.
+//! What an action requests of its context itself, as it is read: its properties, and that they are audited.
 
 ghost use Rattle.std.proofs.Common.{arith};
 ghost use Rattle.gw_text.specs.Parts.{Gives, Finds};

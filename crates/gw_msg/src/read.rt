@@ -75,25 +75,26 @@ fn answer<'a>(bump: &'a Bump, text: &'a [u8], trees: Trees) -> Result<Message<'a
     Ok(message)
 }
 
-/// The message that the text spells. It is read from left to right, and the cost is linear in the length of the text: each
-/// word and each run of white space is scanned a fixed number of times at most. Behind a word white space is scanned once
-/// for each sign that may stand there, which are five at most, and a word is read again for what it stands for. The lists of the message
-/// lie in the arena.
+/// The message that the text spells. It is read from left to right, and the cost is linear in the length of the text:
+/// each word and each run of white space is scanned a fixed number of times at most. Behind a word white space is
+/// scanned once for each sign that may stand there, which are five at most, and a word is read again for what it stands
+/// for. The lists of the message lie in the arena.
 ///
 /// # Errors
 ///
 /// `Version` where the text begins as a message of another version than 1, whatever follows; `Syntax` where it does not
-/// and spells no message; `NoMemory` where a growth was refused, behind a header of version 1 alone. What was read before stays in the
-/// arena until that goes.
+/// and spells no message; `NoMemory` where an allocation was refused, behind a header of version 1 alone. What was read
+/// before stays in the arena until that goes.
 pub fn read_message<'a>(bump: &'a Bump, text: &'a [u8]) -> Result<Message<'a>, ReadFault>
     ensures { IsReadingOf text.now result }
 {
     answer(bump, text, Trees::Kept)
 }
 
-/// The message that the text spells, as [`read_message`] reads it, without the trees of its requests: of each it is kept where its text
-/// begins. So a message takes some 40 bytes of the arena for each of its transactions, however many commands they have. While it is
-/// read, the tree of one transaction is there at a time, in an arena over `alloc`, and the list of its items, which go with the call.
+/// The message that the text spells, as [`read_message`] reads it, without the trees of its requests: of each it is
+/// kept where its text begins. So a message takes some 40 bytes of the arena for each of its transactions, however many
+/// commands they have. While it is read, the tree of one transaction is there at a time, in an arena over `alloc`, and
+/// the list of its items, which go with the call.
 ///
 /// # Errors
 ///
@@ -114,8 +115,8 @@ pub fn one_message()
     ensures version { (text : List ℕ) (m : SpelledMessage) → Spells m text → ¬ HasVersionFault text }
 {}
 
-/// Each text has one answer but for want of memory, and `message_of` is that answer. A text without a header of version 1
-/// leaves no room for want of memory.
+/// Each text has one answer but where memory is refused, and `message_of` is that answer. A text without a header of
+/// version 1 is never answered out of memory.
 pub fn one_answer()
     ensures answer { (text : List ℕ) → IsReadingOf text (message_of text) }
     ensures memory { (text : List ℕ) → message_of text ≢ Err NoMemory }

@@ -1,11 +1,12 @@
-//! Who sent a message, as it is lent.
+//! Who sent a message, borrowed.
 
 ghost use Rattle.std.specs.Prelude.{◌≡◌};
 
 use gw_base::Mid;
 use std::marker::Model;
 
-/// Who sent a message: an mId that lies in the arena of what is read, and is moved by its place. Contracts see its bytes.
+/// Who sent a message: an mId that lies in the arena of what is read, and is moved by its place. Contracts see its
+/// bytes.
 #[derive(Drop)]
 pub struct Sender<'a> {
     mid: &'a Mid,
@@ -20,14 +21,14 @@ impl<'a> Model for Sender<'a> {
 }
 
 impl<'a> Sender<'a> {
-    /// The sender of this mId, lent.
+    /// The sender of this mId, borrowed.
     pub fn new(mid: &'a Mid) -> Self
         ensures { result ≡ mid.now }
     {
         Sender { mid }
     }
 
-    /// The same, lent once more.
+    /// The same, borrowed once more.
     pub fn again(&self) -> Self
         ensures { result ≡ self.now }
     {

@@ -90,7 +90,7 @@ pub fn flow(cursor: &mut Cursor<'_>) -> Result<Flow, ParseFault>
     }
 }
 
-/// A property that a ContextAudit asks for.
+/// A property that a ContextAudit requests.
 pub fn context_item(cursor: &mut Cursor<'_>) -> Result<ContextItem, ParseFault>
     ensures { Finds result cursor.new (word_as context_item_of cursor.old) }
 {

@@ -23,7 +23,7 @@ use Rattle.gw_program.specs.Commands.{alone, program_app}
 use Rattle.clap.specs.declared.error.Error.{Error}
 use Rattle.std.specs.List.{AllZip}
 use Rattle.std.proofs.lemmas.List.{take_more}
-use Rattle.gw_program.specs.Words.{AreAsked, HasNoAddress, IsCommand, IsFlag, IsKindOf, IsMistaken, IsNumber, IsUnnamedIn, controller_texts, given, mistake_kind, mistakes}
+use Rattle.gw_program.specs.Words.{AreRequested, HasNoAddress, IsCommand, IsFlag, IsKindOf, IsMistaken, IsNumber, IsUnnamedIn, controller_texts, given, mistake_kind, mistakes}
 use Rattle.gw_program.specs.declared.mistake.Mistake.{Mistake}
 use Rattle.gw_program.specs.declared.mistake.Mistake.TheVariants as mistake
 
@@ -74,7 +74,7 @@ number_given {E} f id number gives parses none read =
 -- as many workers as the number says
 pub workers_given : (text : Option Text) (number : Option ℕ) (workers : ℕ) → IsNumber text number
     → ((count : ℕ) → number ≡ Some count → 1 ≤ count → count ≤ 64 → workers ≡ count)
-    → (number ≡ None → workers ≡ 1) → AreAsked text workers
+    → (number ≡ None → workers ≡ 1) → AreRequested text workers
 workers_given None number workers read said alone = alone read
 workers_given (Some text) (Some count) workers read said alone =
     λ fits. said count refl (subst (λ (n : ℕ). 1 ≤ n) (sym read) fits.2) (subst (λ (n : ℕ). n ≤ 64) (sym read) fits.3)

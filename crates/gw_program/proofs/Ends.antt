@@ -16,22 +16,22 @@ use Rattle.gw_front.specs.declared.serve_options.ServeOptions.{ServeOptions}
 use Rattle.gw_front.specs.declared.totals.Totals.{Totals}
 use Rattle.gw_front.proofs.Served.{not_begun}
 use Rattle.gw_program.specs.Faults.{of_replay}
-use Rattle.gw_program.specs.Jobs.{AreOptions, IsReplayJob, IsServeJob, IsServedAt, IsUntoldFor}
+use Rattle.gw_program.specs.Jobs.{AreOptions, IsReplayJob, IsServeJob, IsServedAt, IsUnprintedFor}
 use Rattle.gw_program.specs.declared.job.Serving.{Serving}
 use Rattle.gw_program.specs.declared.fault.Fault.{Fault}
 use Rattle.gw_program.specs.declared.fault.Fault.TheVariants as why
 
-pub stopped : (audit : Bool) (old new : GatewayValue) (input out after : Option (List ℕ)) (told : Fault)
-    (fault : ReplayFault) → told ≡ of_replay fault → IsReplay input out after old new (Err fault)
-    → IsReplayJob audit old input out after (Err told)
-stopped audit old new input out after told fault e h =
+pub stopped : (audit : Bool) (old new : GatewayValue) (input out after : Option (List ℕ)) (printed : Fault)
+    (fault : ReplayFault) → printed ≡ of_replay fault → IsReplay input out after old new (Err fault)
+    → IsReplayJob audit old input out after (Err printed)
+stopped audit old new input out after printed fault e h =
     inl (record { replay_fault = fault; new = new; replayed = h; becomes = e })
 
-pub untold : (audit : Bool) (old new : GatewayValue) (input out between after : Option (List ℕ)) (told : Fault)
-    (counts : Counts) → audit ≡ true → IsReplay input out between old new (Ok counts) → IsUntoldFor told between after
-    → IsReplayJob audit old input out after (Err told)
-untold audit old new input out between after told counts asked h cause =
-    inr (record { asked = asked; counts = counts; new = new; between = between; replayed = h; cause = cause })
+pub unprinted : (audit : Bool) (old new : GatewayValue) (input out between after : Option (List ℕ)) (printed : Fault)
+    (counts : Counts) → audit ≡ true → IsReplay input out between old new (Ok counts) → IsUnprintedFor printed between after
+    → IsReplayJob audit old input out after (Err printed)
+unprinted audit old new input out between after printed counts requested h cause =
+    inr (record { requested = requested; counts = counts; new = new; between = between; replayed = h; cause = cause })
 
 pub plain : (old new : GatewayValue) (input out after : Option (List ℕ)) (counts : Counts)
     → IsReplay input out after old new (Ok counts) → IsReplayJob false old input out after (Ok tt)

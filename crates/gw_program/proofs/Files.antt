@@ -11,13 +11,13 @@ use Rattle.gw_engine.specs.declared.fault.ConfigFault.TheVariants.{LimitOutOfRan
 use Rattle.gw_program.specs.Faults.{of_config}
 use Rattle.gw_program.specs.Jobs.{IsTextOf, IsConfigIn, IsGatewayIn, IsCheck}
 
-told_taken : (n : ℕ) (o : Option (List ℕ)) (bytes : List ℕ) → IfSome (option_map (take n) o) (λ xs. bytes ≡ xs) → IfSome o (λ xs. bytes ≡ take n xs)
-told_taken n None bytes h = tt
-told_taken n (Some xs) bytes h = h
+printed_taken : (n : ℕ) (o : Option (List ℕ)) (bytes : List ℕ) → IfSome (option_map (take n) o) (λ xs. bytes ≡ xs) → IfSome o (λ xs. bytes ≡ take n xs)
+printed_taken n None bytes h = tt
+printed_taken n (Some xs) bytes h = h
 
 -- a reader that was read to its end, or up to a limit
 pub read_up : (cap limit : ℕ) (source input : Option (List ℕ)) (bytes start : List ℕ) → cap ≡ limit → source ≡ input → start ≡ [] → IfSome (option_map (take cap) source) (λ xs. bytes ≡ start ++ xs) → IfSome input (λ xs. bytes ≡ take limit xs)
-read_up cap limit source input bytes start c s b h = told_taken limit input bytes
+read_up cap limit source input bytes start c s b h = printed_taken limit input bytes
     (subst (λ (o : Option (List ℕ)). IfSome (option_map (take limit) o) (λ xs. bytes ≡ xs)) s
     (subst (λ (n : ℕ). IfSome (option_map (take n) source) (λ xs. bytes ≡ xs)) c (subst (λ (l : List ℕ). IfSome (option_map (take cap) source) (λ xs. bytes ≡ l ++ xs)) b h)))
 

@@ -1,4 +1,4 @@
--- Forms of the command line that docs/OPERATIONS.md shows, and what each asks for (own): `serve` with two at most of an
+-- Forms of the command line that docs/OPERATIONS.md shows, and what each requests (own): `serve` with two at most of an
 -- address, a number of workers and one of bursts.
 use Rattle.std.specs.Prelude.{◌≢◌, ⊤, ℕ, Bool, true, false, List, [], ◌∷◌, codes, Option, Some, None, option_map}
 use Rattle.std.specs.Str.Parse.{digits_value, without_leading_plus}
@@ -52,8 +52,8 @@ abbrev pub IsCount : Text → Type 0
 IsCount word = IsUnsignedIn 0 18446744073709551615 word
 
 -- the word is a number of workers
-abbrev pub IsCrew : Text → Type 0
-IsCrew word = IsUnsignedIn 1 64 word
+abbrev pub IsWorkerCount : Text → Type 0
+IsWorkerCount word = IsUnsignedIn 1 64 word
 
 abbrev pub number_of : Text → ℕ
 number_of word = digits_value 10 (without_leading_plus word)
@@ -63,37 +63,37 @@ abbrev pub everywhere : Text
 everywhere = codes "0.0.0.0:2944"
 
 -- the words have this form, and ask for this
-pub data Asks : List Text → Request → Type 0 where
-  nothing : Asks [] built_in
-  answers : Asks (codes "answer" ∷ []) (answer None)
-  answers_by : (file : Text) → IsPlain file → Asks (codes "answer" ∷ (codes "--config" ∷ (file ∷ [])))
+pub data Requests : List Text → Request → Type 0 where
+  nothing : Requests [] built_in
+  answers : Requests (codes "answer" ∷ []) (answer None)
+  answers_by : (file : Text) → IsPlain file → Requests (codes "answer" ∷ (codes "--config" ∷ (file ∷ [])))
       (answer (Some file))
-  checks : (file : Text) → IsPlain file → Asks (codes "check" ∷ (file ∷ [])) (check file)
-  replays : (file : Text) → IsPlain file → Asks (codes "replay" ∷ (file ∷ [])) (replay file false 1)
-  replays_and_tells : (file : Text) → IsPlain file
-      → Asks (codes "replay" ∷ (file ∷ (codes "--audit" ∷ []))) (replay file true 1)
-  replays_by : (file workers : Text) → IsPlain file → IsPlain workers → IsCrew workers
-      → Asks (codes "replay" ∷ (file ∷ (codes "--workers" ∷ (workers ∷ []))))
+  checks : (file : Text) → IsPlain file → Requests (codes "check" ∷ (file ∷ [])) (check file)
+  replays : (file : Text) → IsPlain file → Requests (codes "replay" ∷ (file ∷ [])) (replay file false 1)
+  replays_and_prints : (file : Text) → IsPlain file
+      → Requests (codes "replay" ∷ (file ∷ (codes "--audit" ∷ []))) (replay file true 1)
+  replays_by : (file workers : Text) → IsPlain file → IsPlain workers → IsWorkerCount workers
+      → Requests (codes "replay" ∷ (file ∷ (codes "--workers" ∷ (workers ∷ []))))
       (replay file false (number_of workers))
-  replays_and_tells_by : (file workers : Text) → IsPlain file → IsPlain workers → IsCrew workers
-      → Asks (codes "replay" ∷ (file ∷ (codes "--audit" ∷ (codes "--workers" ∷ (workers ∷ [])))))
+  replays_and_prints_by : (file workers : Text) → IsPlain file → IsPlain workers → IsWorkerCount workers
+      → Requests (codes "replay" ∷ (file ∷ (codes "--audit" ∷ (codes "--workers" ∷ (workers ∷ [])))))
       (replay file true (number_of workers))
-  serves : (file : Text) → IsPlain file → Asks (codes "serve" ∷ (file ∷ [])) (serve file everywhere plain)
+  serves : (file : Text) → IsPlain file → Requests (codes "serve" ∷ (file ∷ [])) (serve file everywhere plain)
   serves_at : (file listen : Text) → IsPlain file → IsPlain listen
-      → Asks (codes "serve" ∷ (file ∷ (codes "--listen" ∷ (listen ∷ [])))) (serve file listen plain)
-  serves_by : (file workers : Text) → IsPlain file → IsPlain workers → IsCrew workers
-      → Asks (codes "serve" ∷ (file ∷ (codes "--workers" ∷ (workers ∷ []))))
+      → Requests (codes "serve" ∷ (file ∷ (codes "--listen" ∷ (listen ∷ [])))) (serve file listen plain)
+  serves_by : (file workers : Text) → IsPlain file → IsPlain workers → IsWorkerCount workers
+      → Requests (codes "serve" ∷ (file ∷ (codes "--workers" ∷ (workers ∷ []))))
       (serve file everywhere (record plain { workers = number_of workers }))
-  serves_at_by : (file listen workers : Text) → IsPlain file → IsPlain listen → IsPlain workers → IsCrew workers
-      → Asks (codes "serve" ∷ (file ∷ (codes "--listen" ∷ (listen ∷ (codes "--workers" ∷ (workers ∷ []))))))
+  serves_at_by : (file listen workers : Text) → IsPlain file → IsPlain listen → IsPlain workers → IsWorkerCount workers
+      → Requests (codes "serve" ∷ (file ∷ (codes "--listen" ∷ (listen ∷ (codes "--workers" ∷ (workers ∷ []))))))
       (serve file listen (record plain { workers = number_of workers }))
   serves_so_long : (file bursts : Text) → IsPlain file → IsPlain bursts → IsCount bursts
-      → Asks (codes "serve" ∷ (file ∷ (codes "--bursts" ∷ (bursts ∷ []))))
+      → Requests (codes "serve" ∷ (file ∷ (codes "--bursts" ∷ (bursts ∷ []))))
       (serve file everywhere (record plain { bursts = Some (number_of bursts) }))
-  serves_by_so_long : (file workers bursts : Text) → IsPlain file → IsPlain workers → IsCrew workers → IsPlain bursts
+  serves_by_so_long : (file workers bursts : Text) → IsPlain file → IsPlain workers → IsWorkerCount workers → IsPlain bursts
       → IsCount bursts
-      → Asks (codes "serve" ∷ (file ∷ (codes "--workers" ∷ (workers ∷ (codes "--bursts" ∷ (bursts ∷ []))))))
+      → Requests (codes "serve" ∷ (file ∷ (codes "--workers" ∷ (workers ∷ (codes "--bursts" ∷ (bursts ∷ []))))))
       (serve file everywhere (record plain { workers = number_of workers; bursts = Some (number_of bursts) }))
   serves_at_so_long : (file listen bursts : Text) → IsPlain file → IsPlain listen → IsPlain bursts → IsCount bursts
-      → Asks (codes "serve" ∷ (file ∷ (codes "--listen" ∷ (listen ∷ (codes "--bursts" ∷ (bursts ∷ []))))))
+      → Requests (codes "serve" ∷ (file ∷ (codes "--listen" ∷ (listen ∷ (codes "--bursts" ∷ (bursts ∷ []))))))
       (serve file listen (record plain { bursts = Some (number_of bursts) }))

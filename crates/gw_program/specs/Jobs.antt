@@ -24,10 +24,10 @@ use Rattle.gw_front.specs.declared.serve_fault.ServeFault.TheVariants.{Bind}
 use Rattle.gw_front.specs.declared.serve_options.ServeOptions.{ServeOptions}
 use Rattle.gw_front.specs.declared.totals.Totals.{Totals}
 use Rattle.gw_program.specs.Faults.{of_replay, of_serve}
-use Rattle.gw_program.specs.Outcomes.{IsTold, IsExplained}
+use Rattle.gw_program.specs.Outcomes.{IsPrinted, IsExplained}
 use Rattle.gw_program.specs.Standings.{Standing}
 use Rattle.gw_program.specs.Start.{start}
-use Rattle.gw_program.specs.Words.{IsAsked}
+use Rattle.gw_program.specs.Words.{IsRequested}
 use Rattle.gw_program.specs.declared.job.Job.{Job}
 use Rattle.gw_program.specs.declared.job.Job.TheVariants as job
 use Rattle.gw_program.specs.declared.job.Serving.{Serving}
@@ -102,43 +102,43 @@ IsCheck held name out out′ (Ok done) =
 IsCheck held name out out′ (Err why.ReplayWrite) = (config : Config) × IsTaken held name config
 IsCheck held name out out′ (Err fault) = IsGatewayIn held name (Err fault) × Keeps out out′
 
--- a whole replay, and behind its answers what is told of the tables
-pub record IsToEnd (told : GatewayValue → List ℕ) (old : GatewayValue) (input out out′ : Option (List ℕ)) : Type 0 where
+-- a whole replay, and behind its answers what is written of the tables
+pub record IsToEnd (printed : GatewayValue → List ℕ) (old : GatewayValue) (input out out′ : Option (List ℕ)) : Type 0 where
   pub counts : Counts
   pub new : GatewayValue
   pub between : Option (List ℕ)
   pub replayed : IsReplay input out between old new (Ok counts)
-  pub audited : Appends between out′ (told new)
+  pub audited : Appends between out′ (printed new)
 
 -- a replay with a fault
-pub record IsStoppedBy (told : Fault) (old : GatewayValue) (input out out′ : Option (List ℕ)) : Type 0 where
+pub record IsStoppedBy (printed : Fault) (old : GatewayValue) (input out out′ : Option (List ℕ)) : Type 0 where
   pub replay_fault : ReplayFault
   pub new : GatewayValue
   pub replayed : IsReplay input out out′ old new (Err replay_fault)
-  pub becomes : told ≡ of_replay replay_fault
+  pub becomes : printed ≡ of_replay replay_fault
 
--- why tables could not be told: memory was refused, and nothing of them is out, or they could not be written
-abbrev pub IsUntoldFor : Fault → (between out′ : Option (List ℕ)) → Type 0
-IsUntoldFor told between out′ = ((told ≡ why.NoMemory) × Keeps between out′) ⊎ (told ≡ why.ReplayWrite)
+-- why tables could not be written: memory was refused, and nothing of them is out, or they could not be written
+abbrev pub IsUnprintedFor : Fault → (between out′ : Option (List ℕ)) → Type 0
+IsUnprintedFor printed between out′ = ((printed ≡ why.NoMemory) × Keeps between out′) ⊎ (printed ≡ why.ReplayWrite)
 
--- a whole replay behind whose answers the tables, which were asked for, could not be told
-pub record IsUntold (audit : Bool) (told : Fault) (old : GatewayValue) (input out out′ : Option (List ℕ)) : Type 0 where
-  pub asked : audit ≡ true
+-- a whole replay behind whose answers the tables, which were requested, could not be written
+pub record IsUnprinted (audit : Bool) (printed : Fault) (old : GatewayValue) (input out out′ : Option (List ℕ)) : Type 0 where
+  pub requested : audit ≡ true
   pub counts : Counts
   pub new : GatewayValue
   pub between : Option (List ℕ)
   pub replayed : IsReplay input out between old new (Ok counts)
-  pub cause : IsUntoldFor told between out′
+  pub cause : IsUnprintedFor printed between out′
 
--- the tables, where they are asked for
-abbrev pub told_tables : Bool → GatewayValue → List ℕ
-told_tables audit gateway = if audit then audit_text gateway else []
+-- the tables, where they are requested
+abbrev pub printed_tables : Bool → GatewayValue → List ℕ
+printed_tables audit gateway = if audit then audit_text gateway else []
 
 -- `replay`, from this gateway on
 abbrev pub IsReplayJob : Bool → GatewayValue → (input out out′ : Option (List ℕ)) → Result Unit Fault → Type 0
-IsReplayJob audit old input out out′ (Ok done) = IsToEnd (told_tables audit) old input out out′
+IsReplayJob audit old input out out′ (Ok done) = IsToEnd (printed_tables audit) old input out out′
 IsReplayJob audit old input out out′ (Err fault) =
-    IsStoppedBy fault old input out out′ ⊎ IsUntold audit fault old input out out′
+    IsStoppedBy fault old input out out′ ⊎ IsUnprinted audit fault old input out out′
 
 -- what becomes of a run below
 abbrev pub ended_by : {A E : Type 0} → (E → Fault) → Result A E → Result Unit Fault
@@ -158,7 +158,7 @@ abbrev pub IsServedAt : List ℕ → Result Totals ServeFault → Type 0
 IsServedAt listen (Err Bind) = ⊤
 IsServedAt listen _ = (address : SocketAddr) × IsSocketText listen address
 
--- what serving is told of the words
+-- what serving gets from the words
 pub record AreOptions (serving : Serving) (options : ServeOptions) : Type 0 where
   pub workers : options.workers ≡ serving.workers.count
   pub bursts : options.bursts ≡ serving.bursts
@@ -204,21 +204,21 @@ abbrev pub IsBegun : Job → (input out out′ : Option (List ℕ)) → Result U
 IsBegun job input out out′ ended (Ok gateway) = IsDoneWith job gateway input out out′ ended
 IsBegun job input out out′ ended (Err fault) = IsNotBegun fault out out′ ended
 
--- what a job does, where opened files hold what is told of them
+-- what a job does, where opened files hold what is said of them
 abbrev pub IsJob : {F : Type 0} → (F → Option (List ℕ)) → Job → (input out out′ : Option (List ℕ)) → Result Unit Fault
     → Type 0
 IsJob held (job.Check file) input out out′ ended = IsCheck held file.now out out′ ended
-IsJob held asked input out out′ ended =
-    (made : Result GatewayValue Fault) × IsStart held (file_of asked) made × IsBegun asked input out out′ ended made
+IsJob held requested input out out′ ended =
+    (made : Result GatewayValue Fault) × IsStart held (file_of requested) made × IsBegun requested input out out′ ended made
 
--- the job that the words ask for was done, up to a fault that it has, and its end was told
+-- the job that the words request was done, up to a fault that it has, and its end was printed
 pub record IsJobEnd {F : Type 0} (held : F → Option (List ℕ)) (words : List (List ℕ)) (input out out′ : Option (List ℕ))
     (err err′ : Standing) (ended : Ended) : Type 0 where
-  pub asked : Job
-  pub is_asked : IsAsked words asked
+  pub requested : Job
+  pub is_requested : IsRequested words requested
   pub done : Result Unit Fault
-  pub is_job : IsJob held asked input out out′ done
-  pub told : IsTold done err err′ ended
+  pub is_job : IsJob held requested input out out′ done
+  pub printed : IsPrinted done err err′ ended
 
 -- how the program ends on these words: the job that they ask for was done, or they ask for none
 abbrev pub IsEnd : {F : Type 0} → (F → Option (List ℕ)) → List (List ℕ) → (input out out′ : Option (List ℕ))

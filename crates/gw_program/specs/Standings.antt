@@ -25,6 +25,6 @@ pub record IsSilent (before after : Standing) : Type 0 where
   pub written : Keeps before.contents after.contents
 
 -- This text was handed over, once and whole, and nothing else; where it was taken it is written, and nothing else.
-pub record Tells (text : List ℕ) (is_taken : Bool) (before after : Standing) : Type 0 where
+pub record Prints (text : List ℕ) (is_taken : Bool) (before after : Standing) : Type 0 where
   pub handed : Hands before.handed after.handed (text ∷ [])
   pub written : OnTrue is_taken (Appends before.contents after.contents text)

@@ -10,7 +10,7 @@ use Rattle.clap.specs.Walk.{Row, Text, all_of, first_of, one_of}
 use Rattle.gw_program.specs.Commands.{program_app}
 use Rattle.clap.specs.Values.{kind_of}
 use Rattle.clap.specs.declared.error.kind.ErrorKind.{ErrorKind}
-use Rattle.clap.specs.declared.error.kind.ErrorKind.TheVariants as asked
+use Rattle.clap.specs.declared.error.kind.ErrorKind.TheVariants as clap_kind
 use Rattle.gw_front.specs.Controllers.{IsControllerText}
 use Rattle.gw_front.specs.declared.controllers.Controller.{Controller}
 use Rattle.gw_program.specs.declared.job.Job.{Job}
@@ -35,9 +35,9 @@ IsNumber (Some text) (Some number) = number ≡ digits_value 10 (without_leading
 IsNumber (Some text) None = IsUnsignedIn 0 18446744073709551615 text → ⊥
 
 -- the number of workers that a text says; one where there is none
-abbrev pub AreAsked : Option Text → ℕ → Type 0
-AreAsked None workers = workers ≡ 1
-AreAsked (Some text) workers = IsUnsignedIn 1 64 text → workers ≡ digits_value 10 (without_leading_plus text)
+abbrev pub AreRequested : Option Text → ℕ → Type 0
+AreRequested None workers = workers ≡ 1
+AreRequested (Some text) workers = IsUnsignedIn 1 64 text → workers ≡ digits_value 10 (without_leading_plus text)
 
 -- one of the commands
 abbrev pub IsCommand : Text → Type 0
@@ -47,40 +47,40 @@ IsCommand name = (name ≡ codes "answer") ⊎ ((name ≡ codes "check") ⊎ ((n
 abbrev pub controller_texts : List Row → List Text
 controller_texts rows = unwrap_or (all_of (codes "CONTROLLER") rows) []
 
--- how `serve` with these arguments asks to serve
+-- how `serve` with these arguments is to serve
 pub record IsServing (rows : List Row) (serving : Serving) : Type 0 where
   pub file : serving.file.now ≡ given (codes "FILE") rows
   pub listen : serving.listen.now ≡ given (codes "ADDR") rows
-  pub workers : AreAsked (one_of (codes "WORKERS") rows) serving.workers.count
+  pub workers : AreRequested (one_of (codes "WORKERS") rows) serving.workers.count
   pub bursts : IsNumber (one_of (codes "N") rows) serving.bursts
   pub controllers : AllZip IsControllerText (controller_texts rows) serving.controllers.items
   pub report : IsNumber (one_of (codes "REPORT") rows) serving.report
   pub give_up : IsNumber (one_of (codes "GIVE_UP") rows) serving.give_up
 
--- what a command with these arguments asks for
-abbrev pub IsAskedBy : Text → List Row → Job → Type 0
-IsAskedBy name rows job.BuiltIn = ⊥
-IsAskedBy name rows (job.Answer file) =
+-- what a command with these arguments requests
+abbrev pub IsRequestedBy : Text → List Row → Job → Type 0
+IsRequestedBy name rows job.BuiltIn = ⊥
+IsRequestedBy name rows (job.Answer file) =
     (name ≡ codes "answer") × (option_map (λ f. f.now) file ≡ first_of (codes "CONFIG") rows)
-IsAskedBy name rows (job.Check file) = (name ≡ codes "check") × (file.now ≡ given (codes "FILE") rows)
-IsAskedBy name rows (job.Replay file audit workers) =
+IsRequestedBy name rows (job.Check file) = (name ≡ codes "check") × (file.now ≡ given (codes "FILE") rows)
+IsRequestedBy name rows (job.Replay file audit workers) =
     (name ≡ codes "replay") × (file.now ≡ given (codes "FILE") rows) × IsFlag (one_of (codes "audit") rows) audit
-    × AreAsked (one_of (codes "WORKERS") rows) workers.count
-IsAskedBy name rows (job.Serve serving) = (name ≡ codes "serve") × IsServing rows serving
+    × AreRequested (one_of (codes "WORKERS") rows) workers.count
+IsRequestedBy name rows (job.Serve serving) = (name ≡ codes "serve") × IsServing rows serving
 
 -- the job of the command that was found, or the built-in replay where none was
 abbrev pub IsJobOf : Option (Text × List Row) → Job → Type 0
-IsJobOf None asked = asked ≡ job.BuiltIn
-IsJobOf (Some found) asked = IsAskedBy found.0 found.1 asked
+IsJobOf None requested = requested ≡ job.BuiltIn
+IsJobOf (Some found) requested = IsRequestedBy found.0 found.1 requested
 
 -- the kinds of mistake in the words, or of help that they ask for: none where they ask for a job
 abbrev pub mistakes : List Text → Kinds
 mistakes words = fault_of program_app words
 
 -- the words ask for this job
-pub record IsAsked (words : List Text) (asked : Job) : Type 0 where
+pub record IsRequested (words : List Text) (requested : Job) : Type 0 where
   pub sound : mistakes words ≡ []
-  pub found : IsJobOf (subcommand_of program_app words) asked
+  pub found : IsJobOf (subcommand_of program_app words) requested
 
 -- ---- mistakes
 
@@ -104,8 +104,8 @@ IsMistaken words mistake.NoMemory = ⊤
 -- the kind of a mistake
 abbrev pub mistake_kind : Mistake → ErrorKind
 mistake_kind (mistake.Words error) = kind_of error
-mistake_kind (mistake.Controller text) = asked.ValueValidation
-mistake_kind mistake.NoMemory = asked.OutOfMemory
+mistake_kind (mistake.Controller text) = clap_kind.ValueValidation
+mistake_kind mistake.NoMemory = clap_kind.OutOfMemory
 
 -- a controller of the words is no address
 abbrev pub HasNoAddress : Option (Text × List Row) → Type 0
@@ -116,6 +116,6 @@ HasNoAddress (Some found) =
 -- The words have a mistake of that kind, or ask for help or the version; or memory was refused.
 abbrev pub IsKindOf : List Text → ErrorKind → Type 0
 IsKindOf words kind =
-    (kind ≡ asked.OutOfMemory)
+    (kind ≡ clap_kind.OutOfMemory)
     ⊎ (IsAmong kind (mistakes words)
-    ⊎ ((kind ≡ asked.ValueValidation) × HasNoAddress (subcommand_of program_app words)))
+    ⊎ ((kind ≡ clap_kind.ValueValidation) × HasNoAddress (subcommand_of program_app words)))

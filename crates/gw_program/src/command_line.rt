@@ -7,7 +7,7 @@ ghost use Rattle.clap.specs.Walk.{one_of};
 ghost use Rattle.clap.specs.declared.builder.command.Command.TheViews.{out-Command as fields_of};
 ghost use Rattle.gw_front.specs.Controllers.{IsControllerText};
 ghost use Rattle.gw_program.specs.Commands.{alone, answer_command, audit_rule, bursts_rule, check_command, config_rule, controller_rule, file_rule, give_up_rule, listen_rule, program_app, replay_command, report_rule, serve_command, workers_rule};
-ghost use Rattle.gw_program.specs.Words.{AreAsked, IsAsked, IsAskedBy, IsCommand, IsJobOf, IsMistaken, IsServing, IsUnnamed, IsUnnamedIn, controller_texts, given};
+ghost use Rattle.gw_program.specs.Words.{AreRequested, IsRequested, IsRequestedBy, IsCommand, IsJobOf, IsMistaken, IsServing, IsUnnamed, IsUnnamedIn, controller_texts, given};
 
 use crate::job::{Job, Serving};
 use crate::mistake::Mistake;
@@ -30,7 +30,7 @@ replies.";
 const AFTER: &str = "Exit status:
   0  done; help too
   1  a fault; one line on standard error says which
-  2  the command line asks for nothing that there is
+  2  the command line has a mistake
 
 Example:
   printf '%s' 'MEGACO/1 [10.0.0.9]:2944 Transaction=1{Context=${Add=T/1,Add=T/2}}' | h248gw answer
@@ -267,7 +267,7 @@ fn text_of<'a>(matches: &ArgMatches<'a>, id: &str) -> &'a str
 
 /// The number of workers.
 fn workers_in(matches: &ArgMatches<'_>) -> Workers
-    ensures { AreAsked (one_of (codes "WORKERS") (rows_of (found_of matches.now))) result.count }
+    ensures { AreRequested (one_of (codes "WORKERS") (rows_of (found_of matches.now))) result.count }
 {
     Workers::of(matches.get_one::<u64>("WORKERS"))
 }
@@ -310,7 +310,7 @@ fn controllers_in<'a>(
 
 /// How the matches of `serve` ask to serve.
 fn serving_of<'a>(alloc: Global, matches: &ArgMatches<'a>) -> Result<Serving<'a>, Mistake<'a>>
-    ensures asked { IfOk result (IsServing (rows_of (found_of matches.now))) }
+    ensures requested { IfOk result (IsServing (rows_of (found_of matches.now))) }
     ensures mistaken { IfErr result (IsUnnamed (controller_texts (rows_of (found_of matches.now)))) }
 {
     Ok(Serving {
@@ -327,7 +327,7 @@ fn serving_of<'a>(alloc: Global, matches: &ArgMatches<'a>) -> Result<Serving<'a>
 /// What the matches of a command ask for.
 fn job_of<'a>(alloc: Global, name: &str, matches: &ArgMatches<'a>) -> Result<Job<'a>, Mistake<'a>>
     requires { IsCommand name.now }
-    ensures asked { IfOk result (IsAskedBy name.now (rows_of (found_of matches.now))) }
+    ensures requested { IfOk result (IsRequestedBy name.now (rows_of (found_of matches.now))) }
     ensures mistaken { IfErr result (IsUnnamed (controller_texts (rows_of (found_of matches.now)))) }
 {
     let file = text_of(matches, "FILE");
@@ -348,7 +348,7 @@ fn job_of<'a>(alloc: Global, name: &str, matches: &ArgMatches<'a>) -> Result<Job
 /// What matches of the program ask for.
 fn job_in<'a>(alloc: Global, matches: &ArgMatches<'a>) -> Result<Job<'a>, Mistake<'a>>
     requires { IfSome (subcommand_rows_of matches.now) (λ found. IsCommand found.0) }
-    ensures asked { IfOk result (IsJobOf (subcommand_rows_of matches.now)) }
+    ensures requested { IfOk result (IsJobOf (subcommand_rows_of matches.now)) }
     ensures mistaken { IfErr result (IsUnnamedIn (subcommand_rows_of matches.now)) }
 {
     match matches.subcommand() {
@@ -366,7 +366,7 @@ pub(crate) fn read_words<'a, S: AsStr>(
     alloc: Global,
     words: &'a [S],
 ) -> Result<Job<'a>, Mistake<'a>>
-    ensures asked { IfOk result (IsAsked (map S.text words.entry.now)) }
+    ensures requested { IfOk result (IsRequested (map S.text words.entry.now)) }
     ensures mistaken { IfErr result (IsMistaken (map S.text words.entry.now)) }
 {
     let matches = command(alloc)?.try_get_matches_from(words)?;

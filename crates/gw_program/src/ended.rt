@@ -10,10 +10,10 @@ use crate::fault::Fault;
 pub enum Ended<'a> {
     /// What the words ask for is done; help and the version too.
     Done,
-    /// A fault. Its line stands on standard error, where that took what it was told.
-    Failed { fault: Fault<'a>, is_told: bool },
-    /// The words ask for nothing that there is, which standard error says, where it took what it was told.
-    Misused { is_told: bool },
+    /// A fault. Its line stands on standard error, where that took what was printed.
+    Failed { fault: Fault<'a>, is_printed: bool },
+    /// The words request nothing that there is, which is printed on standard error, where that took it.
+    Misused { is_printed: bool },
 }
 
 impl Ended<'_> {

@@ -4,7 +4,7 @@ ghost use Rattle.std.specs.Prelude.{◌≡◌, ◌⊎◌, ℕ, List, Option, OnO
 ghost use Rattle.std.specs.Io.KnownBytes.{Appends};
 ghost use Rattle.std.specs.Option.{option_map};
 ghost use Rattle.gw_engine.specs.AuditText.{audit_text};
-ghost use Rattle.gw_program.specs.Jobs.{IsStart, IsReplayJob, IsAnswerJob, IsServeJob, IsUntoldFor, IsJob, IsEnd};
+ghost use Rattle.gw_program.specs.Jobs.{IsStart, IsReplayJob, IsAnswerJob, IsServeJob, IsUnprintedFor, IsJob, IsEnd};
 ghost use Rattle.gw_program.specs.Outcomes.{status_of};
 ghost use Rattle.gw_program.specs.declared.ended.Ended.{Ended as Ending};
 
@@ -15,8 +15,8 @@ use crate::fault::Fault;
 use crate::file::gateway_of;
 use crate::gateway::gateway;
 use crate::job::{Job, Serving};
+use crate::printing::{explained, printed};
 use crate::standard_error::StandardError;
-use crate::telling::{explained, told};
 use crate::workers::Workers;
 use gw_engine::{Gateway, OpenGate};
 use gw_front::{ServeOptions, answer, replay, serve};
@@ -40,13 +40,13 @@ fn start<'a, R: Files>(rt: &R, alloc: Global, file: Option<&'a str>) -> Result<G
 }
 
 /// Writes the tables of a gateway.
-fn tell_tables<W: Write>(
+fn print_tables<W: Write>(
     alloc: Global,
     gateway: &Gateway,
     out: &mut W,
 ) -> Result<(), Fault<'static>>
-    ensures told { OnOk result (Appends (W.contents out.old) (W.contents out.new) (audit_text gateway.now)) }
-    ensures fault { IfErr result (λ fault. IsUntoldFor fault (W.contents out.old) (W.contents out.new)) }
+    ensures printed { OnOk result (Appends (W.contents out.old) (W.contents out.new) (audit_text gateway.now)) }
+    ensures fault { IfErr result (λ fault. IsUnprintedFor fault (W.contents out.old) (W.contents out.new)) }
 {
     let Ok(tables) = gateway.audit_tables(alloc) else {
         return Err(Fault::NoMemory);
@@ -57,7 +57,7 @@ fn tell_tables<W: Write>(
     }
 }
 
-/// A replay, and behind its answers the tables where they are asked for.
+/// A replay, and behind its answers the tables where they are requested.
 fn replay_with<R: Threads + Sync, I: Read, W: Write>(
     rt: &R,
     alloc: Global,
@@ -71,7 +71,7 @@ fn replay_with<R: Threads + Sync, I: Read, W: Write>(
 {
     replay(rt, alloc, reader, out, gateway, workers.count(), &OpenGate)?;
     if audit {
-        tell_tables(alloc, gateway, out)?;
+        print_tables(alloc, gateway, out)?;
     }
     Ok(())
 }
@@ -215,12 +215,12 @@ fn end_of<
         Err(mistake) => return explained(alloc, &mistake, out, err),
     };
     let done = run(rt, alloc, job, reader, out);
-    told(done, err)
+    printed(done, err)
 }
 
 /// Runs the program on the words behind its name, and answers its exit status: 0 when what they ask for is done, help
 /// and the version too; 1 after a fault, whose one line goes to `err`; 2 where the words ask for nothing that there is,
-/// which is told on `err`. With no words it replays with the built-in configuration.
+/// which is printed on `err`. With no words it replays with the built-in configuration.
 pub fn program<
     R: Files + Net + Wait + Threads + Clock + Sync + AllocGlobal,
     S: AsStr,

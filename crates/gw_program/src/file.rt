@@ -14,7 +14,7 @@ use std::rt::Files;
 /// How many bytes a configuration may have.
 const LONGEST_TEXT: usize = 16_777_216;
 
-/// What a file holds, or one byte more than a configuration may have, which tells that there is more.
+/// What a file holds, or one byte more than a configuration may have, which shows that there is more.
 fn bytes_of<R: Files>(rt: &R, alloc: Global, path: &str) -> io::Result<Vec<u8>>
     ensures { IfOk result (λ text. (file : R.File) × IfSome (R.File.Read.remaining file)
         (λ bytes. text.items ≡ take 16777217 bytes)) }

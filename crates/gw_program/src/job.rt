@@ -35,7 +35,7 @@ pub enum Job<'a> {
     Check {
         file: &'a str,
     },
-    /// A replay by so many workers, and the tables behind its answers where they are asked for.
+    /// A replay by so many workers, and the tables behind its answers where they are requested.
     Replay {
         file: &'a str,
         audit: bool,

@@ -11,8 +11,8 @@ mod gateway;
 mod job;
 mod laws;
 mod mistake;
+mod printing;
 mod standard_error;
-mod telling;
 mod workers;
 
 pub use ended::Ended;
@@ -20,6 +20,6 @@ pub use entry::program;
 pub use fault::Fault;
 pub use job::{Job, Serving};
 pub use laws::words_of_each_form_ask_for_their_job;
+pub use printing::unreadable_words;
 pub use standard_error::{StandardError, Stream};
-pub use telling::unreadable_words;
 pub use workers::Workers;

@@ -1,8 +1,8 @@
-//! Standard error: what it is told, each text once and whole.
+//! Standard error: what is printed there, each text once and whole.
 
 ghost use Rattle.std.specs.Prelude.{◌++◌, codes};
 ghost use Rattle.gw_program.specs.Faults.{line_of};
-ghost use Rattle.gw_program.specs.Standings.{Standing, Tells, unknown};
+ghost use Rattle.gw_program.specs.Standings.{Standing, Prints, unknown};
 
 use crate::fault::Fault;
 use std::io::Write;
@@ -13,12 +13,12 @@ pub trait StandardError {
     ghost standing: { Self → Standing } = { λ _. unknown };
 
     /// Hands the line of a fault over, to be written whole. Whether it was; where it was not, a part of it may be.
-    fn tell_fault(&mut self, fault: &Fault<'_>) -> bool
-        ensures { Tells (line_of fault.now ++ codes "\n") result (standing self.old) (standing self.new) };
+    fn print_fault(&mut self, fault: &Fault<'_>) -> bool
+        ensures { Prints (line_of fault.now ++ codes "\n") result (standing self.old) (standing self.new) };
 
     /// Hands a text over, to be written whole. Whether it was; where it was not, a part of it may be.
-    fn tell(&mut self, text: &str) -> bool
-        ensures { Tells text.now result (standing self.old) (standing self.new) };
+    fn print(&mut self, text: &str) -> bool
+        ensures { Prints text.now result (standing self.old) (standing self.new) };
 }
 
 /// A stream as standard error. No contract says which writes were tried on a stream, so only what it holds is known.
@@ -33,11 +33,11 @@ impl<W: Write> StandardError for Stream<W> {
 
     ghost standing = { λ s. record { contents = W.contents s.stream; handed = None } };
 
-    fn tell_fault(&mut self, fault: &Fault<'_>) -> bool {
+    fn print_fault(&mut self, fault: &Fault<'_>) -> bool {
         writeln!(self.stream, "{fault}").is_ok()
     }
 
-    fn tell(&mut self, text: &str) -> bool {
+    fn print(&mut self, text: &str) -> bool {
         self.stream.write_all(text.as_bytes()).is_ok()
     }
 }

@@ -1,8 +1,8 @@
-//! How many workers carry a burst out.
+//! How many workers execute a burst.
 
 ghost use Rattle.std.specs.Prelude.{◌≡◌, ◌≤◌, ℕ, None, Some};
 
-/// How many workers, in threads, carry out the transactions of a burst: 1 to 64.
+/// How many workers, in threads, execute the transactions of a burst: 1 to 64.
 #[derive(Clone, Copy)]
 pub struct Workers {
     count: u32,

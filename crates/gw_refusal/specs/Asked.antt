@@ -1,4 +1,5 @@
--- What a command names and asks (RFC 3525, sections 7.2 and 6.2.2): by its word, its TerminationID and its descriptors alone.
+-- What a command names and requests (RFC 3525, sections 7.2 and 6.2.2): by its word, its TerminationID and its
+-- descriptors alone.
 use Rattle.std.specs.Prelude.{ℕ, ◌==◌, nat_eq, Bool, true, false, not, ◌||◌, List, [], ◌∷◌, Option, None, Some}
 use Rattle.std.specs.Option.{is_none}
 use Rattle.std.specs.List.{starts_with, list_any, find}
@@ -120,7 +121,7 @@ service_by_word (Some token.Forced) = Some service.OutOfService
 service_by_word (Some token.Restart) = Some service.InService
 service_by_word _ = None
 
--- the service state that a Method asks for; a quoted value is no word
+-- the service state that a Method requests; a quoted value is no word
 abbrev pub service_by : ServiceValue → Option Service
 service_by (value.Quoted text) = None
 service_by (value.Run text) = service_by_word (token_of text)
@@ -129,11 +130,11 @@ abbrev pub service_if : Option ServiceValue → Option Service
 service_if None = None
 service_if (Some v) = service_by v
 
--- the service state that is asked for
+-- the service state that is requested
 abbrev pub service_asked : List Descriptor → Option Service
 service_asked descriptors = service_if (method descriptors)
 
--- a Method that is not carried out
+-- a Method that is not executed
 abbrev pub is_other_method : Option ServiceValue → Bool
 is_other_method None = false
 is_other_method (Some v) = is_none (service_by v)
@@ -142,7 +143,7 @@ abbrev pub is_number_but_0 : Option ℕ → Bool
 is_number_but_0 None = false
 is_number_but_0 (Some k) = not (k == 0)
 
--- a Delay that is not carried out: a number other than 0
+-- a Delay that is not executed: a number other than 0
 abbrev pub is_other_delay : Option ServiceValue → Bool
 is_other_delay (Some (value.Run text)) = is_number_but_0 (uint32_of text)
 is_other_delay _ = false

@@ -1,5 +1,5 @@
--- Why a command is refused by its form alone: the first that applies (codes of H.248.8; which case gets which, and in which
--- order: own).
+-- Why a command is refused by its form alone: the first that applies (codes of H.248.8; which case gets which, and in
+-- which order: own).
 use Rattle.std.specs.Prelude.{Bool, not, ◌||◌, ◌&&◌, if◌then◌else◌, Option, None, Some}
 use Rattle.gw_base.specs.declared.code.Code.{Code}
 use Rattle.gw_base.specs.declared.code.Code.TheVariants.{UnknownCommand, NotImplemented, IllegalCombination}

@@ -1,4 +1,4 @@
--- The context of an action while its commands are carried out (RFC 3525, section 8.1).
+-- The context of an action while its commands are executed (RFC 3525, section 8.1).
 use Rattle.std.specs.Prelude.{nat_eq, Bool, true, false, Option, None, Some}
 use Rattle.gw_base.specs.declared.ids.CtxNum.{CtxNum}
 use Rattle.gw_refusal.specs.declared.at.At.{At}

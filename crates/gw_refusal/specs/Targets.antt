@@ -1,4 +1,5 @@
--- The terminations that a command is for: those that match when it begins (RFC 3525, section 6.2.2; their order is own).
+-- The terminations that a command is for: those that match when it begins (RFC 3525, section 6.2.2; their order is
+-- own).
 use Rattle.std.specs.Prelude.{ℕ, if◌then◌else◌, List, [], ◌∷◌, Option, None, Some}
 use Rattle.std.specs.List.{filter}
 use Rattle.gw_base.specs.declared.ids.CtxNum.{CtxNum}

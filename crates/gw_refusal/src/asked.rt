@@ -1,4 +1,4 @@
-//! What a command names and asks.
+//! What a command names and requests.
 
 ghost use Rattle.std.specs.Prelude.{◌≡◌, Some, [], option_copied, unwrap_or};
 ghost use Rattle.std.specs.List.{find};
@@ -199,7 +199,7 @@ fn parm_value<'a, 'b>(
     parm.value.as_ref()
 }
 
-/// The service state that a Method asks for.
+/// The service state that a Method requests.
 fn service_by(value: &ServiceValue<'_>) -> Option<Service>
     ensures { result ≡ service_by value.now }
 {
@@ -213,14 +213,14 @@ fn service_by(value: &ServiceValue<'_>) -> Option<Service>
     }
 }
 
-/// The service state that a ServiceChange asks for.
+/// The service state that a ServiceChange requests.
 pub fn service_asked(descriptors: &[Descriptor<'_>]) -> Option<Service>
     ensures { result ≡ service_asked descriptors.now }
 {
     service_by(parm_value(Token::Method, descriptors)?)
 }
 
-/// Whether the first Method is not carried out.
+/// Whether the first Method is not executed.
 pub(crate) fn is_other_method(descriptors: &[Descriptor<'_>]) -> bool
     ensures { result ≡ is_other_method (method descriptors.now) }
 {
@@ -230,7 +230,7 @@ pub(crate) fn is_other_method(descriptors: &[Descriptor<'_>]) -> bool
     }
 }
 
-/// Whether the first Delay is not carried out.
+/// Whether the first Delay is not executed.
 pub(crate) fn is_other_delay(descriptors: &[Descriptor<'_>]) -> bool
     ensures { result ≡ is_other_delay (delay descriptors.now) }
 {

@@ -1,4 +1,4 @@
-//! The context of an action while its commands are carried out.
+//! The context of an action while its commands are executed.
 
 ghost use Rattle.std.specs.Prelude.{◌≡◌};
 ghost use Rattle.gw_refusal.specs.Places.{place_at, made, is_null, is_unmade, is_each};

@@ -39,8 +39,8 @@ fn is_misplaced(at: At, command: &Command<'_>) -> bool
         || (is_root(term) && !at.is_null())
 }
 
-/// Why a command is refused by its form alone: the first of `UnknownCommand` (AuditCapability, Notify), `NotImplemented` and
-/// `IllegalCombination` that applies.
+/// Why a command is refused by its form alone: the first of `UnknownCommand` (AuditCapability, Notify),
+/// `NotImplemented` and `IllegalCombination` that applies.
 #[tactic(auto, unfolding(crate::specs::Forms::refusal_by_form))]
 pub fn refusal_by_form(at: At, command: &Command<'_>) -> Option<Code>
     ensures { result ≡ refusal_by_form at command.now }

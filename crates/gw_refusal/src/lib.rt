@@ -1,4 +1,4 @@
-//! What a command names and asks, whom it is for, and why it is refused by its form alone.
+//! What a command names and requests, whom it is for, and why it is refused by its form alone.
 #![tactic(auto)]
 
 mod asked;

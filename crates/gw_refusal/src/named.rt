@@ -44,7 +44,8 @@ fn source(at: At, command: &Command<'_>) -> Option<CtxNum>
     }
 }
 
-/// Those that a wildcard matches. The work is one pass of the members, or that of listing the terminations of the null context.
+/// Those that a wildcard matches. The work is one pass of the members, or that of listing the terminations of the null
+/// context.
 #[tactic(auto, unfolding(crate::specs::Targets::matched))]
 fn matched(
     alloc: Global,
@@ -118,9 +119,9 @@ fn has_matched(draft: &Draft, at: At, command: &Command<'_>) -> bool
     }
 }
 
-/// Whether the command is for a termination, as the tables are now: whether [`targets`] has a name. It takes no memory. A wildcard
-/// costs a look-up of the context and one pass of its members, which are not looked up, or, in the null context and of an Add, one
-/// pass of the names, up to the first that matches.
+/// Whether the command is for a termination, as the tables are now: whether [`targets`] has a name. It takes no memory.
+/// A wildcard costs a look-up of the context and one pass of its members, which are not looked up, or, in the null
+/// context and of an Add, one pass of the names, up to the first that matches.
 pub fn has_targets(draft: &Draft, at: At, command: &Command<'_>) -> bool
     ensures { result ≡ is_some_list (targets at command.now draft.now.maps) }
 {

@@ -7,7 +7,7 @@ use gw_base::{Items, Link};
 pub enum ContextPart {
     /// Its priority.
     Priority(u8),
-    /// It is marked as an emergency.
+    /// It is an emergency.
     Emergency,
     /// How media flow between its terminations, two at a time, in order.
     Topology(Items<Link>),

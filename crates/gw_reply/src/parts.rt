@@ -9,7 +9,7 @@ pub type KeptProperty = Property<Items<u8>>;
 /// What follows the word of a descriptor that is kept as sent, as texts of their own.
 pub type KeptTail = Tail<Items<u8>>;
 
-/// The parts that answer an Audit, in the order asked.
+/// The parts that answer an Audit, in the order requested.
 pub type AuditReply = Items<ReplyPart>;
 
 /// A part of a command reply.

@@ -1,4 +1,5 @@
--- A reply as a message of the grammar (RFC 3525, section 8.2.2 and Annex B.2, transactionReply), with its number, which reading drops.
+-- A reply as a message of the grammar (RFC 3525, section 8.2.2 and Annex B.2, transactionReply), with its number, which
+-- reading drops.
 use Rattle.std.specs.Prelude.{ℕ, List, [], ◌∷◌}
 use Rattle.gw_base.specs.Lang.{◌▹◌}
 use Rattle.gw_text.specs.Lexical.{equals_sign}

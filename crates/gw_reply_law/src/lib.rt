@@ -10,8 +10,9 @@ ghost use Rattle.gw_reply.specs.Messages.{reply_text};
 ghost use Rattle.gw_reply.specs.declared.reply.TxReply.{TxReply as Tree};
 ghost use Rattle.gw_reply_law.specs.Spellings.{IsReplyMessage, reply_message};
 
-/// The text of each reply whose TerminationIDs and kept texts have their forms, the one with error 533 too, is a message from this
-/// mId whose one item is the reply of that number. So it spells a message with one item, and that is what reading it gives.
+/// The text of each reply whose TerminationIDs and kept texts have their forms, the one with error 533 too, is a
+/// message from this mId whose one item is the reply of that number. So it spells a message with one item, and that is
+/// what reading it gives.
 pub fn replies_are_messages()
     ensures message { (mid : List ℕ) (reply : Tree) → IsMid mid → IsKeptTree reply → IsReplyMessage mid reply.id.0 (reply_text mid reply) }
     ensures spelled { (mid : List ℕ) (reply : Tree) → IsMid mid → IsKeptTree reply → Spells (reply_message mid) (reply_text mid reply) }

@@ -1,5 +1,5 @@
--- Requests paired with what they own (own): the first $ owns the first identifier, the next one the next, whether it is reached
--- or not.
+-- Requests paired with what they own (own): the first $ owns the first identifier, the next one the next, whether it is
+-- reached or not.
 use Rattle.std.specs.Prelude.{ℕ, Bool, if◌then◌else◌, List, [], ◌∷◌, length, drop, Option, None}
 use Rattle.gw_base.specs.declared.ids.CtxNum.{CtxNum}
 use Rattle.gw_reserve.specs.Ids.{Ids}

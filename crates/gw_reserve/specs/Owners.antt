@@ -1,5 +1,5 @@
--- Who owns which identifier (own): at the start of a burst the free numbers and the free slots are listed in cyclic order from
--- the cursors, and the j-th $ that needs one owns the j-th of them, whether it is reached or not.
+-- Who owns which identifier (own): at the start of a burst the free numbers and the free slots are listed in cyclic
+-- order from the cursors, and the j-th $ that needs one owns the j-th of them, whether it is reached or not.
 use Rattle.std.specs.Prelude.{ℕ, ◌+◌, ◌-◌, ◌<◌, ◌≤◌, Bool, if◌then◌else◌, List, [], ◌∷◌, ◌++◌, map, length, drop, slice_get, Option, None, is_none, All, filter, flat_map}
 use Rattle.std.specs.List.{range_with_len}
 use Rattle.gw_base.specs.declared.ids.CtxNum.{CtxNum}
@@ -89,7 +89,8 @@ abbrev pub behind_last : ℕ → List ℕ → ℕ
 behind_last d [] = d
 behind_last d (s ∷ ss) = behind_last (s + 1) ss
 
--- the cursors afterwards: the last number owned, and the slot behind the last one owned; one of which none was owned stays
+-- the cursors afterwards: the last number owned, and the slot behind the last one owned; one of which none was owned
+-- stays
 abbrev pub new_cursors : Cursors → List Ids → Cursors
 new_cursors cursors ids = record { context = last_number cursors.context (owned_numbers ids); slot = behind_last cursors.slot (owned_slots ids) }
 

@@ -7,7 +7,8 @@ use Rattle.gw_table.specs.Reserved.{slot_name}
 use Rattle.gw_reserve.specs.declared.owners.Cursors.{Cursors}
 use Rattle.gw_reserve.specs.Owners.{cyclic, number_of_index}
 
--- the numbers and the slots that are yet to be looked at, where the next burst's search is to begin, and how many there may be
+-- the numbers and the slots that are yet to be looked at, where the next burst's search is to begin, and how many there
+-- may be
 pub record Reserving : Type 0 where
   pub numbers : List CtxNum
   pub slots : List ℕ
@@ -32,7 +33,7 @@ begun contexts slots cursors = record {
   most_slots = slots;
 }
 
--- by which values of models are told apart
+-- by which values of models are distinguished
 abbrev coded_number : Coded CtxNum
 coded_number = code_by ℕ coded_ℕ (λ n. n.0) (λ k. number k) (λ _. refl)
 

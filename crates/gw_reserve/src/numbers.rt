@@ -24,8 +24,8 @@ fn number_at(order: Order, rank: u32) -> CtxNum
     CtxNum(order.at(rank) + 1)
 }
 
-/// The first rank, from one on, of which the number may be free, or the end: the numbers of those passed by are taken. The work is
-/// a step for each 64 of them.
+/// The first rank, from one on, of which the number may be free, or the end: the numbers of those passed by are taken.
+/// The work is a step for each 64 of them.
 fn skip_taken(tables: &Tables, order: Order, rank: u32) -> u32
     requires start { order.start ≤ order.limit }
     requires limit { order.limit ≤ 65535 }
@@ -42,8 +42,8 @@ fn skip_taken(tables: &Tables, order: Order, rank: u32) -> u32
     rank + (tables.next_number(first, stretch.to + 1) - first)
 }
 
-/// The next free number. The work is a step for each 64 numbers that are passed by, and a look-up for each of them of which the
-/// context is not marked.
+/// The next free number. The work is a step for each 64 numbers that are passed by, and a look-up for each of them of
+/// which the context is not marked.
 fn take_number(tables: &Tables, order: Order, search: &mut Search) -> Option<CtxNum>
     requires search { IsSearch 65535 order search.old }
     ensures value { result ≡ slice_get (numbers_from (maps_of tables.now) order search.old.next) 0 }

@@ -97,8 +97,8 @@ fn own_all(
 }
 
 impl Reservation {
-    /// The reservation of a burst, before its first request. The caller knows that there are at most 65,535 contexts and 4,096
-    /// slots, and that the cursors are at most these numbers.
+    /// The reservation of a burst, before its first request. The caller knows that there are at most 65,535 contexts
+    /// and 4,096 slots, and that the cursors are at most these numbers.
     pub fn new(contexts: u32, slots: u32, cursors: &Cursors) -> Self
         requires contexts { contexts ≤ 65535 }
         requires slots { slots ≤ 4096 }
@@ -125,14 +125,14 @@ impl Reservation {
         }
     }
 
-    /// What the burst's next request owns, in the tables as they are at the burst's start: an entry for each of its actions, and for each of
-    /// its commands. Over a whole burst each number and
-    /// each slot is passed by once, from the cursor to the last one owned, or round to the cursor where they run out, 64 at a time
-    /// where they are taken; each command is looked at once.
+    /// What the burst's next request owns, in the tables as they are at the burst's start: an entry for each of its
+    /// actions, and for each of its commands. Over a whole burst each number and each slot is passed by once, from the
+    /// cursor to the last one owned, or round to the cursor where they run out, 64 at a time where they are taken; each
+    /// command is looked at once.
     ///
     /// # Errors
     ///
-    /// Want of memory. Nothing is then known of the reservation.
+    /// Out of memory. Nothing is then known of the reservation.
     pub fn own(
         &mut self,
         alloc: Global,

@@ -11,8 +11,8 @@ use gw_base::{NoMemory, Short};
 use gw_msg::Command;
 use gw_table::{Tables, owns_slot, slot_name};
 
-/// The first rank, from one on, of which the slot may be free, or the end: the slots of those passed by are taken. The work is a
-/// step for each 64 of them.
+/// The first rank, from one on, of which the slot may be free, or the end: the slots of those passed by are taken. The
+/// work is a step for each 64 of them.
 fn skip_taken(tables: &Tables, order: Order, rank: u32) -> u32
     requires start { order.start ≤ order.limit }
     requires limit { order.limit ≤ 4096 }
@@ -28,8 +28,8 @@ fn skip_taken(tables: &Tables, order: Order, rank: u32) -> u32
     rank + (tables.next_slot(stretch.from, stretch.to) - stretch.from)
 }
 
-/// The next free slot. The work is a step for each 64 slots that are passed by, and a look-up for each of them of which the
-/// termination is not marked.
+/// The next free slot. The work is a step for each 64 slots that are passed by, and a look-up for each of them of which
+/// the termination is not marked.
 fn take_slot(tables: &Tables, order: Order, search: &mut Search) -> Option<u16>
     requires search { IsSearch 4096 order search.old }
     ensures value { result ≡ slice_get (slots_from (maps_of tables.now) order search.old.next) 0 }
@@ -76,7 +76,7 @@ fn slot_for(
 ///
 /// # Errors
 ///
-/// Want of memory. Nothing is then known of the search.
+/// Out of memory. Nothing is then known of the search.
 pub(crate) fn own_slots(
     tables: &Tables,
     order: Order,

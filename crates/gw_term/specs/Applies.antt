@@ -29,15 +29,15 @@ Becomes (Err fault.NoMemory) new expected = Unit {0}
 abbrev pub merging_of : Option Stream → Bool → Option Merging
 merging_of stream filled = option_map (λ s. record { stream = s; filled = filled }) stream
 
--- What the merge of a stream leaves and answers: the stream and whether its Local was filled, or the code where there is no
--- merge.
+-- What the merge of a stream leaves and answers: the stream and whether its Local was filled, or the code where there
+-- is no merge.
 abbrev pub IsStreamMerged : Result Bool ApplyFault → Option Stream → Option (Option Merging) → Type 0
 IsStreamMerged (Ok filled) new expected = expected ≡ Some (merging_of new filled)
 IsStreamMerged (Err (fault.Code code)) new expected = (code ≡ InsufficientResources) × (expected ≡ None)
 IsStreamMerged (Err fault.NoMemory) new expected = Unit {0}
 
--- What a merge into a new record leaves and answers: the merge and the streams that were filled, or the code where there is no
--- merge.
+-- What a merge into a new record leaves and answers: the merge and the streams that were filled, or the code where
+-- there is no merge.
 abbrev pub IsMergedInto : {V : Type 0} → Rules → List Descriptor → Termination → Termination → List FilledStream → Result V ApplyFault → Type 0
 IsMergedInto rules descriptors old new filled (Ok v) = (merged rules descriptors old ≡ Some new) × (filled ≡ filled_by rules descriptors old)
 IsMergedInto rules descriptors old new filled (Err (fault.Code code)) = (code ≡ InsufficientResources) × (merged rules descriptors old ≡ None)
@@ -49,8 +49,8 @@ IsMerged rules descriptors old (Ok a) = (merged rules descriptors old ≡ Some a
 IsMerged rules descriptors old (Err (fault.Code code)) = (code ≡ InsufficientResources) × (merged rules descriptors old ≡ None)
 IsMerged rules descriptors old (Err fault.NoMemory) = Unit {0}
 
--- What `apply` leaves and answers: the merge and the streams that were filled; or nothing changed, and the code where there
--- is no merge.
+-- What `apply` leaves and answers: the merge and the streams that were filled; or nothing changed, and the code where
+-- there is no merge.
 abbrev pub IsApplied : Rules → List Descriptor → Termination → Termination → Result (List FilledStream) ApplyFault → Type 0
 IsApplied rules descriptors old new (Ok streams) = (merged rules descriptors old ≡ Some new) × (streams ≡ filled_by rules descriptors old)
 IsApplied rules descriptors old new (Err (fault.Code code)) = (code ≡ InsufficientResources) × (merged rules descriptors old ≡ None) × (new ≡ old)

@@ -1,4 +1,4 @@
--- What a termination answers to an Audit (RFC 3525, section 7.2.5): the items asked for, in the order asked.
+-- What a termination answers to an Audit (RFC 3525, section 7.2.5): the items requested, in the order requested.
 use Rattle.std.specs.Prelude.{ℕ, List, [], ◌∷◌, Option, Some, None}
 use Rattle.std.specs.List.{flat_map}
 use Rattle.gw_desc.specs.Values.{item_of}
@@ -15,7 +15,7 @@ use Rattle.gw_term.specs.declared.record.Termination.{Termination}
 use Rattle.gw_term.specs.Places.{rising}
 use Rattle.gw_term.specs.Record.{tail_of}
 
--- a stream that is there, as it is told
+-- a stream that is there, as it is written
 abbrev pub stream_told : ℕ → Option Stream → List StreamReply
 stream_told number None = []
 stream_told number (Some s) = (record { number = number; mode = s.mode; properties = s.properties; local = s.local; remote = s.remote }) ∷ []
@@ -39,7 +39,7 @@ item_told r item.Statistics = part.Bare item.Statistics
 item_told r item.ObservedEvents = part.Bare item.ObservedEvents
 item_told r item.Packages = part.Bare item.Packages
 
--- what a word asks for; a word that asks for nothing is not answered
+-- what a word requests; a word that requests nothing is not answered
 abbrev pub told_if : Termination → Option AuditItem → List ReplyPart
 told_if r None = []
 told_if r (Some i) = item_told r i ∷ []

@@ -1,5 +1,5 @@
--- What descriptors send to each list and to each stream (own): of each kind the last, and the properties in order. A merge is told from
--- it alone.
+-- What descriptors send to each list and to each stream (own): of each kind the last, and the properties in order. A
+-- merge is found from it alone.
 use Rattle.std.specs.Prelude.{◌≡◌, ℕ, Bool, not, if◌then◌else◌, List, [], ◌∷◌, ◌++◌, Option, Some, None}
 use Rattle.std.specs.List.{flat_map}
 use Rattle.std.specs.Option.{option_map, unwrap_or}

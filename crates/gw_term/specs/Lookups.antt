@@ -1,4 +1,5 @@
--- What is found in a record after a merge (own): in each place the last that the descriptors sent for it, else what was there.
+-- What is found in a record after a merge (own): in each place the last that the descriptors sent for it, else what was
+-- there.
 use Rattle.std.specs.Prelude.{◌≡◌, ◌⊎◌, ℕ, ◌+◌, ◌<◌, ◌≤◌, Bool, false, not, ◌||◌, bytes_eq, if◌then◌else◌, List, [], ◌∷◌, ◌++◌, length, map, Option, Some, None}
 use Rattle.std.specs.List.{list_any, filter, filter_map, find, flat_map, last_or, slice_get}
 use Rattle.std.specs.Option.{is_some}

@@ -1,5 +1,5 @@
--- What descriptors do to a termination, field by field (RFC 3525, sections 7.1.4 to 7.1.7; how it merges: own). Read for
--- descriptors with which nothing is wrong: of which no code applies.
+-- What descriptors do to a termination, field by field (RFC 3525, sections 7.1.4 to 7.1.7; how it merges: own). Read
+-- for descriptors with which nothing is wrong: of which no code applies.
 use Rattle.std.specs.Prelude.{ℕ, ◌==◌, nat_lt, Bool, true, false, not, ◌&&◌, if◌then◌else◌, List, [], ◌∷◌, ◌++◌, length, bytes_eq, codes, slice_set, Option, Some, None}
 use Rattle.std.specs.List.{list_any, flat_map, position_or_len}
 use Rattle.std.specs.Option.{option_map, unwrap_or}

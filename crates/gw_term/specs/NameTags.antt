@@ -1,5 +1,5 @@
--- What stands beside the name of a property that is kept (own to this gateway), and only a guide: names of other tags are other names, in
--- any case; names of the same tag may be.
+-- What stands beside the name of a property that is kept (own to this gateway), and only a guide: names of other tags
+-- are other names, in any case; names of the same tag may be.
 use Rattle.std.specs.Prelude.{ℕ, ◌+◌, ◌*◌, ◌/◌, ◌%◌, ◌^◌, List, [], ◌∷◌, bit_xor}
 
 -- a number of 64 bits, with its upper bits over its lower ones
@@ -15,6 +15,6 @@ abbrev pub tag_of : ℕ → List ℕ → ℕ
 tag_of tag [] = tag
 tag_of tag (byte ∷ bytes) = tag_of (with_byte tag byte) bytes
 
--- by all of its bytes, so that names are not told apart by their ends alone
+-- by all of its bytes, so that names are not distinguished by their ends alone
 unfoldable pub name_tag : List ℕ → ℕ
 name_tag name = tag_of 0 name

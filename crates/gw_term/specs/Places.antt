@@ -1,5 +1,5 @@
--- Four places by the number of a stream, and four by the kind of a tail (own): what stands at each, what is made of all, and what
--- holds of all.
+-- Four places by the number of a stream, and four by the kind of a tail (own): what stands at each, what is made of
+-- all, and what holds of all.
 use Rattle.std.specs.Prelude.{◌⊎◌, ℕ, ◌==◌, if◌then◌else◌, List, ◌++◌}
 use Rattle.gw_desc.specs.Checks.{same_kept}
 use Rattle.gw_desc.specs.declared.descriptor.KeptKind.{KeptKind}
@@ -26,7 +26,7 @@ put_number number a p = record {
   fourth = if number == 4 then a else p.fourth;
 }
 
--- what each place is told as, in rising order
+-- how each place is written, in rising order
 abbrev pub rising : {A B : Type 0} → (ℕ → A → List B) → PerStream A → List B
 rising f p = f 1 p.first ++ f 2 p.second ++ f 3 p.third ++ f 4 p.fourth
 

@@ -1,5 +1,5 @@
--- Descriptors that fill nothing, whatever the termination is (own): they send no Local with a `$`, which might be filled. Others fill nothing
--- of a termination without a slot.
+-- Descriptors that fill nothing, whatever the termination is (own): they send no Local with a `$`, which might be
+-- filled. Others fill nothing of a termination without a slot.
 use Rattle.std.specs.Prelude.{◌≡◌, ℕ, ◌||◌, Bool, true, not, codes, List, Option, Some}
 use Rattle.std.specs.List.{list_all, list_any}
 use Rattle.std.specs.Option.{is_some, option_map}

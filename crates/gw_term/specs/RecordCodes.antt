@@ -1,4 +1,4 @@
--- Codes, by which records are told apart as values of maps (own).
+-- Codes, by which records are distinguished as values of maps (own).
 use Rattle.std.specs.Prelude.{◌≡◌, ℕ, zero, suc, Bool, List, Option, refl}
 use Rattle.std.specs.Coded.{Coded, code_by, coded×, coded_option, coded_list, coded_ℕ, coded_bool}
 use Rattle.gw_base.specs.declared.ids.CtxNum.{CtxNum}

@@ -103,7 +103,7 @@ fn reply_part(
     }
 }
 
-/// What the word asks for goes last.
+/// What the word requests goes last.
 fn push_part(
     alloc: Global,
     termination: &Termination,
@@ -121,7 +121,7 @@ fn push_part(
 impl Termination {
     ghost use Rattle.gw_term.specs.Audit.{audit_parts};
 
-    /// The items that an Audit asks for, in the order asked, as the termination is now: of Media its service state,
+    /// The items that an Audit requests, in the order requested, as the termination is now: of Media its service state,
     /// its properties and its streams; of a descriptor that is kept as sent its tail, or the bare word; of what the
     /// gateway does not gather the bare word. The caller knows that each word is an item, as `check` finds it.
     ///

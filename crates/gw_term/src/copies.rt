@@ -8,7 +8,8 @@ use crate::record::Termination;
 use gw_base::{Items, NoMemory};
 use std::alloc::{AllocError, Global};
 
-/// A copy of the properties, with room for one more, unless they are as many as a list may hold. Where there are none, it takes no memory.
+/// A copy of the properties, with room for one more, unless they are as many as a list may hold. Where there are none,
+/// it takes no memory.
 pub(crate) fn copied_properties(
     alloc: Global,
     properties: &[HeldProperty],

@@ -13,7 +13,7 @@ pub enum ApplyFault {
     /// `InsufficientResources`: a list would hold more than 32 properties.
     #[error("more properties than a list may hold")]
     Code(Code),
-    /// A growth was refused.
+    /// An allocation was refused.
     #[error("no memory")]
     NoMemory,
 }

@@ -28,7 +28,7 @@ pub struct Merger<'a, 'b> {
     /// The descriptors, of which no code of `check` applies, taken as those of an Add.
     pub descriptors: &'a [Descriptor<'b>],
     is_plain: bool,
-    /// What the descriptors send, once it was asked for.
+    /// What the descriptors send, once it was requested.
     gathered: Option<Gathered<'b>>,
     /// The settings met last, if nothing of them was filled.
     before: Option<Settings>,

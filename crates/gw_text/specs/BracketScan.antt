@@ -1,5 +1,5 @@
--- Brackets and runs as they are scanned, piece by piece (own): that this finds those of `Bracket` is what `Cursor::bracket` and
--- `Cursor::run` promise.
+-- Brackets and runs as they are scanned, piece by piece (own): that this finds those of `Bracket` is what
+-- `Cursor::bracket` and `Cursor::run` promise.
 use Rattle.std.specs.Prelude.{◌≡◌, ◌==◌, ℕ, zero, suc, ◌-◌, if◌then◌else◌, List, [], ◌∷◌, length, take, drop, Option, Some, None, Result, Ok, Err}
 use Rattle.gw_text.specs.Lexical.{quote_mark, left_bracket, right_bracket}
 use Rattle.gw_text.specs.Runs.{begins, is_byte, run_len}

@@ -1,4 +1,5 @@
--- Groups as they are scanned, piece by piece (own): that this finds the groups of `Group` is what `Cursor::balanced` promises.
+-- Groups as they are scanned, piece by piece (own): that this finds the groups of `Group` is what `Cursor::balanced`
+-- promises.
 use Rattle.std.specs.Prelude.{◌==◌, ◌≤◌, nat_le, ◌+◌, ◌-◌, ℕ, zero, suc, if◌then◌else◌, ◌≡◌, List, [], ◌∷◌, length, take, drop, Option, Some, None, Result, Ok, Err}
 use Rattle.gw_text.specs.Lexical.{nul, quote_mark, left_brace, right_brace, is_safe, is_solid}
 use Rattle.gw_text.specs.Runs.{run_len}

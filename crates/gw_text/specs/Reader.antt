@@ -102,7 +102,8 @@ if_prefix bytes on other text = or_else (prefix_at bytes text) on (other text)
 abbrev pub if_begins : {V : Type 0} → (ℕ → Bool) → Reader V → Reader V → Reader V
 if_begins p on other text = if begins p text then on text else other text
 
--- on reads behind the white space where the byte b comes next there; where it does not, other reads, white space and all
+-- on reads behind the white space where the byte b comes next there; where it does not, other reads, white space and
+-- all
 abbrev pub if_ahead : {V : Type 0} → ℕ → Reader V → Reader V → Reader V
 if_ahead b on other text = if begins (is_byte b) (skip text) then on (skip text) else other text
 

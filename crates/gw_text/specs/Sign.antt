@@ -1,5 +1,5 @@
--- What is left of a text behind a byte, a sign with white space on both sides, or bytes in any case (RFC 3525, Annex B.2:
--- EQUAL, COMMA, LBRKT and RBRKT have LWSP on both sides, and words are the same in any case).
+-- What is left of a text behind a byte, a sign with white space on both sides, or bytes in any case (RFC 3525, Annex
+-- B.2: EQUAL, COMMA, LBRKT and RBRKT have LWSP on both sides, and words are the same in any case).
 use Rattle.std.specs.Prelude.{◌==◌, ℕ, if◌then◌else◌, List, [], ◌∷◌, length, take, drop, Option, Some, None}
 use Rattle.gw_text.specs.SpaceScan.{skip}
 use Rattle.gw_text.specs.Tokens.{is_same_word}

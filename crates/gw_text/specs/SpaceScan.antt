@@ -1,5 +1,5 @@
--- White space as it is scanned (own), byte by byte, with one flag: whether a comment was begun. That this is the longest
--- LWSP is what `Cursor::lwsp` promises.
+-- White space as it is scanned (own), byte by byte, with one flag: whether a comment was begun. That this is the
+-- longest LWSP is what `Cursor::lwsp` promises.
 use Rattle.std.specs.Prelude.{ℕ, ◌+◌, Bool, true, false, ◌==◌, if◌then◌else◌, List, [], ◌∷◌, drop, Option, Some, None}
 use Rattle.gw_text.specs.Lexical.{nul, semicolon, is_blank, is_eol, is_comment_byte}
 use Rattle.gw_text.specs.Runs.{begins, run_len}

@@ -171,8 +171,8 @@ impl<'a> Cursor<'a> {
         Ok(self.take(len))
     }
 
-    /// Takes a word as `word` does, and tells which token it is, if it is one. What is sent often, as the table has it, is told by its
-    /// bytes alone.
+    /// Takes a word as `word` does, and answers which token it is, if it is one. What is sent often, as the table has
+    /// it, is recognized by its bytes alone.
     ///
     /// # Errors
     ///
@@ -402,7 +402,7 @@ impl<'a> Cursor<'a> {
     }
 
     /// Takes the sign as `sign` does. Mostly there is no white space on either side of it, which
-    /// is told by two bytes; that another byte comes next is told by that one.
+    /// is recognized by two bytes; that another byte comes next is recognized by that one.
     #[tactic(auto, unfolding(crate::specs::Sign::sign_at, crate::specs::SpaceScan::skip, crate::specs::SpaceScan::space_len))]
     fn take_sign(&mut self, b: u8) -> bool
         ensures exact { MatchBool result (sign_at b self.old ≡ Some self.new) ((sign_at b self.old ≡ None) × (self.new ≡ self.old)) }

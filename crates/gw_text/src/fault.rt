@@ -16,8 +16,8 @@ pub enum ScanFault {
     /// A `{` lies deeper than is allowed.
     #[error("braces lie too deep")]
     TooDeep,
-    /// The digits at the cursor are too many, or write too large a number: for `uint32` more than ten digits or no 32-bit
-    /// number, for `number` more than its own limits on the two.
+    /// The digits at the cursor are too many, or write too large a number: for `uint32` more than ten digits or no
+    /// 32-bit number, for `number` more than its own limits on the two.
     #[error("the number is too large")]
     Overflow,
 }
@@ -28,7 +28,7 @@ pub enum ParseFault {
     /// No such part stands there.
     #[error("syntax error in a part of a message")]
     Syntax,
-    /// A growth was refused.
+    /// An allocation was refused.
     #[error("no memory")]
     NoMemory,
 }

@@ -24,7 +24,7 @@ pub trait Parse<'a>: Drop {
     ///
     /// # Errors
     ///
-    /// `Syntax` where there is none; `NoMemory` where a growth was refused.
+    /// `Syntax` where there is none; `NoMemory` where an allocation was refused.
     fn read(bump: &'a Bump, cursor: &mut Cursor<'a>) -> Result<Self, ParseFault>
         ensures { Gives result cursor.new (read_at cursor.old) };
 
@@ -87,7 +87,7 @@ impl<'a> Parse<'a> for Span<'a> {
 ///
 /// # Errors
 ///
-/// `AllocError` where a growth was refused; the parts are then as they were, and this one is let go.
+/// `AllocError` where an allocation was refused; the parts are then as they were, and this one is dropped.
 #[inline(always)]
 pub fn put<T: Drop>(parts: &mut Vec<T, &Bump>, part: T) -> Result<(), AllocError>
     ensures { MatchResult result (λ _. parts.new.items ≡ parts.old.items ++ part ∷ []) (λ _. parts.new.items ≡ parts.old.items) }
@@ -100,7 +100,7 @@ pub fn put<T: Drop>(parts: &mut Vec<T, &Bump>, part: T) -> Result<(), AllocError
 ///
 /// # Errors
 ///
-/// `AllocError` where a growth was refused.
+/// `AllocError` where an allocation was refused.
 #[inline(always)]
 fn put_last<T: Drop>(parts: &mut Vec<T, &Bump>, part: T) -> Result<(), AllocError>
     ensures { OnOk result (parts.new.items ≡ parts.old.items ++ part ∷ []) }
@@ -109,12 +109,12 @@ fn put_last<T: Drop>(parts: &mut Vec<T, &Bump>, part: T) -> Result<(), AllocErro
     put(parts, part)
 }
 
-/// Reads one part or more, with commas between them. Each part is read once. Most lists have one, which then takes a block
-/// of its own size.
+/// Reads one part or more, with commas between them. Each part is read once. Most lists have one, which then takes a
+/// block of its own size.
 ///
 /// # Errors
 ///
-/// `Syntax` where there are none; `NoMemory` where a growth was refused.
+/// `Syntax` where there are none; `NoMemory` where an allocation was refused.
 pub fn list<'a, T: Parse<'a>>(
     bump: &'a Bump,
     cursor: &mut Cursor<'a>,
@@ -140,7 +140,7 @@ pub fn list<'a, T: Parse<'a>>(
 ///
 /// # Errors
 ///
-/// `Syntax` where there are none; `NoMemory` where a growth was refused.
+/// `Syntax` where there are none; `NoMemory` where an allocation was refused.
 fn closed<'a, T: Parse<'a>>(
     bump: &'a Bump,
     cursor: &mut Cursor<'a>,
@@ -157,7 +157,7 @@ fn closed<'a, T: Parse<'a>>(
 ///
 /// # Errors
 ///
-/// `Syntax` where there are none; `NoMemory` where a growth was refused.
+/// `Syntax` where there are none; `NoMemory` where an allocation was refused.
 pub fn braced<'a, T: Parse<'a>>(
     bump: &'a Bump,
     cursor: &mut Cursor<'a>,
@@ -173,7 +173,7 @@ pub fn braced<'a, T: Parse<'a>>(
 ///
 /// # Errors
 ///
-/// `Syntax` where a brace comes next and no such list stands there; `NoMemory` where a growth was refused.
+/// `Syntax` where a brace comes next and no such list stands there; `NoMemory` where an allocation was refused.
 #[tactic(auto, unfolding(crate::specs::Reader::optional_at))]
 pub fn optional_braced<'a, T: Parse<'a>>(
     bump: &'a Bump,
@@ -192,7 +192,7 @@ pub fn optional_braced<'a, T: Parse<'a>>(
 ///
 /// # Errors
 ///
-/// `Syntax` where there is no such list; `NoMemory` where a growth was refused.
+/// `Syntax` where there is no such list; `NoMemory` where an allocation was refused.
 #[tactic(auto, unfolding(crate::specs::Reader::braced_or_empty_at))]
 pub fn braced_or_empty<'a, T: Parse<'a>>(
     bump: &'a Bump,
@@ -213,7 +213,7 @@ pub fn braced_or_empty<'a, T: Parse<'a>>(
 ///
 /// # Errors
 ///
-/// `Syntax` where anything else stands there; `NoMemory` where a growth was refused.
+/// `Syntax` where anything else stands there; `NoMemory` where an allocation was refused.
 pub fn items<'a, T: Parse<'a>>(
     bump: &'a Bump,
     cursor: &mut Cursor<'a>,

@@ -21,7 +21,7 @@ pub fn space_len(text: &[u8]) -> usize
     }
 }
 
-/// Whether no white space comes next, as its first byte tells.
+/// Whether no white space comes next, as its first byte shows.
 #[tactic(auto, unfolding(crate::specs::SpaceScan::space_len))]
 pub fn is_unspaced(text: &[u8]) -> bool
     ensures { OnTrue result (space_len text.now ≡ 0) }

@@ -82,8 +82,8 @@ const RESPONSE_ACK: Spelling = Spelling(
     Token::TransactionResponseAck,
 );
 
-/// The tokens with a form that begins with the letter, which is in lower case, in the order of use: a word is looked up among
-/// these alone.
+/// The tokens with a form that begins with the letter, which is in lower case, in the order of use: a word is looked up
+/// among these alone.
 fn tokens_in(letter: u8) -> &'static [Spelling]
     ensures { entries result.now ≡ rows_in letter table }
 {
@@ -172,8 +172,8 @@ fn tokens_in(letter: u8) -> &'static [Spelling]
     }
 }
 
-/// Whether two words of one length are the same in any case. Kept out of the search, since most tokens are sent as the table has
-/// them.
+/// Whether two words of one length are the same in any case. Kept out of the search, since most tokens are sent as the
+/// table has them.
 #[inline(never)]
 fn is_same_word(form: &[u8], word: &[u8]) -> bool
     ensures { result ≡ is_same_word word.now form.now }
@@ -208,7 +208,8 @@ fn find(table: &[Spelling], word: &[u8]) -> Option<Token>
     None
 }
 
-/// The token of a long form that is sent often, as the table has it: it is told by the word's length and its bytes.
+/// The token of a long form that is sent often, as the table has it: it is recognized by the word's length and its
+/// bytes.
 fn often_long(word: &[u8]) -> Option<Token>
     ensures { IfSome result (λ token. token_of word.now ≡ Some token) }
 {
@@ -300,8 +301,8 @@ fn told_by_either(text: &[u8], long: &[u8], short: &[u8], token: Token) -> Optio
     }
 }
 
-/// The token of the word that comes next, and the word's length, where it is one that is sent often and stands there as the table has
-/// it. No other byte is looked at.
+/// The token of the word that comes next, and the word's length, where it is one that is sent often and stands there as
+/// the table has it. No other byte is looked at.
 #[inline(always)]
 pub fn often_next(text: &[u8]) -> Option<(Token, usize)>
     ensures { IfSome result (λ r. IsNext r.0 r.1 text.now) }
@@ -338,8 +339,8 @@ pub fn often_next(text: &[u8]) -> Option<(Token, usize)>
     }
 }
 
-/// The token that a word is. It is laid beside nine tokens at most, those in its first letter. Kept out of what tells the tokens that are
-/// sent often.
+/// The token that a word is. It is compared with nine tokens at most, those in its first letter. Kept out of what finds
+/// the tokens that are sent often.
 #[inline(never)]
 pub fn in_table(word: &[u8]) -> Option<Token>
     ensures { result ≡ token_of word.now }
@@ -350,8 +351,9 @@ pub fn in_table(word: &[u8]) -> Option<Token>
     find(tokens_in(first.to_ascii_lowercase()), word)
 }
 
-/// The token that a word is, in its long or its short form, in any case. What is sent often, as the table has it, is told by its
-/// length and its bytes; any other word is laid beside nine tokens at most, those in its first letter.
+/// The token that a word is, in its long or its short form, in any case. What is sent often, as the table has it, is
+/// recognized by its length and its bytes; any other word is compared with nine tokens at most, those in its first
+/// letter.
 pub fn token_of(word: &[u8]) -> Option<Token>
     ensures { result ≡ token_of word.now }
 {

@@ -29,7 +29,7 @@ use Rattle.gw_tx.specs.Properties.{linked_names, refusal_of_properties, refusal_
 
 -- ---- the commands of an action
 
--- a command that fails and is not marked O- stops; one that makes its context goes on in it
+-- a command that fails and has no O- stops; one that makes its context goes on in it
 abbrev pub attempted : At → Command → CmdOutcome → Attempts At CommandReply
 attempted at c done = record { next = if done.made then made at else at; answers = done.replies; stopped = done.failed && not c.optional }
 

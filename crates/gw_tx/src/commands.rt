@@ -26,7 +26,7 @@ use gw_table::Draft;
 use std::alloc::Global;
 
 /// Executes one command with the slot that it owns, and writes its replies behind those of the commands before it. A
-/// context that it makes gets the properties that are late. It stops where it fails and is not marked `O-`.
+/// context that it makes gets the properties that are late. It stops where it fails and has no `O-`.
 #[inline(always)]
 fn attempt(
     alloc: Global,

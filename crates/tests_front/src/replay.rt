@@ -58,8 +58,8 @@ fn replayed<R: Threads + Sync + AllocGlobal, I: Read, W: Write>(
     replay(rt, rt.alloc(), reader, writer, gateway, 1, &OpenGate)
 }
 
-/// A replay of both bursts to a writer that takes so many bytes and ends so: it ends with the fault of a write, and the bytes are
-/// a front of the answers.
+/// A replay of both bursts to a writer that takes so many bytes and ends so: it ends with the fault of a write, and the
+/// bytes are a front of the answers.
 fn fails_to_write<R: Threads + Sync + AllocGlobal>(
     rt: &R,
     room: usize,
@@ -73,7 +73,8 @@ fn fails_to_write<R: Threads + Sync + AllocGlobal>(
     is_text(out.taken.as_slice(), front)
 }
 
-/// A replay of both bursts from a reader that fails behind so many reads: it ends with the fault of a read, and this was written.
+/// A replay of both bursts from a reader that fails behind so many reads: it ends with the fault of a read, and this
+/// was written.
 fn fails_to_read<R: Threads + Sync + AllocGlobal>(
     rt: &R,
     reads: usize,
@@ -111,7 +112,7 @@ fn slow_streams_make_no_difference(rt: HostRuntime) -> Result<(), Fail> {
     is_text(out.taken.as_slice(), TWO_ANSWERED)
 }
 
-// The last read is the one that tells the end of the input.
+// The last read is the one that shows the end of the input.
 #[test]
 fn each_read_fails_in_turn(rt: HostRuntime) -> Result<(), Fail> {
     for reads in 0..FIRST_LEN {

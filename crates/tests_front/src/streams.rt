@@ -3,7 +3,8 @@
 use std::alloc::Global;
 use std::io::{self, Error, ErrorKind, Read, Write};
 
-/// A reader that gives a byte at a time, each after a signal where it is slow, and fails when it was read so many times.
+/// A reader that gives a byte at a time, each after a signal where it is slow, and fails when it was read so many
+/// times.
 #[derive(Drop)]
 pub(crate) struct Source<'a> {
     rest: &'a [u8],

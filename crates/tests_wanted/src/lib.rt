@@ -19,7 +19,7 @@ pub fn is_so(holds: bool, what: &str) -> Result<(), Fail> {
 ///
 /// # Errors
 ///
-/// The failure, which tells both.
+/// The failure, which has both.
 pub fn is_text(found: &[u8], wanted: &[u8]) -> Result<(), Fail> {
     if found == wanted {
         return Ok(());

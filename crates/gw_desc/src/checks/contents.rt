@@ -76,7 +76,7 @@ fn has_property_twice(properties: &[Property<Span<'_>>], which: Special) -> bool
     has_two(properties, which) || has_name_twice(properties)
 }
 
-/// Whether an Audit asks twice for one item.
+/// Whether an Audit requests one item twice.
 #[tactic(auto, unfolding(crate::specs::Checks::has_item_twice))]
 fn has_item_twice(words: &[Span<'_>]) -> bool
     ensures { result ≡ has_item_twice words.now }

@@ -4,8 +4,8 @@ ghost use Rattle.std.specs.Prelude.{◌≡◌, ◌≤◌, ℕ, Bool, min};
 ghost use Rattle.std.specs.List.{count_by, list_any};
 ghost use Rattle.gw_desc.specs.Twice.{has_two};
 
-/// What can be of a kind. Of some kinds a list may have one; of others, which are faults, none. Each kind is a type of its own,
-/// so that one search of a list, which is proved once, serves them all.
+/// What can be of a kind. Of some kinds a list may have one; of others, which are faults, none. Each kind is a type of
+/// its own, so that one search of a list, which is proved once, serves them all.
 pub(crate) trait OfKind<K> {
     ghost is_of: { K → Self → Bool };
 

@@ -63,7 +63,7 @@ pub(crate) fn has_illegal(verb: Verb, descriptors: &[Descriptor<'_>]) -> bool
 #[derive(Clone, Copy)]
 struct Unknown;
 
-/// A word that asks for nothing that an Audit may ask for.
+/// A word that requests nothing that an Audit may request.
 impl<'a> OfKind<Unknown> for Span<'a> {
     ghost use Rattle.gw_desc.specs.Checks.{is_no_item};
 

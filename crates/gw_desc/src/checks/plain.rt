@@ -1,4 +1,4 @@
-//! The descriptors that most commands have, which are told to be right at one look.
+//! The descriptors that most commands have, which one look finds right.
 
 ghost use Rattle.std.specs.Prelude.{◌≡◌, ◌∷◌, [], None, true, not};
 ghost use Rattle.std.specs.Bool.{OnTrue};
@@ -152,8 +152,8 @@ fn are_both_plain(verb: Verb, first: &Descriptor<'_>, second: &Descriptor<'_>) -
     has_plain_media(first) && has_short_tail(second)
 }
 
-/// Whether the command is an Add, a Modify or a Move with a Media of one Stream, and perhaps one descriptor behind it that is kept as
-/// sent, in which nothing is wrong. Most commands are such.
+/// Whether the command is an Add, a Modify or a Move with a Media of one Stream, and perhaps one descriptor behind it
+/// that is kept as sent, in which nothing is wrong. Most commands are such.
 pub(crate) fn is_plain(verb: Verb, descriptors: &[Descriptor<'_>]) -> bool
     ensures { OnTrue result (check_code verb descriptors.now ≡ None) }
 {

@@ -203,8 +203,8 @@ fn is_number_twice_by_pairs(parts: &[MediaPart<'_>]) -> bool
     false
 }
 
-/// Whether two Streams have one number, by a mark for each. Not inlined, since the marks are 8,192 bytes, which are cleared
-/// where the function begins.
+/// Whether two Streams have one number, by a mark for each. Not inlined, since the marks are 8,192 bytes, which are
+/// cleared where the function begins.
 #[inline(never)]
 fn is_number_twice_by_marks(parts: &[MediaPart<'_>]) -> bool
     ensures { result ≡ has_number_twice (numbers_in parts.now) }

@@ -13,12 +13,12 @@ returns c =
     let m : Maps = maps_of c.args.tables.now in
     let at = c.args.place.at in
     let slot = c.args.place.slot in
-    let asked = c.args.asked.now in
-    let listed : c.deref.result.now ≡ all_keys at slot asked m =
+    let given = c.args.given.now in
+    let listed : c.deref.result.now ≡ all_keys at slot given m =
     c.deref.ensures.value ∙ c.in_ok-add_slot.ensures
     ∙ ap (λ (l : List Key). l ++ slot_key slot) (c.in_ok-add_named.ensures
-    ∙ ap (λ (l : List Key). l ++ own_name asked.term m) (c.in_ok-add_context.ensures ∙ ap (λ (l : List Key). l ++ (action_keys at ++ member_keys at m)) c.in_ok-keys.ensures)) in
+    ∙ ap (λ (l : List Key). l ++ own_name given.term m) (c.in_ok-add_context.ensures ∙ ap (λ (l : List Key). l ++ (action_keys at ++ member_keys at m)) c.in_ok-keys.ensures)) in
     record {
-      every = λ k h. c.in_ok-of.ensures.same k ∙ ap (λ l. has l k) listed ∙ gathered_every at slot asked m k h;
-      own = λ k h. c.in_ok-of.ensures.same k ∙ ap (λ l. has l k) listed ∙ gathered_own at slot asked m k h;
+      every = λ k h. c.in_ok-of.ensures.same k ∙ ap (λ l. has l k) listed ∙ gathered_every at slot given m k h;
+      own = λ k h. c.in_ok-of.ensures.same k ∙ ap (λ l. has l k) listed ∙ gathered_own at slot given m k h;
     }

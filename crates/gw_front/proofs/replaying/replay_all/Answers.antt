@@ -24,13 +24,13 @@ returns-in_err-counts-in-Burst g c =
     let later = reader_remaining g.R.Read.remaining c.next_burst.new.reader in
     let before = g.W.Write.contents c.args.out.now in
     let between = g.W.Write.contents c.loop-turn.out in
-    let after = g.W.Write.contents c.carry_out.new.out in
+    let after = g.W.Write.contents c.execute.new.out in
     let burst = c.in-Burst.burst in
     let fault = c.in_err-counts-in-Burst.field-0.0 in
     let taken : TakesFrom (IsBurst burst) now later = rw c.in-Burst.is at c.in_ok-burst.ensures in
-    let done : IsBurstDone burst c.loop-turn.counts between after c.loop-turn.gateway c.carry_out.new.gateway (Err fault) =
-    subst (λ (b : List Datagram). IsBurstDone b c.loop-turn.counts between after c.loop-turn.gateway c.carry_out.new.gateway (Err fault)) c.as_slice.ensures c.in_err-counts-in-Burst.ensures.done in
-    rw (p.1, p.2) (failed input now later before between after c.args.gateway.now c.loop-turn.gateway c.carry_out.new.gateway c.loop-turn.counts burst fault c.loop-turn.invariant.so_far taken done)
+    let done : IsBurstDone burst c.loop-turn.counts between after c.loop-turn.gateway c.execute.new.gateway (Err fault) =
+    subst (λ (b : List Datagram). IsBurstDone b c.loop-turn.counts between after c.loop-turn.gateway c.execute.new.gateway (Err fault)) c.as_slice.ensures c.in_err-counts-in-Burst.ensures.done in
+    rw (p.1, p.2) (failed input now later before between after c.args.gateway.now c.loop-turn.gateway c.execute.new.gateway c.loop-turn.counts burst fault c.loop-turn.invariant.so_far taken done)
 
 pub returns-in-Last : goal.returns-in-Last
 returns-in-Last g c =
@@ -39,12 +39,12 @@ returns-in-Last g c =
     let later = reader_remaining g.R.Read.remaining c.next_burst.new.reader in
     let before = g.W.Write.contents c.args.out.now in
     let between = g.W.Write.contents c.loop-turn.out in
-    let after = g.W.Write.contents c.carry_out-in-Last.new.out in
+    let after = g.W.Write.contents c.execute-in-Last.new.out in
     let burst = c.in-Last.burst in
     let taken : TakesFrom (IsLastBurst burst) now later × IsAtEnd later = rw c.in-Last.is at c.in_ok-burst.ensures in
-    let done : IsBurstDone burst c.loop-turn.counts between after c.loop-turn.gateway c.carry_out-in-Last.new.gateway c.carry_out-in-Last.result =
-    subst (λ (b : List Datagram). IsBurstDone b c.loop-turn.counts between after c.loop-turn.gateway c.carry_out-in-Last.new.gateway c.carry_out-in-Last.result) c.as_slice-in-Last.ensures c.carry_out-in-Last.ensures.done in
-    last_done input now later before between after c.args.gateway.now c.loop-turn.gateway c.carry_out-in-Last.new.gateway c.loop-turn.counts burst c.carry_out-in-Last.result c.loop-turn.invariant.so_far taken done
+    let done : IsBurstDone burst c.loop-turn.counts between after c.loop-turn.gateway c.execute-in-Last.new.gateway c.execute-in-Last.result =
+    subst (λ (b : List Datagram). IsBurstDone b c.loop-turn.counts between after c.loop-turn.gateway c.execute-in-Last.new.gateway c.execute-in-Last.result) c.as_slice-in-Last.ensures c.execute-in-Last.ensures.done in
+    last_done input now later before between after c.args.gateway.now c.loop-turn.gateway c.execute-in-Last.new.gateway c.loop-turn.counts burst c.execute-in-Last.result c.loop-turn.invariant.so_far taken done
 
 pub loop-turn-preserved : goal.loop-turn-preserved
 loop-turn-preserved g c =
@@ -53,14 +53,14 @@ loop-turn-preserved g c =
     let later = reader_remaining g.R.Read.remaining c.next_burst.new.reader in
     let before = g.W.Write.contents c.args.out.now in
     let between = g.W.Write.contents c.loop-turn.out in
-    let after = g.W.Write.contents c.carry_out.new.out in
+    let after = g.W.Write.contents c.execute.new.out in
     let burst = c.in-Burst.burst in
     let more = c.in_ok-counts-in-Burst.counts in
     let taken : TakesFrom (IsBurst burst) now later = rw c.in-Burst.is at c.in_ok-burst.ensures in
-    let done : IsBurstDone burst c.loop-turn.counts between after c.loop-turn.gateway c.carry_out.new.gateway (Ok more) =
-    subst (λ (b : List Datagram). IsBurstDone b c.loop-turn.counts between after c.loop-turn.gateway c.carry_out.new.gateway (Ok more)) c.as_slice.ensures c.in_ok-counts-in-Burst.ensures.done in
+    let done : IsBurstDone burst c.loop-turn.counts between after c.loop-turn.gateway c.execute.new.gateway (Ok more) =
+    subst (λ (b : List Datagram). IsBurstDone b c.loop-turn.counts between after c.loop-turn.gateway c.execute.new.gateway (Ok more)) c.as_slice.ensures c.in_ok-counts-in-Burst.ensures.done in
     record {
-      so_far = stepped input now later before between after c.args.gateway.now c.loop-turn.gateway c.carry_out.new.gateway c.loop-turn.counts more burst c.loop-turn.invariant.so_far taken done;
+      so_far = stepped input now later before between after c.args.gateway.now c.loop-turn.gateway c.execute.new.gateway c.loop-turn.counts more burst c.loop-turn.invariant.so_far taken done;
       empty = c.in_ok-counts-in-Burst.ensures.empty;
     }
 

@@ -4,12 +4,12 @@ use Rattle.clap.specs.Words.{found_of}
 use Rattle.gw_program.proofs.Asking.{flag_given}
 use Rattle.gw_program.proofs.command_line.job_of.Goals as goal
 
-pub returns-in-answer-clause-asked : goal.returns-in-answer-clause-asked
-returns-in-answer-clause-asked c =
+pub returns-in-answer-clause-requested : goal.returns-in-answer-clause-requested
+returns-in-answer-clause-requested c =
     (c.in-answer.is, c.get_str.ensures ∙ first_value-rows (found_of c.args.matches.now) (codes "CONFIG"))
 
-pub returns-in-replay-clause-asked : goal.returns-in-replay-clause-asked
-returns-in-replay-clause-asked c = (
+pub returns-in-replay-clause-requested : goal.returns-in-replay-clause-requested
+returns-in-replay-clause-requested c = (
   c.in-replay.is,
   c.text_of-file.ensures,
   flag_given (found_of c.args.matches.now)
@@ -17,8 +17,8 @@ returns-in-replay-clause-asked c = (
   c.workers_in.ensures,
 )
 
-pub returns-in_ok-serving_of-in_default-clause-asked : goal.returns-in_ok-serving_of-in_default-clause-asked
-returns-in_ok-serving_of-in_default-clause-asked c = (
+pub returns-in_ok-serving_of-in_default-clause-requested : goal.returns-in_ok-serving_of-in_default-clause-requested
+returns-in_ok-serving_of-in_default-clause-requested c = (
   elim c.requires [
     | inl e ↦ absurd (c.in_default.not-answer e)
     | inr r ↦ elim r [
@@ -29,5 +29,5 @@ returns-in_ok-serving_of-in_default-clause-asked c = (
       ]
     ]
   ],
-  c.in_ok-serving_of-in_default.ensures.asked,
+  c.in_ok-serving_of-in_default.ensures.requested,
 )

@@ -15,15 +15,15 @@ job_in-requires g c =
     let found = (c.in_ok-matches.ensures.matches (ap is_simple is)).1 ∙ ap (λ (a : App). subcommand_of a words) is in
     subst (λ (o : Option (Text × List Row)). IfSome o (λ p. IsCommand p.0)) (sym found) (command_named words sound)
 
-pub returns-clause-asked : goal.returns-clause-asked
-returns-clause-asked g c =
+pub returns-clause-requested : goal.returns-clause-requested
+returns-clause-requested g c =
     let words = map g.S.AsStr.text c.args.words.now in
     let is = c.in_ok-command.ensures in
     let found = (c.in_ok-matches.ensures.matches (ap is_simple is)).1 ∙ ap (λ (a : App). subcommand_of a words) is in
     IfOk-weaker c.job_in.result _ _ (λ job h. record {
       sound = subst (λ (a : App). fault_of a words ≡ []) is (c.in_ok-matches.ensures.kinds (ap is_simple_and_free is));
       found = subst (λ (o : Option (Text × List Row)). IsJobOf o job) found h;
-    }) c.job_in.ensures.asked
+    }) c.job_in.ensures.requested
 
 pub returns-clause-mistaken : goal.returns-clause-mistaken
 returns-clause-mistaken g c =

@@ -4,8 +4,8 @@ use Rattle.clap.specs.Words.{found_of}
 use Rattle.gw_program.proofs.Asking.{number_given}
 use Rattle.gw_program.proofs.command_line.serving_of.Goals as goal
 
-pub returns-clause-asked : goal.returns-clause-asked
-returns-clause-asked c = record {
+pub returns-clause-requested : goal.returns-clause-requested
+returns-clause-requested c = record {
   file = c.text_of.ensures;
   listen = c.text_of-2.ensures;
   workers = c.workers_in.ensures;

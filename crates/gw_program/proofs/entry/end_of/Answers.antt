@@ -5,11 +5,11 @@ use Rattle.gw_program.proofs.entry.end_of.Goals as goal
 pub returns : goal.returns
 returns g c =
     inl (record {
-      asked = c.in-Ok.job;
-      is_asked = c.in-Ok.ensures.asked;
+      requested = c.in-Ok.job;
+      is_requested = c.in-Ok.ensures.requested;
       done = c.run-done.result;
       is_job = c.run-done.ensures;
-      told = c.told.ensures;
+      printed = c.printed.ensures;
     })
 
 pub returns-in-Err : goal.returns-in-Err

@@ -3,7 +3,7 @@ use Rattle.gw_front.specs.Events.{sent_all, Happens}
 use Rattle.gw_front.specs.Serving.{packets_to}
 use Rattle.gw_front.specs.declared.inbox.Inbox.{Inbox}
 use Rattle.gw_front.proofs.Gathering.{HasSame-trans}
-use Rattle.gw_front.proofs.Sending.{sent_more}
+use Rattle.gw_front.proofs.Outgoing.{sent_more}
 use Rattle.gw_front.proofs.server.Server.send.Goals as goal
 
 pub loop-answer-preserved : goal.loop-answer-preserved

@@ -4,7 +4,7 @@ ghost use Rattle.std.specs.Prelude.{◌≤◌};
 
 use cases_text::{CaseFault, as_text, number_of, split_at_byte, split_word};
 
-/// The most workers that may be asked.
+/// The most workers that may be given.
 const MOST_WORKERS: u32 = 64;
 
 /// The most jobs that a case has.
@@ -12,7 +12,7 @@ const MOST_JOBS: u32 = 100_000;
 
 /// How many workers and jobs there are, and a place of a job.
 #[derive(Clone, Copy)]
-pub struct Asked {
+pub struct RequestedDraw {
     /// 1 to 64.
     pub workers: u32,
     /// At most 100,000.
@@ -24,26 +24,26 @@ pub struct Asked {
 }
 
 /// What a word of a name, `=` and a number changes.
-fn change(asked: &mut Asked, word: &[u8]) -> Result<(), CaseFault> {
+fn change(request: &mut RequestedDraw, word: &[u8]) -> Result<(), CaseFault> {
     let (name, value) = split_at_byte(word, b'=');
     let number = number_of(value).ok_or(CaseFault::Form)?;
     match as_text(name) {
-        "workers" if (1..=MOST_WORKERS).contains(&number) => asked.workers = number,
-        "jobs" if number <= MOST_JOBS => asked.jobs = number,
-        "place" => asked.place = Some(number as usize),
+        "workers" if (1..=MOST_WORKERS).contains(&number) => request.workers = number,
+        "jobs" if number <= MOST_JOBS => request.jobs = number,
+        "place" => request.place = Some(number as usize),
         _ => return Err(CaseFault::Form),
     }
     Ok(())
 }
 
-impl Asked {
+impl RequestedDraw {
     /// What the words ask: one worker and no jobs, but for what they say.
     ///
     /// # Errors
     ///
     /// `Form` at a word that says nothing.
-    pub fn read(words: &[u8]) -> Result<Asked, CaseFault> {
-        let mut asked = Asked {
+    pub fn read(words: &[u8]) -> Result<RequestedDraw, CaseFault> {
+        let mut request = RequestedDraw {
             workers: 1,
             jobs: 0,
             place: None,
@@ -53,10 +53,10 @@ impl Asked {
         for _step in words {
             let (word, behind) = split_word(rest);
             if !word.is_empty() {
-                change(&mut asked, word)?;
+                change(&mut request, word)?;
             }
             rest = behind;
         }
-        Ok(asked)
+        Ok(request)
     }
 }

@@ -1,10 +1,10 @@
-//! What standard error is told, and how the program ends with it.
+//! What is printed on standard error, and how the program ends with it.
 
 ghost use Rattle.std.specs.Prelude.{◌≡◌, ℕ, Bool, List, Option};
 ghost use Rattle.clap.specs.Words.{kind_of};
 ghost use Rattle.clap.specs.declared.error.kind.ErrorKind.TheVariants.{ValueValidation as NotAValue};
 ghost use Rattle.std.specs.IoError.{error_kind};
-ghost use Rattle.gw_program.specs.Outcomes.{IsExplainedBy, IsTold, IsUnreadable, Says, status_of};
+ghost use Rattle.gw_program.specs.Outcomes.{IsExplainedBy, IsPrinted, IsUnreadable, Says, status_of};
 ghost use Rattle.gw_program.specs.Words.{mistake_kind};
 ghost use Rattle.gw_program.specs.declared.ended.Ended.{Ended as Ending};
 
@@ -18,14 +18,14 @@ use std::alloc::Global;
 use std::io::{self, Write};
 
 /// How a run ended. The line of its fault goes to `err`.
-pub(crate) fn told<'a, E: StandardError>(done: Result<(), Fault<'a>>, err: &mut E) -> Ended<'a>
-    ensures { IsTold done.entry (E.standing err.old) (E.standing err.new) result }
+pub(crate) fn printed<'a, E: StandardError>(done: Result<(), Fault<'a>>, err: &mut E) -> Ended<'a>
+    ensures { IsPrinted done.entry (E.standing err.old) (E.standing err.new) result }
 {
     match done {
         Ok(()) => Ended::Done,
         Err(fault) => {
-            let is_told = err.tell_fault(&fault);
-            Ended::Failed { fault, is_told }
+            let is_printed = err.print_fault(&fault);
+            Ended::Failed { fault, is_printed }
         }
     }
 }
@@ -33,14 +33,14 @@ pub(crate) fn told<'a, E: StandardError>(done: Result<(), Fault<'a>>, err: &mut 
 /// What is said of words that ask for nothing, where their reader says nothing of it.
 const MISTAKE: &str = "error: the words ask for nothing that there is\n";
 
-/// Tells a mistake in the words.
+/// Prints a mistake in the words.
 fn misused<E: StandardError>(text: &str, err: &mut E) -> Ended<'static>
-    ensures { (is_told : Bool) × (result ≡ Ended.Misused is_told)
-        × Says is_told (E.standing err.old) (E.standing err.new) }
+    ensures { (is_printed : Bool) × (result ≡ Ended.Misused is_printed)
+        × Says is_printed (E.standing err.old) (E.standing err.new) }
 {
     let said = if text.is_empty() { MISTAKE } else { text };
-    let is_told = err.tell(said);
-    Ended::Misused { is_told }
+    let is_printed = err.print(said);
+    Ended::Misused { is_printed }
 }
 
 /// How the program ends where the reader of the command line says so: help and the version go to `out`, a mistake is
@@ -55,14 +55,14 @@ fn answered<W: Write, E: StandardError>(
         (E.standing err.new) }
 {
     match error.kind() {
-        ErrorKind::OutOfMemory => told(Err(Fault::NoMemory), err),
+        ErrorKind::OutOfMemory => printed(Err(Fault::NoMemory), err),
         ErrorKind::DisplayHelp | ErrorKind::DisplayVersion => {
             let _ = write!(out, "{error}");
             Ended::Done
         }
         _ => match format!(in alloc; "{error}") {
             Ok(text) => misused(text.as_str(), err),
-            Err(_) => told(Err(Fault::NoMemory), err),
+            Err(_) => printed(Err(Fault::NoMemory), err),
         },
     }
 }
@@ -77,7 +77,7 @@ fn not_a_controller<E: StandardError>(alloc: Global, text: &str, err: &mut E) ->
          For more information, try '--help'.\n"
     ) {
         Ok(said) => misused(said.as_str(), err),
-        Err(_) => told(Err(Fault::NoMemory), err),
+        Err(_) => printed(Err(Fault::NoMemory), err),
     }
 }
 
@@ -94,7 +94,7 @@ pub(crate) fn explained<W: Write, E: StandardError>(
     match mistake {
         Mistake::Words(error) => answered(alloc, error, out, err),
         Mistake::Controller(text) => not_a_controller(alloc, text, err),
-        Mistake::NoMemory => told(Err(Fault::NoMemory), err),
+        Mistake::NoMemory => printed(Err(Fault::NoMemory), err),
     }
 }
 
@@ -106,10 +106,10 @@ fn refused<E: StandardError>(error: &io::Error, err: &mut E) -> Ended<'static>
     ensures { IsUnreadable (error_kind error.now) (E.standing err.old) (E.standing err.new) result }
 {
     if error.kind() == io::ErrorKind::OutOfMemory {
-        return told(Err(Fault::NoMemory), err);
+        return printed(Err(Fault::NoMemory), err);
     }
-    let is_told = err.tell(NO_TEXT);
-    Ended::Misused { is_told }
+    let is_printed = err.print(NO_TEXT);
+    Ended::Misused { is_printed }
 }
 
 /// The exit status where the words could not be read: 1 where memory was refused, else 2, and `err` says why.

@@ -1,4 +1,5 @@
-//! Gateways that are alike, each with another number of workers: what the first is answered, each must be answered.
+//! The same gateway several times, each with another number of workers: what the first is answered, each must be
+//! answered.
 
 use crate::answers::{write_answer, write_answers};
 use crate::gates::Waves;
@@ -11,36 +12,36 @@ use std::alloc::Global;
 use std::rt::Clock;
 use std::thread::Threads;
 
-/// A gateway, and how many workers carry out its bursts.
+/// A gateway, and how many workers execute its bursts.
 #[derive(Drop)]
-pub struct Crew {
+pub struct Variant {
     workers: Workers,
     gateway: Gateway,
 }
 
 /// The gateways of a case.
 #[derive(Drop)]
-pub struct Crews {
+pub struct Variants {
     /// The one number of workers that gateways are made for, or each.
     only: Option<Workers>,
-    crews: Vec<Crew>,
+    variants: Vec<Variant>,
 }
 
-/// What is told of a burst.
+/// What is written of a burst.
 #[derive(Clone, Copy)]
-pub enum Told {
+pub enum BurstReport {
     /// Each answer.
     Each,
     /// How many answers there are, and the last one.
     Last,
-    /// In how many waves several workers carry it out, and each answer.
+    /// In how many waves several workers execute it, and each answer.
     Waves,
-    /// Whether its jobs meet at the gate, and each answer: the job at a place waits there for all others, or each job where none is
-    /// named. Each datagram is one job.
+    /// Whether its jobs meet at the gate, and each answer: the job at a place waits there for all others, or each job
+    /// where none is named. Each datagram is one job.
     Meeting(Option<usize>),
 }
 
-/// What is told of the tables.
+/// What is written of the tables.
 #[derive(Clone, Copy)]
 pub enum Audit {
     /// Their text.
@@ -49,16 +50,16 @@ pub enum Audit {
     Size,
 }
 
-/// What is told by one of them, and must be by each.
+/// What is written by one of them, and must be by each.
 #[derive(Drop)]
 struct Common {
     first: Option<Page>,
-    /// The number of workers of the first that told something else.
+    /// The number of workers of the first that wrote something else.
     other: Option<Workers>,
 }
 
 impl Common {
-    /// Nothing is told yet.
+    /// Nothing is written yet.
     fn new() -> Common {
         Common {
             first: None,
@@ -66,7 +67,7 @@ impl Common {
         }
     }
 
-    /// One tells this.
+    /// One writes this.
     fn add(&mut self, workers: Workers, page: Page) -> Result<(), CaseFault> {
         page.whole()?;
         match &self.first {
@@ -80,15 +81,15 @@ impl Common {
         Ok(())
     }
 
-    /// What all tell, if one tells something.
-    fn write_if_told(&self, out: &mut Page) -> Result<(), CaseFault> {
+    /// What all write, if one writes something.
+    fn write_if_any(&self, out: &mut Page) -> Result<(), CaseFault> {
         match &self.first {
             Some(_) => self.write(out),
             None => Ok(()),
         }
     }
 
-    /// What all tell.
+    /// What all write.
     fn write(&self, out: &mut Page) -> Result<(), CaseFault> {
         let Some(first) = &self.first else {
             return Err(CaseFault::Form);
@@ -110,12 +111,12 @@ fn write_last(answers: Items<Datagram>, out: &mut Page) {
     write_answer(answers.into_vec().pop(), out);
 }
 
-impl Crews {
+impl Variants {
     /// No gateway yet, and each number of workers.
-    pub fn new(alloc: Global) -> Crews {
-        Crews {
+    pub fn new(alloc: Global) -> Variants {
+        Variants {
             only: None,
-            crews: Vec::new(alloc),
+            variants: Vec::new(alloc),
         }
     }
 
@@ -133,9 +134,9 @@ impl Crews {
         Ok(())
     }
 
-    /// Adds a new gateway, or tells the fault of its configuration.
+    /// Adds a new gateway, or writes the fault of its configuration.
     fn add(
-        crews: &mut Vec<Crew>,
+        variants: &mut Vec<Variant>,
         workers: Workers,
         words: &[u8],
         alloc: Global,
@@ -143,16 +144,16 @@ impl Crews {
         let config = config_of(alloc, words)?;
         match Gateway::new(alloc, config) {
             Ok(gateway) => {
-                crews.push(Crew { workers, gateway })?;
+                variants.push(Variant { workers, gateway })?;
                 Ok(None)
             }
             Err(fault) => Ok(Some(fault)),
         }
     }
 
-    /// Other gateways take the places of these. A function of its own, since these are let go here.
-    fn put(&mut self, crews: Vec<Crew>) {
-        self.crews = crews;
+    /// Other gateways take the places of these. A function of its own, since these are dropped here.
+    fn put(&mut self, variants: Vec<Variant>) {
+        self.variants = variants;
     }
 
     /// New gateways, one for each of these numbers of workers.
@@ -162,14 +163,14 @@ impl Crews {
         words: &[u8],
         out: &mut Page,
     ) -> Result<(), CaseFault> {
-        let mut crews = Vec::new(out.alloc());
+        let mut variants = Vec::new(out.alloc());
         for workers in numbers {
-            if let Some(fault) = Crews::add(&mut crews, *workers, words, out.alloc())? {
-                out.shown(&fault);
+            if let Some(fault) = Variants::add(&mut variants, *workers, words, out.alloc())? {
+                out.display(&fault);
                 return Ok(());
             }
         }
-        self.put(crews);
+        self.put(variants);
         Ok(())
     }
 
@@ -203,17 +204,17 @@ fn write_tables(gateway: &Gateway, audit: Audit, out: &mut Page) {
             out.number(lines_of(text.as_slice()));
             out.put(b" lines");
         }
-        (Err(fault), _) => out.shown(&fault),
+        (Err(fault), _) => out.display(&fault),
     }
 }
 
 /// The tables of all gateways.
-pub fn write_audit(crews: &Crews, audit: Audit, out: &mut Page) -> Result<(), CaseFault> {
+pub fn write_audit(variants: &Variants, audit: Audit, out: &mut Page) -> Result<(), CaseFault> {
     let mut common = Common::new();
-    for crew in crews.crews.iter() {
+    for variant in variants.variants.iter() {
         let mut page = Page::new(out.alloc());
-        write_tables(&crew.gateway, audit, &mut page);
-        common.add(crew.workers, page)?;
+        write_tables(&variant.gateway, audit, &mut page);
+        common.add(variant.workers, page)?;
     }
     common.write(out)
 }
@@ -222,25 +223,26 @@ pub fn write_audit(crews: &Crews, audit: Audit, out: &mut Page) -> Result<(), Ca
 fn answers_of<R: Threads + Sync, G: Gate>(
     rt: &R,
     alloc: Global,
-    crew: &mut Crew,
+    variant: &mut Variant,
     burst: &[Datagram],
     gate: &G,
 ) -> Result<Items<Datagram>, NoMemory> {
-    crew.gateway
-        .run(rt, alloc, crew.workers.number, burst, gate)
+    variant
+        .gateway
+        .run(rt, alloc, variant.workers.number, burst, gate)
 }
 
 /// Whether the jobs of a burst meet at the gate, and its answers.
 fn write_meeting<R: Threads + Clock + Sync>(
     rt: &R,
-    crew: &mut Crew,
+    variant: &mut Variant,
     burst: &[Datagram],
     place: Option<usize>,
     out: &mut Page,
 ) -> Result<(), NoMemory> {
     let jobs = u32::try_from(burst.len()).unwrap_or(u32::MAX);
     let meeting = Meeting::new(rt, out.alloc(), jobs, place)?;
-    let answers = answers_of(rt, out.alloc(), crew, burst, &meeting)?;
+    let answers = answers_of(rt, out.alloc(), variant, burst, &meeting)?;
     out.put(if meeting.was_met() {
         b"met\n"
     } else {
@@ -250,61 +252,62 @@ fn write_meeting<R: Threads + Clock + Sync>(
     Ok(())
 }
 
-/// What is told of a burst that one gateway carries out: in how many waves, where that is asked, on a page of its own.
-fn write_told<R: Threads + Clock + Sync>(
+/// What is written of a burst that one gateway executes: in how many waves, where that is requested, on a page of its
+/// own.
+fn write_report<R: Threads + Clock + Sync>(
     rt: &R,
-    crew: &mut Crew,
+    variant: &mut Variant,
     burst: &[Datagram],
-    told: Told,
+    requested: BurstReport,
     counts: &mut Page,
     out: &mut Page,
 ) -> Result<(), NoMemory> {
-    match told {
-        Told::Waves => {
+    match requested {
+        BurstReport::Waves => {
             let waves = Waves::new(out.alloc())?;
-            let answers = answers_of(rt, out.alloc(), crew, burst, &waves)?;
+            let answers = answers_of(rt, out.alloc(), variant, burst, &waves)?;
             waves.write(counts);
             write_answers(answers, out);
         }
-        Told::Each => {
-            let answers = answers_of(rt, out.alloc(), crew, burst, &OpenGate)?;
+        BurstReport::Each => {
+            let answers = answers_of(rt, out.alloc(), variant, burst, &OpenGate)?;
             write_answers(answers, out);
         }
-        Told::Last => {
-            let answers = answers_of(rt, out.alloc(), crew, burst, &OpenGate)?;
+        BurstReport::Last => {
+            let answers = answers_of(rt, out.alloc(), variant, burst, &OpenGate)?;
             write_last(answers, out);
         }
-        Told::Meeting(place) => write_meeting(rt, crew, burst, place, out)?,
+        BurstReport::Meeting(place) => write_meeting(rt, variant, burst, place, out)?,
     }
     Ok(())
 }
 
-/// Sends a burst to each gateway, and writes what is told of it. Where one refuses it for memory, that is written in its place, and
-/// false is answered.
+/// Sends a burst to each gateway, and writes what is written of it. Where one refuses it for memory, that is written in
+/// its place, and false is answered.
 pub fn run<R: Threads + Clock + Sync>(
     rt: &R,
-    crews: &mut Crews,
+    variants: &mut Variants,
     burst: &[Datagram],
-    told: Told,
+    requested: BurstReport,
     out: &mut Page,
 ) -> Result<bool, CaseFault> {
     let mut waves = Common::new();
     let mut common = Common::new();
     let mut is_done = true;
-    for crew in crews.crews.iter_mut() {
+    for variant in variants.variants.iter_mut() {
         let mut counts = Page::new(out.alloc());
         let mut page = Page::new(out.alloc());
-        if let Err(fault) = write_told(rt, crew, burst, told, &mut counts, &mut page) {
-            page.shown(&fault);
+        if let Err(fault) = write_report(rt, variant, burst, requested, &mut counts, &mut page) {
+            page.display(&fault);
             is_done = false;
         }
-        // One worker carries each request out by itself, so that there are no waves.
-        if crew.workers.number > 1 {
-            waves.add(crew.workers, counts)?;
+        // One worker executes each request by itself, so that there are no waves.
+        if variant.workers.number > 1 {
+            waves.add(variant.workers, counts)?;
         }
-        common.add(crew.workers, page)?;
+        common.add(variant.workers, page)?;
     }
-    waves.write_if_told(out)?;
+    waves.write_if_any(out)?;
     common.write(out)?;
     Ok(is_done)
 }
